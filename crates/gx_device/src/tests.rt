@@ -1,0 +1,68 @@
+use crate::{Device, Failed, FetchStop, Machine, MemoryMachine};
+use std::alloc::Global;
+use std::test::Fail;
+
+fn machine(alloc: Global, calls: u32, bytes: u32) -> Result<MemoryMachine, Fail> {
+    let mut machine = MemoryMachine::new(alloc)?;
+    machine.add_text(alloc, "S", b"old")?;
+    machine.add_text(alloc, "E", b"12345")?;
+    machine.add_text(alloc, "S", b"new one")?;
+    machine.set_script(alloc, b"abcde")?;
+    machine.reserve(alloc, calls, bytes)?;
+    Ok(machine)
+}
+
+#[test]
+fn a_script_is_heard_in_pieces(rt: HostRuntime) -> Result<(), Fail> {
+    let mut machine = machine(rt.alloc(), 4, 0)?;
+    let mut into = [0; 2];
+    for (count, front) in [(2, b"ab"), (2, b"cd"), (1, b"ed"), (0, b"ed")] {
+        assert_eq!(rt; machine.hear(&mut into), Ok(count));
+        assert_eq!(rt; into.as_slice(), front.as_slice());
+    }
+    assert_eq!(rt; machine.hear(&mut into), Err(Failed));
+    Ok(())
+}
+
+// Each row: the calls with room, the bytes with room, the call that fails, and what is said.
+#[test]
+fn calls_fail_by_number_and_by_room(rt: HostRuntime) -> Result<(), Fail> {
+    for (calls, bytes, failing, said) in [
+        (4, 11, 9, "onethreetwo"),
+        (4, 11, 1, "onetwo"),
+        (2, 11, 9, "onethree"),
+        (0, 11, 9, ""),
+        (4, 10, 9, "onethree"),
+        (4, 6, 2, "onetwo"),
+        (4, 6, 1, "one"),
+    ] {
+        let mut machine = machine(rt.alloc(), calls, 2)?;
+        machine.reserve(rt.alloc(), 0, bytes)?;
+        machine.fail_at(rt.alloc(), failing)?;
+        for piece in ["one", "three", "two"] {
+            let answer = machine.say(piece.as_bytes());
+            assert!(rt; answer == Ok(piece.len()) || answer == Err(Failed));
+        }
+        assert_eq!(rt; machine.said(), said.as_bytes());
+    }
+    Ok(())
+}
+
+#[test]
+fn texts_are_fetched(rt: HostRuntime) -> Result<(), Fail> {
+    let alloc = rt.alloc();
+    let mut machine = machine(alloc, 0, 0)?;
+    machine.fail_at(alloc, 3)?;
+    let text = machine.fetch(alloc, "S", 7).expect(&rt, "a text");
+    assert_eq!(rt; text.as_slice(), b"new one".as_slice());
+    for (name, limit, stop) in [
+        ("E", 4, FetchStop::TooLong),
+        ("D", 4, FetchStop::Missing),
+        ("E", 5, FetchStop::Fault),
+    ] {
+        assert_eq!(rt; machine.fetch(alloc, name, limit).err(), Some(stop));
+    }
+    let text = machine.fetch(alloc, "E", 5).expect(&rt, "a text");
+    assert_eq!(rt; text.as_slice(), b"12345".as_slice());
+    Ok(())
+}
