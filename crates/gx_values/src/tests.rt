@@ -1,0 +1,157 @@
+ghost use Rattle.std.specs.Prelude.{◌≡◌};
+
+use crate::{
+    Field, Fields, KeyBuf, Kind, Name, Octets, Op, Rec, Span, Value, Values, compare, inside,
+    key_bytes, meets, read_key, value_key,
+};
+use std::alloc::Global;
+use std::cmp::Ordering;
+use std::test::Fail;
+
+fn text(alloc: Global, bytes: &[u8]) -> Result<Value, Fail> {
+    Ok(Value::Text(Octets::from_slice(alloc, bytes)?))
+}
+
+fn field(kind: Kind) -> Field
+    ensures { result.kind ≡ kind }
+{
+    Field {
+        name: Name::from_slice(b"f"),
+        kind,
+    }
+}
+
+fn are_same(a: &Values, b: &Values) -> bool {
+    a.0.len() == b.0.len()
+        && a.0
+            .iter()
+            .zip(b.0.iter())
+            .all(|(a, b)| compare(a, b).is_eq())
+}
+
+#[test]
+fn keys_have_their_bytes(rt: HostRuntime) -> Result<(), Fail> {
+    let zero = value_key(&Value::Int(0));
+    let below = value_key(&Value::Int(-1));
+    assert_eq!(rt; zero.as_slice(), b"\x80\0\0\0\0\0\0\0".as_slice());
+    assert_eq!(rt;
+        below.as_slice(),
+        b"\x7F\xFF\xFF\xFF\xFF\xFF\xFF\xFF".as_slice()
+    );
+    assert!(rt; below.as_slice().cmp(zero.as_slice()).is_lt());
+    let mut last = KeyBuf::from_slice(b"");
+    for (bytes, want) in [("", "\0"), ("a", "a\0"), ("ab", "ab\0")] {
+        let key = value_key(&Value::Text(Octets::from_slice(rt.alloc(), bytes.as_bytes())?));
+        assert_eq!(rt; key.as_slice(), want.as_bytes());
+        assert!(rt; last.as_slice().cmp(key.as_slice()).is_lt());
+        last = key;
+    }
+    Ok(())
+}
+
+#[test]
+fn keys_of_two_fields_are_read_back(rt: HostRuntime) -> Result<(), Fail> {
+    let alloc = rt.alloc();
+    let keys = Fields(vec![in alloc; field(Kind::Int), field(Kind::Text(3))]?);
+    let key = Values(vec![in alloc;
+        Value::Int(-1),
+        Value::Text(Octets::from_slice(alloc, b"ab")?),
+    ]?);
+    let bytes = key_bytes(&keys, &key);
+    assert_eq!(rt;
+        bytes.as_slice(),
+        b"\x7F\xFF\xFF\xFF\xFF\xFF\xFF\xFFab\0".as_slice()
+    );
+    let found = read_key(alloc, &keys, bytes.as_slice())?.unwrap();
+    assert!(rt; are_same(&found, &key));
+    let wrong: [&[u8]; 8] = [
+        b"",
+        b"\x80\0\0\0\0\0\0",
+        b"\x80\0\0\0\0\0\0\0",
+        b"\x80\0\0\0\0\0\0\0ab",
+        b"\x80\0\0\0\0\0\0\0abcd\0",
+        b"\x80\0\0\0\0\0\0\0a\x1F\0",
+        b"\x80\0\0\0\0\0\0\0\x7F\0",
+        b"\x80\0\0\0\0\0\0\0ab\0\0",
+    ];
+    for bytes in wrong {
+        assert!(rt; read_key(alloc, &keys, bytes)?.is_none(), "{bytes:?}");
+    }
+    Ok(())
+}
+
+#[test]
+fn spans_hold_keys(rt: HostRuntime) {
+    for (lo, hi, key, want) in [
+        ("", "", "", true),
+        ("", "", "z", true),
+        ("b", "", "a", false),
+        ("b", "", "b", true),
+        ("b", "", "ba", true),
+        ("", "b", "a", true),
+        ("", "b", "bz", true),
+        ("", "b", "c", false),
+        ("", "bb", "b", true),
+        ("", "bb", "bc", false),
+        ("b", "b", "ba", true),
+    ] {
+        let span = Span {
+            lo: KeyBuf::from_slice(lo.as_bytes()),
+            hi: KeyBuf::from_slice(hi.as_bytes()),
+        };
+        assert!(rt; inside(&span, key.as_bytes()) == want, "{lo} {hi} {key}");
+    }
+}
+
+#[test]
+fn values_are_compared(rt: HostRuntime) -> Result<(), Fail> {
+    let alloc = rt.alloc();
+    let values = [
+        Value::Int(i64::MIN),
+        Value::Int(-1),
+        Value::Int(0),
+        text(alloc, b"")?,
+        text(alloc, b"a")?,
+        text(alloc, b"ab")?,
+        text(alloc, b"b")?,
+        Value::Bytes(Octets::from_slice(alloc, b"\0")?),
+        Value::Bytes(Octets::from_slice(alloc, b"\xFF")?),
+    ];
+    for (i, a) in values.iter().enumerate() {
+        for (j, b) in values.iter().enumerate() {
+            assert_eq!(rt; compare(a, b), i.cmp(&j));
+        }
+    }
+    for (op, less, equal, greater) in [
+        (Op::Equal, false, true, false),
+        (Op::Unequal, true, false, true),
+        (Op::Less, true, false, false),
+        (Op::AtMost, true, true, false),
+        (Op::Greater, false, false, true),
+        (Op::AtLeast, false, true, true),
+    ] {
+        for (n, want) in [(4, less), (5, equal), (6, greater)] {
+            assert!(rt;
+                meets(&Value::Int(n), op, &Value::Int(5)) == want,
+                "{op:?} {n}"
+            );
+        }
+    }
+    Ok(())
+}
+
+#[test]
+fn records_are_copied(rt: HostRuntime) -> Result<(), Fail> {
+    let alloc = rt.alloc();
+    let record = Rec {
+        key: Values(vec![in alloc; Value::Int(i64::MIN)]?),
+        fields: Values(vec![in alloc;
+            text(alloc, b"ab")?,
+            Value::Bytes(Octets::from_slice(alloc, b"\0\xFF")?),
+        ]?),
+    };
+    let copy = record.copy(alloc)?;
+    assert!(rt; are_same(&copy.key, &record.key));
+    assert!(rt; are_same(&copy.fields, &record.fields));
+    Ok(())
+}
