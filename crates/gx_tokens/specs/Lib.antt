@@ -1,0 +1,9 @@
+pub mod Whys
+pub mod Lines
+pub mod Lexemes
+pub mod Spelling
+pub mod Numbers
+pub mod Quotes
+pub mod Reading
+pub mod Grammar
+pub mod Locality

@@ -1,0 +1,116 @@
+// Words, numbers and quoted texts at the front of a text.
+ghost use Rattle.std.specs.Prelude.{◌≡◌, ◌<◌, ◌≤◌, length, false, option_map, IfSome};
+ghost use Rattle.std.specs.List.{prefix_len};
+ghost use Rattle.gx_tokens.specs.Lexemes.{is_word_byte, is_digit, is_printable, continues_run, after_quoted, split_word, split_number, split_quoted};
+
+const LONGEST_WORD: usize = 16;
+
+pub fn is_digit(byte: u8) -> bool
+    ensures { result ≡ is_digit byte }
+{
+    matches!(byte, b'0'..=b'9')
+}
+
+fn is_word_byte(byte: u8) -> bool
+    ensures { result ≡ is_word_byte byte }
+{
+    matches!(byte, b'a'..=b'z' | b'_' | b'0'..=b'9')
+}
+
+fn is_printable(byte: u8) -> bool
+    ensures { result ≡ is_printable byte }
+{
+    matches!(byte, b' '..=b'~')
+}
+
+fn word_len(bytes: &[u8]) -> usize
+    ensures value { result ≡ prefix_len is_word_byte bytes.now }
+    ensures within { result ≤ length bytes.now }
+{
+    for (at, byte) in bytes.iter().enumerate() {
+        if !is_word_byte(*byte) {
+            return at;
+        }
+    }
+    bytes.len()
+}
+
+fn digits_len(bytes: &[u8]) -> usize
+    ensures value { result ≡ prefix_len is_digit bytes.now }
+    ensures within { result ≤ length bytes.now }
+{
+    for (at, byte) in bytes.iter().enumerate() {
+        if !is_digit(*byte) {
+            return at;
+        }
+    }
+    bytes.len()
+}
+
+// What follows the quote that ends a quoted text; none where it isn't ended, or holds a byte that isn't printable.
+fn after_quoted(bytes: &[u8]) -> Option<&[u8]>
+    ensures value { option_map (λ r. r.now) result ≡ after_quoted false bytes.now }
+    ensures shorter { IfSome result (λ r. length r.now < length bytes.now) }
+{
+    let mut after_quote = false;
+    let mut rest = bytes;
+    while let [first, after @ ..] = rest {
+        if *first == b'"' {
+            after_quote = !after_quote;
+        } else if after_quote {
+            return Some(rest);
+        } else if !is_printable(*first) {
+            return None;
+        }
+        rest = after;
+    }
+    if after_quote { Some(rest) } else { None }
+}
+
+// Whether a word or a number that stands right before would go on.
+fn continues_run(rest: &[u8]) -> bool
+    ensures { result ≡ continues_run rest.now }
+{
+    match rest {
+        [] => false,
+        [first, ..] => is_word_byte(*first) || *first == b'-',
+    }
+}
+
+/// The word at the front, and what follows it. None where the run of its bytes is longer than a word, or goes on as no word does.
+pub fn split_word(bytes: &[u8]) -> Option<(&[u8], &[u8])>
+    ensures { option_map (λ x. (x.0.now, x.1.now)) result ≡ split_word bytes.now }
+{
+    let len = word_len(bytes);
+    let (text, rest) = bytes.split_at(len);
+    if len > LONGEST_WORD || continues_run(rest) {
+        return None;
+    }
+    Some((text, rest))
+}
+
+/// The number at the front, and what follows it. None where there are no digits, or the run goes on as no number does.
+pub fn split_number(bytes: &[u8]) -> Option<(&[u8], &[u8])>
+    ensures { option_map (λ x. (x.0.now, x.1.now)) result ≡ split_number bytes.now }
+{
+    let sign = match bytes {
+        [b'-', ..] => 1,
+        _ => 0,
+    };
+    let digits = digits_len(&bytes[sign..]);
+    let (text, rest) = bytes.split_at(sign + digits);
+    if digits == 0 || continues_run(rest) {
+        return None;
+    }
+    Some((text, rest))
+}
+
+/// The text up to the quote that ends it, and what follows that quote, where a quote stands right before these bytes.
+/// Within the text a quote is written twice. None: exactly where no quote ends it, or a byte in it isn't one from 0x20 to 0x7E.
+pub fn split_quoted(bytes: &[u8]) -> Option<(&[u8], &[u8])>
+    ensures { option_map (λ x. (x.0.now, x.1.now)) result ≡ split_quoted bytes.now }
+{
+    let rest = after_quoted(bytes)?;
+    let text = &bytes[..bytes.len() - rest.len() - 1];
+    Some((text, rest))
+}
