@@ -1,0 +1,10 @@
+mod LoopSteps
+mod TextFound
+mod TextAgain
+mod SchemaLaws
+mod SchemaValid
+mod ShapeRules
+mod LocalReaders
+mod FaultLaws
+mod PrintedText
+mod FileNames

@@ -1,0 +1,10 @@
+pub mod Names
+pub mod Items
+pub mod Reading
+pub mod Rules
+pub mod Grammar
+pub mod Shape
+pub mod Faults
+pub mod Printing
+pub mod Lookups
+pub mod WellFormed
