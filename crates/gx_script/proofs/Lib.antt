@@ -1,0 +1,10 @@
+pub mod WordLaws
+pub mod CuttingLaws
+pub mod Steps
+pub mod LoopLaws
+pub mod WordMeanings
+pub mod PartLaws
+pub mod ClauseLaws
+pub mod CommandLaws
+pub mod ReadingLaws
+pub mod LineLaws

@@ -1,0 +1,227 @@
+// The parts of commands: a record, an owner, a member, changes, conditions, and the order.
+ghost use Rattle.std.specs.Prelude.{◌≡◌, ◌<◌, [], length, IfOk};
+ghost use Rattle.gx_tokens.specs.Reading.{map_ok};
+ghost use Rattle.gx_schema.specs.WellFormed.{HasFields, IsWellFormed};
+ghost use Rattle.gx_script.specs.Cutting.{words_in};
+ghost use Rattle.gx_script.specs.Reading.{Gives, record_at, owner_at, member_at, change_at, changes_at, cond_at, conds_at, where_at, owner_of_at, of_at, desc_at, order_at};
+
+use crate::command::{Change, Changes, Cond, Conds, LineWhy, NoCommand, Of, OrderBy};
+use crate::keywords::{after_keyword, read_op};
+use crate::names::{
+    field_kind, file_def, member_file, owner_file, read_field, read_file, read_link, read_link_to,
+    read_new_field,
+};
+use crate::values::read_value;
+use crate::words::is_end;
+use gx_schema::{FileDef, Schema};
+use gx_values::Value;
+use std::alloc::Global;
+
+/// FILE KEY, and what follows them.
+#[tactic(auto, unfolding(crate::specs::Reading::record_at))]
+pub fn read_record<'a>(
+    alloc: Global,
+    schema: &Schema,
+    line: &'a [u8],
+) -> Result<(u16, Value, &'a [u8]), NoCommand>
+    requires { IsWellFormed schema.now }
+    ensures exact { Gives (λ x. (x.0, x.1, words_in x.2.now)) result (record_at schema.now (words_in line.now)) }
+    ensures within { IfOk result (λ x. x.0 < length schema.now.files) }
+{
+    let (file, rest) = read_file(schema, line)?;
+    let kind = field_kind(file_def(schema, file), 0);
+    let (key, rest) = read_value(alloc, kind, rest)?;
+    Ok((file, key, rest))
+}
+
+/// LINK OWNER, and what follows them.
+#[tactic(auto, unfolding(crate::specs::Reading::owner_at))]
+pub fn read_owner<'a>(
+    alloc: Global,
+    schema: &Schema,
+    line: &'a [u8],
+) -> Result<(u16, Value, &'a [u8]), NoCommand>
+    requires { IsWellFormed schema.now }
+    ensures exact { Gives (λ x. (x.0, x.1, words_in x.2.now)) result (owner_at schema.now (words_in line.now)) }
+    ensures within { IfOk result (λ x. x.0 < length schema.now.links) }
+{
+    let (link, rest) = read_link(schema, line)?;
+    let kind = field_kind(owner_file(schema, link), 0);
+    let (owner, rest) = read_value(alloc, kind, rest)?;
+    Ok((link, owner, rest))
+}
+
+/// LINK MEMBER, and what follows them.
+#[tactic(auto, unfolding(crate::specs::Reading::member_at))]
+pub fn read_member<'a>(
+    alloc: Global,
+    schema: &Schema,
+    line: &'a [u8],
+) -> Result<(u16, Value, &'a [u8]), NoCommand>
+    requires { IsWellFormed schema.now }
+    ensures { Gives (λ x. (x.0, x.1, words_in x.2.now)) result (member_at schema.now (words_in line.now)) }
+{
+    let (link, rest) = read_link(schema, line)?;
+    let kind = field_kind(member_file(schema, link), 0);
+    let (member, rest) = read_value(alloc, kind, rest)?;
+    Ok((link, member, rest))
+}
+
+// FIELD VALUE behind the changes before, and what follows them.
+#[tactic(auto, unfolding(crate::specs::Reading::change_at))]
+fn read_change<'a>(
+    alloc: Global,
+    file: &FileDef,
+    before: &[Change],
+    line: &'a [u8],
+) -> Result<(Change, &'a [u8]), NoCommand>
+    requires { HasFields file.now }
+    ensures { Gives (λ x. (x.0, words_in x.1.now)) result (change_at file.now before.now (words_in line.now)) }
+{
+    let (field, rest) = read_new_field(file, before, line)?;
+    let (value, rest) = read_value(alloc, field_kind(file, field), rest)?;
+    Ok((Change { field, value }, rest))
+}
+
+/// FIELD VALUE {FIELD VALUE}, up to the end of the line.
+pub fn read_changes<'a>(
+    alloc: Global,
+    file: &FileDef,
+    line: &'a [u8],
+) -> Result<(Changes, &'a [u8]), NoCommand>
+    requires { HasFields file.now }
+    ensures { Gives (λ x. (x.0, words_in x.1.now)) result (changes_at (length (words_in line.now)) file.now [] (words_in line.now)) }
+{
+    let mut changes = Vec::new(alloc);
+    let mut rest = line;
+    loop {
+        let (change, after) = read_change(alloc, file, &changes, rest)?;
+        changes.push(change)?;
+        if is_end(after) {
+            return Ok((Changes(changes), after));
+        }
+        rest = after;
+    }
+}
+
+// FIELD OP VALUE, and what follows them.
+#[tactic(auto, unfolding(crate::specs::Reading::cond_at))]
+fn read_cond<'a>(
+    alloc: Global,
+    file: &FileDef,
+    line: &'a [u8],
+) -> Result<(Cond, &'a [u8]), NoCommand>
+    requires { HasFields file.now }
+    ensures { Gives (λ x. (x.0, words_in x.1.now)) result (cond_at file.now (words_in line.now)) }
+{
+    let (field, rest) = read_field(file, line)?;
+    let (op, rest) = read_op(rest)?;
+    let (bound, rest) = read_value(alloc, field_kind(file, field), rest)?;
+    Ok((Cond { field, op, bound }, rest))
+}
+
+// COND {and COND}, and what follows them.
+fn read_conds<'a>(
+    alloc: Global,
+    file: &FileDef,
+    line: &'a [u8],
+) -> Result<(Conds, &'a [u8]), NoCommand>
+    requires { HasFields file.now }
+    ensures { Gives (λ x. (x.0, words_in x.1.now)) result (conds_at (length (words_in line.now)) file.now [] (words_in line.now)) }
+{
+    let mut conds = Vec::new(alloc);
+    let mut rest = line;
+    loop {
+        let (cond, after) = read_cond(alloc, file, rest)?;
+        conds.push(cond)?;
+        match after_keyword(after, b"and") {
+            None => return Ok((Conds(conds), after)),
+            Some(next) => rest = next,
+        }
+    }
+}
+
+/// [where COND {and COND}], and what follows.
+#[tactic(auto, unfolding(crate::specs::Reading::where_at))]
+pub fn read_where<'a>(
+    alloc: Global,
+    file: &FileDef,
+    line: &'a [u8],
+) -> Result<(Conds, &'a [u8]), NoCommand>
+    requires { HasFields file.now }
+    ensures { Gives (λ x. (x.0, words_in x.1.now)) result (where_at file.now (words_in line.now)) }
+{
+    match after_keyword(line, b"where") {
+        None => Ok((Conds(Vec::new(alloc)), line)),
+        Some(rest) => read_conds(alloc, file, rest),
+    }
+}
+
+// LINK OWNER, with a link whose members are of the file, and what follows them.
+#[tactic(auto, unfolding(crate::specs::Reading::owner_of_at))]
+fn read_owner_of<'a>(
+    alloc: Global,
+    schema: &Schema,
+    file: u16,
+    line: &'a [u8],
+) -> Result<(Of, &'a [u8]), NoCommand>
+    requires { IsWellFormed schema.now }
+    ensures { Gives (λ x. (x.0, words_in x.1.now)) result (owner_of_at schema.now file (words_in line.now)) }
+{
+    let (link, rest) = read_link_to(schema, file, line)?;
+    let kind = field_kind(owner_file(schema, link), 0);
+    let (owner, rest) = read_value(alloc, kind, rest)?;
+    Ok((Of { link, owner }, rest))
+}
+
+/// [of LINK OWNER], and what follows.
+#[tactic(auto, unfolding(crate::specs::Reading::of_at))]
+pub fn read_of<'a>(
+    alloc: Global,
+    schema: &Schema,
+    file: u16,
+    line: &'a [u8],
+) -> Result<(Option<Of>, &'a [u8]), NoCommand>
+    requires { IsWellFormed schema.now }
+    ensures { Gives (λ x. (x.0, words_in x.1.now)) result (of_at schema.now file (words_in line.now)) }
+{
+    match after_keyword(line, b"of") {
+        None => Ok((None, line)),
+        Some(rest) => {
+            let (of, rest) = read_owner_of(alloc, schema, file, rest)?;
+            Ok((Some(of), rest))
+        }
+    }
+}
+
+// [desc] behind a field, and what follows.
+#[tactic(auto, unfolding(crate::specs::Reading::desc_at))]
+fn read_desc(field: u16, line: &[u8]) -> (OrderBy, &[u8])
+    ensures { (result.0, words_in result.1.now) ≡ desc_at field (words_in line.now) }
+{
+    match after_keyword(line, b"desc") {
+        None => (OrderBy { field, desc: false }, line),
+        Some(rest) => (OrderBy { field, desc: true }, rest),
+    }
+}
+
+/// [order FIELD [desc]], and what follows; without it the order is by the key, ascending.
+#[tactic(auto, unfolding(crate::specs::Reading::order_at))]
+pub fn read_order<'a>(file: &FileDef, line: &'a [u8]) -> Result<(OrderBy, &'a [u8]), LineWhy>
+    requires { HasFields file.now }
+    ensures { map_ok (λ x. (x.0, words_in x.1.now)) result ≡ order_at file.now (words_in line.now) }
+{
+    match after_keyword(line, b"order") {
+        None => Ok((
+            OrderBy {
+                field: 0,
+                desc: false,
+            },
+            line,
+        )),
+        Some(rest) => {
+            let (field, rest) = read_field(file, rest)?;
+            Ok(read_desc(field, rest))
+        }
+    }
+}
