@@ -1,0 +1,5 @@
+pub mod LeafMaps
+pub mod Stops
+pub mod Slots
+pub mod Pairs
+pub mod Plain
