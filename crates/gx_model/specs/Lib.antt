@@ -1,0 +1,5 @@
+pub mod States
+pub mod Found
+pub mod Texts
+pub mod Commands
+pub mod Play
