@@ -1,0 +1,5 @@
+mod BodyLemmas
+mod LeafLemmas
+mod ListingLemmas
+mod RecordLemmas
+mod StepLemmas

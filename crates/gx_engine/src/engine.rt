@@ -1,0 +1,388 @@
+// The engine: one command after the other on leaves.
+ghost use Rattle.std.specs.Prelude.{◌≡◌, ◌∷◌, ◌≤◌, ◌<◌, ◌++◌, ◌+◌, List, ℕ, Option, Some, None, Ok, Err, false, length, take, IfOk, OnOk, OnErr, IsErrOf, IsSome, IsTrue, codes, if◌then◌else◌};
+ghost use Rattle.std.specs.Fmt.{decimal};
+ghost use Rattle.gx_device.specs.Content.{Silent, Hears, Listens, Says, Speaks};
+ghost use Rattle.gx_device.specs.Faults.{Rose, HasCause};
+ghost use Rattle.gx_ports.specs.LeafMaps.{IsCrowded};
+ghost use Rattle.gx_values.specs.Values.{Fits, AreFit};
+ghost use Rattle.gx_schema.specs.Lookups.{file_at, key_kind, data_fields};
+ghost use Rattle.gx_script.specs.Commands.{inside_after};
+ghost use Rattle.gx_model.specs.States.{State, file_in};
+ghost use Rattle.gx_model.specs.Play.{Playing, start_at, next_count};
+
+use crate::listing::found_text;
+use crate::records::{delete_record, find_values, insert_record, update_record};
+use crate::texts::{commit_line, record_line};
+use gx_device::Failed;
+use gx_ports::{Leaves, Stop};
+use gx_schema::{FileDef, Schema};
+use gx_script::{Changes, Command, Find};
+use gx_values::{Octets, Value, Values};
+use std::alloc::{AllocError, Global};
+
+/// Why a step was given up.
+#[derive(Clone, Copy, Debug, PartialEq, Eq)]
+pub enum StepStop {
+    /// in this call
+    Now(Stop),
+    /// in an earlier call, which is kept: nothing happened in this one
+    Stopped(Stop),
+}
+
+/// The engine over leaves. Between two calls it keeps nothing of a state but the leaves themselves.
+#[derive(Drop)]
+pub struct Engine<B: Leaves + Drop> {
+    schema: Schema,
+    leaves: B,
+    inside: bool,
+    commits: u64,
+    stopped: Option<Stop>,
+}
+
+impl<B: Leaves + Drop> Engine<B> {
+    ghost use Rattle.gx_script.specs.declared.command.Command.TheVariants as command;
+    ghost use Rattle.gx_engine.specs.Internal.{AreInternal, AreStorable, IsCarried};
+    ghost use Rattle.gx_engine.specs.Steps.{schema_of, leaves_of, is_open, commits_of, stop_of, IsReady, IsDue, StandsFor, IsStep, IsServed, IsSame};
+    ghost use Rattle.gx_engine.specs.declared.engine.StepStop.TheVariants.{Now, Stopped};
+
+    /// An engine over leaves, of which there is one for each file of the schema: its entries are the
+    /// records of the file. No transaction is open, and no stop is kept.
+    pub fn start(schema: Schema, leaves: B) -> Engine<B>
+        requires storable { AreStorable schema }
+        requires many { length (B.working leaves) ≡ length schema.files }
+        ensures ready { IsReady B.working result }
+        ensures schema { schema_of result ≡ schema }
+        ensures leaves { leaves_of result ≡ leaves }
+        ensures inside { is_open result ≡ false }
+        ensures commits { commits_of result ≡ 0 }
+        ensures stop { stop_of result ≡ None }
+        ensures stands { (s : State) → AreInternal schema (B.working leaves) s → B.kept leaves ≡ B.working leaves → StandsFor B.working B.kept result (start_at s) }
+    {
+        Engine {
+            schema,
+            leaves,
+            inside: false,
+            commits: 0,
+            stopped: None,
+        }
+    }
+
+    /// The schema.
+    pub fn schema(&self) -> &Schema
+        ensures { result.now ≡ schema_of self.now }
+    {
+        &self.schema
+    }
+
+    /// Whether a transaction is open.
+    pub fn inside(&self) -> bool
+        ensures { result ≡ is_open self.now }
+    {
+        self.inside
+    }
+
+    /// Carries out a command of the schema, where the transaction rule lets it stand, and appends its
+    /// answer, which is that of the abstract database; the leaves stand for what comes after it.
+    ///
+    /// `Now` gives this call up and is kept: `out` is as before, the transaction is given up, and each
+    /// later call answers `Stopped` with it and does nothing. `Now(Fault)`: the count of faults rose.
+    /// `Now(Full)`: the pages may be too few for what was to be stored. `Now(Damaged)`: the leaves stood
+    /// for no state. `Now(NoMemory)`: there was no memory.
+    pub fn step(
+        &mut self,
+        alloc: Global,
+        command: &Command,
+        out: &mut Octets,
+    ) -> Result<(), StepStop>
+        requires ready { IsReady B.working self.old }
+        requires due { IsDue self.old command.now }
+        ensures carried { (p : Playing) → B.whole (leaves_of self.old) → B.kept_whole (leaves_of self.old) → StandsFor B.working B.kept self.old p → OnOk result (IsCarried (schema_of self.old) p command.now out.old out.new (is_open self.new) (commits_of self.new) (B.working (leaves_of self.new)) (B.kept (leaves_of self.new))) }
+        ensures unsaid { OnErr result (out.new ≡ out.old) }
+        ensures served { IsServed (stop_of self.old) (stop_of self.new) result }
+        ensures still { IsSome (stop_of self.old) → self.new ≡ self.old }
+
+        // The causes of a stop.
+        ensures fault { result ≡ Err (Now Stop.Fault) → Rose (B.faults (leaves_of self.old)) (B.faults (leaves_of self.new)) }
+        ensures full { B.whole (leaves_of self.old) → result ≡ Err (Now Stop.Full) → IsCrowded (B.limit (leaves_of self.old)) (B.working (leaves_of self.old)) }
+        ensures damaged { (block : ℕ) (p : Playing) → result ≡ Err (Now (Stop.Damaged block)) → B.whole (leaves_of self.old) → B.kept_whole (leaves_of self.old) → StandsFor B.working B.kept self.old p → ⊥ }
+
+        // What stays.
+        ensures inside { OnOk result (is_open self.new ≡ inside_after (is_open self.old) command.now) }
+        ensures whole { OnOk result (B.whole (leaves_of self.old) → B.kept_whole (leaves_of self.old) → B.whole (leaves_of self.new)) }
+        ensures kept_whole { OnOk result (B.whole (leaves_of self.old) → B.kept_whole (leaves_of self.old) → B.kept_whole (leaves_of self.new)) }
+        ensures schema { schema_of self.new ≡ schema_of self.old }
+        ensures ready { IsReady B.working self.new }
+        ensures limit { B.limit (leaves_of self.new) ≡ B.limit (leaves_of self.old) }
+        ensures silent { Silent (B.content (leaves_of self.old)) (B.content (leaves_of self.new)) }
+        ensures later { B.faults (leaves_of self.old) ≤ B.faults (leaves_of self.new) }
+    {
+        if let Some(stop) = self.stopped {
+            return Err(StepStop::Stopped(stop));
+        }
+        match self.carry_out(alloc, command, out) {
+            Ok(()) => Ok(()),
+            Err(stop) => {
+                self.stopped = Some(stop);
+                Err(StepStop::Now(stop))
+            }
+        }
+    }
+
+    fn carry_out(&mut self, alloc: Global, command: &Command, out: &mut Octets) -> Result<(), Stop>
+        requires ready { IsReady B.working self.old }
+        requires due { IsDue self.old command.now }
+        ensures { IsStep B.working B.kept B.whole B.kept_whole B.limit B.faults B.content self.old self.new command.now out.old out.new result }
+    {
+        match command {
+            Command::Begin => self.begin(out),
+            Command::Commit => self.commit(alloc, out),
+            Command::Abort => self.abort(out),
+            Command::Insert(file, values) => self.insert(alloc, *file, values, out),
+            Command::Get(file, key) => self.get(alloc, *file, key, out),
+            Command::Update(file, key, changes) => self.update(alloc, *file, key, changes, out),
+            Command::Delete(file, key) => self.delete(alloc, *file, key, out),
+            Command::Find(find) => self.find(alloc, find, out),
+            Command::ReorganizeFile(file) => self.reorganize(alloc, *file, out),
+            Command::Nothing => self.pass(out),
+            Command::Connect(..)
+            | Command::Disconnect(..)
+            | Command::Members(..)
+            | Command::Owner(..)
+            | Command::ReorganizeLink(_) => unreachable!(),
+        }
+    }
+
+    // A line without a command says nothing.
+    fn pass(&mut self, out: &mut Octets) -> Result<(), Stop>
+        requires ready { IsReady B.working self.old }
+        requires due { IsDue self.old command.Nothing }
+        ensures { IsStep B.working B.kept B.whole B.kept_whole B.limit B.faults B.content self.old self.new command.Nothing out.old out.new result }
+    {
+        let _out = out;
+        Ok(())
+    }
+
+    fn begin(&mut self, out: &mut Octets) -> Result<(), Stop>
+        requires ready { IsReady B.working self.old }
+        requires due { IsDue self.old command.Begin }
+        ensures { IsStep B.working B.kept B.whole B.kept_whole B.limit B.faults B.content self.old self.new command.Begin out.old out.new result }
+    {
+        append(out, b"begun\n")?;
+        self.inside = true;
+        Ok(())
+    }
+
+    // The answer is there before the commit, and is taken back where the commit fails: so no want of
+    // memory comes after it.
+    fn commit(&mut self, alloc: Global, out: &mut Octets) -> Result<(), Stop>
+        requires ready { IsReady B.working self.old }
+        requires due { IsDue self.old command.Commit }
+        ensures { IsStep B.working B.kept B.whole B.kept_whole B.limit B.faults B.content self.old self.new command.Commit out.old out.new result }
+    {
+        let commits = self.commits.saturating_add(1);
+        let line = commit_line(alloc, commits)?;
+        let before = out.0.len();
+        append(out, line.as_slice())?;
+        match self.leaves.commit() {
+            Ok(()) => {
+                self.inside = false;
+                self.commits = commits;
+                Ok(())
+            }
+            Err(Failed) => {
+                out.0.truncate(before);
+                Err(Stop::Fault)
+            }
+        }
+    }
+
+    fn abort(&mut self, out: &mut Octets) -> Result<(), Stop>
+        requires ready { IsReady B.working self.old }
+        requires due { IsDue self.old command.Abort }
+        ensures { IsStep B.working B.kept B.whole B.kept_whole B.limit B.faults B.content self.old self.new command.Abort out.old out.new result }
+    {
+        append(out, b"dropped\n")?;
+        self.leaves.abort();
+        self.inside = false;
+        Ok(())
+    }
+
+    fn insert(
+        &mut self,
+        alloc: Global,
+        file: u16,
+        values: &Values,
+        out: &mut Octets,
+    ) -> Result<(), Stop>
+        requires ready { IsReady B.working self.old }
+        requires due { IsDue self.old (command.Insert file values.now) }
+        ensures { IsStep B.working B.kept B.whole B.kept_whole B.limit B.faults B.content self.old self.new (command.Insert file values.now) out.old out.new result }
+    {
+        let def = file_def(&self.schema, file);
+        let (key, values) = key_and_values(def, values);
+        let done = insert_record(alloc, def, u32::from(file), key, values, &mut self.leaves)?;
+        append(out, insert_answer(done))?;
+        Ok(())
+    }
+
+    fn update(
+        &mut self,
+        alloc: Global,
+        file: u16,
+        key: &Value,
+        changes: &Changes,
+        out: &mut Octets,
+    ) -> Result<(), Stop>
+        requires ready { IsReady B.working self.old }
+        requires due { IsDue self.old (command.Update file key.now changes.now) }
+        ensures { IsStep B.working B.kept B.whole B.kept_whole B.limit B.faults B.content self.old self.new (command.Update file key.now changes.now) out.old out.new result }
+    {
+        let def = file_def(&self.schema, file);
+        let done = update_record(
+            alloc,
+            def,
+            u32::from(file),
+            key,
+            &changes.0,
+            &mut self.leaves,
+        )?;
+        append(out, edit_answer(done))?;
+        Ok(())
+    }
+
+    fn delete(
+        &mut self,
+        alloc: Global,
+        file: u16,
+        key: &Value,
+        out: &mut Octets,
+    ) -> Result<(), Stop>
+        requires ready { IsReady B.working self.old }
+        requires due { IsDue self.old (command.Delete file key.now) }
+        ensures { IsStep B.working B.kept B.whole B.kept_whole B.limit B.faults B.content self.old self.new (command.Delete file key.now) out.old out.new result }
+    {
+        let def = file_def(&self.schema, file);
+        let done = delete_record(alloc, def, u32::from(file), key, &mut self.leaves)?;
+        append(out, edit_answer(done))?;
+        Ok(())
+    }
+
+    fn get(&mut self, alloc: Global, file: u16, key: &Value, out: &mut Octets) -> Result<(), Stop>
+        requires ready { IsReady B.working self.old }
+        requires due { IsDue self.old (command.Get file key.now) }
+        ensures { IsStep B.working B.kept B.whole B.kept_whole B.limit B.faults B.content self.old self.new (command.Get file key.now) out.old out.new result }
+    {
+        let def = file_def(&self.schema, file);
+        let Some(values) = find_values(alloc, def, u32::from(file), key, &mut self.leaves)? else {
+            append(out, b"none\n")?;
+            return Ok(());
+        };
+        let line = record_line(alloc, def, key, &values.0)?;
+        append(out, line.as_slice())?;
+        Ok(())
+    }
+
+    fn find(&mut self, alloc: Global, find: &Find, out: &mut Octets) -> Result<(), Stop>
+        requires ready { IsReady B.working self.old }
+        requires due { IsDue self.old (command.Find find.now) }
+        ensures { IsStep B.working B.kept B.whole B.kept_whole B.limit B.faults B.content self.old self.new (command.Find find.now) out.old out.new result }
+    {
+        let def = file_def(&self.schema, find.file);
+        let text = found_text(alloc, def, u32::from(find.file), find, &mut self.leaves)?;
+        append(out, text.as_slice())?;
+        Ok(())
+    }
+
+    fn reorganize(&mut self, alloc: Global, file: u16, out: &mut Octets) -> Result<(), Stop>
+        requires ready { IsReady B.working self.old }
+        requires due { IsDue self.old (command.ReorganizeFile file) }
+        ensures { IsStep B.working B.kept B.whole B.kept_whole B.limit B.faults B.content self.old self.new (command.ReorganizeFile file) out.old out.new result }
+    {
+        self.leaves.reorganize(alloc, u32::from(file))?;
+        append(out, b"ok\n")?;
+        Ok(())
+    }
+
+    /// Hears the script, as a device does.
+    pub fn hear(&mut self, into: &mut [u8]) -> Result<usize, Failed>
+        requires { 0 < length into.old }
+        ensures bound { IfOk result (λ n. n ≤ length into.new) }
+        ensures heard { IsTrue B.tells → IfOk result (λ n. Hears n into.new (B.content (leaves_of self.old)) (B.content (leaves_of self.new))) }
+        ensures not_heard { OnErr result ((B.content (leaves_of self.new)).script ≡ (B.content (leaves_of self.old)).script) }
+        ensures rest { Listens (B.content (leaves_of self.old)) (B.content (leaves_of self.new)) }
+        ensures cause { HasCause (B.faults (leaves_of self.old)) (B.faults (leaves_of self.new)) result }
+        ensures same { IsSame B.working B.kept B.whole B.kept_whole B.limit self.old self.new }
+    {
+        self.leaves.hear(into)
+    }
+
+    /// Says the first bytes of a piece, as a device does.
+    pub fn say(&mut self, from: &[u8]) -> Result<usize, Failed>
+        ensures bound { IfOk result (λ n. n ≤ length from.now) }
+        ensures said { IsTrue B.tells → IfOk result (λ n. Says n from.now (B.content (leaves_of self.old)) (B.content (leaves_of self.new))) }
+        ensures not_said { OnErr result ((B.content (leaves_of self.new)).now.said ≡ (B.content (leaves_of self.old)).now.said) }
+        ensures rest { Speaks (B.content (leaves_of self.old)) (B.content (leaves_of self.new)) }
+        ensures cause { HasCause (B.faults (leaves_of self.old)) (B.faults (leaves_of self.new)) result }
+        ensures none_taken { result ≡ Ok 0 → 0 < length from.now → Rose (B.faults (leaves_of self.old)) (B.faults (leaves_of self.new)) }
+        ensures same { IsSame B.working B.kept B.whole B.kept_whole B.limit self.old self.new }
+    {
+        self.leaves.say(from)
+    }
+
+    /// The leaves as they stand.
+    pub fn into_leaves(self) -> B
+        ensures { result ≡ leaves_of self }
+    {
+        self.leaves
+    }
+}
+
+fn append(out: &mut Octets, bytes: &[u8]) -> Result<(), AllocError>
+    ensures ok { OnOk result (out.new ≡ out.old ++ bytes.now) }
+    ensures err { OnErr result (out.new ≡ out.old) }
+{
+    out.0.extend_from_slice(bytes)
+}
+
+fn file_def(schema: &Schema, file: u16) -> &FileDef
+    requires { file < length schema.now.files }
+    ensures { result.now ≡ file_at schema.now file }
+{
+    &schema.files.0[usize::from(file)]
+}
+
+fn insert_answer(done: bool) -> &'static [u8]
+    ensures { result.now ≡ (if done then codes "ok\n" else codes "refused: key exists\n") }
+{
+    if done {
+        b"ok\n"
+    } else {
+        b"refused: key exists\n"
+    }
+}
+
+// The answer of an update or a delete.
+fn edit_answer(done: bool) -> &'static [u8]
+    ensures { result.now ≡ (if done then codes "ok\n" else codes "refused: no record\n") }
+{
+    if done {
+        b"ok\n"
+    } else {
+        b"refused: no record\n"
+    }
+}
+
+// The key of a new record, and its other values.
+fn key_and_values<'a>(file: &FileDef, values: &'a Values) -> (&'a Value, &'a [Value])
+    requires keyed { 0 < length file.now.fields }
+    requires fit { AreFit file.now.fields values.now }
+    ensures parts { values.now ≡ result.0.now ∷ result.1.now }
+    ensures key { Fits (key_kind file.now) result.0.now }
+    ensures others { AreFit (data_fields file.now) result.1.now }
+{
+    let _file = file;
+    let [key, others @ ..] = values.0.as_slice() else {
+        unreachable!()
+    };
+    (key, others)
+}

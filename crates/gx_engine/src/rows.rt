@@ -1,0 +1,91 @@
+// Records of files, and their order.
+ghost use Rattle.std.specs.Prelude.{◌≡◌, ◌&&◌, filter, OnOk, OnErr, pos};
+ghost use Rattle.std.specs.FinMap as fin;
+ghost use Rattle.std.specs.List.Sorted.{IsPermutation, IsSortedBy};
+ghost use Rattle.std.specs.Ordering.{is_lt};
+ghost use Rattle.gx_values.specs.Values.{value_cmp};
+ghost use Rattle.gx_values.specs.declared.values.Value.TheVariants as value;
+ghost use Rattle.gx_model.specs.States.{File, Row as TheRow};
+ghost use Rattle.gx_model.specs.Found.{IsListed, meets_conds, meets_cond, row_cmp, value_at};
+ghost use Rattle.std.specs.Prelude.{Bool};
+
+use gx_script::{Cond, OrderBy};
+use gx_values::{Value, Values, compare, meets};
+use std::alloc::AllocError;
+use std::cmp::Ordering;
+use std::marker::Model;
+
+/// A record: its key and its other values, in the order of the fields.
+#[derive(Debug, Drop)]
+pub struct Row {
+    pub key: Value,
+    pub values: Values,
+}
+
+impl Model for Row {
+    ghost use Rattle.gx_model.specs.States.{Row as TheRow};
+    ghost use Rattle.gx_values.specs.Values.{IsSized, AreSized};
+
+    ghost Value = { TheRow };
+
+    ghost view = { λ r. (r.key, r.values) };
+
+    ghost invariant = { λ r. IsSized r.key × AreSized r.values };
+}
+
+/// Whether a record meets every condition.
+pub(crate) fn meets_all(conds: &[Cond], row: &Row) -> bool
+    ensures { result ≡ meets_conds conds.now row.now }
+{
+    conds.iter().all(|cond| meets_one(cond, row))
+}
+
+fn meets_one(cond: &Cond, row: &Row) -> bool
+    ensures { result ≡ meets_cond row.now cond.now }
+{
+    let absent = Value::Int(0);
+    meets(field_value(cond.field, row, &absent), cond.op, &cond.bound)
+}
+
+/// Sorts records by an order.
+pub(crate) fn sort_rows(rows: &mut Vec<Row>, order: OrderBy) -> Result<(), AllocError>
+    ensures those { IsPermutation rows.old.items rows.new.items }
+    ensures in_order { OnOk result (IsSortedBy (λ a b. is_lt (row_cmp order a b)) rows.new.items) }
+    ensures listed { (f : File) (test : TheRow → Bool) → rows.old.items ≡ filter test (fin.entries f) → OnOk result (IsListed f test order rows.new.items) }
+{
+    rows.sort_by(|a, b| compare_rows(order, a, b))?;
+    Ok(())
+}
+
+fn compare_rows(order: OrderBy, a: &Row, b: &Row) -> Ordering
+    ensures { result ≡ row_cmp order a.now b.now }
+{
+    let ascending = compare_values(order.field, a, b);
+    let by_field = if order.desc {
+        ascending.reverse()
+    } else {
+        ascending
+    };
+    by_field.then(compare(&a.key, &b.key))
+}
+
+fn compare_values(field: u16, a: &Row, b: &Row) -> Ordering
+    ensures { result ≡ value_cmp (value_at a.now field) (value_at b.now field) }
+{
+    let absent = Value::Int(0);
+    compare(
+        field_value(field, a, &absent),
+        field_value(field, b, &absent),
+    )
+}
+
+// The value of a field, the key being field 0.
+fn field_value<'a>(field: u16, row: &'a Row, absent: &'a Value) -> &'a Value
+    requires { absent.now ≡ value.Int (pos 0) }
+    ensures { result.now ≡ value_at row.now field }
+{
+    if field == 0 {
+        return &row.key;
+    }
+    row.values.0.get(field as usize - 1).unwrap_or(absent)
+}
