@@ -1,0 +1,67 @@
+-- What the play of a script on an engine says, line by line.
+use Rattle.std.specs.Prelude.{◌≡◌, ◌⊎◌, ℕ, ◌+◌, List, ◌++◌, Bool, IsTrue, Some, None, Result, Ok, Err}
+use Rattle.gx_device.specs.Content.{Content}
+use Rattle.gx_schema.specs.declared.schema.Schema.{Schema}
+use Rattle.gx_script.specs.declared.command.Command.{Command}
+use Rattle.gx_script.specs.declared.command.LineWhy.{LineWhy}
+use Rattle.gx_script.specs.Commands.{place_reason}
+use Rattle.gx_script.specs.Lines.{Lines, stopped as stopped_lines}
+use Rattle.gx_script.specs.Reading.{IsReading}
+use Rattle.gx_ports.specs.LeafMaps.{LeafMap}
+use Rattle.gx_model.specs.Play.{Playing, End, good, stopped, is_inside, next_of, IsAnswered, IsPlayed}
+use Rattle.gx_engine.specs.declared.engine.Engine.{Engine}
+use Rattle.gx_engine.specs.Steps.{StandsFor, schema_of, leaves_of}
+use Rattle.gx_top.specs.declared.play.PlayEnd.{PlayEnd}
+use Rattle.gx_top.specs.declared.play.PlayEnd.TheVariants as play_end
+
+-- the line means no command, or one that may not stand there
+abbrev pub IsBadLine : Schema → Bool → List ℕ → LineWhy → Type 0
+IsBadLine schema inside line why = IsReading schema line (Err why) ⊎ ((command : Command) × IsReading schema line (Ok command) × (place_reason inside command ≡ Some why))
+
+-- the engine stands for a moment of the play, and its leaves are whole
+pub record IsAt {S : Type 0} (working kept : S → List LeafMap) (whole kept_whole : S → Type 0) (p : Playing) (e : Engine S) : Type 0 where
+  pub stands : StandsFor working kept e p
+  pub whole_is : whole (leaves_of e)
+  pub kept_whole_is : kept_whole (leaves_of e)
+
+-- a command was carried out and its answer said, and the engine stands for what comes after it
+pub record IsCommandPlayed {S : Type 0} (working kept : S → List LeafMap) (whole kept_whole : S → Type 0) (content : S → Content) (tells : Bool) (p : Playing) (command : Command) (old new : Engine S) : Type 0 where
+  pub answer : List ℕ
+  pub answered : IsAnswered (schema_of old) p command answer
+  pub at : IsAt working kept whole kept_whole (next_of (schema_of old) p command) new
+  pub said : IsTrue tells → (content (leaves_of new)).now.said ≡ (content (leaves_of old)).now.said ++ answer
+
+-- the same of the command that a line means, which may stand there
+pub record IsLinePlayed {S : Type 0} (working kept : S → List LeafMap) (whole kept_whole : S → Type 0) (content : S → Content) (tells : Bool) (p : Playing) (line : List ℕ) (old new : Engine S) : Type 0 where
+  pub command : Command
+  pub read : IsReading (schema_of old) line (Ok command)
+  pub placed : place_reason (is_inside p) command ≡ None
+  pub played : IsCommandPlayed working kept whole kept_whole content tells p command old new
+
+-- ---- the play of lines
+
+-- the lines were played from a moment on, up to this end, and their answers were said
+pub record IsPlayedUp (schema : Schema) (p : Playing) (lines : Lines) (old new : Content) (end : End) : Type 0 where
+  pub text : List ℕ
+  pub final : Playing
+  pub played : IsPlayed schema 0 p lines.lines lines.stop text final end
+  pub said : new.now.said ≡ old.now.said ++ text
+
+-- the same for the end that a play answers; of a stop nothing is said here
+abbrev pub IsPlayedTo : Schema → Playing → Lines → Content → Content → Result (Unit {0}) PlayEnd → Type 0
+IsPlayedTo schema p lines old new (Ok x) = IsPlayedUp schema p lines old new good
+IsPlayedTo schema p lines old new (Err (play_end.Line number why)) = IsPlayedUp schema p lines old new (stopped number why)
+IsPlayedTo schema p lines old new (Err (play_end.Stop stop)) = Unit {0}
+
+-- where the play of all lines stands when so many were played, and these are left
+pub record IsSoFar {S : Type 0} (working kept : S → List LeafMap) (whole kept_whole : S → Type 0) (content : S → Content) (start : Playing) (all left : Lines) (number : ℕ) (old new : Engine S) : Type 0 where
+  pub now : Playing
+  pub answers : List ℕ
+  pub at : IsAt working kept whole kept_whole now new
+  pub said : (content (leaves_of new)).now.said ≡ (content (leaves_of old)).now.said ++ answers
+  pub goes_on : (more : List ℕ) (final : Playing) (end : End) → IsPlayed (schema_of old) number now left.lines left.stop more final end → IsPlayed (schema_of old) 0 start all.lines all.stop (answers ++ more) final end
+
+-- why there is no next line
+abbrev pub IsLineEnd : Lines → ℕ → PlayEnd → Type 0
+IsLineEnd lines number (play_end.Line n why) = (n ≡ number + 1) × (lines ≡ stopped_lines why)
+IsLineEnd lines number (play_end.Stop stop) = ⊥

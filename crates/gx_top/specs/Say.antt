@@ -1,0 +1,21 @@
+-- What is said of a piece that is offered until it is taken whole.
+use Rattle.std.specs.Prelude.{◌≡◌, ◌⊎◌, ℕ, List, ◌++◌, take, Bool, IsTrue, Result, OnOk}
+use Rattle.gx_device.specs.declared.device.Failed.{Failed}
+use Rattle.gx_device.specs.Content.{Content}
+use Rattle.gx_device.specs.Faults.{HasCause}
+
+-- nothing changed but what was said
+pub record OnlySays (old new : Content) : Type 0 where
+  pub script : new.script ≡ old.script
+  pub aside : new.aside ≡ old.aside
+
+-- all of the piece, or after a failure a front of it
+pub record SaysAll {T : Type 0} (tells : Bool) (old new : Content) (before now : ℕ) (piece : List ℕ) (result : Result T Failed) : Type 0 where
+  pub all : IsTrue tells → OnOk result (new.now.said ≡ old.now.said ++ piece)
+  pub front : IsTrue tells → (count : ℕ) × (new.now.said ≡ old.now.said ++ take count piece)
+  pub rest : OnlySays old new
+  pub cause : HasCause before now result
+
+-- a front of one of the two texts was said
+abbrev pub IsCut : List ℕ → List ℕ → Content → Content → Type 0
+IsCut one other old new = (count : ℕ) × ((new.now.said ≡ old.now.said ++ take count one) ⊎ (new.now.said ≡ old.now.said ++ take count other))

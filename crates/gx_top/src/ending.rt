@@ -1,0 +1,163 @@
+// Why a request ends early, and what is said of it.
+ghost use Rattle.std.specs.Prelude.{◌≡◌, ◌≢◌, ◌++◌, ◌≤◌, ◌⊎◌, List, ℕ, take, IsTrue, IfOk, IsOk, codes};
+ghost use Rattle.std.specs.Fmt.{decimal};
+ghost use Rattle.gx_device.specs.Faults.{Rose};
+ghost use Rattle.gx_tokens.specs.Whys.{word_of as why_word};
+ghost use Rattle.gx_script.specs.LineWhys.{word_of as line_word};
+ghost use Rattle.gx_top.specs.Endings.{line_of, status_of, memory_line};
+ghost use Rattle.gx_top.specs.Say.{IsCut, OnlySays};
+
+use crate::say::say_all;
+use crate::status::Status;
+use gx_device::{Failed, Machine};
+use gx_schema::Why;
+use gx_script::LineWhy;
+use gx_values::NoMemory;
+use std::alloc::{AllocError, Global};
+
+/// Why a request ends before it is carried out.
+#[derive(Clone, Copy, Debug)]
+pub enum Ending<'a> {
+    /// The words are no request.
+    Words,
+    /// There is no text of this name.
+    Missing(&'a str),
+    /// The text of this name is longer than a text may be.
+    TooLong(&'a str),
+    /// The schema goes wrong in this line, counted from 1.
+    Schema(u32, Why),
+    /// The schema has a link, or the equation isn't that of heaps of whole records.
+    NotBuilt,
+    /// The records of the file that is defined in this line, counted from 1, may be too long for a leaf.
+    EntryTooLong(u32),
+    /// The canonical texts of the schema and the equation are too long together.
+    TextsTooLong,
+    /// The line of this number, counted from 1, ends the script.
+    Line(u32, LineWhy),
+    /// A call of the machine failed.
+    Fault,
+    /// There was no memory.
+    NoMemory,
+}
+
+impl From<AllocError> for Ending<'_> {
+    ghost use Rattle.gx_top.specs.declared.ending.Ending.TheVariants as ending;
+
+    ghost from_gives = { λ _ e. e ≡ ending.NoMemory };
+
+    fn from(_: AllocError) -> Self {
+        Ending::NoMemory
+    }
+}
+
+impl From<NoMemory> for Ending<'_> {
+    ghost use Rattle.gx_top.specs.declared.ending.Ending.TheVariants as ending;
+
+    ghost from_gives = { λ _ e. e ≡ ending.NoMemory };
+
+    fn from(_: NoMemory) -> Self {
+        Ending::NoMemory
+    }
+}
+
+/// Says the line of an ending, and answers its status. After a failed call nothing is said. Where
+/// there is no memory for the line, `stopped: memory` is said in its place, and where the line can't
+/// be said, the status is `Outside`.
+pub fn end<M: Machine>(alloc: Global, ending: Ending<'_>, machine: &mut M) -> Status
+    ensures status { result ≢ Status.Outside → result ≢ Status.Memory → result ≡ status_of ending.entry }
+    ensures said { IsTrue M.tells → result ≢ Status.Outside → result ≢ Status.Memory → (M.content machine.new).now.said ≡ (M.content machine.old).now.said ++ line_of ending.entry }
+    ensures memory { IsTrue M.tells → result ≡ Status.Memory → (M.content machine.new).now.said ≡ (M.content machine.old).now.said ++ memory_line }
+    ensures cut { IsTrue M.tells → result ≡ Status.Outside → IsCut (line_of ending.entry) memory_line (M.content machine.old) (M.content machine.new) }
+    ensures outside { result ≡ Status.Outside → (ending.entry ≡ Ending.Fault) ⊎ Rose (M.faults machine.old) (M.faults machine.new) }
+    ensures fault { ending.entry ≡ Ending.Fault → result ≡ Status.Outside }
+    ensures rest { OnlySays (M.content machine.old) (M.content machine.new) }
+    ensures later { M.faults machine.old ≤ M.faults machine.new }
+{
+    match line(alloc, ending) {
+        Ok(line) => say_line(machine, &line, status(ending)),
+        Err(NoMemory) => say_line(machine, b"stopped: memory\n", Status::Memory),
+    }
+}
+
+// Says a line whole, and answers the status that goes with it, or `Outside` where it can't be said.
+fn say_line<M: Machine>(machine: &mut M, line: &[u8], status: Status) -> Status
+    ensures status { result ≢ Status.Outside → result ≡ status }
+    ensures said { IsTrue M.tells → result ≢ Status.Outside → (M.content machine.new).now.said ≡ (M.content machine.old).now.said ++ line.now }
+    ensures cut { IsTrue M.tells → (count : ℕ) × ((M.content machine.new).now.said ≡ (M.content machine.old).now.said ++ take count line.now) }
+    ensures outside { result ≡ Status.Outside → (status ≡ Status.Outside) ⊎ Rose (M.faults machine.old) (M.faults machine.new) }
+    ensures same { status ≡ Status.Outside → result ≡ Status.Outside }
+    ensures rest { OnlySays (M.content machine.old) (M.content machine.new) }
+    ensures later { M.faults machine.old ≤ M.faults machine.new }
+{
+    match say_all(machine, line) {
+        Ok(()) => status,
+        Err(Failed) => Status::Outside,
+    }
+}
+
+fn status(ending: Ending<'_>) -> Status
+    ensures { result ≡ status_of ending.entry }
+{
+    match ending {
+        Ending::Words
+        | Ending::Missing(_)
+        | Ending::TooLong(_)
+        | Ending::Schema(..)
+        | Ending::NotBuilt
+        | Ending::EntryTooLong(_)
+        | Ending::TextsTooLong => Status::Refused,
+        Ending::Line(..) => Status::Script,
+        Ending::Fault => Status::Outside,
+        Ending::NoMemory => Status::Memory,
+    }
+}
+
+// The line of an ending, with its LF.
+fn line(alloc: Global, ending: Ending<'_>) -> Result<Vec<u8>, NoMemory>
+    ensures line { IfOk result (λ line. line.items ≡ line_of ending.entry) }
+    ensures fault { ending.entry ≡ Ending.Fault → IsOk result }
+{
+    match ending {
+        Ending::Words => Ok(b"refused: words\n".to_vec(alloc)?),
+        Ending::Missing(name) => named_line(alloc, b"refused: missing ", name),
+        Ending::TooLong(name) => named_line(alloc, b"refused: too long ", name),
+        Ending::Schema(line, why) => numbered_line(
+            alloc,
+            b"refused: schema line ",
+            line,
+            why.word(),
+        ),
+        Ending::NotBuilt => Ok(b"refused: not built\n".to_vec(alloc)?),
+        Ending::EntryTooLong(line) => numbered_line(
+            alloc,
+            b"refused: type line ",
+            line,
+            "entry too long",
+        ),
+        Ending::TextsTooLong => Ok(b"refused: texts too long\n".to_vec(alloc)?),
+        Ending::Line(number, why) => numbered_line(alloc, b"stopped at line ", number, why.word()),
+        Ending::Fault => Ok(Vec::new(alloc)),
+        Ending::NoMemory => Ok(b"stopped: memory\n".to_vec(alloc)?),
+    }
+}
+
+fn named_line(alloc: Global, front: &[u8], name: &str) -> Result<Vec<u8>, NoMemory>
+    ensures { IfOk result (λ line. line.items ≡ front.now ++ name.now ++ codes "\n") }
+{
+    let mut line = front.to_vec(alloc)?;
+    line.extend_from_slice(name.as_bytes())?;
+    line.extend_from_slice(b"\n")?;
+    Ok(line)
+}
+
+fn numbered_line(alloc: Global, front: &[u8], number: u32, why: &str) -> Result<Vec<u8>, NoMemory>
+    ensures { IfOk result (λ line. line.items ≡ front.now ++ decimal number ++ codes ": " ++ why.now ++ codes "\n") }
+{
+    let digits = number.to_string(alloc)?;
+    let mut line = front.to_vec(alloc)?;
+    line.extend_from_slice(digits.as_bytes())?;
+    line.extend_from_slice(b": ")?;
+    line.extend_from_slice(why.as_bytes())?;
+    line.extend_from_slice(b"\n")?;
+    Ok(line)
+}

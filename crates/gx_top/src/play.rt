@@ -1,0 +1,181 @@
+// Playing a script on an engine, line by line.
+ghost use Rattle.std.specs.Prelude.{◌≡◌, ◌≢◌, ◌^◌, ◌<◌, ◌≤◌, ◌+◌, ◌++◌, List, ℕ, Option, None, Ok, Err, length, take, IsTrue, IfOk, IfErr, IfSome, OnOk, ◌-◌, option_map};
+ghost use Rattle.gx_schema.specs.WellFormed.{IsWellFormed};
+ghost use Rattle.gx_engine.specs.Steps.{IsReady, IsDue, schema_of, is_open, stop_of, leaves_of};
+ghost use Rattle.gx_model.specs.Play.{Playing};
+ghost use Rattle.gx_script.specs.Lines.{script_lines, IsNext};
+ghost use Rattle.gx_script.specs.Reading.{IsReading};
+ghost use Rattle.gx_top.specs.Plays.{IsAt, IsLinePlayed, IsCommandPlayed, IsBadLine, IsPlayedTo, IsLineEnd};
+ghost use Rattle.gx_top.specs.Say.{OnlySays};
+
+use crate::say::answer_all;
+use gx_engine::{Engine, StepStop};
+use gx_ports::{Leaves, Stop};
+use gx_script::{Command, LineWhy, NoCommand, ScriptLines, allowed, read_command};
+use gx_values::Octets;
+use std::alloc::Global;
+
+/// Why a line isn't carried out.
+#[derive(Clone, Copy, Debug)]
+pub enum LineEnd {
+    /// It means no command, or one that may not stand there.
+    Bad(LineWhy),
+    /// It was given up.
+    Stop(Stop),
+}
+
+impl From<NoCommand> for LineEnd {
+    ghost use Rattle.gx_top.specs.Lines.{IsEndOf};
+
+    ghost from_gives = { λ e end. IsEndOf e end };
+
+    fn from(error: NoCommand) -> Self {
+        match error {
+            NoCommand::Bad(why) => LineEnd::Bad(why),
+            NoCommand::NoMemory => LineEnd::Stop(Stop::NoMemory),
+        }
+    }
+}
+
+impl From<LineWhy> for LineEnd {
+    ghost use Rattle.gx_top.specs.declared.play.LineEnd.TheVariants as line_end;
+
+    ghost from_gives = { λ why e. e ≡ line_end.Bad why };
+
+    fn from(why: LineWhy) -> Self {
+        LineEnd::Bad(why)
+    }
+}
+
+impl From<Stop> for LineEnd {
+    ghost use Rattle.gx_top.specs.declared.play.LineEnd.TheVariants as line_end;
+
+    ghost from_gives = { λ s e. e ≡ line_end.Stop s };
+
+    fn from(stop: Stop) -> Self {
+        LineEnd::Stop(stop)
+    }
+}
+
+/// Carries out one line and says its answer whole.
+fn play_line<B: Leaves + Drop>(
+    alloc: Global,
+    line: &[u8],
+    engine: &mut Engine<B>,
+) -> Result<(), LineEnd>
+    requires ready { IsReady B.working engine.old }
+    requires well_formed { IsWellFormed (schema_of engine.old) }
+    requires going { stop_of engine.old ≡ None }
+    ensures played { (p : Playing) → IsAt B.working B.kept B.whole B.kept_whole p engine.old → OnOk result (IsLinePlayed B.working B.kept B.whole B.kept_whole B.content B.tells p line.now engine.old engine.new) }
+    ensures bad { (why : LineWhy) → result ≡ Err (LineEnd.Bad why) → IsBadLine (schema_of engine.old) (is_open engine.old) line.now why }
+    ensures unsaid { IsTrue B.tells → (end : LineEnd) → result ≡ Err end → end ≢ LineEnd.Stop Stop.Fault → (B.content (leaves_of engine.new)).now.said ≡ (B.content (leaves_of engine.old)).now.said }
+    ensures schema { schema_of engine.new ≡ schema_of engine.old }
+    ensures ready { IsReady B.working engine.new }
+    ensures going { OnOk result (stop_of engine.new ≡ None) }
+    ensures limit { B.limit (leaves_of engine.new) ≡ B.limit (leaves_of engine.old) }
+    ensures rest { OnlySays (B.content (leaves_of engine.old)) (B.content (leaves_of engine.new)) }
+    ensures later { B.faults (leaves_of engine.old) ≤ B.faults (leaves_of engine.new) }
+{
+    let command = placed_command(alloc, line, engine)?;
+    carry_out(alloc, &command, engine)?;
+    Ok(())
+}
+
+// The command of a line, which may stand where the engine is.
+fn placed_command<B: Leaves + Drop>(
+    alloc: Global,
+    line: &[u8],
+    engine: &Engine<B>,
+) -> Result<Command, LineEnd>
+    requires { IsWellFormed (schema_of engine.now) }
+    ensures read { IfOk result (λ command. IsReading (schema_of engine.now) line.now (Ok command)) }
+    ensures due { IfOk result (IsDue engine.now) }
+    ensures bad { (why : LineWhy) → result ≡ Err (LineEnd.Bad why) → IsBadLine (schema_of engine.now) (is_open engine.now) line.now why }
+    ensures unread { (stop : Stop) → result ≡ Err (LineEnd.Stop stop) → stop ≡ Stop.NoMemory }
+{
+    let command = read_command(alloc, engine.schema(), line)?;
+    match allowed(engine.inside(), &command) {
+        Ok(()) => Ok(command),
+        Err(why) => Err(LineEnd::Bad(why)),
+    }
+}
+
+// Carries out a command and says its answer whole.
+fn carry_out<B: Leaves + Drop>(
+    alloc: Global,
+    command: &Command,
+    engine: &mut Engine<B>,
+) -> Result<(), Stop>
+    requires ready { IsReady B.working engine.old }
+    requires due { IsDue engine.old command.now }
+    requires going { stop_of engine.old ≡ None }
+    ensures answered { (p : Playing) → IsAt B.working B.kept B.whole B.kept_whole p engine.old → OnOk result (IsCommandPlayed B.working B.kept B.whole B.kept_whole B.content B.tells p command.now engine.old engine.new) }
+    ensures unsaid { IsTrue B.tells → (stop : Stop) → result ≡ Err stop → stop ≢ Stop.Fault → (B.content (leaves_of engine.new)).now.said ≡ (B.content (leaves_of engine.old)).now.said }
+    ensures schema { schema_of engine.new ≡ schema_of engine.old }
+    ensures ready { IsReady B.working engine.new }
+    ensures going { OnOk result (stop_of engine.new ≡ None) }
+    ensures limit { B.limit (leaves_of engine.new) ≡ B.limit (leaves_of engine.old) }
+    ensures rest { OnlySays (B.content (leaves_of engine.old)) (B.content (leaves_of engine.new)) }
+    ensures later { B.faults (leaves_of engine.old) ≤ B.faults (leaves_of engine.new) }
+{
+    let mut answer = Octets(Vec::new(alloc));
+    match engine.step(alloc, command, &mut answer) {
+        Ok(()) => {}
+        Err(StepStop::Now(stop) | StepStop::Stopped(stop)) => return Err(stop),
+    }
+    answer_all(engine, answer.as_slice())?;
+    Ok(())
+}
+
+/// Why a script isn't played to its end.
+#[derive(Clone, Copy, Debug)]
+pub enum PlayEnd {
+    /// The line of this number, counted from 1, ends it.
+    Line(u32, LineWhy),
+    /// A line was given up.
+    Stop(Stop),
+}
+
+/// Plays a script line by line, up to its end or the line that ends it. Each answer is said whole
+/// before the next line is carried out. On a device that tells its content: after `Ok` and `Line`
+/// exactly the answers of the play were said, and it ends there.
+pub fn play<B: Leaves + Drop>(
+    alloc: Global,
+    script: &[u8],
+    engine: &mut Engine<B>,
+) -> Result<(), PlayEnd>
+    requires ready { IsReady B.working engine.old }
+    requires well_formed { IsWellFormed (schema_of engine.old) }
+    requires going { stop_of engine.old ≡ None }
+    ensures played { IsTrue B.tells → (p : Playing) → IsAt B.working B.kept B.whole B.kept_whole p engine.old → IsPlayedTo (schema_of engine.old) p (script_lines script.now) (B.content (leaves_of engine.old)) (B.content (leaves_of engine.new)) result }
+    ensures rest { OnlySays (B.content (leaves_of engine.old)) (B.content (leaves_of engine.new)) }
+    ensures later { B.faults (leaves_of engine.old) ≤ B.faults (leaves_of engine.new) }
+{
+    let mut lines = ScriptLines::new(script);
+    let mut number = 0u32;
+    while let Some(line) = next_line(&mut lines, number)? {
+        number += 1;
+        match play_line(alloc, line, engine) {
+            Ok(()) => {}
+            Err(LineEnd::Bad(why)) => return Err(PlayEnd::Line(number, why)),
+            Err(LineEnd::Stop(stop)) => return Err(PlayEnd::Stop(stop)),
+        }
+    }
+    if engine.inside() {
+        return Err(PlayEnd::Line(number, LineWhy::OpenTransaction));
+    }
+    Ok(())
+}
+
+// The line behind the line of this number.
+fn next_line<'a>(lines: &mut ScriptLines<'a>, number: u32) -> Result<Option<&'a [u8]>, PlayEnd>
+    requires { number < 2 ^ 32 - 1 }
+    ensures next { IfOk result (λ line. IsNext lines.old lines.new (Ok (option_map (λ bytes. bytes.now) line))) }
+    ensures shorter { IfOk result (λ line. IfSome line (λ _. length lines.new.lines < length lines.old.lines)) }
+    ensures none { IfErr result (IsLineEnd lines.old number) }
+{
+    match lines.next_line() {
+        Ok(line) => Ok(line),
+        Err(why) => Err(PlayEnd::Line(number + 1, why)),
+    }
+}

@@ -1,0 +1,104 @@
+// A request from its words to its end.
+ghost use Rattle.std.specs.Prelude.{◌≡◌, ◌≢◌, ◌≤◌, ◌^◌, ◌<◌, ◌++◌, length, IsTrue, IfErr};
+ghost use Rattle.gx_schema.specs.WellFormed.{IsWellFormed};
+ghost use Rattle.gx_model.specs.Play.{good};
+ghost use Rattle.gx_engine.specs.Internal.{AreStorable};
+ghost use Rattle.gx_top.specs.Words.{texts_of};
+ghost use Rattle.gx_top.specs.Endings.{status_of};
+ghost use Rattle.gx_top.specs.Tries.{Refuses, Plays, StopsAtLine, IsSaid, IsAnsweredTo, IsEndingOf};
+
+use crate::ending::{Ending, end};
+use crate::play::{PlayEnd, play};
+use crate::prepare::prepare;
+use crate::script::hear_script;
+use crate::status::Status;
+use gx_device::Machine;
+use gx_engine::Engine;
+use gx_ports::{PlainLeaves, Stop};
+use gx_schema::Schema;
+use gx_values::NoMemory;
+use std::alloc::Global;
+
+/// Carries out what the words ask for, says its answers on the machine, and hands the machine
+/// back. On a machine that tells its content:
+///
+/// - `Done`: exactly the answers of the play of the whole script on an empty database were said.
+/// - `Script`: a line ends the play. Exactly the answers up to it were said, and then the line that
+///   says where and why.
+/// - `Refused`: the request is refused for the first reason in the order of the words, the texts, the
+///   schema, the equation, the width of records and the length of the texts. The line of that reason
+///   was said, and nothing else.
+pub fn top<M: Machine + Drop>(alloc: Global, words: &[String], machine: M) -> (Status, M)
+    ensures done { IsTrue M.tells → result.0 ≡ Status.Done → Plays (texts_of words.now) (M.content machine) (M.content result.1) good }
+    ensures stopped { IsTrue M.tells → result.0 ≡ Status.Script → StopsAtLine (Plays (texts_of words.now) (M.content machine) (M.content result.1)) }
+    ensures refused { IsTrue M.tells → result.0 ≡ Status.Refused → Refuses (texts_of words.now) (M.content machine) (M.content result.1) }
+    ensures later { M.faults machine ≤ M.faults result.1 }
+{
+    let mut machine = machine;
+    match prepare(alloc, words, &mut machine) {
+        Ok(schema) => try_script(alloc, schema, machine),
+        Err(ending) => {
+            let status = end(alloc, ending, &mut machine);
+            (status, machine)
+        }
+    }
+}
+
+// Plays the script, and says why it ends early.
+fn try_script<M: Machine + Drop>(alloc: Global, schema: Schema, machine: M) -> (Status, M)
+    requires storable { AreStorable schema }
+    requires well_formed { IsWellFormed schema }
+    ensures done { IsTrue M.tells → result.0 ≡ Status.Done → IsSaid schema (M.content machine) (M.content result.1) good }
+    ensures stopped { IsTrue M.tells → result.0 ≡ Status.Script → StopsAtLine (IsSaid schema (M.content machine) (M.content result.1)) }
+    ensures played { result.0 ≢ Status.Refused }
+    ensures later { M.faults machine ≤ M.faults result.1 }
+{
+    let (played, mut machine) = play_script(alloc, schema, machine);
+    match played {
+        Ok(()) => (Status::Done, machine),
+        Err(ending) => {
+            let status = end(alloc, ending, &mut machine);
+            (status, machine)
+        }
+    }
+}
+
+// Hears the script and plays it on leaves over the machine.
+fn play_script<'a, M: Machine + Drop>(
+    alloc: Global,
+    schema: Schema,
+    machine: M,
+) -> (Result<(), Ending<'a>>, M)
+    requires storable { AreStorable schema }
+    requires well_formed { IsWellFormed schema }
+    ensures answered { IsTrue M.tells → IsAnsweredTo schema (M.content machine) (M.content result.1) result.0 }
+    ensures played { IfErr result.0 (λ ending. status_of ending ≢ Status.Refused) }
+    ensures later { M.faults machine ≤ M.faults result.1 }
+{
+    let mut machine = machine;
+    let script = match hear_script(alloc, &mut machine) {
+        Ok(script) => script,
+        Err(ending) => return (Err(ending), machine),
+    };
+    let count = schema.files.as_slice().len() as u32;
+    match PlainLeaves::make(alloc, machine, count) {
+        Ok(leaves) => {
+            let mut engine = Engine::start(schema, leaves);
+            let played = play(alloc, &script, &mut engine);
+            (ended(played), engine.into_leaves().into_device())
+        }
+        Err((machine, NoMemory)) => (Err(Ending::NoMemory), machine),
+    }
+}
+
+// What an end of the play means for the request. Leaves in memory are never full or damaged.
+fn ended<'a>(played: Result<(), PlayEnd>) -> Result<(), Ending<'a>>
+    ensures { IsEndingOf played result }
+{
+    match played {
+        Ok(()) => Ok(()),
+        Err(PlayEnd::Line(number, why)) => Err(Ending::Line(number, why)),
+        Err(PlayEnd::Stop(Stop::NoMemory)) => Err(Ending::NoMemory),
+        Err(PlayEnd::Stop(Stop::Fault | Stop::Full | Stop::Damaged(_))) => Err(Ending::Fault),
+    }
+}
