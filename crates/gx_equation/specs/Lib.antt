@@ -1,0 +1,10 @@
+pub mod Heads
+pub mod Trees
+pub mod Seen
+pub mod Terms
+pub mod Definitions
+pub mod Grammar
+pub mod Printing
+pub mod Shape
+pub mod Faults
+pub mod Places
