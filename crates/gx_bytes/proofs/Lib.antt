@@ -1,0 +1,4 @@
+pub mod PageLemmas
+pub mod PairLemmas
+pub mod PartLemmas
+pub mod RecordLemmas

@@ -1,0 +1,4 @@
+pub mod EntryLemmas
+pub mod PageLemmas
+pub mod ScanLemmas
+pub mod SearchLemmas

@@ -1,0 +1,47 @@
+-- Entries: a key and what is stored under it, and how they are written.
+use Rattle.std.specs.Prelude.{◌≢◌, ℕ, ◌+◌, ◌≤◌, List, ◌++◌, length, take, drop}
+use Rattle.std.specs.Borrow.{Bor}
+use Rattle.std.specs.Int.{w16, to_be_bytes, from_be_bytes}
+use Rattle.std.specs.List.{AllPairs}
+use Rattle.gx_bytes.specs.Records.{records, HoldsRecordCount}
+
+-- a key and the body stored under it
+pub record Entry : Type 0 where
+  pub key : List ℕ
+  pub body : List ℕ
+
+-- a key has at most 400 bytes, and a key and its body have at most 1,000 together
+pub record IsFit (entry : Entry) : Type 0 where
+  pub key : length entry.key ≤ 400
+  pub whole : length entry.key + length entry.body ≤ 1000
+
+-- an entry is written as the lengths of its key and of its body, the key, and the body
+unfoldable pub entry_bytes : Entry → List ℕ
+entry_bytes entry = to_be_bytes w16 (length entry.key) ++ (to_be_bytes w16 (length entry.body) ++ (entry.key ++ entry.body))
+
+-- how many bytes an entry takes
+abbrev pub entry_len : Entry → ℕ
+entry_len entry = 4 + length entry.key + length entry.body
+
+-- the entry that bytes begin with
+unfoldable pub first_entry : List ℕ → Entry
+first_entry bytes =
+    let key_len = from_be_bytes w16 bytes in
+    let body_len = from_be_bytes w16 (drop 2 bytes) in
+    record { key = take key_len (drop 4 bytes); body = take body_len (drop (4 + key_len) bytes) }
+
+-- the first n entries of bytes
+abbrev pub entries_in : ℕ → List ℕ → List Entry
+entries_in = records entry_bytes first_entry
+
+-- the bytes begin with n entries
+abbrev pub HoldsCount : ℕ → List ℕ → Type 0
+HoldsCount = HoldsRecordCount entry_bytes IsFit
+
+-- no key stands twice
+abbrev pub AreDistinct : List Entry → Type 0
+AreDistinct = AllPairs (λ a b. a.key ≢ b.key)
+
+-- an entry as it is lent: its key and its body
+abbrev pub lent : Bor (List ℕ) × Bor (List ℕ) → Entry
+lent entry = record { key = entry.0.now; body = entry.1.now }

@@ -1,0 +1,16 @@
+//! Entry pages: a page is a list of entries, each a key and a body, and the number of the next page.
+#![tactic(auto)]
+
+mod format;
+mod iter;
+mod page;
+mod validity;
+
+pub use format::{MAX_ENTRY_LEN, MAX_KEY_LEN};
+pub use gx_bytes::NONE;
+pub use iter::Entries;
+pub use page::{add, clear, count, entries, entry, find, next, set_next, take};
+pub use validity::is_entries;
+
+#[cfg(test)]
+mod tests;
