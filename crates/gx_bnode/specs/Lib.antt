@@ -1,0 +1,3 @@
+pub mod Branches
+pub mod Page
+pub mod Scan

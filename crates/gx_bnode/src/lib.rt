@@ -1,0 +1,20 @@
+//! Inner pages: a page is a list of separators, which ascend, and of the children between them.
+#![tactic(auto)]
+
+mod format;
+mod iter;
+mod order;
+mod page;
+mod splitting;
+mod validity;
+
+pub use format::MAX_SEPARATOR_LEN;
+pub use iter::Branches;
+pub use page::{
+    branches, child, child_of, drop_child, has_room, insert, make_inner, separator, separators,
+};
+pub use splitting::split;
+pub use validity::is_inner;
+
+#[cfg(test)]
+mod tests;
