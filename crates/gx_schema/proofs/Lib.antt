@@ -3,6 +3,7 @@ mod TextFound
 mod TextAgain
 mod SchemaLaws
 mod SchemaValid
+pub mod WellFormedLaws
 mod ShapeRules
 mod LocalReaders
 mod FaultLaws

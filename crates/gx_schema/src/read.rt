@@ -5,6 +5,7 @@ ghost use Rattle.gx_schema.specs.Faults.{IsBad};
 ghost use Rattle.gx_schema.specs.Grammar.{IsSchemaText};
 ghost use Rattle.gx_schema.specs.Reading.{schema_of};
 ghost use Rattle.gx_schema.specs.Rules.{IsSchema};
+ghost use Rattle.gx_schema.specs.WellFormed.{IsWellFormed};
 ghost use Rattle.gx_schema.specs.declared.schema.Schema.{Schema};
 
 use crate::item::read_items;
@@ -30,7 +31,10 @@ pub fn read_schema(alloc: Global, bytes: &[u8]) -> Result<Schema, Unread>
     // The text means the schema that is read, and no other.
     ensures found { IfOk result (λ schema. IsSchemaText bytes.now schema) }
     ensures one { (s t : Schema) → IsSchemaText bytes.now s → IsSchemaText bytes.now t → s ≡ t }
+
+    // It keeps every rule of names, sizes and counts, and so is what the readers of scripts and the engine need.
     ensures valid { IfOk result (λ schema. IsSchema schema) }
+    ensures well_formed { IfOk result IsWellFormed }
 
     // A text that means a schema is read, where there is memory for it.
     ensures only { (schema : Schema) → IsSchemaText bytes.now schema → IsUnlessNoMemory result (Ok schema) }

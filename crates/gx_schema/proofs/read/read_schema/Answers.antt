@@ -7,12 +7,14 @@ use Rattle.gx_schema.specs.declared.schema.Schema.{Schema}
 use Rattle.gx_schema.specs.Grammar.{IsSchemaText}
 use Rattle.gx_schema.specs.Reading.{all_items, schema_of}
 use Rattle.gx_schema.specs.Rules.{IsSchema}
+use Rattle.gx_schema.specs.WellFormed.{IsWellFormed}
 use Rattle.gx_schema.specs.Faults.{IsBad}
 use Rattle.gx_schema.proofs.SchemaLaws.{read_found, one_schema, schema_again}
 use Rattle.gx_tokens.specs.declared.fault.Fault.{Fault}
 use Rattle.gx_tokens.specs.Reading.{bad_of}
 use Rattle.gx_schema.proofs.FaultLaws.{first_fault_is}
 use Rattle.gx_schema.proofs.SchemaValid.{schema_valid}
+use Rattle.gx_schema.proofs.WellFormedLaws.{well_formed}
 use Rattle.gx_schema.proofs.read.read_schema.Goals as goal
 
 abbrev answered : Schema → Result Schema Unread
@@ -38,6 +40,13 @@ is_valid bytes (Err e) h = tt
 
 pub returns-clause-valid : goal.returns-clause-valid
 returns-clause-valid c = is_valid c.args.bytes.now c.read.result (is_found c.args.bytes.now c.read.result c.read.ensures)
+
+is_well_formed : (r : Result Schema Unread) → IfOk r (λ s. IsSchema s) → IfOk r IsWellFormed
+is_well_formed (Ok s) h = well_formed s h
+is_well_formed (Err e) h = tt
+
+pub returns-clause-well_formed : goal.returns-clause-well_formed
+returns-clause-well_formed c = is_well_formed c.read.result (is_valid c.args.bytes.now c.read.result (is_found c.args.bytes.now c.read.result c.read.ensures))
 
 abbrev refused : Unread → Result Schema Unread
 refused error = Err error
