@@ -6,3 +6,4 @@ mod SchemaLemmas
 mod RequestLemmas
 mod PlayLemmas
 mod TryLemmas
+mod CompleteLemmas

@@ -1,13 +1,16 @@
 -- What the play of a script on an engine says, line by line.
-use Rattle.std.specs.Prelude.{◌≡◌, ◌⊎◌, ℕ, ◌+◌, List, ◌++◌, Bool, IsTrue, Some, None, Result, Ok, Err}
+use Rattle.std.specs.Prelude.{◌≡◌, ◌≢◌, ◌⊎◌, ℕ, ◌+◌, List, ◌++◌, length, take, Bool, IsTrue, Option, Some, None, Result, Ok, Err}
 use Rattle.gx_device.specs.Content.{Content}
+use Rattle.gx_device.specs.Faults.{Rose}
 use Rattle.gx_schema.specs.declared.schema.Schema.{Schema}
 use Rattle.gx_script.specs.declared.command.Command.{Command}
 use Rattle.gx_script.specs.declared.command.LineWhy.{LineWhy}
 use Rattle.gx_script.specs.Commands.{place_reason}
 use Rattle.gx_script.specs.Lines.{Lines, stopped as stopped_lines}
 use Rattle.gx_script.specs.Reading.{IsReading}
-use Rattle.gx_ports.specs.LeafMaps.{LeafMap}
+use Rattle.gx_ports.specs.LeafMaps.{LeafMap, Limits, IsCrowded}
+use Rattle.gx_ports.specs.declared.stop.Stop.{Stop}
+use Rattle.gx_ports.specs.declared.stop.Stop.TheVariants as stop
 use Rattle.gx_model.specs.Play.{Playing, End, good, stopped, is_inside, next_of, IsAnswered, IsPlayed}
 use Rattle.gx_engine.specs.declared.engine.Engine.{Engine}
 use Rattle.gx_engine.specs.Steps.{StandsFor, schema_of, leaves_of}
@@ -38,6 +41,22 @@ pub record IsLinePlayed {S : Type 0} (working kept : S → List LeafMap) (whole 
   pub placed : place_reason (is_inside p) command ≡ None
   pub played : IsCommandPlayed working kept whole kept_whole content tells p command old new
 
+-- A command was given up: nothing was said, or a front of its answer.
+abbrev pub IsCommandCut : Schema → Playing → Command → Content → Content → Type 0
+IsCommandCut schema p command old new = (new.now.said ≡ old.now.said) ⊎ ((answer : List ℕ) × IsAnswered schema p command answer × ((count : ℕ) × (new.now.said ≡ old.now.said ++ take count answer)))
+
+-- the same of the command that a line means, which may stand there; where none was read, nothing was said
+abbrev pub IsLineCut : Schema → Playing → List ℕ → Content → Content → Type 0
+IsLineCut schema p line old new = (new.now.said ≡ old.now.said) ⊎ ((command : Command) × IsReading schema line (Ok command) × (place_reason (is_inside p) command ≡ None) × IsCommandCut schema p command old new)
+
+-- why a line may be given up where the leaves stood for a moment of the play: a call below failed, the pages were
+-- too few for what the leaves held, or there was no memory
+abbrev pub HasPlayCause : Option Limits → ℕ → ℕ → Stop → Type 0
+HasPlayCause limit before now stop.NoMemory = Unit {0}
+HasPlayCause limit before now stop.Fault = Rose before now
+HasPlayCause limit before now stop.Full = (maps : List LeafMap) × IsCrowded limit maps
+HasPlayCause limit before now (stop.Damaged block) = ⊥
+
 -- ---- the play of lines
 
 -- the lines were played from a moment on, up to this end, and their answers were said
@@ -47,19 +66,35 @@ pub record IsPlayedUp (schema : Schema) (p : Playing) (lines : Lines) (old new :
   pub played : IsPlayed schema 0 p lines.lines lines.stop text final end
   pub said : new.now.said ≡ old.now.said ++ text
 
--- the same for the end that a play answers; of a stop nothing is said here
+-- The first lines were played from a moment on, so many, and a front of their answers was said; all of them, unless a
+-- call below failed.
+pub record IsPlayedPart (schema : Schema) (p : Playing) (lines : Lines) (old new : Content) (why : Stop) : Type 0 where
+  pub count : ℕ
+  pub text : List ℕ
+  pub final : Playing
+  pub end : End
+  pub played : IsPlayed schema 0 p (take count lines.lines) None text final end
+  pub front : (n : ℕ) × (new.now.said ≡ old.now.said ++ take n text)
+  pub whole : why ≢ stop.Fault → new.now.said ≡ old.now.said ++ text
+
+-- the same for the end that a play answers
 abbrev pub IsPlayedTo : Schema → Playing → Lines → Content → Content → Result (Unit {0}) PlayEnd → Type 0
 IsPlayedTo schema p lines old new (Ok x) = IsPlayedUp schema p lines old new good
 IsPlayedTo schema p lines old new (Err (play_end.Line number why)) = IsPlayedUp schema p lines old new (stopped number why)
-IsPlayedTo schema p lines old new (Err (play_end.Stop stop)) = Unit {0}
+IsPlayedTo schema p lines old new (Err (play_end.Stop why)) = IsPlayedPart schema p lines old new why
 
--- where the play of all lines stands when so many were played, and these are left
+-- Where the play of all lines stands when so many were played, and these are left: whatever lines come behind the
+-- played ones, their play goes on from here.
 pub record IsSoFar {S : Type 0} (working kept : S → List LeafMap) (whole kept_whole : S → Type 0) (content : S → Content) (start : Playing) (all left : Lines) (number : ℕ) (old new : Engine S) : Type 0 where
   pub now : Playing
   pub answers : List ℕ
   pub at : IsAt working kept whole kept_whole now new
   pub said : (content (leaves_of new)).now.said ≡ (content (leaves_of old)).now.said ++ answers
-  pub goes_on : (more : List ℕ) (final : Playing) (end : End) → IsPlayed (schema_of old) number now left.lines left.stop more final end → IsPlayed (schema_of old) 0 start all.lines all.stop (answers ++ more) final end
+  pub done : List (List ℕ)
+  pub many : length done ≡ number
+  pub lines_are : all.lines ≡ done ++ left.lines
+  pub stop_is : all.stop ≡ left.stop
+  pub goes_on : (lines : List (List ℕ)) (stop : Option LineWhy) (more : List ℕ) (final : Playing) (end : End) → IsPlayed (schema_of old) number now lines stop more final end → IsPlayed (schema_of old) 0 start (done ++ lines) stop (answers ++ more) final end
 
 -- why there is no next line
 abbrev pub IsLineEnd : Lines → ℕ → PlayEnd → Type 0

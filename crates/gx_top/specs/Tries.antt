@@ -1,56 +1,96 @@
--- What `try` says: the play of the script, or why the request is refused.
-use Rattle.std.specs.Prelude.{◌≡◌, ◌⊎◌, ℕ, List, ◌++◌, Result, Ok, Err}
+-- What `try` says: the play of the script, or why the request is refused, or as much of it as can be said.
+use Rattle.std.specs.Prelude.{◌≡◌, ◌⊎◌, ℕ, List, ◌++◌, take, Result, Ok, Err}
 use Rattle.gx_device.specs.Content.{Content}
 use Rattle.gx_schema.specs.declared.schema.Schema.{Schema}
 use Rattle.gx_script.specs.declared.command.LineWhy.{LineWhy}
-use Rattle.gx_model.specs.Play.{Playing, End, good, stopped, end_text, IsPlay}
+use Rattle.gx_model.specs.Play.{Playing, End, good, stopped, end_text, IsPlay, AreFirstAnswers}
+use Rattle.gx_ports.specs.declared.stop.Stop.TheVariants as stop
 use Rattle.gx_top.specs.declared.ending.Ending.{Ending}
 use Rattle.gx_top.specs.declared.ending.Ending.TheVariants as ending
 use Rattle.gx_top.specs.declared.play.PlayEnd.{PlayEnd}
 use Rattle.gx_top.specs.declared.play.PlayEnd.TheVariants as play_end
 use Rattle.gx_top.specs.declared.status.Status.TheVariants as status
-use Rattle.gx_top.specs.Endings.{line_of, status_of}
+use Rattle.gx_top.specs.Endings.{line_of, status_of, memory_line}
 use Rattle.gx_top.specs.Requests.{IsRefused, IsAccepted}
 
--- the line of the first reason was said, and nothing else
-pub record Refuses (words : List (List ℕ)) (old new : Content) : Type 0 where
+-- such a text was said
+abbrev pub Says : (List ℕ → Type 0) → Content → Content → Type 0
+Says P old new = (text : List ℕ) × P text × (new.now.said ≡ old.now.said ++ text)
+
+-- a front of such a text was said
+abbrev pub SaysFront : (List ℕ → Type 0) → Content → Content → Type 0
+SaysFront P old new = (text : List ℕ) × P text × ((count : ℕ) × (new.now.said ≡ old.now.said ++ take count text))
+
+-- ---- of a schema and a script
+
+-- the answers of the script's play on the empty state up to this end, and then the line of the end
+pub record IsPlayText (schema : Schema) (script : List ℕ) (end : End) (text : List ℕ) : Type 0 where
+  pub answers : List ℕ
+  pub final : Playing
+  pub play : IsPlay schema script answers final end
+  pub text_is : text ≡ answers ++ end_text end
+
+-- the same, where the play ends at a line
+abbrev pub IsStoppedText : Schema → List ℕ → List ℕ → Type 0
+IsStoppedText schema script text = (number : ℕ) × (why : LineWhy) × IsPlayText schema script (stopped number why) text
+
+-- the answers of the script's first lines, and then the line that there was no memory
+abbrev pub IsShortText : Schema → List ℕ → List ℕ → Type 0
+IsShortText schema script text = (count : ℕ) × (answers : List ℕ) × AreFirstAnswers schema script count answers × (text ≡ answers ++ memory_line)
+
+-- one of these
+abbrev pub IsTryText : Schema → List ℕ → List ℕ → Type 0
+IsTryText schema script text = ((end : End) × IsPlayText schema script end text) ⊎ IsShortText schema script text
+
+-- ---- of a request
+
+-- the line of the first reason why the request is refused
+pub record IsRefusalText (words : List (List ℕ)) (before : Content) (text : List ℕ) : Type 0 where
   pub ending : Ending
-  pub refused : IsRefused words old.aside.texts ending
+  pub refused : IsRefused words before.aside.texts ending
   pub status_is : status_of ending ≡ status.Refused
-  pub said : new.now.said ≡ old.now.said ++ line_of ending
+  pub text_is : text ≡ line_of ending
+
+-- the request can be carried out, and `P` holds of its schema, its script and the text
+abbrev pub IsRunText : (Schema → List ℕ → List ℕ → Type 0) → List (List ℕ) → Content → List ℕ → Type 0
+IsRunText P words before text = (schema : Schema) × IsAccepted words before.aside.texts schema × P schema before.script text
+
+-- the line that there was no memory, behind the answers of the script's first lines or of none
+abbrev pub IsMemoryText : List (List ℕ) → Content → List ℕ → Type 0
+IsMemoryText words before text = (text ≡ memory_line) ⊎ IsRunText IsShortText words before text
+
+-- one of these
+abbrev pub IsRequestText : List (List ℕ) → Content → List ℕ → Type 0
+IsRequestText words before text = IsRefusalText words before text ⊎ (text ≡ memory_line) ⊎ IsRunText IsTryText words before text
+
+-- the request can be carried out, and the play of its script ends at no line
+abbrev pub IsPlayable : List (List ℕ) → Content → Type 0
+IsPlayable words before = (schema : Schema) × IsAccepted words before.aside.texts schema × ((answers : List ℕ) × (final : Playing) × IsPlay schema before.script answers final good)
+
+-- ---- before the line of the end is said
 
 -- the script was played on the empty state up to this end, and its answers were said
-pub record IsAnswered (schema : Schema) (old new : Content) (end : End) : Type 0 where
-  pub text : List ℕ
+pub record IsPlayedOut (schema : Schema) (old new : Content) (end : End) : Type 0 where
+  pub answers : List ℕ
   pub final : Playing
-  pub play : IsPlay schema old.script text final end
-  pub said : new.now.said ≡ old.now.said ++ text
+  pub play : IsPlay schema old.script answers final end
+  pub said : new.now.said ≡ old.now.said ++ answers
 
--- the same for how playing the script ends
-abbrev pub IsAnsweredTo : Schema → Content → Content → Result (Unit {0}) Ending → Type 0
-IsAnsweredTo schema old new (Ok x) = IsAnswered schema old new good
-IsAnsweredTo schema old new (Err (ending.Line number why)) = IsAnswered schema old new (stopped number why)
-IsAnsweredTo schema old new (Err _) = Unit {0}
+-- the answers of the script's first lines
+abbrev pub AreFirst : Schema → List ℕ → List ℕ → Type 0
+AreFirst schema script text = (count : ℕ) × AreFirstAnswers schema script count text
 
--- the script's answers were said, and then the line of its end
-pub record IsSaid (schema : Schema) (old new : Content) (end : End) : Type 0 where
-  pub text : List ℕ
-  pub final : Playing
-  pub play : IsPlay schema old.script text final end
-  pub said : new.now.said ≡ old.now.said ++ text ++ end_text end
-
--- the play of the script over the schema that the words name was said, up to this end
-pub record Plays (words : List (List ℕ)) (old new : Content) (end : End) : Type 0 where
-  pub schema : Schema
-  pub accepted : IsAccepted words old.aside.texts schema
-  pub is_said : IsSaid schema old new end
-
--- the same, and it ends at a line
-abbrev pub StopsAtLine : (End → Type 0) → Type 0
-StopsAtLine P = (number : ℕ) × (why : LineWhy) × P (stopped number why)
+-- what was said for how playing the script ends
+abbrev pub IsPlayedAs : Schema → Content → Content → Result (Unit {0}) Ending → Type 0
+IsPlayedAs schema old new (Ok x) = IsPlayedOut schema old new good
+IsPlayedAs schema old new (Err (ending.Line number why)) = IsPlayedOut schema old new (stopped number why)
+IsPlayedAs schema old new (Err ending.NoMemory) = Says (AreFirst schema old.script) old new
+IsPlayedAs schema old new (Err ending.Fault) = SaysFront (AreFirst schema old.script) old new
+IsPlayedAs schema old new (Err _) = ⊥
 
 -- what an end of the play means for the request
 abbrev pub IsEndingOf : Result (Unit {0}) PlayEnd → Result (Unit {0}) Ending → Type 0
 IsEndingOf (Ok x) result = result ≡ Ok tt
 IsEndingOf (Err (play_end.Line number why)) result = result ≡ Err (ending.Line number why)
-IsEndingOf (Err (play_end.Stop stop)) result = (result ≡ Err ending.NoMemory) ⊎ (result ≡ Err ending.Fault)
+IsEndingOf (Err (play_end.Stop stop.NoMemory)) result = result ≡ Err ending.NoMemory
+IsEndingOf (Err (play_end.Stop _)) result = result ≡ Err ending.Fault

@@ -1,5 +1,5 @@
 // Why a request ends early, and what is said of it.
-ghost use Rattle.std.specs.Prelude.{◌≡◌, ◌≢◌, ◌++◌, ◌≤◌, ◌⊎◌, List, ℕ, take, IsTrue, IfOk, IsOk, codes};
+ghost use Rattle.std.specs.Prelude.{◌≡◌, ◌≢◌, ◌++◌, ◌≤◌, ◌⊎◌, List, ℕ, [], take, IsTrue, IfOk, IsOk, codes};
 ghost use Rattle.std.specs.Fmt.{decimal};
 ghost use Rattle.gx_device.specs.Faults.{Rose};
 ghost use Rattle.gx_tokens.specs.Whys.{word_of as why_word};
@@ -70,6 +70,7 @@ pub fn end<M: Machine>(alloc: Global, ending: Ending<'_>, machine: &mut M) -> St
     ensures cut { IsTrue M.tells → result ≡ Status.Outside → IsCut (line_of ending.entry) memory_line (M.content machine.old) (M.content machine.new) }
     ensures outside { result ≡ Status.Outside → (ending.entry ≡ Ending.Fault) ⊎ Rose (M.faults machine.old) (M.faults machine.new) }
     ensures fault { ending.entry ≡ Ending.Fault → result ≡ Status.Outside }
+    ensures silent { IsTrue M.tells → ending.entry ≡ Ending.Fault → (M.content machine.new).now.said ≡ (M.content machine.old).now.said }
     ensures rest { OnlySays (M.content machine.old) (M.content machine.new) }
     ensures later { M.faults machine.old ≤ M.faults machine.new }
 {
@@ -86,6 +87,7 @@ fn say_line<M: Machine>(machine: &mut M, line: &[u8], status: Status) -> Status
     ensures cut { IsTrue M.tells → (count : ℕ) × ((M.content machine.new).now.said ≡ (M.content machine.old).now.said ++ take count line.now) }
     ensures outside { result ≡ Status.Outside → (status ≡ Status.Outside) ⊎ Rose (M.faults machine.old) (M.faults machine.new) }
     ensures same { status ≡ Status.Outside → result ≡ Status.Outside }
+    ensures none { IsTrue M.tells → line.now ≡ [] → (M.content machine.new).now.said ≡ (M.content machine.old).now.said }
     ensures rest { OnlySays (M.content machine.old) (M.content machine.new) }
     ensures later { M.faults machine.old ≤ M.faults machine.new }
 {

@@ -1,11 +1,11 @@
 // Playing a script on an engine, line by line.
-ghost use Rattle.std.specs.Prelude.{◌≡◌, ◌≢◌, ◌^◌, ◌<◌, ◌≤◌, ◌+◌, ◌++◌, List, ℕ, Option, None, Ok, Err, length, take, IsTrue, IfOk, IfErr, IfSome, OnOk, ◌-◌, option_map};
+ghost use Rattle.std.specs.Prelude.{◌≡◌, ◌≢◌, ◌^◌, ◌<◌, ◌≤◌, ◌+◌, ◌++◌, List, ℕ, Option, None, Ok, Err, length, take, IsTrue, IfOk, IfErr, IfSome, OnOk, OnErr, ◌-◌, option_map};
 ghost use Rattle.gx_schema.specs.WellFormed.{IsWellFormed};
 ghost use Rattle.gx_engine.specs.Steps.{IsReady, IsDue, schema_of, is_open, stop_of, leaves_of};
 ghost use Rattle.gx_model.specs.Play.{Playing};
 ghost use Rattle.gx_script.specs.Lines.{script_lines, IsNext};
 ghost use Rattle.gx_script.specs.Reading.{IsReading};
-ghost use Rattle.gx_top.specs.Plays.{IsAt, IsLinePlayed, IsCommandPlayed, IsBadLine, IsPlayedTo, IsLineEnd};
+ghost use Rattle.gx_top.specs.Plays.{IsAt, IsLinePlayed, IsCommandPlayed, IsLineCut, IsCommandCut, HasPlayCause, IsBadLine, IsPlayedTo, IsLineEnd};
 ghost use Rattle.gx_top.specs.Say.{OnlySays};
 
 use crate::say::answer_all;
@@ -69,6 +69,8 @@ fn play_line<B: Leaves + Drop>(
     ensures played { (p : Playing) → IsAt B.working B.kept B.whole B.kept_whole p engine.old → OnOk result (IsLinePlayed B.working B.kept B.whole B.kept_whole B.content B.tells p line.now engine.old engine.new) }
     ensures bad { (why : LineWhy) → result ≡ Err (LineEnd.Bad why) → IsBadLine (schema_of engine.old) (is_open engine.old) line.now why }
     ensures unsaid { IsTrue B.tells → (end : LineEnd) → result ≡ Err end → end ≢ LineEnd.Stop Stop.Fault → (B.content (leaves_of engine.new)).now.said ≡ (B.content (leaves_of engine.old)).now.said }
+    ensures cut { IsTrue B.tells → (p : Playing) → IsAt B.working B.kept B.whole B.kept_whole p engine.old → OnErr result (IsLineCut (schema_of engine.old) p line.now (B.content (leaves_of engine.old)) (B.content (leaves_of engine.new))) }
+    ensures cause { (p : Playing) → IsAt B.working B.kept B.whole B.kept_whole p engine.old → (stop : Stop) → result ≡ Err (LineEnd.Stop stop) → HasPlayCause (B.limit (leaves_of engine.old)) (B.faults (leaves_of engine.old)) (B.faults (leaves_of engine.new)) stop }
     ensures schema { schema_of engine.new ≡ schema_of engine.old }
     ensures ready { IsReady B.working engine.new }
     ensures going { OnOk result (stop_of engine.new ≡ None) }
@@ -111,6 +113,8 @@ fn carry_out<B: Leaves + Drop>(
     requires going { stop_of engine.old ≡ None }
     ensures answered { (p : Playing) → IsAt B.working B.kept B.whole B.kept_whole p engine.old → OnOk result (IsCommandPlayed B.working B.kept B.whole B.kept_whole B.content B.tells p command.now engine.old engine.new) }
     ensures unsaid { IsTrue B.tells → (stop : Stop) → result ≡ Err stop → stop ≢ Stop.Fault → (B.content (leaves_of engine.new)).now.said ≡ (B.content (leaves_of engine.old)).now.said }
+    ensures cut { IsTrue B.tells → (p : Playing) → IsAt B.working B.kept B.whole B.kept_whole p engine.old → OnErr result (IsCommandCut (schema_of engine.old) p command.now (B.content (leaves_of engine.old)) (B.content (leaves_of engine.new))) }
+    ensures cause { (p : Playing) → IsAt B.working B.kept B.whole B.kept_whole p engine.old → (stop : Stop) → result ≡ Err stop → HasPlayCause (B.limit (leaves_of engine.old)) (B.faults (leaves_of engine.old)) (B.faults (leaves_of engine.new)) stop }
     ensures schema { schema_of engine.new ≡ schema_of engine.old }
     ensures ready { IsReady B.working engine.new }
     ensures going { OnOk result (stop_of engine.new ≡ None) }
@@ -138,7 +142,9 @@ pub enum PlayEnd {
 
 /// Plays a script line by line, up to its end or the line that ends it. Each answer is said whole
 /// before the next line is carried out. On a device that tells its content: after `Ok` and `Line`
-/// exactly the answers of the play were said, and it ends there.
+/// exactly the answers of the play were said, and it ends there; after `Stop` exactly the answers of
+/// the first lines, and after `Stop(Fault)` a front of them. Of a stop, `Fault` comes only where the
+/// count of faults rose, `Full` only where the pages may be too few, and `Damaged` never.
 pub fn play<B: Leaves + Drop>(
     alloc: Global,
     script: &[u8],
@@ -148,6 +154,7 @@ pub fn play<B: Leaves + Drop>(
     requires well_formed { IsWellFormed (schema_of engine.old) }
     requires going { stop_of engine.old ≡ None }
     ensures played { IsTrue B.tells → (p : Playing) → IsAt B.working B.kept B.whole B.kept_whole p engine.old → IsPlayedTo (schema_of engine.old) p (script_lines script.now) (B.content (leaves_of engine.old)) (B.content (leaves_of engine.new)) result }
+    ensures cause { (p : Playing) → IsAt B.working B.kept B.whole B.kept_whole p engine.old → (stop : Stop) → result ≡ Err (PlayEnd.Stop stop) → HasPlayCause (B.limit (leaves_of engine.old)) (B.faults (leaves_of engine.old)) (B.faults (leaves_of engine.new)) stop }
     ensures rest { OnlySays (B.content (leaves_of engine.old)) (B.content (leaves_of engine.new)) }
     ensures later { B.faults (leaves_of engine.old) ≤ B.faults (leaves_of engine.new) }
 {

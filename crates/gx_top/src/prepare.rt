@@ -1,6 +1,7 @@
 // What comes before a script is played: the texts, and the schema that they give.
-ghost use Rattle.std.specs.Prelude.{◌≡◌, ◌≤◌, ◌<◌, length, IsTrue, IfOk, IfErr};
+ghost use Rattle.std.specs.Prelude.{◌≡◌, ◌≤◌, ◌<◌, length, IsTrue, IfOk, IfErr, IsErrOf};
 ghost use Rattle.gx_device.specs.Content.{SameContent};
+ghost use Rattle.gx_device.specs.Faults.{Rose};
 ghost use Rattle.gx_schema.specs.WellFormed.{IsWellFormed};
 ghost use Rattle.gx_schema.specs.Rules.{IsSchema};
 ghost use Rattle.gx_schema.specs.Reading.{schema_of};
@@ -28,6 +29,7 @@ pub fn prepare<'a, M: Machine>(
 ) -> Result<Schema, Ending<'a>>
     ensures accepted { IsTrue M.tells → IfOk result (IsAccepted (texts_of words.now) (M.content machine.old).aside.texts) }
     ensures unprepared { IsTrue M.tells → IfErr result (IsUnprepared (texts_of words.now) (M.content machine.old).aside.texts (M.faults machine.old) (M.faults machine.new)) }
+    ensures fault { IsErrOf result Ending.Fault → Rose (M.faults machine.old) (M.faults machine.new) }
     ensures storable { IfOk result AreStorable }
     ensures well_formed { IfOk result IsWellFormed }
     ensures later { M.faults machine.old ≤ M.faults machine.new }
@@ -46,6 +48,7 @@ fn built_schema<'a>(alloc: Global, schema: &[u8], equation: &[u8]) -> Result<Sch
     requires { length schema.now ≤ text_limit }
     ensures built { IfOk result (IsBuiltSchema schema.now equation.now) }
     ensures unbuilt { IfErr result (IsUnbuilt schema.now equation.now) }
+    ensures no_fault { ¬ IsErrOf result Ending.Fault }
     ensures storable { IfOk result AreStorable }
     ensures well_formed { IfOk result IsWellFormed }
 {

@@ -1,11 +1,12 @@
 // A request from its words to its end.
-ghost use Rattle.std.specs.Prelude.{◌≡◌, ◌≢◌, ◌≤◌, ◌^◌, ◌<◌, ◌++◌, length, IsTrue, IfErr};
+ghost use Rattle.std.specs.Prelude.{◌≡◌, ◌≢◌, ◌⊎◌, ◌≤◌, ◌^◌, ◌<◌, ◌++◌, List, ℕ, [], Ok, length, IsTrue, IsErrOf, IfErr};
+ghost use Rattle.gx_device.specs.Faults.{Rose};
 ghost use Rattle.gx_schema.specs.WellFormed.{IsWellFormed};
 ghost use Rattle.gx_model.specs.Play.{good};
 ghost use Rattle.gx_engine.specs.Internal.{AreStorable};
 ghost use Rattle.gx_top.specs.Words.{texts_of};
 ghost use Rattle.gx_top.specs.Endings.{status_of};
-ghost use Rattle.gx_top.specs.Tries.{Refuses, Plays, StopsAtLine, IsSaid, IsAnsweredTo, IsEndingOf};
+ghost use Rattle.gx_top.specs.Tries.{Says, SaysFront, IsPlayText, IsStoppedText, IsShortText, IsTryText, IsRefusalText, IsRunText, IsMemoryText, IsRequestText, IsPlayable, IsPlayedAs, IsEndingOf};
 
 use crate::ending::{Ending, end};
 use crate::play::{PlayEnd, play};
@@ -22,16 +23,29 @@ use std::alloc::Global;
 /// Carries out what the words ask for, says its answers on the machine, and hands the machine
 /// back. On a machine that tells its content:
 ///
-/// - `Done`: exactly the answers of the play of the whole script on an empty database were said.
+/// - `Done`: exactly the answers of the play of the whole script on an empty database were said, and
+///   the script was heard to its end.
 /// - `Script`: a line ends the play. Exactly the answers up to it were said, and then the line that
 ///   says where and why.
 /// - `Refused`: the request is refused for the first reason in the order of the words, the texts, the
 ///   schema, the equation, the width of records and the length of the texts. The line of that reason
 ///   was said, and nothing else.
+/// - `Memory`: there was no memory. Exactly the answers of the script's first lines were said, perhaps
+///   of none, and then `stopped: memory`.
+/// - `Outside`: a front was said of what one of the others says.
+///
+/// `Outside` comes only where a call of the machine failed in this one. So where none failed, the
+/// request can be carried out and the play of its script ends at no line, the answer is `Done` or
+/// `Memory`.
 pub fn top<M: Machine + Drop>(alloc: Global, words: &[String], machine: M) -> (Status, M)
-    ensures done { IsTrue M.tells → result.0 ≡ Status.Done → Plays (texts_of words.now) (M.content machine) (M.content result.1) good }
-    ensures stopped { IsTrue M.tells → result.0 ≡ Status.Script → StopsAtLine (Plays (texts_of words.now) (M.content machine) (M.content result.1)) }
-    ensures refused { IsTrue M.tells → result.0 ≡ Status.Refused → Refuses (texts_of words.now) (M.content machine) (M.content result.1) }
+    ensures done { IsTrue M.tells → result.0 ≡ Status.Done → Says (IsRunText (λ schema script. IsPlayText schema script good) (texts_of words.now) (M.content machine)) (M.content machine) (M.content result.1) }
+    ensures heard { IsTrue M.tells → result.0 ≡ Status.Done → (M.content result.1).script ≡ [] }
+    ensures stopped { IsTrue M.tells → result.0 ≡ Status.Script → Says (IsRunText IsStoppedText (texts_of words.now) (M.content machine)) (M.content machine) (M.content result.1) }
+    ensures refused { IsTrue M.tells → result.0 ≡ Status.Refused → Says (IsRefusalText (texts_of words.now) (M.content machine)) (M.content machine) (M.content result.1) }
+    ensures memory { IsTrue M.tells → result.0 ≡ Status.Memory → Says (IsMemoryText (texts_of words.now) (M.content machine)) (M.content machine) (M.content result.1) }
+    ensures cut { IsTrue M.tells → result.0 ≡ Status.Outside → SaysFront (IsRequestText (texts_of words.now) (M.content machine)) (M.content machine) (M.content result.1) }
+    ensures outside { result.0 ≡ Status.Outside → Rose (M.faults machine) (M.faults result.1) }
+    ensures complete { IsTrue M.tells → IsPlayable (texts_of words.now) (M.content machine) → result.0 ≢ Status.Outside → (result.0 ≡ Status.Done) ⊎ (result.0 ≡ Status.Memory) }
     ensures later { M.faults machine ≤ M.faults result.1 }
 {
     let mut machine = machine;
@@ -48,8 +62,12 @@ pub fn top<M: Machine + Drop>(alloc: Global, words: &[String], machine: M) -> (S
 fn try_script<M: Machine + Drop>(alloc: Global, schema: Schema, machine: M) -> (Status, M)
     requires storable { AreStorable schema }
     requires well_formed { IsWellFormed schema }
-    ensures done { IsTrue M.tells → result.0 ≡ Status.Done → IsSaid schema (M.content machine) (M.content result.1) good }
-    ensures stopped { IsTrue M.tells → result.0 ≡ Status.Script → StopsAtLine (IsSaid schema (M.content machine) (M.content result.1)) }
+    ensures done { IsTrue M.tells → result.0 ≡ Status.Done → Says (IsPlayText schema (M.content machine).script good) (M.content machine) (M.content result.1) }
+    ensures heard { IsTrue M.tells → result.0 ≡ Status.Done → (M.content result.1).script ≡ [] }
+    ensures stopped { IsTrue M.tells → result.0 ≡ Status.Script → Says (IsStoppedText schema (M.content machine).script) (M.content machine) (M.content result.1) }
+    ensures memory { IsTrue M.tells → result.0 ≡ Status.Memory → Says (IsShortText schema (M.content machine).script) (M.content machine) (M.content result.1) }
+    ensures cut { IsTrue M.tells → result.0 ≡ Status.Outside → SaysFront (IsTryText schema (M.content machine).script) (M.content machine) (M.content result.1) }
+    ensures outside { result.0 ≡ Status.Outside → Rose (M.faults machine) (M.faults result.1) }
     ensures played { result.0 ≢ Status.Refused }
     ensures later { M.faults machine ≤ M.faults result.1 }
 {
@@ -71,7 +89,9 @@ fn play_script<'a, M: Machine + Drop>(
 ) -> (Result<(), Ending<'a>>, M)
     requires storable { AreStorable schema }
     requires well_formed { IsWellFormed schema }
-    ensures answered { IsTrue M.tells → IsAnsweredTo schema (M.content machine) (M.content result.1) result.0 }
+    ensures answered { IsTrue M.tells → IsPlayedAs schema (M.content machine) (M.content result.1) result.0 }
+    ensures heard { IsTrue M.tells → result.0 ≡ Ok tt → (M.content result.1).script ≡ [] }
+    ensures fault { IsErrOf result.0 Ending.Fault → Rose (M.faults machine) (M.faults result.1) }
     ensures played { IfErr result.0 (λ ending. status_of ending ≢ Status.Refused) }
     ensures later { M.faults machine ≤ M.faults result.1 }
 {

@@ -1,6 +1,7 @@
 // Fetching the texts that the words name.
-ghost use Rattle.std.specs.Prelude.{◌≡◌, ◌≤◌, length, IsTrue, IfOk, IfErr, Some};
+ghost use Rattle.std.specs.Prelude.{◌≡◌, ◌≤◌, length, IsTrue, IfOk, IfErr, IsErrOf, Some};
 ghost use Rattle.gx_device.specs.Content.{SameContent};
+ghost use Rattle.gx_device.specs.Faults.{Rose};
 ghost use Rattle.gx_top.specs.Requests.{IsText, IsUnfetched, text_limit};
 
 use crate::ending::Ending;
@@ -20,6 +21,7 @@ pub fn fetch_text<'a, M: Machine>(
     ensures text { IsTrue M.tells → IfOk result (λ text. IsText (M.content machine.old).aside.texts name.now text.items) }
     ensures short { IfOk result (λ text. length text.items ≤ text_limit) }
     ensures unfetched { IfErr result (IsUnfetched M.tells (M.content machine.old).aside.texts (M.faults machine.old) (M.faults machine.new) name.now) }
+    ensures fault { IsErrOf result Ending.Fault → Rose (M.faults machine.old) (M.faults machine.new) }
     ensures later { M.faults machine.old ≤ M.faults machine.new }
     ensures content { SameContent (M.content machine.old) (M.content machine.new) }
 {

@@ -13,6 +13,8 @@ invariant-loop-line g l = record {
   going : stop_of l.engine ≡ None;
   few : l.number + length l.lines.lines ≤ 16777217;
   so_far : IsTrue g.B.Leaves.tells → (p : Playing) → IsAt g.B.Leaves.working g.B.Leaves.kept g.B.Leaves.whole g.B.Leaves.kept_whole p l.fn.engine → IsSoFar g.B.Leaves.working g.B.Leaves.kept g.B.Leaves.whole g.B.Leaves.kept_whole g.B.Leaves.content p (script_lines l.fn.script) l.lines l.number l.fn.engine l.engine;
+  stands : (p : Playing) → IsAt g.B.Leaves.working g.B.Leaves.kept g.B.Leaves.whole g.B.Leaves.kept_whole p l.fn.engine → (q : Playing) × IsAt g.B.Leaves.working g.B.Leaves.kept g.B.Leaves.whole g.B.Leaves.kept_whole q l.engine;
+  limit : g.B.Leaves.limit (leaves_of l.engine) ≡ g.B.Leaves.limit (leaves_of l.fn.engine);
   rest : OnlySays (g.B.Leaves.content (leaves_of l.fn.engine)) (g.B.Leaves.content (leaves_of l.engine));
   later : g.B.Leaves.faults (leaves_of l.fn.engine) ≤ g.B.Leaves.faults (leaves_of l.engine);
 }
