@@ -69,6 +69,7 @@ fn schema_from<'a>(alloc: Global, text: &[u8]) -> Result<Schema, Ending<'a>>
     requires { length text.now ≤ text_limit }
     ensures read { IfOk result (λ schema. schema_of text.now ≡ Ok schema) }
     ensures rules { IfOk result IsSchema }
+    ensures well_formed { IfOk result IsWellFormed }
     ensures unread { IfErr result (IsUnread text.now) }
 {
     match read_schema(alloc, text) {

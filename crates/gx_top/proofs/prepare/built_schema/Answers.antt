@@ -1,5 +1,5 @@
 use Rattle.std.proofs.Common.{arith, sym, ◌∙◌}
-use Rattle.gx_top.proofs.SchemaLemmas.{storable, well_formed, no_links, place_small}
+use Rattle.gx_top.proofs.SchemaLemmas.{storable, no_links, place_small}
 use Rattle.gx_top.proofs.prepare.built_schema.Goals as goal
 
 -- src/prepare.rt:57:41
@@ -13,7 +13,3 @@ overflow_add-result c = record { fits = omega (arith, place_small c.in_ok-schema
 -- src/prepare.rt:45:1
 pub returns-clause-storable : goal.returns-clause-storable
 returns-clause-storable c = storable c.in_ok-schema.schema c.in_ok-schema.ensures.rules (no_links _ _ (sym c.in_ok-is_of_heaps.ensures ∙ c.if-not-branch.false)) (sym c.first_long_file.ensures ∙ c.in_default.is)
-
--- src/prepare.rt:45:1
-pub returns-clause-well_formed : goal.returns-clause-well_formed
-returns-clause-well_formed c = well_formed c.in_ok-schema.schema c.in_ok-schema.ensures.rules
