@@ -3,3 +3,4 @@ pub mod Stops
 pub mod Slots
 pub mod Pairs
 pub mod Plain
+pub mod Calm

@@ -4,6 +4,7 @@ ghost use Rattle.gx_device.specs.Content.{Content, Silent, Hears, Listens, Says,
 ghost use Rattle.gx_device.specs.Faults.{Rose, HasCause};
 ghost use Rattle.gx_ports.specs.LeafMaps.{LeafMap, map_at, with_entry, without_entry, selected, counted, SameElsewhere, Extends, Limits, IsCrowded};
 ghost use Rattle.gx_ports.specs.Stops.{HasStopCause};
+ghost use Rattle.gx_ports.specs.Calm.{QuietSince};
 
 use crate::Stop;
 use gx_device::Failed;
@@ -73,6 +74,16 @@ pub trait Leaves {
     /// The stored form of each leaf was whole at the last commit.
     ghost kept_whole: { Self → Type 0 };
 
+    /// Whether `put` and `remove` of this type never answer `NoMemory`.
+    ghost frugal: { Bool };
+
+    /// The blocks of the device below that tell which database it is. No call changes them.
+    ghost head: { Self → List (List ℕ) };
+
+    /// A crash at any moment since that content leaves what stands for the kept maps, with this head. Every
+    /// call but `commit` keeps that, whatever it answers.
+    ghost calm: { Self → Content → Type 0 };
+
     /// The number of leaves.
     fn leaves(&self) -> u32
         ensures { result ≡ length (working self.now) };
@@ -91,6 +102,9 @@ pub trait Leaves {
         ensures kept_whole { kept_whole self.old ↔ kept_whole self.new }
         ensures work { work self.new ≡ work self.old }
         ensures limit { limit self.new ≡ limit self.old }
+        ensures head { head self.new ≡ head self.old }
+        ensures calm { (s : Content) → calm self.old s → calm self.new s }
+        ensures frugal { IsTrue frugal → ¬ IsErrOf result Stop.NoMemory }
         ensures silent { Silent (content self.old) (content self.new) }
         ensures cause { HasStopCause (faults self.old) (faults self.new) (whole self.old) result }
         ensures full { whole self.old → IsErrOf result Stop.Full → IsCrowded (limit self.old) (working self.old) };
@@ -108,6 +122,9 @@ pub trait Leaves {
         ensures kept_whole { kept_whole self.old ↔ kept_whole self.new }
         ensures work { work self.new ≡ work self.old }
         ensures limit { limit self.new ≡ limit self.old }
+        ensures head { head self.new ≡ head self.old }
+        ensures calm { (s : Content) → calm self.old s → calm self.new s }
+        ensures frugal { IsTrue frugal → ¬ IsErrOf result Stop.NoMemory }
         ensures silent { Silent (content self.old) (content self.new) }
         ensures cause { HasStopCause (faults self.old) (faults self.new) (whole self.old) result }
         ensures not_full { ¬ IsErrOf result Stop.Full };
@@ -131,6 +148,8 @@ pub trait Leaves {
         ensures whole { OnOk result (whole self.old → whole self.new) }
         ensures kept_whole { kept_whole self.old ↔ kept_whole self.new }
         ensures limit { limit self.new ≡ limit self.old }
+        ensures head { head self.new ≡ head self.old }
+        ensures calm { (s : Content) → calm self.old s → calm self.new s }
         ensures silent { Silent (content self.old) (content self.new) }
         ensures cause { HasStopCause (faults self.old) (faults self.new) (whole self.old) result }
         ensures not_full { ¬ IsErrOf result Stop.Full };
@@ -147,6 +166,8 @@ pub trait Leaves {
         ensures kept_whole { kept_whole self.old ↔ kept_whole self.new }
         ensures work { work self.new ≡ work self.old }
         ensures limit { limit self.new ≡ limit self.old }
+        ensures head { head self.new ≡ head self.old }
+        ensures calm { (s : Content) → calm self.old s → calm self.new s }
         ensures silent { Silent (content self.old) (content self.new) }
         ensures cause { HasStopCause (faults self.old) (faults self.new) (whole self.old) result }
         ensures full { whole self.old → IsErrOf result Stop.Full → IsCrowded (limit self.old) (working self.old) };
@@ -160,6 +181,7 @@ pub trait Leaves {
         ensures whole { OnOk result (whole self.old → whole self.new) }
         ensures work { work self.new ≡ work self.old }
         ensures limit { limit self.new ≡ limit self.old }
+        ensures head { head self.new ≡ head self.old }
         ensures silent { Silent (content self.old) (content self.new) }
         ensures cause { HasCause (faults self.old) (faults self.new) result };
 
@@ -171,6 +193,8 @@ pub trait Leaves {
         ensures kept_whole { kept_whole self.old ↔ kept_whole self.new }
         ensures work { work self.new ≡ work self.old }
         ensures limit { limit self.new ≡ limit self.old }
+        ensures head { head self.new ≡ head self.old }
+        ensures calm { (s : Content) → calm self.old s → calm self.new s }
         ensures silent { Silent (content self.old) (content self.new) }
         ensures later { faults self.old ≤ faults self.new };
 
@@ -187,7 +211,9 @@ pub trait Leaves {
         ensures whole { whole self.old → whole self.new }
         ensures kept_whole { kept_whole self.old ↔ kept_whole self.new }
         ensures work { work self.new ≡ work self.old }
-        ensures limit { limit self.new ≡ limit self.old };
+        ensures limit { limit self.new ≡ limit self.old }
+        ensures head { head self.new ≡ head self.old }
+        ensures calm { (s : Content) → calm self.old s → calm self.new s };
 
     /// Says the first bytes of a piece, as a device does. The maps stay.
     fn say(&mut self, from: &[u8]) -> Result<usize, Failed>
@@ -202,8 +228,13 @@ pub trait Leaves {
         ensures whole { whole self.old → whole self.new }
         ensures kept_whole { kept_whole self.old ↔ kept_whole self.new }
         ensures work { work self.new ≡ work self.old }
-        ensures limit { limit self.new ≡ limit self.old };
+        ensures limit { limit self.new ≡ limit self.old }
+        ensures head { head self.new ≡ head self.old }
+        ensures calm { (s : Content) → calm self.old s → calm self.new s };
 
     /// There are as many kept maps as working ones.
     ghost as_many: { (p : Self) → length (kept p) ≡ length (working p) };
+
+    /// What calm means for what is said.
+    ghost calm_means: { (p : Self) (s : Content) → IsTrue tells → calm p s → QuietSince s (content p) };
 }

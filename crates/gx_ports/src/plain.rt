@@ -62,7 +62,7 @@ fn empty_leaves(alloc: Global, count: u32) -> Result<Vec<Leaf>, AllocError>
 }
 
 impl<D: Device> Leaves for PlainLeaves<D> {
-    ghost use Rattle.std.specs.Prelude.{None};
+    ghost use Rattle.std.specs.Prelude.{None, false, []};
     ghost use Rattle.gx_ports.specs.Pairs.{as_many};
     ghost use Rattle.gx_ports.specs.Plain.{working_of, kept_of, work_of};
 
@@ -83,6 +83,12 @@ impl<D: Device> Leaves for PlainLeaves<D> {
     ghost whole = { λ _. Unit {0} };
 
     ghost kept_whole = { λ _. Unit {0} };
+
+    ghost frugal = { false };
+
+    ghost head = { λ _. [] };
+
+    ghost calm = { λ _ _. ⊥ };
 
     fn leaves(&self) -> u32 {
         self.leaves.len() as u32
@@ -135,6 +141,8 @@ impl<D: Device> Leaves for PlainLeaves<D> {
     }
 
     ghost as_many = { λ p. as_many p.leaves.items };
+
+    ghost calm_means = { λ p s told is. absurd is };
 }
 
 fn settle_leaves(leaves: &mut [Leaf], end: End)
