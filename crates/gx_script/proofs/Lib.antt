@@ -8,3 +8,7 @@ pub mod ClauseLaws
 pub mod CommandLaws
 pub mod ReadingLaws
 pub mod LineLaws
+pub mod LocalWords
+pub mod LocalParts
+pub mod LocalLoops
+pub mod LocalClauses

@@ -175,7 +175,7 @@ in_range_again : (z : ℤ) → FitsSigned w64 z → signed_in_range z ≡ Some z
 in_range_again (pos n) fits = cond-true (ltb n (2 ^ 63)) _ _ (lt-ltb n (2 ^ 63) (omega (arith, fits)))
 in_range_again (negsuc n) fits = cond-true (ltb n (2 ^ 63)) _ _ (lt-ltb n (2 ^ 63) (omega (arith, fits)))
 
-signed_found : (text : List ℕ) (n : ℤ) → signed_number text ≡ Some n → (is_number text ≡ true) × (number_value text ≡ n) × FitsSigned w64 n
+pub signed_found : (text : List ℕ) (n : ℤ) → signed_number text ≡ Some n → (is_number text ≡ true) × (number_value text ≡ n) × FitsSigned w64 n
 signed_found text n e =
     cond_both (is_number text) (signed_in_range (number_value text)) None (λ (r : Option ℤ). r ≡ Some n → (is_number text ≡ true) × (number_value text ≡ n) × FitsSigned w64 n)
     (λ is h. let z = in_range_found (number_value text) n h in (is, z.0, z.1))

@@ -6,3 +6,5 @@ pub mod Names
 pub mod Reading
 pub mod Grammar
 pub mod Lines
+pub mod Shape
+pub mod Faults

@@ -1,4 +1,5 @@
 use Rattle.gx_script.proofs.ReadingLaws.{is_found, is_only, one_reading, is_of_schema}
+use Rattle.gx_script.proofs.LocalClauses.{is_bad}
 use Rattle.gx_script.proofs.reading.read_command.Goals as goal
 
 pub returns-clause-found : goal.returns-clause-found
@@ -12,3 +13,6 @@ returns-clause-one c given other a b = one_reading c.args.schema.now c.args.line
 
 pub returns-clause-of_schema : goal.returns-clause-of_schema
 returns-clause-of_schema c = is_of_schema c.args.schema.now c.args.line.now c.read_line.result (is_found c.args.schema.now c.args.line.now c.read_line.result c.requires c.read_line.ensures)
+
+pub returns-clause-fault : goal.returns-clause-fault
+returns-clause-fault c = is_bad c.args.schema.now c.args.line.now c.read_line.result c.requires c.read_line.ensures
