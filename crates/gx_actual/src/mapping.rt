@@ -1,0 +1,114 @@
+// The layer's mapping.
+ghost use Rattle.std.specs.Prelude.{◌≡◌, ◌≢◌, ◌∷◌, [], List, ℕ, IfOk, IfSome, IfNone};
+ghost use Rattle.gx_values.specs.declared.values.Value.TheVariants as value;
+ghost use Rattle.gx_mapping.specs.Rule.{IsOf, AreOfKey, IsGathered};
+ghost use Rattle.gx_actual.specs.Bodies.{AreShort};
+ghost use Rattle.gx_actual.specs.Rules.{actual_rec, actual_rule, form_of};
+ghost use Rattle.gx_actual.specs.Laws.{actual_laws};
+
+use crate::bodies::{body_bytes, read_body};
+use crate::layer::Actual;
+use gx_mapping::{Mapping, Part, Parts};
+use gx_values::{Form, Name, NoMemory, Rec, Span, Value, Values};
+use std::alloc::Global;
+
+impl Mapping for Actual {
+    ghost rule = { λ m. actual_rule (form_of m) };
+
+    ghost laws = { λ m. actual_laws m.form m.short };
+
+    fn kids(&self) -> u16 {
+        1
+    }
+
+    fn form(&self) -> &Form {
+        &self.form
+    }
+
+    fn kid_form(&self, _child: u16) -> &Form {
+        &self.kid
+    }
+
+    fn holds_rest(&self, _child: u16) -> bool {
+        true
+    }
+
+    fn parts(&self, alloc: Global, rec: &Rec) -> Result<Parts, NoMemory> {
+        let rec = with_body(alloc, &self.form, rec)?;
+        Parts::one(alloc, Part { child: 0, rec })
+    }
+
+    fn gather(&self, alloc: Global, key: &Values, parts: &Parts) -> Result<Option<Rec>, NoMemory> {
+        match parts.0.as_slice() {
+            [part] => gather_one(alloc, &self.form, key, part),
+            _ => Ok(None),
+        }
+    }
+
+    fn skips(&self, _child: u16, _span: &Span) -> bool {
+        false
+    }
+
+    fn indexes(&self, _field: &Name) -> Option<u16> {
+        None
+    }
+
+    fn carries(&self, _child: u16, _field: &Name) -> bool {
+        false
+    }
+}
+
+// The record with the body in the place of its data fields.
+fn with_body(alloc: Global, form: &Form, rec: &Rec) -> Result<Rec, NoMemory>
+    requires short { AreShort form.now.fields }
+    requires is { IsOf form.now rec.now }
+    ensures { IfOk result (λ made. made ≡ actual_rec rec.now) }
+{
+    Ok(Rec {
+        key: rec.key.copy(alloc)?,
+        fields: one_value(
+            alloc,
+            Value::Bytes(body_bytes(alloc, &form.fields, &rec.fields)?),
+        )?,
+    })
+}
+
+fn one_value(alloc: Global, value: Value) -> Result<Values, NoMemory>
+    ensures { IfOk result (λ values. values ≡ value ∷ []) }
+{
+    let mut values = Vec::with_capacity(alloc, 1)?;
+    values.push(value)?;
+    Ok(Values(values))
+}
+
+// The record with this key that has this one part.
+fn gather_one(
+    alloc: Global,
+    form: &Form,
+    key: &Values,
+    part: &Part,
+) -> Result<Option<Rec>, NoMemory>
+    requires short { AreShort form.now.fields }
+    requires under { AreOfKey (actual_rule form.now) key.now (part.now ∷ []) }
+    ensures { IfOk result (IsGathered (actual_rule form.now) key.now (part.now ∷ [])) }
+{
+    let Some(body) = the_bytes(&part.rec.fields) else {
+        return Ok(None);
+    };
+    let Some(fields) = read_body(alloc, &form.fields, body)? else {
+        return Ok(None);
+    };
+    let key = key.copy(alloc)?;
+    Ok(Some(Rec { key, fields }))
+}
+
+// The bytes of the one value. `None`: there are more or fewer, or it isn't bytes.
+fn the_bytes(values: &Values) -> Option<&[u8]>
+    ensures some { IfSome result (λ bytes. values.now ≡ value.Bytes bytes.now ∷ []) }
+    ensures none { IfNone result ((bytes : List ℕ) → values.now ≢ value.Bytes bytes ∷ []) }
+{
+    match values.0.as_slice() {
+        [Value::Bytes(bytes)] => Some(bytes.as_slice()),
+        _ => None,
+    }
+}
