@@ -1,0 +1,5 @@
+pub mod Places
+pub mod Bounds
+pub mod RangeLaws
+pub mod Rules
+pub mod Laws

@@ -1,0 +1,15 @@
+//! The transformation `partition`: each record goes whole to one of several children, by the value of
+//! one field.
+#![tactic(auto)]
+
+mod layer;
+mod make;
+mod mapping;
+mod place;
+mod ranges;
+#[cfg(test)]
+mod tests;
+
+pub use layer::Partition;
+pub use make::partition;
+pub use place::Where;

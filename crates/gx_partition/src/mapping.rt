@@ -1,0 +1,89 @@
+// The layer's mapping.
+ghost use Rattle.std.specs.Prelude.{◌≡◌, IfOk};
+ghost use Rattle.gx_mapping.specs.Rule.{IsOf};
+ghost use Rattle.gx_partition.specs.Places.{value_at};
+ghost use Rattle.gx_partition.specs.Bounds.{child_of};
+ghost use Rattle.gx_partition.specs.Rules.{form_of, at_of, bounds_of, whole_of, rule_of};
+ghost use Rattle.gx_partition.specs.Laws.{partition_laws};
+
+use crate::layer::Partition;
+use crate::place::{Where, value_of};
+use crate::ranges::{begins_after, child_of, ends_before, lower_of, upper_of};
+use gx_mapping::{Mapping, Part, Parts, has_field};
+use gx_values::{Form, Name, NoMemory, Rec, Span, Values};
+use std::alloc::Global;
+
+impl Mapping for Partition {
+    ghost rule = { λ m. rule_of m };
+
+    ghost laws = { λ m. partition_laws m.form m.at m.bounds m.sound };
+
+    fn kids(&self) -> u16 {
+        self.bounds.0.len() as u16 + 1
+    }
+
+    fn form(&self) -> &Form {
+        &self.form
+    }
+
+    fn kid_form(&self, _child: u16) -> &Form {
+        &self.form
+    }
+
+    fn holds_rest(&self, _child: u16) -> bool {
+        true
+    }
+
+    fn parts(&self, alloc: Global, rec: &Rec) -> Result<Parts, NoMemory> {
+        let child = self.child_for(rec);
+        let rec = rec.copy(alloc)?;
+        Parts::one(alloc, Part { child, rec })
+    }
+
+    fn gather(&self, alloc: Global, _key: &Values, parts: &Parts) -> Result<Option<Rec>, NoMemory> {
+        match parts.0.as_slice() {
+            [part] => self.whole(alloc, part),
+            _ => Ok(None),
+        }
+    }
+
+    fn skips(&self, child: u16, span: &Span) -> bool {
+        match self.at {
+            Where::Key(0) => {
+                ends_before(upper_of(&self.bounds, child), &span.lo)
+                    || begins_after(lower_of(&self.bounds, child), &span.hi)
+            }
+            _ => false,
+        }
+    }
+
+    fn indexes(&self, _field: &Name) -> Option<u16> {
+        None
+    }
+
+    fn carries(&self, _child: u16, field: &Name) -> bool {
+        has_field(&self.form.fields, field)
+    }
+}
+
+impl Partition {
+    // The child that the record goes to.
+    fn child_for(&self, rec: &Rec) -> u16
+        requires { IsOf (form_of self.now) rec.now }
+        ensures { result ≡ child_of (bounds_of self.now) (value_at (at_of self.now) rec.now) }
+    {
+        child_of(&self.bounds, value_of(self.at, rec))
+    }
+
+    // The record of the part, where its value belongs to the part's child.
+    fn whole(&self, alloc: Global, part: &Part) -> Result<Option<Rec>, NoMemory>
+        requires { IsOf (form_of self.now) part.now.rec }
+        ensures { IfOk result (λ found. found ≡ whole_of (at_of self.now) (bounds_of self.now) part.now) }
+    {
+        if self.child_for(&part.rec) == part.child {
+            Ok(Some(part.rec.copy(alloc)?))
+        } else {
+            Ok(None)
+        }
+    }
+}
