@@ -1,0 +1,12 @@
+mod Lists
+mod Orders
+mod Seen
+mod Unique
+mod Maps
+mod Children
+mod Replaced
+mod Made
+mod Selects
+mod LeafRead
+mod Stay
+mod KeyOrder

@@ -1,0 +1,141 @@
+// Entries of leaves: those that come from a record, and the changes from those of one to those of another.
+ghost use Rattle.std.specs.Prelude.{◌≡◌, ◌<◌, ◌≤◌, ◌+◌, length, Option, Some, None, true, false, IsTrue, IfOk, OnOk, IsErrOf, get_or, ◌↔◌};
+ghost use Rattle.gx_ports.specs.LeafMaps.{entry_count, map_at};
+ghost use Rattle.gx_ports.specs.Stops.{HasStopCause};
+ghost use Rattle.gx_mapping.specs.Rule.{In, IsOf};
+ghost use Rattle.gx_stack.specs.Tree.{IsLeafForm, entry_in, leaf_body};
+ghost use Rattle.gx_stack.specs.Internal.{IsPlace, IsAt, SomeAt, NoneAt, AreSmall, IsRemoved, IsPut, SameBut, IsCrowdedBy};
+ghost use Rattle.gx_stack.specs.Calls.{Stays};
+
+use gx_ports::{Leaves, Stop};
+use gx_values::{Form, NoMemory, Octets, Rec, Value, key_bytes};
+use std::alloc::Global;
+
+/// One entry of one leaf.
+#[derive(Debug, Drop)]
+pub struct LeafEntry {
+    /// the number of the leaf
+    pub leaf: u32,
+    pub key: Octets,
+    pub body: Octets,
+}
+
+// The entry of a record in a leaf.
+pub fn leaf_entry(alloc: Global, leaf: u32, form: &Form, rec: &Rec) -> Result<LeafEntry, NoMemory>
+    requires form { IsLeafForm form.now }
+    requires of_form { IsOf form.now rec.now }
+    ensures { IfOk result (λ e. e ≡ entry_in leaf rec.now) }
+{
+    let key = key_bytes(&form.keys, &rec.key);
+    let key = Octets::from_slice(alloc, key.as_slice())?;
+    let body = Octets::from_slice(alloc, body_of(rec))?;
+    Ok(LeafEntry { leaf, key, body })
+}
+
+fn body_of(rec: &Rec) -> &[u8]
+    ensures { result.now ≡ leaf_body rec.now.fields }
+{
+    match rec.fields.0.first() {
+        Some(Value::Bytes(bytes)) => bytes.as_slice(),
+        _ => &[],
+    }
+}
+
+fn is_same_place(a: &LeafEntry, b: &LeafEntry) -> bool
+    ensures { IsTrue result ↔ IsAt b.now.leaf b.now.key a.now }
+{
+    a.leaf == b.leaf && a.key.as_slice() == b.key.as_slice()
+}
+
+// The number of the entry at the place of another one. Two lists of one tree mostly have it at the same
+// number, so that is looked at first.
+fn place_of(entries: &[LeafEntry], entry: &LeafEntry, guess: usize) -> Option<usize>
+    ensures { IsPlace entries.now entry.now result }
+{
+    if guess < entries.len() && is_same_place(&entries[guess], entry) {
+        return Some(guess);
+    }
+    for i in 0..entries.len() {
+        if is_same_place(&entries[i], entry) {
+            return Some(i);
+        }
+    }
+    None
+}
+
+// Whether an entry stands at the place of another one.
+fn has_place(entries: &[LeafEntry], entry: &LeafEntry, guess: usize) -> bool
+    ensures some { result ≡ true → SomeAt entry.now.leaf entry.now.key entries.now }
+    ensures none { result ≡ false → NoneAt entry.now.leaf entry.now.key entries.now }
+{
+    match place_of(entries, entry, guess) {
+        Some(_) => true,
+        None => false,
+    }
+}
+
+// Whether the entry found at its place is the same.
+fn has_entry(entries: &[LeafEntry], entry: &LeafEntry, guess: usize) -> bool
+    ensures { result ≡ true → In entry.now entries.now }
+{
+    match place_of(entries, entry, guess) {
+        Some(i) => entries[i].body.as_slice() == entry.body.as_slice(),
+        None => false,
+    }
+}
+
+// Takes out of their leaves the entries at whose places none of the others stands.
+pub fn remove_others<B: Leaves>(
+    alloc: Global,
+    leaves: &mut B,
+    gone: &[LeafEntry],
+    come: &[LeafEntry],
+) -> Result<(), Stop>
+    requires small { AreSmall (length (B.working leaves.old)) gone.now }
+    ensures done { B.whole leaves.old → OnOk result (B.whole leaves.new × IsRemoved gone.now come.now (B.working leaves.old) (B.working leaves.new)) }
+    ensures fewer { B.whole leaves.old → OnOk result (entry_count (B.working leaves.new) ≤ entry_count (B.working leaves.old)) }
+    ensures others { B.whole leaves.old → ¬ IsErrOf result Stop.Fault → SameBut gone.now (B.working leaves.old) (B.working leaves.new) }
+    ensures leaves { length (B.working leaves.new) ≡ length (B.working leaves.old) }
+    ensures work { B.work leaves.new ≡ B.work leaves.old }
+    ensures stays { Stays B.kept B.kept_whole B.limit B.head B.content B.calm leaves.old leaves.new }
+    ensures cause { HasStopCause (B.faults leaves.old) (B.faults leaves.new) (B.whole leaves.old) result }
+    ensures not_full { ¬ IsErrOf result Stop.Full }
+{
+    for i in 0..gone.len() {
+        let entry = &gone[i];
+        if !has_place(come, entry, i) {
+            leaves.remove(alloc, entry.leaf, entry.key.as_slice())?;
+        }
+    }
+    Ok(())
+}
+
+// Puts into their leaves the entries that don't stand there yet.
+pub fn put_new<B: Leaves>(
+    alloc: Global,
+    leaves: &mut B,
+    gone: &[LeafEntry],
+    come: &[LeafEntry],
+) -> Result<(), Stop>
+    requires small { AreSmall (length (B.working leaves.old)) come.now }
+    ensures done { B.whole leaves.old → OnOk result (B.whole leaves.new × IsPut gone.now come.now (B.working leaves.old) (B.working leaves.new)) }
+    ensures others { B.whole leaves.old → ¬ IsErrOf result Stop.Fault → SameBut come.now (B.working leaves.old) (B.working leaves.new) }
+    ensures leaves { length (B.working leaves.new) ≡ length (B.working leaves.old) }
+    ensures work { B.work leaves.new ≡ B.work leaves.old }
+    ensures stays { Stays B.kept B.kept_whole B.limit B.head B.content B.calm leaves.old leaves.new }
+    ensures cause { HasStopCause (B.faults leaves.old) (B.faults leaves.new) (B.whole leaves.old) result }
+    ensures full { B.whole leaves.old → IsErrOf result Stop.Full → IsCrowdedBy (B.limit leaves.old) (entry_count (B.working leaves.old) + length come.now) }
+{
+    for i in 0..come.len() {
+        let entry = &come[i];
+        if !has_entry(gone, entry, i) {
+            leaves.put(
+                alloc,
+                entry.leaf,
+                entry.key.as_slice(),
+                entry.body.as_slice(),
+            )?;
+        }
+    }
+    Ok(())
+}

@@ -1,0 +1,183 @@
+// Nodes: trees of mappings, with leaves below.
+ghost use Rattle.std.specs.Prelude.{◌≡◌, ◌<◌, ◌≤◌, ◌+◌, ◌++◌, ◌↔◌, List, ℕ, length, not, ◌&&◌, OnOk, IsErrOf, IfOk};
+ghost use Rattle.std.specs.Option.{option_map};
+ghost use Rattle.gx_ports.specs.LeafMaps.{LeafMap, map_at, entry_count, Extends};
+ghost use Rattle.gx_ports.specs.Stops.{HasStopCause};
+ghost use Rattle.gx_device.specs.Faults.{Rose};
+ghost use Rattle.gx_values.specs.declared.records.Rec.{Rec as Record};
+ghost use Rattle.gx_mapping.specs.Rule.{In, IsOf};
+ghost use Rattle.gx_stack.specs.Tree.{leaves_of, tree_form, entries_of, IsValid};
+ghost use Rattle.gx_stack.specs.Seen.{tree_of};
+ghost use Rattle.gx_stack.specs.Internal.{IsSet, IsInternal, IsUnion, IsChange, IfThere, changed, entries_if, IsCrowdedBy};
+ghost use Rattle.gx_stack.specs.Selected.{IsKeySpan, IsFound};
+ghost use Rattle.gx_stack.specs.Calls.{Stays};
+
+use crate::entries::{LeafEntry, leaf_entry, put_new, remove_others};
+use crate::gather::{add_parts, gather_parts};
+use crate::read::select_leaf;
+use crate::recs::Recs;
+use gx_mapping::{Mapping, Parts};
+use gx_ports::{Leaves, Stop};
+use gx_values::{Form, NoMemory, Rec, Span};
+use std::alloc::Global;
+
+/// A tree of mappings. It holds the records of one form as the entries of its leaves.
+#[cycle(node)]
+#[derive(Drop)]
+pub enum Node<M: Mapping> {
+    /// one leaf, which holds the records themselves
+    Leaf(LeafNode),
+    /// a mapping, whose children hold the parts of the records
+    Layer(LayerNode<M>),
+}
+
+/// A leaf of a tree.
+#[derive(Drop)]
+pub struct LeafNode {
+    /// its number among all leaves
+    pub leaf: u32,
+    /// the form of its records: their data are the bytes of one field, or nothing
+    pub form: Form,
+}
+
+/// A mapping and its children.
+#[cycle(node)]
+#[derive(Drop)]
+pub struct LayerNode<M: Mapping> {
+    pub mapping: M,
+    /// a node for each child of the mapping
+    pub kids: Vec<Node<M>>,
+}
+
+impl<M: Mapping> Node<M> {
+    /// What the leaves hold for a set of records is said in two ways that are one: child by child, and as
+    /// the union of the leaf entries that come from the records. It does nothing.
+    pub fn internal_is_union(&self)
+        requires { IsValid M.rule (tree_of self.now) }
+        ensures { (R : List Record) (maps : List LeafMap) → IsInternal M.rule (tree_of self.now) R maps ↔ IsUnion M.rule (tree_of self.now) R maps }
+    {}
+
+    // Appends the leaf entries that come from one record.
+    fn entries(&self, alloc: Global, rec: &Rec, out: &mut Vec<LeafEntry>) -> Result<(), NoMemory>
+        requires valid { IsValid M.rule (tree_of self.now) }
+        requires of_form { IsOf (tree_form M.rule (tree_of self.now)) rec.now }
+        ensures { OnOk result (out.new.items ≡ out.old.items ++ entries_of M.rule (tree_of self.now) rec.now) }
+    {
+        match self {
+            Node::Leaf(node) => {
+                out.push(leaf_entry(alloc, node.leaf, &node.form, rec)?)?;
+                Ok(())
+            }
+            Node::Layer(layer) => {
+                let parts = layer.mapping.parts(alloc, rec)?;
+                for part in &parts.0 {
+                    let kid = &layer.kids[part.child as usize];
+                    kid.entries(alloc, &part.rec, out)?;
+                }
+                Ok(())
+            }
+        }
+    }
+
+    // The leaf entries that come from an optional record.
+    fn entries_if(&self, alloc: Global, rec: Option<&Rec>) -> Result<Vec<LeafEntry>, NoMemory>
+        requires valid { IsValid M.rule (tree_of self.now) }
+        requires of_form { IfThere (option_map (λ r. r.now) rec) (IsOf (tree_form M.rule (tree_of self.now))) }
+        ensures { IfOk result (λ es. es.items ≡ entries_if M.rule (tree_of self.now) (option_map (λ r. r.now) rec.entry)) }
+    {
+        let mut entries = Vec::new(alloc);
+        if let Some(rec) = rec {
+            self.entries(alloc, rec, &mut entries)?;
+        }
+        Ok(entries)
+    }
+
+    /// Changes one record: `old` is what the node holds at the key, and `new` what it is to hold there. The
+    /// entries that both have are left alone.
+    ///
+    /// `Full`: the pages may not be enough for the entries of `new` besides all that there are.
+    /// `Damaged`: some leaf's stored form isn't whole. `Fault`: the count of faults rose. `NoMemory`: there
+    /// was none. After a refusal a part of the change may be made.
+    pub fn replace<B: Leaves>(
+        &self,
+        alloc: Global,
+        leaves: &mut B,
+        old: Option<&Rec>,
+        new: Option<&Rec>,
+    ) -> Result<(), Stop>
+        requires valid { IsValid M.rule (tree_of self.now) }
+        requires below { (n : ℕ) → In n (leaves_of (tree_of self.now)) → n < length (B.working leaves.old) }
+        requires old_fits { IfThere (option_map (λ r. r.now) old) (IsOf (tree_form M.rule (tree_of self.now))) }
+        requires new_fits { IfThere (option_map (λ r. r.now) new) (IsOf (tree_form M.rule (tree_of self.now))) }
+
+        // The leaves hold the records with the one changed, and all other leaves stay.
+        ensures internal { (R : List Record) → B.whole leaves.old → IsSet (tree_form M.rule (tree_of self.now)) R → IsChange R (option_map (λ r. r.now) old.entry) (option_map (λ r. r.now) new.entry) → IsInternal M.rule (tree_of self.now) R (B.working leaves.old) → OnOk result (IsInternal M.rule (tree_of self.now) (changed R (option_map (λ r. r.now) old.entry) (option_map (λ r. r.now) new.entry)) (B.working leaves.new)) }
+        ensures others { (n : ℕ) → B.whole leaves.old → ¬ IsErrOf result Stop.Fault → ¬ In n (leaves_of (tree_of self.now)) → map_at (B.working leaves.new) n ≡ map_at (B.working leaves.old) n }
+        ensures leaves { length (B.working leaves.new) ≡ length (B.working leaves.old) }
+        ensures whole { OnOk result (B.whole leaves.old → B.whole leaves.new) }
+        ensures work { B.work leaves.new ≡ B.work leaves.old }
+        ensures stays { Stays B.kept B.kept_whole B.limit B.head B.content B.calm leaves.old leaves.new }
+
+        // The causes of a stop.
+        ensures cause { HasStopCause (B.faults leaves.old) (B.faults leaves.new) (B.whole leaves.old) result }
+        ensures full { B.whole leaves.old → IsErrOf result Stop.Full → IsCrowdedBy (B.limit leaves.old) (entry_count (B.working leaves.old) + length (entries_if M.rule (tree_of self.now) (option_map (λ r. r.now) new.entry))) }
+    {
+        let gone = self.entries_if(alloc, old)?;
+        let come = self.entries_if(alloc, new)?;
+        remove_others(alloc, leaves, &gone, &come)?;
+        put_new(alloc, leaves, &gone, &come)
+    }
+
+    /// Appends the records whose key is inside the span, in ascending order of their keys.
+    ///
+    /// `Damaged`: some leaf's stored form isn't whole, or the leaves hold no set of records. `Fault`: the
+    /// count of faults rose. `NoMemory`: there was none. After a refusal `out` may have more at its end.
+    pub fn select<B: Leaves>(
+        &self,
+        alloc: Global,
+        leaves: &mut B,
+        span: &Span,
+        out: &mut Recs,
+    ) -> Result<(), Stop>
+        requires valid { IsValid M.rule (tree_of self.now) }
+        requires below { (n : ℕ) → In n (leaves_of (tree_of self.now)) → n < length (B.working leaves.old) }
+        requires span { IsKeySpan (tree_form M.rule (tree_of self.now)) span.now }
+        ensures found { OnOk result (IsFound M.rule (tree_of self.now) (B.whole leaves.old) (B.working leaves.old) span.now (B.work leaves.old) (B.work leaves.new) out.old out.new) }
+
+        // What stays.
+        ensures front { Extends out.old out.new }
+        ensures working { B.working leaves.new ≡ B.working leaves.old }
+        ensures whole { OnOk result (B.whole leaves.old → B.whole leaves.new) }
+        ensures stays { Stays B.kept B.kept_whole B.limit B.head B.content B.calm leaves.old leaves.new }
+
+        // The causes of a stop.
+        ensures later { B.faults leaves.old ≤ B.faults leaves.new }
+        ensures fault { IsErrOf result Stop.Fault → Rose (B.faults leaves.old) (B.faults leaves.new) }
+        ensures damaged { (block : ℕ) (R : List Record) → IsErrOf result (Stop.Damaged block) → B.whole leaves.old → IsSet (tree_form M.rule (tree_of self.now)) R → IsInternal M.rule (tree_of self.now) R (B.working leaves.old) → ⊥ }
+        ensures not_full { ¬ IsErrOf result Stop.Full }
+    {
+        match self {
+            Node::Leaf(node) => select_leaf(alloc, leaves, node.leaf, &node.form, span, out),
+            Node::Layer(layer) => {
+                let mut parts = Parts(Vec::new(alloc));
+                for child in 0..layer.mapping.kids() {
+                    if is_searched(&layer.mapping, child, span) {
+                        let mut found = Recs::new(alloc);
+                        let kid = &layer.kids[child as usize];
+                        kid.select(alloc, leaves, span, &mut found)?;
+                        add_parts(child, found, &mut parts)?;
+                    }
+                }
+                gather_parts(alloc, &layer.mapping, parts, out)
+            }
+        }
+    }
+}
+
+// Whether a child may have parts that records inside the span are gathered from.
+fn is_searched<M: Mapping>(mapping: &M, child: u16, span: &Span) -> bool
+    requires { child < (M.rule mapping.now).kids }
+    ensures { result ≡ ((M.rule mapping.now).holds_rest child && not ((M.rule mapping.now).skips child span.now)) }
+{
+    mapping.holds_rest(child) && !mapping.skips(child, span)
+}

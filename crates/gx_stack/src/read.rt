@@ -1,0 +1,105 @@
+// Records read back from the entries of a leaf.
+ghost use Rattle.std.specs.Prelude.{◌≡◌, ◌≢◌, ◌<◌, ◌≤◌, ℕ, List, length, OnOk, IsErrOf, IfOk};
+ghost use Rattle.gx_device.specs.Faults.{Rose};
+ghost use Rattle.gx_values.specs.declared.records.Rec.{Rec as Record};
+ghost use Rattle.gx_ports.specs.LeafMaps.{map_at, Extends};
+ghost use Rattle.gx_ports.specs.declared.leaves.Entry.{Entry as LeafPair};
+ghost use Rattle.gx_mapping.specs.Rule.{In, IsOf};
+ghost use Rattle.gx_stack.specs.Tree.{IsLeafForm};
+ghost use Rattle.gx_stack.specs.Internal.{IsSet, IsLeafMap};
+ghost use Rattle.gx_stack.specs.Read.{leaf_most, IsDataOf, IsRecordOf, AreRecords, IsLeafFound, entry_of_rec};
+ghost use Rattle.gx_stack.specs.Calls.{Stays};
+
+use crate::recs::Recs;
+use gx_ports::{Entries, Entry, Leaves, Stop};
+use gx_values::{Fields, Form, Kind, NoMemory, Octets, Rec, Span, Value, Values, read_key};
+use std::alloc::Global;
+
+// Records see no blocks: damage that they show is said of block 0.
+pub const NO_BLOCK: u32 = 0;
+
+// Appends the records of one leaf whose keys are inside the span, in the order of the keys.
+pub fn select_leaf<B: Leaves>(
+    alloc: Global,
+    leaves: &mut B,
+    leaf: u32,
+    form: &Form,
+    span: &Span,
+    out: &mut Recs,
+) -> Result<(), Stop>
+    requires leaf { leaf < length (B.working leaves.old) }
+    requires form { IsLeafForm form.now }
+    ensures found { OnOk result (IsLeafFound form.now (B.whole leaves.old) (map_at (B.working leaves.old) leaf) span.now (B.work leaves.old) (B.work leaves.new) out.old out.new) }
+    ensures front { Extends out.old out.new }
+    ensures working { B.working leaves.new ≡ B.working leaves.old }
+    ensures whole { OnOk result (B.whole leaves.old → B.whole leaves.new) }
+    ensures stays { Stays B.kept B.kept_whole B.limit B.head B.content B.calm leaves.old leaves.new }
+    ensures later { B.faults leaves.old ≤ B.faults leaves.new }
+    ensures fault { IsErrOf result Stop.Fault → Rose (B.faults leaves.old) (B.faults leaves.new) }
+    ensures damaged { (block : ℕ) (R : List Record) → IsErrOf result (Stop.Damaged block) → B.whole leaves.old → IsSet form.now R → IsLeafMap (map_at (B.working leaves.old) leaf) R → ⊥ }
+    ensures not_full { ¬ IsErrOf result Stop.Full }
+{
+    let mut entries = Entries::new(alloc);
+    leaves.select(alloc, leaf, span, &mut entries)?;
+    read_records(alloc, form, entries, out)
+}
+
+// The records of entries, in the same order.
+fn read_records(alloc: Global, form: &Form, entries: Entries, out: &mut Recs) -> Result<(), Stop>
+    requires form { IsLeafForm form.now }
+    ensures read { OnOk result (AreRecords form.now entries out.old out.new) }
+    ensures front { Extends out.old out.new }
+    ensures damaged { (block : ℕ) → IsErrOf result (Stop.Damaged block) → (e : LeafPair) × In e entries × ((r : Record) → IsOf form.now r → entry_of_rec r ≢ e) }
+    ensures not_full { ¬ IsErrOf result Stop.Full }
+    ensures not_fault { ¬ IsErrOf result Stop.Fault }
+{
+    for entry in entries.0 {
+        match read_record(alloc, form, entry)? {
+            Some(rec) => out.0.push(rec)?,
+            None => return Err(Stop::Damaged(NO_BLOCK)),
+        }
+    }
+    Ok(())
+}
+
+// The record of an entry. `None`: it is the entry of no record of the form.
+fn read_record(alloc: Global, form: &Form, entry: Entry) -> Result<Option<Rec>, NoMemory>
+    requires { IsLeafForm form.now }
+    ensures { IfOk result (IsRecordOf form.now entry) }
+{
+    let Some(key) = read_key(alloc, &form.keys, entry.key.as_slice())? else {
+        return Ok(None);
+    };
+    let Some(fields) = read_fields(alloc, form, entry.body)? else {
+        return Ok(None);
+    };
+    Ok(Some(Rec { key, fields }))
+}
+
+// The data of a leaf's record.
+fn read_fields(alloc: Global, form: &Form, body: Octets) -> Result<Option<Values>, NoMemory>
+    requires { IsLeafForm form.now }
+    ensures { IfOk result (IsDataOf form.now.fields body) }
+{
+    match most_bytes(&form.fields) {
+        None => Ok(body.0.is_empty().then_some(Values(Vec::new(alloc)))),
+        Some(most) => {
+            if body.0.len() > usize::from(most) {
+                return Ok(None);
+            }
+            let mut values = Vec::with_capacity(alloc, 1)?;
+            values.push(Value::Bytes(body))?;
+            Ok(Some(Values(values)))
+        }
+    }
+}
+
+// How many bytes the one data field has at most. `None`: there is no field.
+fn most_bytes(fields: &Fields) -> Option<u16>
+    ensures { result ≡ leaf_most fields.now }
+{
+    match fields.0.first()?.kind {
+        Kind::Bytes(most) => Some(most),
+        _ => None,
+    }
+}
