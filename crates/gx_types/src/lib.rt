@@ -1,0 +1,19 @@
+//! Typing: which equations can be carried out under a schema, and which leaves they have.
+#![tactic(auto)]
+
+mod dues;
+mod fields;
+mod forms;
+mod reasons;
+mod rows;
+mod sides;
+mod terms;
+mod typing;
+mod whole;
+
+pub use reasons::{TypeWhy, Unbuilt};
+pub use typing::{Owners, Specs, Typing, root_pages, smallest_device};
+pub use whole::typed;
+
+#[cfg(test)]
+mod tests;
