@@ -116,3 +116,11 @@ AreFirstAnswers schema script count text = (final : Playing) × (end : End) × I
 abbrev pub end_text : End → List ℕ
 end_text good = []
 end_text (stopped number reason) = codes "stopped at line " ++ decimal number ++ codes ": " ++ word_of reason ++ codes "\n"
+
+-- the whole text of a script's play: the answers, and what is said of its end
+pub record IsPlayText (schema : Schema) (script text : List ℕ) : Type 0 where
+  pub answers : List ℕ
+  pub final : Playing
+  pub end : End
+  pub played : IsPlay schema script answers final end
+  pub is : text ≡ answers ++ end_text end
