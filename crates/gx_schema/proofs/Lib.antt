@@ -1,7 +1,7 @@
 mod LoopSteps
 mod TextFound
 mod TextAgain
-mod SchemaLaws
+pub mod SchemaLaws
 mod SchemaValid
 pub mod WellFormedLaws
 mod ShapeRules

@@ -1,12 +1,11 @@
 -- A request that can be carried out isn't refused, and its schema is one.
-use Rattle.std.proofs.Common.{◌≡◌, ℕ, ◌<◌, ◌≤◌, List, [], length, get_or, Bool, true, false, Result, Ok, Err, Option, Some, None, refl, sym, ap, subst, ◌∙◌, arith, inl, inr}
-use Rattle.std.specs.Prelude.{◌⊎◌, ◌≢◌, IsSomeAnd}
+use Rattle.std.proofs.Common.{◌≡◌, ℕ, ◌<◌, List, [], length, get_or, Bool, true, false, Result, Ok, Err, Option, Some, None, refl, sym, ap, subst, ◌∙◌, arith, inl, inr}
+use Rattle.std.specs.Prelude.{◌⊎◌, ◌≢◌, IsSomeAnd, codes}
 use Rattle.std.specs.FinMap.{get}
 use Rattle.gx_device.specs.Content.{Content, Texts}
 use Rattle.gx_tokens.specs.declared.why.Unread.{Unread}
 use Rattle.gx_tokens.specs.declared.why.Unread.TheVariants as unread
 use Rattle.gx_schema.specs.declared.schema.Schema.{Schema}
-use Rattle.gx_schema.specs.Reading.{schema_of}
 use Rattle.gx_script.specs.declared.command.LineWhy.{LineWhy}
 use Rattle.gx_script.specs.Lines.{script_lines}
 use Rattle.gx_model.specs.States.{empty_state}
@@ -16,23 +15,51 @@ use Rattle.gx_top.specs.declared.ending.Ending.{Ending}
 use Rattle.gx_top.specs.declared.ending.Ending.TheVariants as ending
 use Rattle.gx_top.specs.declared.status.Status.{Status}
 use Rattle.gx_top.specs.declared.status.Status.TheVariants as status
-use Rattle.gx_top.specs.Built.{is_built, long_file, text_length}
+use Rattle.gx_tokens.specs.Reading.{with_line}
+use Rattle.gx_schema.proofs.SchemaLaws.{schema_again, one_schema}
+use Rattle.gx_equation.specs.Grammar.{Means}
+use Rattle.gx_equation.specs.Trees.{DefinitionTree}
+use Rattle.gx_equation.proofs.Again.{meaning_again, one_meaning}
+use Rattle.gx_types.specs.declared.typing.Typing.{Typing}
+use Rattle.gx_types.specs.Typed.{IsTyped, leaves, typing_with}
+use Rattle.gx_types.specs.Typing.{Mistake}
+use Rattle.gx_types.proofs.TypedLaws.{again as typed_again}
+use Rattle.gx_top.specs.declared.prepare.Prepared.TheVariants as prepared
+use Rattle.gx_top.specs.declared.summary.Summary.{Summary}
+use Rattle.gx_top.specs.declared.words.Action.{Action}
+use Rattle.gx_top.specs.declared.words.Action.TheVariants as action
+use Rattle.gx_top.specs.Built.{is_built, text_length}
 use Rattle.gx_top.specs.Endings.{status_of, IsOutside}
-use Rattle.gx_top.specs.Requests.{IsText, IsTooLong, IsFirst, IsTryWhere, IsRefused, IsAccepted, IsUnprepared, text_limit}
-use Rattle.gx_top.specs.Tries.{Says, IsStoppedText, IsPlayable}
-use Rattle.gx_top.specs.Words.{try_words}
+use Rattle.gx_top.specs.Requests.{IsText, IsThere, IsTooLong, IsNamed, IsAsked, AreRead, AreAccepted, AreUnaccepted, IsAccepted, IsRunnable, IsPrepared, IsRefused, IsUnprepared, equation_of, text_limit}
+use Rattle.gx_top.specs.Tries.{Says, IsStoppedText, IsTry, IsPlayable, IsCheckable}
+use Rattle.gx_top.specs.Words.{request_words, word_of}
 
-same_names : (words : List (List ℕ)) (a b c d : List ℕ) → words ≡ try_words a b → words ≡ try_words c d → (a ≡ c) × (b ≡ d)
-same_names words a b c d p q =
-    let e : try_words a b ≡ try_words c d = sym p ∙ q in
-    (ap (λ (ws : List (List ℕ)). get_or ws 1 []) e, ap (λ (ws : List (List ℕ)). get_or ws 2 []) e)
+-- the words of one request are those of no other
+word_once : (a b : Action) → word_of a ≡ word_of b → a ≡ b
+word_once action.Check action.Check e = refl
+word_once action.Try action.Try e = refl
+word_once action.Check action.Try e = absurd (never e)
+  where
+    never : codes "check" ≡ codes "try" → ⊥
+    never f = cc
+word_once action.Try action.Check e = absurd (never e)
+  where
+    never : codes "try" ≡ codes "check" → ⊥
+    never f = cc
 
-abbrev ok_or : Schema → Result Schema Unread → Schema
-ok_or d (Ok s) = s
-ok_or d (Err e) = d
+record SameWords (a b : Action) (s t e f : List ℕ) : Type 0 where
+  pub actions : a ≡ b
+  pub schemas : s ≡ t
+  pub equations : e ≡ f
 
-ok_once : (s t : Schema) → ◌≡◌ {A = Result Schema Unread} (Ok s) (Ok t) → s ≡ t
-ok_once s t e = ap (ok_or s) e
+same_words : (words : List (List ℕ)) (a b : Action) (s t e f : List ℕ) → words ≡ request_words a s e → words ≡ request_words b t f → SameWords a b s t e f
+same_words words a b s t e f p q =
+    let same : request_words a s e ≡ request_words b t f = sym p ∙ q in
+    record {
+      actions = word_once a b (ap (λ (ws : List (List ℕ)). get_or ws 0 []) same);
+      schemas = ap (λ (ws : List (List ℕ)). get_or ws 1 []) same;
+      equations = ap (λ (ws : List (List ℕ)). get_or ws 2 []) same;
+    }
 
 ok_not_bad : (s : Schema) (e : Unread) → ◌≡◌ {A = Result Schema Unread} (Ok s) (Err e) → ⊥
 ok_not_bad s e f = cc
@@ -50,83 +77,164 @@ some_not_none a e = cc
 text_once : (texts : Texts) (a b x y : List ℕ) → a ≡ b → get texts a ≡ Some x → get texts b ≡ Some y → x ≡ y
 text_once texts a b x y same is other = some_once x y (sym is ∙ ap (λ n. get texts n) same ∙ other)
 
--- the texts of two requests of the same words
-record AreOne (s t e f : List ℕ) : Type 0 where
-  pub schemas : s ≡ t
-  pub equations : e ≡ f
+-- ---- two readings of the same words
 
-one_request : (words : List (List ℕ)) (texts : Texts) (s t e f : List ℕ) → IsTryWhere words (λ n m. IsText texts n s × IsText texts m e) → IsTryWhere words (λ n m. IsText texts n t × IsText texts m f) → AreOne s t e f
-one_request words texts s t e f x y =
-    let names = same_names words x.0 x.1 y.0 y.1 x.2 y.2 in
+one_request : (words : List (List ℕ)) (texts : Texts) (a b : Action) (s t e f : List ℕ) → IsAsked words texts a s e → IsAsked words texts b t f → SameWords a b s t e f
+one_request words texts a b s t e f x y =
+    let same = same_words words a b x.schema_name y.schema_name x.equation_name y.equation_name x.words_are y.words_are in
     record {
-      schemas = text_once texts x.0 y.0 s t names.0 x.3.0.0 y.3.0.0;
-      equations = text_once texts x.1 y.1 e f names.1 x.3.1.0 y.3.1.0;
+      actions = same.actions;
+      schemas = text_once texts x.schema_name y.schema_name s t same.schemas x.schema_there.0 y.schema_there.0;
+      equations = text_once texts x.equation_name y.equation_name e f same.equations x.equation_there.0 y.equation_there.0;
     }
 
-pub accepted_once : (words : List (List ℕ)) (texts : Texts) (s t : Schema) → IsAccepted words texts s → IsAccepted words texts t → s ≡ t
-accepted_once words texts s t a b =
-    let one = one_request words texts a.0 b.0 a.1 b.1 a.2 b.2 in
-    ok_once s t (sym a.3.read ∙ ap schema_of one.schemas ∙ b.3.read)
-
 -- neither of two texts that are there is missing or too long
-there : (texts : Texts) (name n m s e : List ℕ) → IsText texts n s → IsText texts m e → IsFirst texts n m name → (text : List ℕ) × IsText texts name text
-there texts name n m s e t u (inl is) = (s, subst (λ k. IsText texts k s) (sym is) t)
-there texts name n m s e t u (inr is) = (e, subst (λ k. IsText texts k e) (sym is.1) u)
+named : (words : List (List ℕ)) (texts : Texts) (name : List ℕ) (a : Action) (s e : List ℕ) → IsAsked words texts a s e → IsNamed words texts name → IsThere texts name
+named words texts name a s e x y = there y.first
+  where
+    same : SameWords a y.asked x.schema_name y.schema_name x.equation_name y.equation_name
+    same = same_words words a y.asked x.schema_name y.schema_name x.equation_name y.equation_name x.words_are y.words_are
 
-named : (words : List (List ℕ)) (texts : Texts) (name s e : List ℕ) (Q : Type 0) → IsTryWhere words (λ n m. IsText texts n s × IsText texts m e) → IsTryWhere words (λ n m. IsFirst texts n m name × Q) → (text : List ℕ) × IsText texts name text
-named words texts name s e Q x y =
-    let names = same_names words x.0 x.1 y.0 y.1 x.2 y.2 in
-    there texts name y.0 y.1 s e (subst (λ n. IsText texts n s) names.0 x.3.0) (subst (λ m. IsText texts m e) names.1 x.3.1) y.3.0
+    there : ((name ≡ y.schema_name) ⊎ (IsThere texts y.schema_name × (name ≡ y.equation_name))) → IsThere texts name
+    there (inl is) = (s, subst (λ k. IsText texts k s) (same.schemas ∙ sym is) x.schema_there)
+    there (inr is) = (e, subst (λ k. IsText texts k e) (same.equations ∙ sym is.1) x.equation_there)
 
-not_missing : (texts : Texts) (name : List ℕ) → ((text : List ℕ) × IsText texts name text) → get texts name ≡ None → ⊥
+not_missing : (texts : Texts) (name : List ℕ) → IsThere texts name → get texts name ≡ None → ⊥
 not_missing texts name is none = some_not_none is.0 (sym is.1.0 ∙ none)
 
-not_long : (texts : Texts) (name : List ℕ) → ((text : List ℕ) × IsText texts name text) → IsTooLong texts name → ⊥
+not_long : (texts : Texts) (name : List ℕ) → IsThere texts name → IsTooLong texts name → ⊥
 not_long texts name is long = omega (arith, is.1.1, subst (λ (o : Option (List ℕ)). IsSomeAnd o (λ text. text_limit < length text)) is.1.0 long)
 
-not_built : (b : Bool) → b ≡ true → b ≡ false → ⊥
-not_built b t f = absurd (never (sym t ∙ f))
+not_both : (b : Bool) → b ≡ true → b ≡ false → ⊥
+not_both b t f = absurd (never (sym t ∙ f))
   where
     never : true ≡ false → ⊥
     never e = cc
 
--- the schema and the equation of another reading of the same words
-record IsOther (words : List (List ℕ)) (texts : Texts) (schema : Schema) (text equation : List ℕ) : Type 0 where
-  pub read : schema_of text ≡ Ok schema
-  pub built : is_built schema equation ≡ true
-  pub narrow : long_file schema ≡ None
-  pub short : text_length schema ≤ text_limit
+-- ---- two meanings of the same texts
 
-other : (words : List (List ℕ)) (texts : Texts) (schema : Schema) (t f : List ℕ) → IsAccepted words texts schema → IsTryWhere words (λ n m. IsText texts n t × IsText texts m f) → IsOther words texts schema t f
-other words texts schema t f a y =
-    let one = one_request words texts a.0 t a.1 f a.2 y in
+record SameTexts (schema other : Schema) (ds fs : List DefinitionTree) (lines more : List ℕ) : Type 0 where
+  pub schemas : schema ≡ other
+  pub definitions : ds ≡ fs
+  pub lines_are : lines ≡ more
+
+one_reading : (s e : List ℕ) (schema other : Schema) (ds fs : List DefinitionTree) (lines more : List ℕ) → AreRead s e schema ds lines → AreRead s e other fs more → SameTexts schema other ds fs lines more
+one_reading s e schema other ds fs lines more x y =
+    let same = one_meaning e (ds, lines) (fs, more) x.equation_means y.equation_means in
     record {
-      read = ap schema_of (sym one.schemas) ∙ a.3.read;
-      built = ap (is_built schema) (sym one.equations) ∙ a.3.built;
-      narrow = a.3.narrow;
-      short = a.3.short;
+      schemas = one_schema s schema other x.schema_means y.schema_means;
+      definitions = ap (λ (m : List DefinitionTree × List ℕ). m.0) same;
+      lines_are = ap (λ (m : List DefinitionTree × List ℕ). m.1) same;
     }
 
-pub not_refused : (words : List (List ℕ)) (texts : Texts) (schema : Schema) (why : Ending) → IsAccepted words texts schema → IsRefused words texts why → ⊥
-not_refused words texts schema ending.Words a r = r a.2.0 a.2.1 a.2.2
-not_refused words texts schema (ending.Missing name) a r = not_missing texts name.now (named words texts name.now a.0 a.1 (get texts name.now ≡ None) a.2 r) r.3.1
-not_refused words texts schema (ending.TooLong name) a r = not_long texts name.now (named words texts name.now a.0 a.1 (IsTooLong texts name.now) a.2 r) r.3.1
-not_refused words texts schema (ending.Schema line why) a r = ok_not_bad schema (unread.Bad line why) (sym (other words texts schema r.0 r.1 a r.2).read ∙ r.3)
-not_refused words texts schema ending.NotBuilt a r =
-    let o = other words texts schema r.0 r.1 a r.2 in
-    let same = ok_once schema r.3.0 (sym o.read ∙ r.3.1) in
-    not_built (is_built schema r.1) o.built (ap (λ s. is_built s r.1) same ∙ r.3.2)
-not_refused words texts schema (ending.EntryTooLong line) a r =
-    let o = other words texts schema r.0 r.1 a r.2 in
-    let same = ok_once schema r.3.0 (sym o.read ∙ r.3.1) in
-    some_not_none r.3.3.0 (sym r.3.3.1 ∙ ap long_file (sym same) ∙ o.narrow)
-not_refused words texts schema ending.TextsTooLong a r =
-    let o = other words texts schema r.0 r.1 a r.2 in
-    let same = ok_once schema r.3.0 (sym o.read ∙ r.3.1) in
-    omega (arith, o.short, subst (λ s. text_limit < text_length s) (sym same) r.3.4)
-not_refused words texts schema ending.NoMemory a r = r
-not_refused words texts schema ending.Fault a r = r.3
-not_refused words texts schema (ending.Line number why) a r = r.3
+equation_read : (text : List ℕ) (meaning : List DefinitionTree × List ℕ) → Means text meaning → equation_of text ≡ Ok meaning
+equation_read text meaning is = ap (with_line text) (meaning_again text meaning is)
+
+other_not_bad : {A : Type 0} (a : A) (e : Unread) → ◌≡◌ {A = Result A Unread} (Ok a) (Err e) → ⊥
+other_not_bad a e f = cc
+
+typed_not_mistaken : (t : Typing) (m : Mistake) → ◌≡◌ {A = Result Typing Mistake} (Ok t) (Err m) → ⊥
+typed_not_mistaken t m f = cc
+
+-- accepted texts aren't refused
+not_unaccepted : (s e : List ℕ) (schema : Schema) (ds : List DefinitionTree) (typing : Typing) (why : Ending) → AreAccepted s e schema ds typing → AreUnaccepted s e why → ⊥
+not_unaccepted s e schema ds typing (ending.Schema line why) a r = ok_not_bad schema (unread.Bad line why) (sym (schema_again s schema a.read.schema_means) ∙ r)
+not_unaccepted s e schema ds typing (ending.Equation line why) a r = other_not_bad (ds, a.lines) (unread.Bad line why) (sym (equation_read e (ds, a.lines) a.read.equation_means) ∙ r.2)
+not_unaccepted s e schema ds typing (ending.Type line why) a r =
+    let same = one_reading s e schema r.0 ds r.1 a.lines r.2 a.read r.3 in
+    typed_not_mistaken (typing_with (leaves r.0 r.1)) (line, why) (sym (typed_again r.0 r.1 r.2 (subst (λ (k : Schema). IsTyped k r.1) same.schemas (subst (λ fs. IsTyped schema fs) same.definitions a.typed))) ∙ r.4)
+not_unaccepted s e schema ds typing ending.TextsTooLong a r =
+    let same = one_reading s e schema r.0 ds r.1 a.lines r.2 a.read r.3 in
+    omega (arith, a.short, subst (λ (k : Schema). text_limit < text_length k ds) (sym same.schemas) (subst (λ fs. text_limit < text_length r.0 fs) (sym same.definitions) r.5))
+not_unaccepted s e schema ds typing ending.Words a r = r
+not_unaccepted s e schema ds typing (ending.Missing name) a r = r
+not_unaccepted s e schema ds typing (ending.TooLong name) a r = r
+not_unaccepted s e schema ds typing ending.NotBuilt a r = r
+not_unaccepted s e schema ds typing (ending.Accepted summary) a r = r
+not_unaccepted s e schema ds typing ending.NoMemory a r = r
+not_unaccepted s e schema ds typing ending.Fault a r = r
+not_unaccepted s e schema ds typing (ending.Line number why) a r = r
+
+-- the same of a request that asks for the same of the same texts
+not_refused_by_texts : (words : List (List ℕ)) (texts : Texts) (a : Action) (s e : List ℕ) (schema : Schema) (ds : List DefinitionTree) (typing : Typing) (why : Ending) → IsAsked words texts a s e → AreAccepted s e schema ds typing → ((b : Action) × (t : List ℕ) × (f : List ℕ) × IsAsked words texts b t f × AreUnaccepted t f why) → ⊥
+not_refused_by_texts words texts a s e schema ds typing why asked is r =
+    let same = one_request words texts a r.0 s r.1 e r.2 asked r.3 in
+    not_unaccepted s e schema ds typing why is (subst (λ t. AreUnaccepted t e why) (sym same.schemas) (subst (λ f. AreUnaccepted r.1 f why) (sym same.equations) r.4))
+
+-- a request whose texts are accepted is refused for no reason but that it isn't built
+abbrev OnlyUnbuilt : Ending → Type 0
+OnlyUnbuilt ending.NotBuilt = Unit {0}
+OnlyUnbuilt other = ⊥
+
+not_refused : (words : List (List ℕ)) (texts : Texts) (a : Action) (schema : Schema) (ds : List DefinitionTree) (typing : Typing) (why : Ending) → IsAccepted words texts a schema ds typing → IsRefused words texts why → OnlyUnbuilt why
+not_refused words texts a schema ds typing ending.Words is r = r a is.2.schema_name is.2.equation_name is.2.words_are
+not_refused words texts a schema ds typing (ending.Missing name) is r = not_missing texts name.now (named words texts name.now a is.0 is.1 is.2 r.0) r.1
+not_refused words texts a schema ds typing (ending.TooLong name) is r = not_long texts name.now (named words texts name.now a is.0 is.1 is.2 r.0) r.1
+not_refused words texts a schema ds typing (ending.Schema line why) is r = not_refused_by_texts words texts a is.0 is.1 schema ds typing (ending.Schema line why) is.2 is.3 r
+not_refused words texts a schema ds typing (ending.Equation line why) is r = not_refused_by_texts words texts a is.0 is.1 schema ds typing (ending.Equation line why) is.2 is.3 r
+not_refused words texts a schema ds typing (ending.Type line why) is r = not_refused_by_texts words texts a is.0 is.1 schema ds typing (ending.Type line why) is.2 is.3 r
+not_refused words texts a schema ds typing ending.TextsTooLong is r = not_refused_by_texts words texts a is.0 is.1 schema ds typing ending.TextsTooLong is.2 is.3 r
+not_refused words texts a schema ds typing ending.NotBuilt is r = tt
+not_refused words texts a schema ds typing (ending.Accepted summary) is r = r.4
+not_refused words texts a schema ds typing ending.NoMemory is r = r.4
+not_refused words texts a schema ds typing ending.Fault is r = r.4
+not_refused words texts a schema ds typing (ending.Line number why) is r = r.4
+
+-- ---- two acceptances of the same words
+
+record SameRequest (a b : Action) (schema other : Schema) (ds fs : List DefinitionTree) : Type 0 where
+  pub actions : a ≡ b
+  pub schemas : schema ≡ other
+  pub definitions : ds ≡ fs
+
+one_acceptance : (words : List (List ℕ)) (texts : Texts) (a b : Action) (schema other : Schema) (ds fs : List DefinitionTree) (typing more : Typing) → IsAccepted words texts a schema ds typing → IsAccepted words texts b other fs more → SameRequest a b schema other ds fs
+one_acceptance words texts a b schema other ds fs typing more x y =
+    let same = one_request words texts a b x.0 y.0 x.1 y.1 x.2 y.2 in
+    let read = one_reading y.0 y.1 schema other ds fs x.3.lines y.3.lines (subst (λ t. AreRead t y.1 schema ds x.3.lines) same.schemas (subst (λ f. AreRead x.0 f schema ds x.3.lines) same.equations x.3.read)) y.3.read in
+    record { actions = same.actions; schemas = read.schemas; definitions = read.definitions }
+
+-- what is played isn't checked
+not_both_asked : action.Try ≡ action.Check → ⊥
+not_both_asked e = cc
+
+pub runnable_once : (words : List (List ℕ)) (texts : Texts) (s t : Schema) → IsRunnable words texts s → IsRunnable words texts t → s ≡ t
+runnable_once words texts s t x y = (one_acceptance words texts action.Try action.Try s t x.0 y.0 x.1 y.1 x.2 y.2).schemas
+
+pub runnable_not_refused : (words : List (List ℕ)) (texts : Texts) (schema : Schema) (why : Ending) → IsRunnable words texts schema → IsRefused words texts why → ⊥
+runnable_not_refused words texts schema why x r = by_reason why r (not_refused words texts action.Try schema x.0 x.1 why x.2 r)
+  where
+    by_reason : (why : Ending) → IsRefused words texts why → OnlyUnbuilt why → ⊥
+    by_reason ending.NotBuilt r only =
+        let same = one_acceptance words texts action.Try action.Try schema r.0 x.0 r.1 x.1 r.2 x.2 r.3 in
+        not_both (is_built r.0 r.1) (subst (λ (k : Schema). is_built k r.1 ≡ true) same.schemas (subst (λ fs. is_built schema fs ≡ true) same.definitions x.3)) r.4
+    by_reason ending.Words r only = only
+    by_reason (ending.Missing name) r only = only
+    by_reason (ending.TooLong name) r only = only
+    by_reason (ending.Schema line reason) r only = only
+    by_reason (ending.Equation line reason) r only = only
+    by_reason (ending.Type line reason) r only = only
+    by_reason ending.TextsTooLong r only = only
+    by_reason (ending.Accepted summary) r only = only
+    by_reason ending.NoMemory r only = only
+    by_reason ending.Fault r only = only
+    by_reason (ending.Line number reason) r only = only
+
+pub checkable_not_refused : (words : List (List ℕ)) (before : Content) (why : Ending) → IsCheckable words before → IsRefused words before.aside.texts why → ⊥
+checkable_not_refused words before why x r = by_reason why r (not_refused words before.aside.texts action.Check x.0 x.1 x.2 why x.3 r)
+  where
+    by_reason : (why : Ending) → IsRefused words before.aside.texts why → OnlyUnbuilt why → ⊥
+    by_reason ending.NotBuilt r only = not_both_asked (sym (one_acceptance words before.aside.texts action.Check action.Try x.0 r.0 x.1 r.1 x.2 r.2 x.3 r.3).actions)
+    by_reason ending.Words r only = only
+    by_reason (ending.Missing name) r only = only
+    by_reason (ending.TooLong name) r only = only
+    by_reason (ending.Schema line reason) r only = only
+    by_reason (ending.Equation line reason) r only = only
+    by_reason (ending.Type line reason) r only = only
+    by_reason ending.TextsTooLong r only = only
+    by_reason (ending.Accepted summary) r only = only
+    by_reason ending.NoMemory r only = only
+    by_reason ending.Fault r only = only
+    by_reason (ending.Line number reason) r only = only
 
 -- ---- where the play of the script ends good
 
@@ -148,16 +256,16 @@ done_or_memory status.Script r l o = absurd (l refl)
 done_or_memory status.Outside r l o = absurd (o refl)
 
 -- the schema can be played on: it is that of the request
-pub played_complete : (words : List (List ℕ)) (schema : Schema) (old mid new : Content) (s : Status) → IsAccepted words old.aside.texts schema → mid.script ≡ old.script → IsPlayable words old → s ≢ status.Refused → (s ≡ status.Script → Says (IsStoppedText schema mid.script) mid new) → s ≢ status.Outside → (s ≡ status.Done) ⊎ (s ≡ status.Memory)
+pub played_complete : (words : List (List ℕ)) (schema : Schema) (old mid new : Content) (s : Status) → IsRunnable words old.aside.texts schema → mid.script ≡ old.script → IsPlayable words old → s ≢ status.Refused → (s ≡ status.Script → Says (IsStoppedText schema mid.script) mid new) → s ≢ status.Outside → (s ≡ status.Done) ⊎ (s ≡ status.Memory)
 played_complete words schema old mid new s accepted script playable refused stops outside =
-    let same = accepted_once words old.aside.texts playable.0 schema playable.1 accepted in
+    let same = runnable_once words old.aside.texts playable.0 schema playable.1 accepted in
     let play : (answers : List ℕ) × (final : Playing) × IsPlay schema mid.script answers final good = (playable.2.0, playable.2.1, subst (λ (t : List ℕ). IsPlay schema t playable.2.0 playable.2.1 good) (sym script) (subst (λ (k : Schema). IsPlay k old.script playable.2.0 playable.2.1 good) same playable.2.2)) in
     done_or_memory s refused (not_stopped schema mid new s play stops) outside
 
 -- none could be had
-pub unprepared_complete : (words : List (List ℕ)) (old : Content) (before now : ℕ) (why : Ending) (s : Status) → IsUnprepared words old.aside.texts before now why → IsPlayable words old → (s ≢ status.Outside → s ≢ status.Memory → s ≡ status_of why) → (why ≡ ending.Fault → s ≡ status.Outside) → s ≢ status.Outside → (s ≡ status.Done) ⊎ (s ≡ status.Memory)
-unprepared_complete words old before now why s (inl refused) playable is fault outside = absurd (not_refused words old.aside.texts playable.0 why playable.1 refused)
-unprepared_complete words old before now why s (inr out) playable is fault outside = by_ending why s out is fault outside
+pub unprepared_complete : (words : List (List ℕ)) (texts : Texts) (before now : ℕ) (why : Ending) (s : Status) → IsUnprepared words texts before now why → (IsRefused words texts why → ⊥) → (s ≢ status.Outside → s ≢ status.Memory → s ≡ status_of why) → (why ≡ ending.Fault → s ≡ status.Outside) → s ≢ status.Outside → (s ≡ status.Done) ⊎ (s ≡ status.Memory)
+unprepared_complete words texts before now why s (inl refused) never is fault outside = absurd (never refused)
+unprepared_complete words texts before now why s (inr out) never is fault outside = by_ending why s out is fault outside
   where
     by_ending : (why : Ending) (s : Status) → IsOutside before now why → (s ≢ status.Outside → s ≢ status.Memory → s ≡ status_of why) → (why ≡ ending.Fault → s ≡ status.Outside) → s ≢ status.Outside → (s ≡ status.Done) ⊎ (s ≡ status.Memory)
     by_ending ending.Fault s out is fault outside = absurd (outside (fault refl))
@@ -171,6 +279,67 @@ unprepared_complete words old before now why s (inr out) playable is fault outsi
     by_ending (ending.TooLong name) s out is fault outside = absurd out
     by_ending (ending.Schema line why) s out is fault outside = absurd out
     by_ending ending.NotBuilt s out is fault outside = absurd out
-    by_ending (ending.EntryTooLong line) s out is fault outside = absurd out
+    by_ending (ending.Equation line why) s out is fault outside = absurd out
+    by_ending (ending.Type line why) s out is fault outside = absurd out
+    by_ending (ending.Accepted summary) s out is fault outside = absurd out
     by_ending ending.TextsTooLong s out is fault outside = absurd out
     by_ending (ending.Line number why) s out is fault outside = absurd out
+
+-- what is prepared is what was asked
+pub checked_not_played : (words : List (List ℕ)) (before : Content) (schema : Schema) → IsCheckable words before → IsRunnable words before.aside.texts schema → ⊥
+checked_not_played words before schema x y = not_both_asked (sym (one_acceptance words before.aside.texts action.Check action.Try x.0 schema x.1 y.0 x.2 y.1 x.3 y.2).actions)
+
+-- a line that was to be said was said, or there was no memory for it
+pub said_complete : (s : Status) → (s ≢ status.Outside → s ≢ status.Memory → s ≡ status.Done) → s ≢ status.Outside → (s ≡ status.Done) ⊎ (s ≡ status.Memory)
+said_complete status.Done is outside = inl refl
+said_complete status.Memory is outside = inr refl
+said_complete status.Outside is outside = absurd (outside refl)
+said_complete status.Refused is outside = inl (is outside (λ e. cc))
+said_complete status.Script is outside = inl (is outside (λ e. cc))
+
+-- a script isn't heard where it isn't to be played
+pub checked_no_try : (words : List (List ℕ)) (texts : Texts) (summary : Summary) → IsPrepared words texts (prepared.Check summary) → IsTry words → ⊥
+checked_no_try words texts summary is try = not_both_asked (same_words words action.Try action.Check try.0 is.3.2.schema_name try.1 is.3.2.equation_name try.2 is.3.2.words_are).actions
+
+-- ---- where there is a reason to refuse
+
+refused_status : (words : List (List ℕ)) (texts : Texts) (why : Ending) → IsRefused words texts why → status_of why ≡ status.Refused
+refused_status words texts ending.Words r = refl
+refused_status words texts (ending.Missing name) r = refl
+refused_status words texts (ending.TooLong name) r = refl
+refused_status words texts (ending.Schema line why) r = refl
+refused_status words texts (ending.Equation line why) r = refl
+refused_status words texts (ending.Type line why) r = refl
+refused_status words texts ending.TextsTooLong r = refl
+refused_status words texts ending.NotBuilt r = refl
+refused_status words texts (ending.Accepted summary) r = absurd r.4
+refused_status words texts ending.NoMemory r = absurd r.4
+refused_status words texts ending.Fault r = absurd r.4
+refused_status words texts (ending.Line number why) r = absurd r.4
+
+refused_or_memory : (s : Status) → (s ≢ status.Outside → s ≢ status.Memory → s ≡ status.Refused) → s ≢ status.Outside → (s ≡ status.Refused) ⊎ (s ≡ status.Memory)
+refused_or_memory status.Refused is outside = inl refl
+refused_or_memory status.Memory is outside = inr refl
+refused_or_memory status.Outside is outside = absurd (outside refl)
+refused_or_memory status.Done is outside = inl (is outside (λ e. cc))
+refused_or_memory status.Script is outside = inl (is outside (λ e. cc))
+
+-- nothing is to be done: the request is refused, or there was no memory
+pub unprepared_refuses : (words : List (List ℕ)) (texts : Texts) (before now : ℕ) (why : Ending) (s : Status) → IsUnprepared words texts before now why → (s ≢ status.Outside → s ≢ status.Memory → s ≡ status_of why) → (why ≡ ending.Fault → s ≡ status.Outside) → s ≢ status.Outside → (s ≡ status.Refused) ⊎ (s ≡ status.Memory)
+unprepared_refuses words texts before now why s (inl refused) is fault outside = refused_or_memory s (λ o m. is o m ∙ refused_status words texts why refused) outside
+unprepared_refuses words texts before now ending.Fault s (inr out) is fault outside = absurd (outside (fault refl))
+unprepared_refuses words texts before now ending.NoMemory status.Memory (inr out) is fault outside = inr refl
+unprepared_refuses words texts before now ending.NoMemory status.Refused (inr out) is fault outside = inl refl
+unprepared_refuses words texts before now ending.NoMemory status.Outside (inr out) is fault outside = absurd (outside refl)
+unprepared_refuses words texts before now ending.NoMemory status.Done (inr out) is fault outside = inr (is (λ e. cc) (λ e. cc))
+unprepared_refuses words texts before now ending.NoMemory status.Script (inr out) is fault outside = inr (is (λ e. cc) (λ e. cc))
+unprepared_refuses words texts before now ending.Words s (inr out) is fault outside = absurd out
+unprepared_refuses words texts before now (ending.Missing name) s (inr out) is fault outside = absurd out
+unprepared_refuses words texts before now (ending.TooLong name) s (inr out) is fault outside = absurd out
+unprepared_refuses words texts before now (ending.Schema line why) s (inr out) is fault outside = absurd out
+unprepared_refuses words texts before now (ending.Equation line why) s (inr out) is fault outside = absurd out
+unprepared_refuses words texts before now (ending.Type line why) s (inr out) is fault outside = absurd out
+unprepared_refuses words texts before now ending.TextsTooLong s (inr out) is fault outside = absurd out
+unprepared_refuses words texts before now ending.NotBuilt s (inr out) is fault outside = absurd out
+unprepared_refuses words texts before now (ending.Accepted summary) s (inr out) is fault outside = absurd out
+unprepared_refuses words texts before now (ending.Line number why) s (inr out) is fault outside = absurd out

@@ -1,7 +1,7 @@
 mod WordLemmas
 mod SayLemmas
 mod LineLemmas
-mod WidthLemmas
+mod StorableLemmas
 mod SchemaLemmas
 mod RequestLemmas
 mod PlayLemmas

@@ -37,9 +37,12 @@ use Rattle.gx_top.specs.declared.status.Status.{Status}
 use Rattle.gx_top.specs.declared.status.Status.TheVariants as status
 use Rattle.gx_top.specs.Endings.{line_of, status_of, memory_line, IsOutside}
 use Rattle.gx_top.specs.Plays.{IsPlayedUp, IsPlayedPart, IsPlayedTo, HasPlayCause}
-use Rattle.gx_top.specs.Requests.{IsHeard, IsRefused, IsAccepted, IsUnprepared}
+use Rattle.gx_top.specs.declared.prepare.Prepared.TheVariants as prepared
+use Rattle.gx_top.specs.declared.summary.Summary.{Summary}
+use Rattle.gx_top.specs.Summaries.{accepted_line}
+use Rattle.gx_top.specs.Requests.{IsHeard, IsRefused, IsRunnable, IsPrepared, IsUnprepared}
 use Rattle.gx_top.specs.Say.{IsCut}
-use Rattle.gx_top.specs.Tries.{Says, SaysFront, AreFirst, IsPlayText, IsStoppedText, IsShortText, IsTryText, IsRefusalText, IsRunText, IsMemoryText, IsRequestText, IsPlayedOut, IsPlayedAs, IsEndingOf}
+use Rattle.gx_top.specs.Tries.{Says, SaysFront, AreFirst, IsPlayText, IsStoppedText, IsShortText, IsTryText, IsRefusalText, IsRunText, IsMemoryText, IsAcceptedText, IsDoneText, IsRequestText, IsPlayedOut, IsPlayedAs, IsEndingOf}
 
 -- what was heard has the lines of the whole script
 heard_long : (heard left : List ℕ) → 16777216 < length heard → script_lines heard ≡ script_lines (heard ++ left)
@@ -135,7 +138,9 @@ unheard schema old new before now (ending.Missing name) unsaid is = is
 unheard schema old new before now (ending.TooLong name) unsaid is = is
 unheard schema old new before now (ending.Schema line why) unsaid is = is
 unheard schema old new before now ending.NotBuilt unsaid is = is
-unheard schema old new before now (ending.EntryTooLong line) unsaid is = is
+unheard schema old new before now (ending.Equation line why) unsaid is = is
+unheard schema old new before now (ending.Type line why) unsaid is = is
+unheard schema old new before now (ending.Accepted summary) unsaid is = is
 unheard schema old new before now ending.TextsTooLong unsaid is = is
 unheard schema old new before now (ending.Line number why) unsaid is = absurd is
 
@@ -291,7 +296,9 @@ said_stopped schema old mid new (ending.Missing name) is said e = absurd is
 said_stopped schema old mid new (ending.TooLong name) is said e = absurd is
 said_stopped schema old mid new (ending.Schema line why) is said e = absurd is
 said_stopped schema old mid new ending.NotBuilt is said e = absurd is
-said_stopped schema old mid new (ending.EntryTooLong line) is said e = absurd is
+said_stopped schema old mid new (ending.Equation line why) is said e = absurd is
+said_stopped schema old mid new (ending.Type line why) is said e = absurd is
+said_stopped schema old mid new (ending.Accepted summary) is said e = absurd is
 said_stopped schema old mid new ending.TextsTooLong is said e = absurd is
 
 -- the first answers, and no memory
@@ -307,7 +314,9 @@ said_short schema old mid new (ending.Missing name) is other said = absurd is
 said_short schema old mid new (ending.TooLong name) is other said = absurd is
 said_short schema old mid new (ending.Schema line why) is other said = absurd is
 said_short schema old mid new ending.NotBuilt is other said = absurd is
-said_short schema old mid new (ending.EntryTooLong line) is other said = absurd is
+said_short schema old mid new (ending.Equation line why) is other said = absurd is
+said_short schema old mid new (ending.Type line why) is other said = absurd is
+said_short schema old mid new (ending.Accepted summary) is other said = absurd is
 said_short schema old mid new ending.TextsTooLong is other said = absurd is
 
 -- a front of the line that there was no memory, behind the first answers
@@ -346,7 +355,9 @@ said_front schema old mid new (ending.Missing name) is unsaid cut = absurd is
 said_front schema old mid new (ending.TooLong name) is unsaid cut = absurd is
 said_front schema old mid new (ending.Schema line why) is unsaid cut = absurd is
 said_front schema old mid new ending.NotBuilt is unsaid cut = absurd is
-said_front schema old mid new (ending.EntryTooLong line) is unsaid cut = absurd is
+said_front schema old mid new (ending.Equation line why) is unsaid cut = absurd is
+said_front schema old mid new (ending.Type line why) is unsaid cut = absurd is
+said_front schema old mid new (ending.Accepted summary) is unsaid cut = absurd is
 said_front schema old mid new ending.TextsTooLong is unsaid cut = absurd is
 
 -- where the status tells that the line was said, no call failed before
@@ -358,20 +369,35 @@ not_fault why s memory fault e = never (sym memory ∙ fault e)
 
 -- ---- the request whose play this is
 
-pub run_says : (P : Schema → List ℕ → List ℕ → Type 0) (words : List (List ℕ)) (schema : Schema) (old mid new : Content) → IsAccepted words old.aside.texts schema → mid.script ≡ old.script → mid.now.said ≡ old.now.said → Says (P schema mid.script) mid new → Says (IsRunText P words old) old new
+pub run_says : (P : Schema → List ℕ → List ℕ → Type 0) (words : List (List ℕ)) (schema : Schema) (old mid new : Content) → IsRunnable words old.aside.texts schema → mid.script ≡ old.script → mid.now.said ≡ old.now.said → Says (P schema mid.script) mid new → Says (IsRunText P words old) old new
 run_says P words schema old mid new accepted script unsaid is = (is.0, (schema, accepted, subst (λ s. P schema s is.0) script is.1), is.2 ∙ ap (λ t. t ++ is.0) unsaid)
 
-pub run_front : (words : List (List ℕ)) (schema : Schema) (old mid new : Content) → IsAccepted words old.aside.texts schema → mid.script ≡ old.script → mid.now.said ≡ old.now.said → SaysFront (IsTryText schema mid.script) mid new → SaysFront (IsRequestText words old) old new
-run_front words schema old mid new accepted script unsaid is = (is.0, inr (inr (schema, accepted, subst (λ s. IsTryText schema s is.0) script is.1)), (is.2.0, is.2.1 ∙ ap (λ t. t ++ take is.2.0 is.0) unsaid))
+pub run_front : (words : List (List ℕ)) (schema : Schema) (old mid new : Content) → IsRunnable words old.aside.texts schema → mid.script ≡ old.script → mid.now.said ≡ old.now.said → SaysFront (IsTryText schema mid.script) mid new → SaysFront (IsRequestText words old) old new
+run_front words schema old mid new accepted script unsaid is = (is.0, inr (inr (inr (schema, accepted, subst (λ s. IsTryText schema s is.0) script is.1))), (is.2.0, is.2.1 ∙ ap (λ t. t ++ take is.2.0 is.0) unsaid))
 
-pub run_memory : (words : List (List ℕ)) (schema : Schema) (old mid new : Content) → IsAccepted words old.aside.texts schema → mid.script ≡ old.script → mid.now.said ≡ old.now.said → Says (IsShortText schema mid.script) mid new → Says (IsMemoryText words old) old new
+pub run_memory : (words : List (List ℕ)) (schema : Schema) (old mid new : Content) → IsRunnable words old.aside.texts schema → mid.script ≡ old.script → mid.now.said ≡ old.now.said → Says (IsShortText schema mid.script) mid new → Says (IsMemoryText words old) old new
 run_memory words schema old mid new accepted script unsaid is = (is.0, inr (schema, accepted, subst (λ s. IsShortText schema s is.0) script is.1), is.2 ∙ ap (λ t. t ++ is.0) unsaid)
+
+pub run_done : (words : List (List ℕ)) (schema : Schema) (old mid new : Content) → IsRunnable words old.aside.texts schema → mid.script ≡ old.script → mid.now.said ≡ old.now.said → Says (IsPlayText schema mid.script good) mid new → Says (IsDoneText words old) old new
+run_done words schema old mid new accepted script unsaid is = (is.0, inl (schema, accepted, subst (λ s. IsPlayText schema s good is.0) script is.1), is.2 ∙ ap (λ t. t ++ is.0) unsaid)
+
+-- ---- texts that are to be checked
+
+accepted_text : (words : List (List ℕ)) (before : Content) (summary : Summary) → IsPrepared words before.aside.texts (prepared.Check summary) → IsAcceptedText words before (accepted_line summary)
+accepted_text words before summary is = (is.0, is.1, is.2, is.3, ap accepted_line is.4)
+
+pub check_done : (words : List (List ℕ)) (old mid new : Content) (summary : Summary) → IsPrepared words old.aside.texts (prepared.Check summary) → mid.now.said ≡ old.now.said → new.now.said ≡ mid.now.said ++ accepted_line summary → Says (IsDoneText words old) old new
+check_done words old mid new summary is unsaid said = (accepted_line summary, inr (accepted_text words old summary is), said ∙ ap (λ t. t ++ accepted_line summary) unsaid)
 
 -- ---- a request that isn't carried out
 
 no_ending : (words : List (List ℕ)) (texts : Texts) (before now number : ℕ) (why : LineWhy) → IsUnprepared words texts before now (ending.Line number why) → ⊥
-no_ending words texts before now number why (inl is) = is.3
+no_ending words texts before now number why (inl is) = is.4
 no_ending words texts before now number why (inr is) = is
+
+pub not_accepted : (words : List (List ℕ)) (texts : Texts) (before now : ℕ) (summary : Summary) → IsUnprepared words texts before now (ending.Accepted summary) → ⊥
+not_accepted words texts before now summary (inl is) = is.4
+not_accepted words texts before now summary (inr is) = is
 
 refusal : (words : List (List ℕ)) (old mid new : Content) (n : ℕ) (why : Ending) → IsRefused words old.aside.texts why → status_of why ≡ status.Refused → new.now.said ≡ mid.now.said ++ take n (line_of why) → mid.now.said ≡ old.now.said → SaysFront (IsRequestText words old) old new
 refusal words old mid new n why is e said unsaid = (line_of why, inl (record { ending = why; refused = is; status_is = e; text_is = refl }), (n, said ∙ ap (λ t. t ++ take n (line_of why)) unsaid))
@@ -384,7 +410,9 @@ not_outside before now (ending.Missing name) is e = is
 not_outside before now (ending.TooLong name) is e = is
 not_outside before now (ending.Schema line why) is e = is
 not_outside before now ending.NotBuilt is e = is
-not_outside before now (ending.EntryTooLong line) is e = is
+not_outside before now (ending.Equation line why) is e = is
+not_outside before now (ending.Type line why) is e = is
+not_outside before now (ending.Accepted summary) is e = is
 not_outside before now ending.TextsTooLong is e = is
 not_outside before now (ending.Line number why) is e = is
 
@@ -410,10 +438,16 @@ own_front words old mid new before now n (ending.Missing name) is silent said un
 own_front words old mid new before now n (ending.TooLong name) is silent said unsaid = refused_front words old mid new before now n (ending.TooLong name) is refl said unsaid
 own_front words old mid new before now n (ending.Schema line why) is silent said unsaid = refused_front words old mid new before now n (ending.Schema line why) is refl said unsaid
 own_front words old mid new before now n ending.NotBuilt is silent said unsaid = refused_front words old mid new before now n ending.NotBuilt is refl said unsaid
-own_front words old mid new before now n (ending.EntryTooLong line) is silent said unsaid = refused_front words old mid new before now n (ending.EntryTooLong line) is refl said unsaid
+own_front words old mid new before now n (ending.Equation line why) is silent said unsaid = refused_front words old mid new before now n (ending.Equation line why) is refl said unsaid
+own_front words old mid new before now n (ending.Type line why) is silent said unsaid = refused_front words old mid new before now n (ending.Type line why) is refl said unsaid
+own_front words old mid new before now n (ending.Accepted summary) is silent said unsaid = absurd (not_accepted words old.aside.texts before now summary is)
 own_front words old mid new before now n ending.TextsTooLong is silent said unsaid = refused_front words old mid new before now n ending.TextsTooLong is refl said unsaid
 own_front words old mid new before now n (ending.Line number why) is silent said unsaid = absurd (no_ending words old.aside.texts before now number why is)
 
 pub unprepared_front : (words : List (List ℕ)) (old mid new : Content) (before now : ℕ) (why : Ending) → IsUnprepared words old.aside.texts before now why → (why ≡ ending.Fault → new.now.said ≡ mid.now.said) → IsCut (line_of why) memory_line mid new → mid.now.said ≡ old.now.said → SaysFront (IsRequestText words old) old new
 unprepared_front words old mid new before now why is silent (n, inl said) unsaid = own_front words old mid new before now n why is silent said unsaid
 unprepared_front words old mid new before now why is silent (n, inr said) unsaid = line_says words old mid new n said unsaid
+
+pub check_front : (words : List (List ℕ)) (old mid new : Content) (summary : Summary) → IsPrepared words old.aside.texts (prepared.Check summary) → mid.now.said ≡ old.now.said → IsCut (accepted_line summary) memory_line mid new → SaysFront (IsRequestText words old) old new
+check_front words old mid new summary is unsaid (n, inl said) = (accepted_line summary, inr (inr (inl (accepted_text words old summary is))), (n, said ∙ ap (λ t. t ++ take n (accepted_line summary)) unsaid))
+check_front words old mid new summary is unsaid (n, inr said) = line_says words old mid new n said unsaid

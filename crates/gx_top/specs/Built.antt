@@ -1,32 +1,30 @@
--- Which schemas and equations are carried out: files alone, each as a heap of whole records.
-use Rattle.std.specs.Prelude.{ℕ, ◌+◌, List, [], ◌∷◌, ◌++◌, length, nat_eq, nat_lt, Bool, ◌&&◌, ◌||◌, ◌==◌, Option, position, codes}
-use Rattle.std.specs.List.{flat_map}
-use Rattle.std.specs.Cmp.Lexicographic.{pointwise}
-use Rattle.gx_schema.specs.declared.schema.FileDef.{FileDef}
+-- What of the accepted texts is carried out so far: files alone, each as a heap of whole records.
+use Rattle.std.specs.Prelude.{ℕ, ◌+◌, List, length, Bool, true, false, ◌&&◌, ◌==◌}
+use Rattle.std.specs.List.{list_all}
+use Rattle.gx_ports.specs.declared.kinds.LeafKind.TheVariants as leaf
 use Rattle.gx_schema.specs.declared.schema.Schema.{Schema}
 use Rattle.gx_schema.specs.Printing.{schema_text}
-use Rattle.gx_engine.specs.Internal.{field_widths}
+use Rattle.gx_equation.specs.declared.heads.Head.TheVariants as heads
+use Rattle.gx_equation.specs.Trees.{Tree, node, none, kid, SideTree, file_side, link_side, DefinitionTree}
+use Rattle.gx_equation.specs.Printing.{equation_text}
 
--- `NAME = actual(heap)` and an LF
-abbrev pub definition_text : FileDef → List ℕ
-definition_text file = file.name ++ codes " = actual(heap)\n"
+abbrev pub is_heap : Tree → Bool
+is_heap (node (heads.Leaf leaf.Heap) kids) = true
+is_heap other = false
 
--- one definition for each file, in the schema's order
-abbrev pub equation_text : List FileDef → List ℕ
-equation_text = flat_map definition_text
+-- `actual(heap)`
+abbrev pub is_heap_of_records : Tree → Bool
+is_heap_of_records (node heads.Actual (kid t none)) = is_heap t
+is_heap_of_records other = false
 
--- no link, and the text is that equation, with its last LF or without
-abbrev pub is_built : Schema → List ℕ → Bool
-is_built schema text = (length schema.links == 0) && (pointwise nat_eq text (equation_text schema.files) || pointwise nat_eq (text ++ 10 ∷ []) (equation_text schema.files))
+abbrev pub is_built_side : SideTree → Bool
+is_built_side (file_side t) = is_heap_of_records t
+is_built_side (link_side linkset ts) = false
 
--- the records of the file may be too long for a leaf
-abbrev pub is_long : FileDef → Bool
-is_long file = nat_lt 1000 (field_widths file.fields)
+-- no link, and the side of each definition is `actual(heap)`
+abbrev pub is_built : Schema → List DefinitionTree → Bool
+is_built schema ds = (length schema.links == 0) && list_all (λ d. is_built_side d.side) ds
 
--- the number, counted from 0, of the first file whose records may be too long
-abbrev pub long_file : Schema → Option ℕ
-long_file schema = position is_long schema.files
-
--- how many bytes the canonical texts of the schema and of its equation have
-abbrev pub text_length : Schema → ℕ
-text_length schema = length (schema_text schema) + length (equation_text schema.files)
+-- how many bytes the canonical texts of the schema and of the equation have
+abbrev pub text_length : Schema → List DefinitionTree → ℕ
+text_length schema ds = length (schema_text schema) + length (equation_text ds)

@@ -1,13 +1,15 @@
--- Why a request ends early: its line and its status.
+-- How a request ends that isn't played to its end: its line and its status.
 use Rattle.std.specs.Prelude.{ℕ, List, [], ◌++◌, codes}
 use Rattle.std.specs.Fmt.{decimal}
 use Rattle.gx_device.specs.Faults.{Rose}
 use Rattle.gx_tokens.specs.Whys.{word_of as why_word}
 use Rattle.gx_script.specs.LineWhys.{word_of as line_word}
+use Rattle.gx_types.specs.Reasons.{words_of as type_words}
 use Rattle.gx_top.specs.declared.ending.Ending.{Ending}
 use Rattle.gx_top.specs.declared.ending.Ending.TheVariants as ending
 use Rattle.gx_top.specs.declared.status.Status.{Status}
 use Rattle.gx_top.specs.declared.status.Status.TheVariants as status
+use Rattle.gx_top.specs.Summaries.{accepted_line}
 
 abbrev pub memory_line : List ℕ
 memory_line = codes "stopped: memory\n"
@@ -18,14 +20,17 @@ line_of ending.Words = codes "refused: words\n"
 line_of (ending.Missing name) = codes "refused: missing " ++ name.now ++ codes "\n"
 line_of (ending.TooLong name) = codes "refused: too long " ++ name.now ++ codes "\n"
 line_of (ending.Schema line why) = codes "refused: schema line " ++ decimal line ++ codes ": " ++ why_word why ++ codes "\n"
-line_of ending.NotBuilt = codes "refused: not built\n"
-line_of (ending.EntryTooLong line) = codes "refused: type line " ++ decimal line ++ codes ": " ++ codes "entry too long" ++ codes "\n"
+line_of (ending.Equation line why) = codes "refused: equation line " ++ decimal line ++ codes ": " ++ why_word why ++ codes "\n"
+line_of (ending.Type line why) = codes "refused: type line " ++ decimal line ++ codes ": " ++ type_words why ++ codes "\n"
 line_of ending.TextsTooLong = codes "refused: texts too long\n"
+line_of ending.NotBuilt = codes "refused: not built\n"
+line_of (ending.Accepted summary) = accepted_line summary
 line_of (ending.Line number why) = codes "stopped at line " ++ decimal number ++ codes ": " ++ line_word why ++ codes "\n"
 line_of ending.Fault = []
 line_of ending.NoMemory = memory_line
 
 abbrev pub status_of : Ending → Status
+status_of (ending.Accepted summary) = status.Done
 status_of (ending.Line number why) = status.Script
 status_of ending.Fault = status.Outside
 status_of ending.NoMemory = status.Memory

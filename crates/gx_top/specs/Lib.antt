@@ -1,7 +1,9 @@
 pub mod Words
 pub mod Built
+pub mod Summaries
 pub mod Endings
 pub mod Requests
+pub mod Prepared
 pub mod Say
 pub mod Tries
 pub mod Lines

@@ -1,19 +1,35 @@
 -- When a request is refused, by the first reason, and when it is ready to be carried out.
-use Rattle.std.specs.Prelude.{◌≡◌, ◌≢◌, ◌⊎◌, ℕ, ◌+◌, ◌<◌, ◌≤◌, List, [], ◌++◌, length, Bool, true, false, IsTrue, Some, None, Ok, Err, IsSomeAnd}
+use Rattle.std.specs.Prelude.{◌≡◌, ◌≢◌, ◌⊎◌, ℕ, ◌<◌, ◌≤◌, List, [], ◌++◌, length, Bool, true, false, IsTrue, Some, None, Result, Err, IsSomeAnd}
 use Rattle.std.specs.FinMap.{get}
 use Rattle.gx_device.specs.Content.{Texts}
+use Rattle.gx_tokens.specs.declared.why.Unread.{Unread}
 use Rattle.gx_tokens.specs.declared.why.Unread.TheVariants as unread
+use Rattle.gx_tokens.specs.Reading.{map_ok, with_line}
 use Rattle.gx_schema.specs.declared.schema.Schema.{Schema}
+use Rattle.gx_schema.specs.Grammar.{IsSchemaText}
 use Rattle.gx_schema.specs.Reading.{schema_of}
+use Rattle.gx_equation.specs.Definitions.{equation_at, with_lines}
+use Rattle.gx_equation.specs.Grammar.{Means}
+use Rattle.gx_equation.specs.Trees.{DefinitionTree}
+use Rattle.gx_types.specs.declared.typing.Typing.{Typing}
+use Rattle.gx_types.specs.Typed.{IsTyped, leaves, typing_with}
+use Rattle.gx_types.specs.Whole.{typing_of}
 use Rattle.gx_top.specs.declared.ending.Ending.{Ending}
 use Rattle.gx_top.specs.declared.ending.Ending.TheVariants as ending
-use Rattle.gx_top.specs.Words.{try_words}
-use Rattle.gx_top.specs.Built.{is_built, long_file, text_length}
+use Rattle.gx_top.specs.declared.prepare.Prepared.{Prepared}
+use Rattle.gx_top.specs.declared.prepare.Prepared.TheVariants as prepared
+use Rattle.gx_top.specs.declared.words.Action.{Action}
+use Rattle.gx_top.specs.declared.words.Action.TheVariants as action
+use Rattle.gx_top.specs.Words.{request_words}
+use Rattle.gx_top.specs.Built.{is_built, text_length}
 use Rattle.gx_top.specs.Endings.{IsOutside}
+use Rattle.gx_top.specs.Summaries.{summary_of}
 
 -- the most bytes that a text may have, and that the two canonical texts may have together
 abbrev pub text_limit : ℕ
 text_limit = 16380
+
+-- ---- of the texts of a machine
 
 -- there is this text of that name, and it isn't too long
 abbrev pub IsText : Texts → List ℕ → List ℕ → Type 0
@@ -25,57 +41,79 @@ IsThere texts name = (text : List ℕ) × IsText texts name text
 abbrev pub IsTooLong : Texts → List ℕ → Type 0
 IsTooLong texts name = IsSomeAnd (get texts name) (λ text. text_limit < length text)
 
--- it names the schema, or it names the equation and the schema is there
-abbrev pub IsFirst : Texts → List ℕ → List ℕ → List ℕ → Type 0
-IsFirst texts schema equation name = (name ≡ schema) ⊎ (IsThere texts schema × (name ≡ equation))
+-- the words ask for this of two texts, which are there
+pub record IsAsked (words : List (List ℕ)) (texts : Texts) (a : Action) (schema equation : List ℕ) : Type 0 where
+  pub schema_name : List ℕ
+  pub equation_name : List ℕ
+  pub words_are : words ≡ request_words a schema_name equation_name
+  pub schema_there : IsText texts schema_name schema
+  pub equation_there : IsText texts equation_name equation
 
--- the words are `try SCHEMA EQUATION`, and `P` holds of the two names
-abbrev pub IsTryWhere : List (List ℕ) → (List ℕ → List ℕ → Type 0) → Type 0
-IsTryWhere words P = (schema equation : List ℕ) × (words ≡ try_words schema equation) × P schema equation
-
--- the same, both texts are there, and `P` holds of them
-abbrev pub IsTryOf : List (List ℕ) → Texts → (List ℕ → List ℕ → Type 0) → Type 0
-IsTryOf words texts P = (schema equation : List ℕ) × IsTryWhere words (λ s e. IsText texts s schema × IsText texts e equation) × P schema equation
+-- the words name this text as the schema, or as the equation, and then the schema is there
+pub record IsNamed (words : List (List ℕ)) (texts : Texts) (name : List ℕ) : Type 0 where
+  pub asked : Action
+  pub schema_name : List ℕ
+  pub equation_name : List ℕ
+  pub words_are : words ≡ request_words asked schema_name equation_name
+  pub first : (name ≡ schema_name) ⊎ (IsThere texts schema_name × (name ≡ equation_name))
 
 -- ---- of the two texts alone
 
--- why the schema isn't read
-abbrev pub IsUnread : List ℕ → Ending → Type 0
-IsUnread schema (ending.Schema line why) = schema_of schema ≡ Err (unread.Bad line why)
-IsUnread schema ending.NoMemory = Unit {0}
-IsUnread schema _ = ⊥
+-- what reading an equation gives: its definitions and the lines of their places, or the line of the first fault and its reason
+abbrev pub equation_of : List ℕ → Result (List DefinitionTree × List ℕ) Unread
+equation_of text = with_line text (map_ok (with_lines text) (equation_at text))
 
--- the schema of two texts that can be played on
-pub record IsBuiltSchema (schema_text equation : List ℕ) (schema : Schema) : Type 0 where
-  pub read : schema_of schema_text ≡ Ok schema
-  pub built : is_built schema equation ≡ true
-  pub narrow : long_file schema ≡ None
-  pub short : text_length schema ≤ text_limit
+-- the two texts mean a schema and definitions
+pub record AreRead (schema_text equation_text : List ℕ) (schema : Schema) (ds : List DefinitionTree) (lines : List ℕ) : Type 0 where
+  pub schema_means : IsSchemaText schema_text schema
+  pub equation_means : Means equation_text (ds, lines)
 
--- why two texts give none
-abbrev pub IsUnbuilt : List ℕ → List ℕ → Ending → Type 0
-IsUnbuilt schema_text equation (ending.Schema line why) = schema_of schema_text ≡ Err (unread.Bad line why)
-IsUnbuilt schema_text equation ending.NotBuilt = (schema : Schema) × (schema_of schema_text ≡ Ok schema) × (is_built schema equation ≡ false)
-IsUnbuilt schema_text equation (ending.EntryTooLong line) = (schema : Schema) × (schema_of schema_text ≡ Ok schema) × (is_built schema equation ≡ true) × ((file : ℕ) × (long_file schema ≡ Some file) × (line ≡ file + 1))
-IsUnbuilt schema_text equation ending.TextsTooLong = (schema : Schema) × (schema_of schema_text ≡ Ok schema) × (is_built schema equation ≡ true) × (long_file schema ≡ None) × (text_limit < text_length schema)
-IsUnbuilt schema_text equation ending.NoMemory = Unit {0}
-IsUnbuilt schema_text equation _ = ⊥
+-- the checker accepts two texts: they mean a schema and definitions that are typed under it, with these leaves, and the
+-- canonical texts of both aren't too long
+pub record AreAccepted (schema_text equation_text : List ℕ) (schema : Schema) (ds : List DefinitionTree) (typing : Typing) : Type 0 where
+  pub lines : List ℕ
+  pub read : AreRead schema_text equation_text schema ds lines
+  pub typed : IsTyped schema ds
+  pub leaves_are : typing ≡ typing_with (leaves schema ds)
+  pub short : text_length schema ds ≤ text_limit
+
+-- why it accepts them not, by the first reason
+abbrev pub AreUnaccepted : List ℕ → List ℕ → Ending → Type 0
+AreUnaccepted schema_text equation_text (ending.Schema line why) = schema_of schema_text ≡ Err (unread.Bad line why)
+AreUnaccepted schema_text equation_text (ending.Equation line why) = (schema : Schema) × IsSchemaText schema_text schema × (equation_of equation_text ≡ Err (unread.Bad line why))
+AreUnaccepted schema_text equation_text (ending.Type line why) = (schema : Schema) × (ds : List DefinitionTree) × (lines : List ℕ) × AreRead schema_text equation_text schema ds lines × (typing_of schema ds lines ≡ Err (line, why))
+AreUnaccepted schema_text equation_text ending.TextsTooLong = (schema : Schema) × (ds : List DefinitionTree) × (lines : List ℕ) × AreRead schema_text equation_text schema ds lines × IsTyped schema ds × (text_limit < text_length schema ds)
+AreUnaccepted schema_text equation_text why = ⊥
+
+-- the same, or there was no memory
+abbrev pub AreUnchecked : List ℕ → List ℕ → Ending → Type 0
+AreUnchecked schema_text equation_text ending.NoMemory = Unit {0}
+AreUnchecked schema_text equation_text why = AreUnaccepted schema_text equation_text why
 
 -- ---- the request
 
--- why a request is refused: the first reason in the order of words, texts, schema, equation, types, lengths
+-- a request whose texts are accepted
+abbrev pub IsAccepted : List (List ℕ) → Texts → Action → Schema → List DefinitionTree → Typing → Type 0
+IsAccepted words texts a schema ds typing = (s : List ℕ) × (e : List ℕ) × IsAsked words texts a s e × AreAccepted s e schema ds typing
+
+-- a script that can be played on this schema
+abbrev pub IsRunnable : List (List ℕ) → Texts → Schema → Type 0
+IsRunnable words texts schema = (ds : List DefinitionTree) × (typing : Typing) × IsAccepted words texts action.Try schema ds typing × (is_built schema ds ≡ true)
+
+-- what is to be done
+abbrev pub IsPrepared : List (List ℕ) → Texts → Prepared → Type 0
+IsPrepared words texts (prepared.Check summary) = (schema : Schema) × (ds : List DefinitionTree) × (typing : Typing) × IsAccepted words texts action.Check schema ds typing × (summary ≡ summary_of typing.specs)
+IsPrepared words texts (prepared.Try schema) = IsRunnable words texts schema
+
+-- why a request is refused: the first reason in the order of words, texts, schema, equation, types, lengths, and what is built
 abbrev pub IsRefused : List (List ℕ) → Texts → Ending → Type 0
-IsRefused words texts ending.Words = (schema equation : List ℕ) → words ≢ try_words schema equation
-IsRefused words texts (ending.Missing name) = IsTryWhere words (λ s e. IsFirst texts s e name.now × (get texts name.now ≡ None))
-IsRefused words texts (ending.TooLong name) = IsTryWhere words (λ s e. IsFirst texts s e name.now × IsTooLong texts name.now)
-IsRefused words texts ending.NoMemory = ⊥
-IsRefused words texts why = IsTryOf words texts (λ s e. IsUnbuilt s e why)
+IsRefused words texts ending.Words = (a : Action) (schema equation : List ℕ) → words ≢ request_words a schema equation
+IsRefused words texts (ending.Missing name) = IsNamed words texts name.now × (get texts name.now ≡ None)
+IsRefused words texts (ending.TooLong name) = IsNamed words texts name.now × IsTooLong texts name.now
+IsRefused words texts ending.NotBuilt = (schema : Schema) × (ds : List DefinitionTree) × (typing : Typing) × IsAccepted words texts action.Try schema ds typing × (is_built schema ds ≡ false)
+IsRefused words texts why = (a : Action) × (s : List ℕ) × (e : List ℕ) × IsAsked words texts a s e × AreUnaccepted s e why
 
--- a request whose schema can be played on
-abbrev pub IsAccepted : List (List ℕ) → Texts → Schema → Type 0
-IsAccepted words texts schema = IsTryOf words texts (λ s e. IsBuiltSchema s e schema)
-
--- why there is no schema: the request is refused, or its texts can't be had for the machine or for want of memory
+-- why nothing is to be done: the request is refused, or its texts can't be had for the machine or for want of memory
 abbrev pub IsUnprepared : List (List ℕ) → Texts → ℕ → ℕ → Ending → Type 0
 IsUnprepared words texts before now why = IsRefused words texts why ⊎ IsOutside before now why
 

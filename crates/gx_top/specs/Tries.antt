@@ -1,4 +1,5 @@
--- What `try` says: the play of the script, or why the request is refused, or as much of it as can be said.
+-- What the program says: the play of the script, what the checker says, or why the request is refused, or as much of it as
+-- can be said.
 use Rattle.std.specs.Prelude.{◌≡◌, ◌⊎◌, ℕ, List, ◌++◌, take, Result, Ok, Err}
 use Rattle.gx_device.specs.Content.{Content}
 use Rattle.gx_schema.specs.declared.schema.Schema.{Schema}
@@ -11,7 +12,12 @@ use Rattle.gx_top.specs.declared.play.PlayEnd.{PlayEnd}
 use Rattle.gx_top.specs.declared.play.PlayEnd.TheVariants as play_end
 use Rattle.gx_top.specs.declared.status.Status.TheVariants as status
 use Rattle.gx_top.specs.Endings.{line_of, status_of, memory_line}
-use Rattle.gx_top.specs.Requests.{IsRefused, IsAccepted}
+use Rattle.gx_equation.specs.Trees.{DefinitionTree}
+use Rattle.gx_types.specs.declared.typing.Typing.{Typing}
+use Rattle.gx_top.specs.declared.words.Action.TheVariants as action
+use Rattle.gx_top.specs.Requests.{IsRefused, IsAccepted, IsRunnable}
+use Rattle.gx_top.specs.Summaries.{summary_of, accepted_line}
+use Rattle.gx_top.specs.Words.{request_words}
 
 -- such a text was said
 abbrev pub Says : (List ℕ → Type 0) → Content → Content → Type 0
@@ -51,9 +57,17 @@ pub record IsRefusalText (words : List (List ℕ)) (before : Content) (text : Li
   pub status_is : status_of ending ≡ status.Refused
   pub text_is : text ≡ line_of ending
 
--- the request can be carried out, and `P` holds of its schema, its script and the text
+-- the script can be played, and `P` holds of its schema, the script and the text
 abbrev pub IsRunText : (Schema → List ℕ → List ℕ → Type 0) → List (List ℕ) → Content → List ℕ → Type 0
-IsRunText P words before text = (schema : Schema) × IsAccepted words before.aside.texts schema × P schema before.script text
+IsRunText P words before text = (schema : Schema) × IsRunnable words before.aside.texts schema × P schema before.script text
+
+-- the line of the leaves of the accepted texts that are to be checked
+abbrev pub IsAcceptedText : List (List ℕ) → Content → List ℕ → Type 0
+IsAcceptedText words before text = (schema : Schema) × (ds : List DefinitionTree) × (typing : Typing) × IsAccepted words before.aside.texts action.Check schema ds typing × (text ≡ accepted_line (summary_of typing.specs))
+
+-- all that was asked: the answers of a script whose play ends at no line, or what the checker says
+abbrev pub IsDoneText : List (List ℕ) → Content → List ℕ → Type 0
+IsDoneText words before text = IsRunText (λ schema script. IsPlayText schema script good) words before text ⊎ IsAcceptedText words before text
 
 -- the line that there was no memory, behind the answers of the script's first lines or of none
 abbrev pub IsMemoryText : List (List ℕ) → Content → List ℕ → Type 0
@@ -61,11 +75,18 @@ IsMemoryText words before text = (text ≡ memory_line) ⊎ IsRunText IsShortTex
 
 -- one of these
 abbrev pub IsRequestText : List (List ℕ) → Content → List ℕ → Type 0
-IsRequestText words before text = IsRefusalText words before text ⊎ (text ≡ memory_line) ⊎ IsRunText IsTryText words before text
+IsRequestText words before text = IsRefusalText words before text ⊎ (text ≡ memory_line) ⊎ IsAcceptedText words before text ⊎ IsRunText IsTryText words before text
 
--- the request can be carried out, and the play of its script ends at no line
+-- the words ask for a script to be played
+abbrev pub IsTry : List (List ℕ) → Type 0
+IsTry words = (schema : List ℕ) × (equation : List ℕ) × (words ≡ request_words action.Try schema equation)
+
+-- a script can be played, and its play ends at no line; or the texts to be checked are accepted
 abbrev pub IsPlayable : List (List ℕ) → Content → Type 0
-IsPlayable words before = (schema : Schema) × IsAccepted words before.aside.texts schema × ((answers : List ℕ) × (final : Playing) × IsPlay schema before.script answers final good)
+IsPlayable words before = (schema : Schema) × IsRunnable words before.aside.texts schema × ((answers : List ℕ) × (final : Playing) × IsPlay schema before.script answers final good)
+
+abbrev pub IsCheckable : List (List ℕ) → Content → Type 0
+IsCheckable words before = (schema : Schema) × (ds : List DefinitionTree) × (typing : Typing) × IsAccepted words before.aside.texts action.Check schema ds typing
 
 -- ---- before the line of the end is said
 

@@ -1,21 +1,24 @@
-// Why a request ends early, and what is said of it.
+// How a request ends that isn't played to its end, and what is said of it.
 ghost use Rattle.std.specs.Prelude.{◌≡◌, ◌≢◌, ◌++◌, ◌≤◌, ◌⊎◌, List, ℕ, [], take, IsTrue, IfOk, IsOk, codes};
 ghost use Rattle.std.specs.Fmt.{decimal};
 ghost use Rattle.gx_device.specs.Faults.{Rose};
 ghost use Rattle.gx_tokens.specs.Whys.{word_of as why_word};
 ghost use Rattle.gx_script.specs.LineWhys.{word_of as line_word};
+ghost use Rattle.gx_top.specs.Summaries.{accepted_line};
 ghost use Rattle.gx_top.specs.Endings.{line_of, status_of, memory_line};
 ghost use Rattle.gx_top.specs.Say.{IsCut, OnlySays};
 
 use crate::say::say_all;
 use crate::status::Status;
+use crate::summary::Summary;
 use gx_device::{Failed, Machine};
 use gx_schema::Why;
 use gx_script::LineWhy;
+use gx_types::TypeWhy;
 use gx_values::NoMemory;
 use std::alloc::{AllocError, Global};
 
-/// Why a request ends before it is carried out.
+/// How a request ends that isn't played to its end.
 #[derive(Clone, Copy, Debug)]
 pub enum Ending<'a> {
     /// The words are no request.
@@ -26,12 +29,16 @@ pub enum Ending<'a> {
     TooLong(&'a str),
     /// The schema goes wrong in this line, counted from 1.
     Schema(u32, Why),
-    /// The schema has a link, or the equation isn't that of heaps of whole records.
-    NotBuilt,
-    /// The records of the file that is defined in this line, counted from 1, may be too long for a leaf.
-    EntryTooLong(u32),
+    /// The equation goes wrong in this line, counted from 1.
+    Equation(u32, Why),
+    /// The equation isn't typed under the schema: the line of its first place that fails, counted from 1.
+    Type(u32, TypeWhy),
     /// The canonical texts of the schema and the equation are too long together.
     TextsTooLong,
+    /// The schema has a link, or the side of a definition isn't `actual(heap)`.
+    NotBuilt,
+    /// The texts are accepted, and that is all that was asked.
+    Accepted(Summary),
     /// The line of this number, counted from 1, ends the script.
     Line(u32, LineWhy),
     /// A call of the machine failed.
@@ -105,9 +112,11 @@ fn status(ending: Ending<'_>) -> Status
         | Ending::Missing(_)
         | Ending::TooLong(_)
         | Ending::Schema(..)
-        | Ending::NotBuilt
-        | Ending::EntryTooLong(_)
-        | Ending::TextsTooLong => Status::Refused,
+        | Ending::Equation(..)
+        | Ending::Type(..)
+        | Ending::TextsTooLong
+        | Ending::NotBuilt => Status::Refused,
+        Ending::Accepted(_) => Status::Done,
         Ending::Line(..) => Status::Script,
         Ending::Fault => Status::Outside,
         Ending::NoMemory => Status::Memory,
@@ -129,14 +138,16 @@ fn line(alloc: Global, ending: Ending<'_>) -> Result<Vec<u8>, NoMemory>
             line,
             why.word(),
         ),
-        Ending::NotBuilt => Ok(b"refused: not built\n".to_vec(alloc)?),
-        Ending::EntryTooLong(line) => numbered_line(
+        Ending::Equation(line, why) => numbered_line(
             alloc,
-            b"refused: type line ",
+            b"refused: equation line ",
             line,
-            "entry too long",
+            why.word(),
         ),
+        Ending::Type(line, why) => numbered_line(alloc, b"refused: type line ", line, why.words()),
         Ending::TextsTooLong => Ok(b"refused: texts too long\n".to_vec(alloc)?),
+        Ending::NotBuilt => Ok(b"refused: not built\n".to_vec(alloc)?),
+        Ending::Accepted(summary) => summary_line(alloc, summary),
         Ending::Line(number, why) => numbered_line(alloc, b"stopped at line ", number, why.word()),
         Ending::Fault => Ok(Vec::new(alloc)),
         Ending::NoMemory => Ok(b"stopped: memory\n".to_vec(alloc)?),
@@ -162,4 +173,25 @@ fn numbered_line(alloc: Global, front: &[u8], number: u32, why: &str) -> Result<
     line.extend_from_slice(why.as_bytes())?;
     line.extend_from_slice(b"\n")?;
     Ok(line)
+}
+
+fn summary_line(alloc: Global, summary: Summary) -> Result<Vec<u8>, NoMemory>
+    ensures { IfOk result (λ line. line.items ≡ accepted_line summary) }
+{
+    let mut line = b"accepted: ".to_vec(alloc)?;
+    push_number(alloc, &mut line, summary.leaves)?;
+    line.extend_from_slice(b" leaves, ")?;
+    push_number(alloc, &mut line, summary.root_pages)?;
+    line.extend_from_slice(b" root pages, smallest device ")?;
+    push_number(alloc, &mut line, summary.smallest_device)?;
+    line.extend_from_slice(b" blocks\n")?;
+    Ok(line)
+}
+
+fn push_number(alloc: Global, line: &mut Vec<u8>, number: u32) -> Result<(), NoMemory>
+    ensures { IfOk result (λ _. line.new.items ≡ line.old.items ++ decimal number) }
+{
+    let digits = number.to_string(alloc)?;
+    line.extend_from_slice(digits.as_bytes())?;
+    Ok(())
 }

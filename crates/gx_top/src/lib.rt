@@ -10,6 +10,7 @@ mod request;
 mod say;
 mod script;
 mod status;
+mod summary;
 #[cfg(test)]
 mod tests;
 mod texts;

@@ -6,11 +6,12 @@ ghost use Rattle.gx_model.specs.Play.{good};
 ghost use Rattle.gx_engine.specs.Internal.{AreStorable};
 ghost use Rattle.gx_top.specs.Words.{texts_of};
 ghost use Rattle.gx_top.specs.Endings.{status_of};
-ghost use Rattle.gx_top.specs.Tries.{Says, SaysFront, IsPlayText, IsStoppedText, IsShortText, IsTryText, IsRefusalText, IsRunText, IsMemoryText, IsRequestText, IsPlayable, IsPlayedAs, IsEndingOf};
+ghost use Rattle.gx_top.specs.Requests.{IsRefused};
+ghost use Rattle.gx_top.specs.Tries.{Says, SaysFront, IsPlayText, IsStoppedText, IsShortText, IsTryText, IsDoneText, IsRefusalText, IsRunText, IsMemoryText, IsRequestText, IsTry, IsPlayable, IsCheckable, IsPlayedAs, IsEndingOf};
 
 use crate::ending::{Ending, end};
 use crate::play::{PlayEnd, play};
-use crate::prepare::prepare;
+use crate::prepare::{Prepared, prepare};
 use crate::script::hear_script;
 use crate::status::Status;
 use gx_device::Machine;
@@ -21,36 +22,44 @@ use gx_values::NoMemory;
 use std::alloc::Global;
 
 /// Carries out what the words ask for, says its answers on the machine, and hands the machine
-/// back. On a machine that tells its content:
+/// back. The words are `check SCHEMA EQUATION` or `try SCHEMA EQUATION`. On a machine that tells its
+/// content:
 ///
-/// - `Done`: exactly the answers of the play of the whole script on an empty database were said, and
-///   the script was heard to its end.
+/// - `Done`: of `check`, exactly the line of the accepted equation's leaves was said. Of `try`, exactly
+///   the answers of the play of the whole script on an empty database were said, and the script was
+///   heard to its end.
 /// - `Script`: a line ends the play. Exactly the answers up to it were said, and then the line that
 ///   says where and why.
 /// - `Refused`: the request is refused for the first reason in the order of the words, the texts, the
-///   schema, the equation, the width of records and the length of the texts. The line of that reason
-///   was said, and nothing else.
+///   schema, the equation, its types, the length of the texts, and what is carried out so far. The line
+///   of that reason was said, and nothing else.
 /// - `Memory`: there was no memory. Exactly the answers of the script's first lines were said, perhaps
 ///   of none, and then `stopped: memory`.
 /// - `Outside`: a front was said of what one of the others says.
 ///
-/// `Outside` comes only where a call of the machine failed in this one. So where none failed, the
-/// request can be carried out and the play of its script ends at no line, the answer is `Done` or
-/// `Memory`.
+/// `Outside` comes only where a call of the machine failed in this one. So where none failed, a request for
+/// whose refusal there is a reason is answered `Refused` or `Memory`; `check` of accepted texts is answered
+/// `Done` or `Memory`, and so is `try` where the script can be played and its play ends at no line.
 pub fn top<M: Machine + Drop>(alloc: Global, words: &[String], machine: M) -> (Status, M)
-    ensures done { IsTrue M.tells → result.0 ≡ Status.Done → Says (IsRunText (λ schema script. IsPlayText schema script good) (texts_of words.now) (M.content machine)) (M.content machine) (M.content result.1) }
-    ensures heard { IsTrue M.tells → result.0 ≡ Status.Done → (M.content result.1).script ≡ [] }
+    ensures done { IsTrue M.tells → result.0 ≡ Status.Done → Says (IsDoneText (texts_of words.now) (M.content machine)) (M.content machine) (M.content result.1) }
+    ensures heard { IsTrue M.tells → result.0 ≡ Status.Done → IsTry (texts_of words.now) → (M.content result.1).script ≡ [] }
     ensures stopped { IsTrue M.tells → result.0 ≡ Status.Script → Says (IsRunText IsStoppedText (texts_of words.now) (M.content machine)) (M.content machine) (M.content result.1) }
     ensures refused { IsTrue M.tells → result.0 ≡ Status.Refused → Says (IsRefusalText (texts_of words.now) (M.content machine)) (M.content machine) (M.content result.1) }
     ensures memory { IsTrue M.tells → result.0 ≡ Status.Memory → Says (IsMemoryText (texts_of words.now) (M.content machine)) (M.content machine) (M.content result.1) }
     ensures cut { IsTrue M.tells → result.0 ≡ Status.Outside → SaysFront (IsRequestText (texts_of words.now) (M.content machine)) (M.content machine) (M.content result.1) }
     ensures outside { result.0 ≡ Status.Outside → Rose (M.faults machine) (M.faults result.1) }
-    ensures complete { IsTrue M.tells → IsPlayable (texts_of words.now) (M.content machine) → result.0 ≢ Status.Outside → (result.0 ≡ Status.Done) ⊎ (result.0 ≡ Status.Memory) }
+    ensures refuses { IsTrue M.tells → (why : Ending) → IsRefused (texts_of words.now) (M.content machine).aside.texts why → result.0 ≢ Status.Outside → (result.0 ≡ Status.Refused) ⊎ (result.0 ≡ Status.Memory) }
+    ensures plays { IsTrue M.tells → IsPlayable (texts_of words.now) (M.content machine) → result.0 ≢ Status.Outside → (result.0 ≡ Status.Done) ⊎ (result.0 ≡ Status.Memory) }
+    ensures checks { IsTrue M.tells → IsCheckable (texts_of words.now) (M.content machine) → result.0 ≢ Status.Outside → (result.0 ≡ Status.Done) ⊎ (result.0 ≡ Status.Memory) }
     ensures later { M.faults machine ≤ M.faults result.1 }
 {
     let mut machine = machine;
     match prepare(alloc, words, &mut machine) {
-        Ok(schema) => try_script(alloc, schema, machine),
+        Ok(Prepared::Try(schema)) => try_script(alloc, schema, machine),
+        Ok(Prepared::Check(summary)) => {
+            let status = end(alloc, Ending::Accepted(summary), &mut machine);
+            (status, machine)
+        }
         Err(ending) => {
             let status = end(alloc, ending, &mut machine);
             (status, machine)

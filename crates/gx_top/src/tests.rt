@@ -136,26 +136,33 @@ fn calls_fail(rt: HostRuntime) -> Result<(), Fail> {
     Ok(())
 }
 
-// Words that are no request, and texts that aren't there, too long, or that can't be carried out.
+// Words that are no request, and texts that aren't there, too long, not accepted, or that can't be carried out.
 #[test]
 fn requests_are_refused(rt: HostRuntime) -> Result<(), Fail> {
     let alloc = rt.alloc();
-    let cases: [(&str, &[u8]); 15] = [
+    let cases: [(&str, &[u8]); 22] = [
         ("", b"refused: words\n"),
         ("try", b"refused: words\n"),
         ("try S1", b"refused: words\n"),
         ("try S1 E1 d", b"refused: words\n"),
+        ("check S1", b"refused: words\n"),
         ("run a b", b"refused: words\n"),
         ("Try S1 E1", b"refused: words\n"),
         ("try nothing E1", b"refused: missing nothing\n"),
         ("try S1 nothing", b"refused: missing nothing\n"),
+        ("check nothing long", b"refused: missing nothing\n"),
         ("try long E1", b"refused: too long long\n"),
-        ("try S1 long", b"refused: too long long\n"),
+        ("check S1 long", b"refused: too long long\n"),
         ("try limit E1", b"refused: schema line 1: token\n"),
-        ("try keyed E1", b"refused: schema line 1: key\n"),
-        ("try linked E1", b"refused: not built\n"),
-        ("try S1 E2", b"refused: not built\n"),
+        ("try keyed limit", b"refused: schema line 1: key\n"),
+        ("check S1 limit", b"refused: equation line 1: token\n"),
+        ("try S1 unended", b"refused: equation line 2: end\n"),
+        ("try linked E1", b"refused: type line 1: definition\n"),
+        ("check S1 pieces", b"refused: type line 1: one bytes\n"),
         ("try wide E3", b"refused: type line 1: entry too long\n"),
+        ("try S1 E2", b"refused: not built\n"),
+        ("try S1 linear", b"refused: not built\n"),
+        ("try linked ring", b"refused: not built\n"),
     ];
     let long = vec![in alloc; b'x'; 16381]?;
     for (line, said) in cases.iter() {
@@ -169,11 +176,51 @@ fn requests_are_refused(rt: HostRuntime) -> Result<(), Fail> {
             b"file g (k int, a text 200, b text 200, c text 200, d text 200, e text 200)\n",
         )?;
         machine.add_text(alloc, "E3", b"g = actual(heap)\n")?;
+        machine.add_text(alloc, "unended", b"f =\nactual(heap")?;
+        machine.add_text(alloc, "pieces", b"f = divide(64, actual(heap))")?;
+        machine.add_text(alloc, "linear", b"f = actual(divide(64, heap))")?;
+        machine.add_text(
+            alloc,
+            "ring",
+            b"f = heap l = ring(actual(heap), actual(heap))",
+        )?;
         machine.add_text(alloc, "limit", &long[..16380])?;
         machine.add_text(alloc, "long", &long)?;
         let (status, machine) = top(alloc, &words(alloc, line)?, machine);
         assert_eq!(rt; machine.said(), *said);
         assert_eq!(rt; status, Status::Refused);
+    }
+    Ok(())
+}
+
+// Texts that are accepted, with their leaves and the pages and blocks that those need.
+#[test]
+fn texts_are_checked(rt: HostRuntime) -> Result<(), Fail> {
+    let alloc = rt.alloc();
+    let cases: [(&[u8], &[u8]); 4] = [
+        (
+            b"f = actual(heap)",
+            b"accepted: 1 leaves, 1 root pages, smallest device 41 blocks\n",
+        ),
+        (
+            b"f = actual(divide(64, heap))",
+            b"accepted: 1 leaves, 1 root pages, smallest device 41 blocks\n",
+        ),
+        (
+            b"# by key\nf = partition(k 10,\n  actual(hash(8)), actual(bplus))\n",
+            b"accepted: 2 leaves, 9 root pages, smallest device 57 blocks\n",
+        ),
+        (
+            b"f = index(t, actual(isam), hash(64))",
+            b"accepted: 2 leaves, 65 root pages, smallest device 169 blocks\n",
+        ),
+    ];
+    for (equation, said) in cases.iter() {
+        let mut machine = machine(alloc, SCRIPT)?;
+        machine.add_text(alloc, "E", equation)?;
+        let (status, machine) = top(alloc, &words(alloc, "check S1 E")?, machine);
+        assert_eq!(rt; machine.said(), *said);
+        assert_eq!(rt; status, Status::Done);
     }
     Ok(())
 }
