@@ -1,0 +1,5 @@
+//! Tests that cross crates. There is no code here beside them.
+#![tactic(auto)]
+
+#[cfg(test)]
+mod plays;
