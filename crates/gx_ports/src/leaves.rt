@@ -6,39 +6,16 @@ ghost use Rattle.gx_ports.specs.LeafMaps.{LeafMap, map_at, with_entry, without_e
 ghost use Rattle.gx_ports.specs.Stops.{HasStopCause};
 ghost use Rattle.gx_ports.specs.Calm.{QuietSince};
 
-use crate::Stop;
+use crate::{Entries, Stop};
 use gx_device::Failed;
 use gx_values::{Octets, Span};
 use std::alloc::Global;
-use std::marker::Model;
 
-/// A key and its body.
+/// A key and its body, as contracts see them in `Entries`.
 #[derive(Debug, Drop)]
 pub struct Entry {
     pub key: Octets,
     pub body: Octets,
-}
-
-/// Entries, seen as a list.
-#[derive(Debug, Drop)]
-pub struct Entries(pub Vec<Entry>);
-
-impl Model for Entries {
-    ghost use Rattle.std.specs.Prelude.{List};
-    ghost use Rattle.gx_ports.specs.declared.leaves.Entry.{Entry as LeafEntry};
-
-    ghost Value = { List LeafEntry };
-
-    ghost view = { λ e. e.0.items };
-}
-
-impl Entries {
-    /// No entry.
-    pub fn new(alloc: Global) -> Entries
-        ensures { result ≡ [] }
-    {
-        Entries(Vec::new(alloc))
-    }
 }
 
 /// Leaves with their working maps and their kept maps, those of the last commit, over a device.

@@ -27,9 +27,10 @@ fn span(lo: &[u8], hi: &[u8]) -> Span {
 // Each entry as its key, its body and a blank.
 fn text(alloc: Global, entries: &Entries) -> Result<Vec<u8>, Fail> {
     let mut text = Vec::new(alloc);
-    for entry in &entries.0 {
-        text.extend_from_slice(entry.key.as_slice())?;
-        text.extend_from_slice(entry.body.as_slice())?;
+    for index in 0..entries.len() {
+        let entry = entries.entry(index);
+        text.extend_from_slice(entry.key)?;
+        text.extend_from_slice(entry.body)?;
         text.push(b' ')?;
     }
     Ok(text)
