@@ -1,10 +1,10 @@
 // Entries of leaves: those that come from a record, and the changes from those of one to those of another.
 ghost use Rattle.std.specs.Prelude.{◌≡◌, ◌<◌, ◌≤◌, ◌+◌, length, Option, Some, None, true, false, IsTrue, IfOk, OnOk, IsErrOf, get_or, ◌↔◌};
-ghost use Rattle.gx_ports.specs.LeafMaps.{entry_count, map_at};
+ghost use Rattle.gx_ports.specs.LeafMaps.{entry_count, map_at, IsCrowdedBy};
 ghost use Rattle.gx_ports.specs.Stops.{HasStopCause};
 ghost use Rattle.gx_mapping.specs.Rule.{In, IsOf};
 ghost use Rattle.gx_stack.specs.Tree.{IsLeafForm, entry_in, leaf_body};
-ghost use Rattle.gx_stack.specs.Internal.{IsPlace, IsAt, SomeAt, NoneAt, AreSmall, IsRemoved, IsPut, SameBut, IsCrowdedBy};
+ghost use Rattle.gx_stack.specs.Internal.{IsPlace, IsAt, SomeAt, NoneAt, AreSmall, IsRemoved, IsPut, SameBut};
 ghost use Rattle.gx_stack.specs.Calls.{Stays};
 
 use gx_ports::{Leaves, Stop};

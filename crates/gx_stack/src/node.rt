@@ -1,14 +1,14 @@
 // Nodes: trees of mappings, with leaves below.
 ghost use Rattle.std.specs.Prelude.{◌≡◌, ◌<◌, ◌≤◌, ◌+◌, ◌++◌, ◌↔◌, List, ℕ, length, not, ◌&&◌, OnOk, IsErrOf, IfOk};
 ghost use Rattle.std.specs.Option.{option_map};
-ghost use Rattle.gx_ports.specs.LeafMaps.{LeafMap, map_at, entry_count, Extends};
+ghost use Rattle.gx_ports.specs.LeafMaps.{LeafMap, map_at, entry_count, Extends, IsCrowdedBy};
 ghost use Rattle.gx_ports.specs.Stops.{HasStopCause};
 ghost use Rattle.gx_device.specs.Faults.{Rose};
 ghost use Rattle.gx_values.specs.declared.records.Rec.{Rec as Record};
 ghost use Rattle.gx_mapping.specs.Rule.{In, IsOf};
 ghost use Rattle.gx_stack.specs.Tree.{leaves_of, tree_form, entries_of, IsValid};
 ghost use Rattle.gx_stack.specs.Seen.{tree_of};
-ghost use Rattle.gx_stack.specs.Internal.{IsSet, IsInternal, IsUnion, IsChange, IfThere, changed, entries_if, IsCrowdedBy};
+ghost use Rattle.gx_stack.specs.Internal.{IsSet, IsInternal, IsUnion, IsChange, IfThere, changed, entries_if};
 ghost use Rattle.gx_stack.specs.Selected.{IsKeySpan, IsFound};
 ghost use Rattle.gx_stack.specs.Calls.{Stays};
 
@@ -55,6 +55,12 @@ impl<M: Mapping> Node<M> {
     pub fn internal_is_union(&self)
         requires { IsValid M.rule (tree_of self.now) }
         ensures { (R : List Record) (maps : List LeafMap) → IsInternal M.rule (tree_of self.now) R maps ↔ IsUnion M.rule (tree_of self.now) R maps }
+    {}
+
+    /// What the leaves hold tells the records: they hold one set of records at most. It does nothing.
+    pub fn internal_tells_records(&self)
+        requires { IsValid M.rule (tree_of self.now) }
+        ensures { (R S : List Record) (maps : List LeafMap) (r : Record) → IsSet (tree_form M.rule (tree_of self.now)) R → IsSet (tree_form M.rule (tree_of self.now)) S → IsInternal M.rule (tree_of self.now) R maps → IsInternal M.rule (tree_of self.now) S maps → In r R → In r S }
     {}
 
     // Appends the leaf entries that come from one record.

@@ -11,7 +11,7 @@ ghost use Rattle.gx_stack.specs.Read.{leaf_most, IsDataOf, IsRecordOf, AreRecord
 ghost use Rattle.gx_stack.specs.Calls.{Stays};
 
 use crate::recs::Recs;
-use gx_ports::{Entries, Entry, Leaves, Stop};
+use gx_ports::{Entries, Leaves, Stop};
 use gx_values::{Fields, Form, Kind, NoMemory, Octets, Rec, Span, Value, Values, read_key};
 use std::alloc::Global;
 
@@ -41,20 +41,21 @@ pub fn select_leaf<B: Leaves>(
 {
     let mut entries = Entries::new(alloc);
     leaves.select(alloc, leaf, span, &mut entries)?;
-    read_records(alloc, form, entries, out)
+    read_records(alloc, form, &entries, out)
 }
 
 // The records of entries, in the same order.
-fn read_records(alloc: Global, form: &Form, entries: Entries, out: &mut Recs) -> Result<(), Stop>
+fn read_records(alloc: Global, form: &Form, entries: &Entries, out: &mut Recs) -> Result<(), Stop>
     requires form { IsLeafForm form.now }
-    ensures read { OnOk result (AreRecords form.now entries out.old out.new) }
+    ensures read { OnOk result (AreRecords form.now entries.now out.old out.new) }
     ensures front { Extends out.old out.new }
-    ensures damaged { (block : ℕ) → IsErrOf result (Stop.Damaged block) → (e : LeafPair) × In e entries × ((r : Record) → IsOf form.now r → entry_of_rec r ≢ e) }
+    ensures damaged { (block : ℕ) → IsErrOf result (Stop.Damaged block) → (e : LeafPair) × In e entries.now × ((r : Record) → IsOf form.now r → entry_of_rec r ≢ e) }
     ensures not_full { ¬ IsErrOf result Stop.Full }
     ensures not_fault { ¬ IsErrOf result Stop.Fault }
 {
-    for entry in entries.0 {
-        match read_record(alloc, form, entry)? {
+    for index in 0..entries.len() {
+        let entry = entries.entry(index);
+        match read_record(alloc, form, entry.key, entry.body)? {
             Some(rec) => out.0.push(rec)?,
             None => return Err(Stop::Damaged(NO_BLOCK)),
         }
@@ -63,32 +64,32 @@ fn read_records(alloc: Global, form: &Form, entries: Entries, out: &mut Recs) ->
 }
 
 // The record of an entry. `None`: it is the entry of no record of the form.
-fn read_record(alloc: Global, form: &Form, entry: Entry) -> Result<Option<Rec>, NoMemory>
+fn read_record(alloc: Global, form: &Form, key: &[u8], body: &[u8]) -> Result<Option<Rec>, NoMemory>
     requires { IsLeafForm form.now }
-    ensures { IfOk result (IsRecordOf form.now entry) }
+    ensures { IfOk result (IsRecordOf form.now (record { key = key.now; body = body.now })) }
 {
-    let Some(key) = read_key(alloc, &form.keys, entry.key.as_slice())? else {
+    let Some(key) = read_key(alloc, &form.keys, key)? else {
         return Ok(None);
     };
-    let Some(fields) = read_fields(alloc, form, entry.body)? else {
+    let Some(fields) = read_fields(alloc, form, body)? else {
         return Ok(None);
     };
     Ok(Some(Rec { key, fields }))
 }
 
 // The data of a leaf's record.
-fn read_fields(alloc: Global, form: &Form, body: Octets) -> Result<Option<Values>, NoMemory>
+fn read_fields(alloc: Global, form: &Form, body: &[u8]) -> Result<Option<Values>, NoMemory>
     requires { IsLeafForm form.now }
-    ensures { IfOk result (IsDataOf form.now.fields body) }
+    ensures { IfOk result (IsDataOf form.now.fields body.now) }
 {
     match most_bytes(&form.fields) {
-        None => Ok(body.0.is_empty().then_some(Values(Vec::new(alloc)))),
+        None => Ok(body.is_empty().then_some(Values(Vec::new(alloc)))),
         Some(most) => {
-            if body.0.len() > usize::from(most) {
+            if body.len() > usize::from(most) {
                 return Ok(None);
             }
             let mut values = Vec::with_capacity(alloc, 1)?;
-            values.push(Value::Bytes(body))?;
+            values.push(Value::Bytes(Octets::from_slice(alloc, body)?))?;
             Ok(Some(Values(values)))
         }
     }
