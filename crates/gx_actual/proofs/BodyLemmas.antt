@@ -36,20 +36,16 @@ has_length_at (f ∷ fs) [] d i short h lt = absurd h
 has_length_at (f ∷ fs) (v ∷ vs) d zero short h lt = has_length f.kind v short.0 h.0
 has_length_at (f ∷ fs) (v ∷ vs) d (suc i) short h lt = has_length_at fs vs d i short.1 h.1 (omega arith)
 
-pub item_has_length : (fs : List Field) (vs items : List Value) (v : Value) (i : ℕ) → items ≡ vs → AreShort fs → AreFit fs vs → i < length items → v ≡ get_or items i v → HasLength v
-item_has_length fs vs items v i same short h lt is =
-    let in_range : i < length vs = subst (λ (l : List Value). i < length l) same lt in
-    subst HasLength (sym (is ∙ ap (λ (l : List Value). get_or l i v) same)) (has_length_at fs vs v i short h in_range)
+pub item_has_length : (fs : List Field) (vs : List Value) (v : Value) (i : ℕ) → AreShort fs → AreFit fs vs → i < length vs → v ≡ get_or vs i v → HasLength v
+item_has_length fs vs v i short h lt is = subst HasLength (sym is) (has_length_at fs vs v i short h lt)
 
 short_at : (fs : List Field) (d : Field) (i : ℕ) → AreShort fs → i < length fs → IsShort (get_or fs i d).kind
 short_at [] d i short lt = absurd (omega arith)
 short_at (f ∷ fs) d zero short lt = short.0
 short_at (f ∷ fs) d (suc i) short lt = short_at fs d i short.1 (omega arith)
 
-pub item_short : (fs items : List Field) (f : Field) (i : ℕ) → items ≡ fs → AreShort fs → i < length items → f ≡ get_or items i f → IsShort f.kind
-item_short fs items f i same short lt is =
-    let in_range : i < length fs = subst (λ (l : List Field). i < length l) same lt in
-    subst (λ (g : Field). IsShort g.kind) (sym (is ∙ ap (λ (l : List Field). get_or l i f) same)) (short_at fs f i short in_range)
+pub item_short : (fs : List Field) (f : Field) (i : ℕ) → AreShort fs → i < length fs → f ≡ get_or fs i f → IsShort f.kind
+item_short fs f i short lt is = subst (λ (g : Field). IsShort g.kind) (sym is) (short_at fs f i short lt)
 
 -- ---- reading
 

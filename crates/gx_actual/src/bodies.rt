@@ -6,22 +6,19 @@ ghost use Rattle.gx_values.specs.Written.{AreRead, IsAtFront};
 ghost use Rattle.gx_values.specs.declared.values.Kind.TheVariants as kind;
 ghost use Rattle.gx_actual.specs.Bodies.{field_bytes, body_of, IsShort, AreShort, HasLength};
 
-use gx_values::{Fields, Kind, NoMemory, Octets, Value, Values};
+use gx_values::{Field, Kind, NoMemory, Octets, Value, Values};
 use std::alloc::{AllocError, Global};
 
-/// The body of the values of these fields.
-pub(crate) fn body_bytes(
-    alloc: Global,
-    fields: &Fields,
-    values: &Values,
-) -> Result<Octets, NoMemory>
+/// The body of the values of these fields, of which no text or bytes may be longer than what its length is
+/// written in. `NoMemory`: there was none for it.
+pub fn body_bytes(alloc: Global, fields: &[Field], values: &[Value]) -> Result<Octets, NoMemory>
     requires short { AreShort fields.now }
     requires fit { AreFit fields.now values.now }
     ensures { IfOk result (λ body. body ≡ body_of values.now) }
 {
     let _fields = fields;
     let mut body = Vec::new(alloc);
-    for value in values.0.iter() {
+    for value in values {
         push_value(&mut body, value)?;
     }
     Ok(Octets(body))
@@ -46,17 +43,14 @@ fn push_value(body: &mut Vec<u8>, value: &Value) -> Result<(), AllocError>
 }
 
 /// The values of these fields that the body is of. `None`: it is the body of no values that fit them.
-pub(crate) fn read_body(
-    alloc: Global,
-    fields: &Fields,
-    body: &[u8],
-) -> Result<Option<Values>, NoMemory>
+/// `NoMemory`: there was none for the values.
+pub fn read_body(alloc: Global, fields: &[Field], body: &[u8]) -> Result<Option<Values>, NoMemory>
     requires { AreShort fields.now }
     ensures { IfOk result (AreRead field_bytes fields.now body.now) }
 {
-    let mut values = Vec::with_capacity(alloc, fields.0.len())?;
+    let mut values = Vec::with_capacity(alloc, fields.len())?;
     let mut rest = body;
-    for field in fields.0.iter() {
+    for field in fields {
         let Some(value) = read_value(alloc, field.kind, rest)? else {
             return Ok(None);
         };

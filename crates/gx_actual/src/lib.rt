@@ -5,6 +5,9 @@ mod bodies;
 mod layer;
 mod make;
 mod mapping;
+#[cfg(test)]
+mod tests;
 
+pub use bodies::{body_bytes, read_body};
 pub use layer::Actual;
 pub use make::actual;

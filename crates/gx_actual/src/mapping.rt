@@ -64,13 +64,10 @@ fn with_body(alloc: Global, form: &Form, rec: &Rec) -> Result<Rec, NoMemory>
     requires is { IsOf form.now rec.now }
     ensures { IfOk result (λ made. made ≡ actual_rec rec.now) }
 {
-    Ok(Rec {
-        key: rec.key.copy(alloc)?,
-        fields: one_value(
-            alloc,
-            Value::Bytes(body_bytes(alloc, &form.fields, &rec.fields)?),
-        )?,
-    })
+    let key = rec.key.copy(alloc)?;
+    let body = body_bytes(alloc, &form.fields.0, &rec.fields.0)?;
+    let fields = one_value(alloc, Value::Bytes(body))?;
+    Ok(Rec { key, fields })
 }
 
 fn one_value(alloc: Global, value: Value) -> Result<Values, NoMemory>
@@ -95,7 +92,7 @@ fn gather_one(
     let Some(body) = the_bytes(&part.rec.fields) else {
         return Ok(None);
     };
-    let Some(fields) = read_body(alloc, &form.fields, body)? else {
+    let Some(fields) = read_body(alloc, &form.fields.0, body)? else {
         return Ok(None);
     };
     let key = key.copy(alloc)?;
