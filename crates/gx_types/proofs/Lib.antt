@@ -1,9 +1,14 @@
+pub mod FileLaws
 pub mod Missing
 pub mod NarrowLaws
+pub mod NodeSteps
 pub mod Onward
 pub mod PlaceLaws
+pub mod ReadyLaws
 pub mod RowLaws
 pub mod SchemaLaws
 pub mod SeenAs
+pub mod TermSize
+pub mod TreeLaws
 pub mod TypedLaws
 pub mod TypingSteps

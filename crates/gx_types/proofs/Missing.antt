@@ -1,5 +1,5 @@
 -- Definitions that are missing.
-use Rattle.std.proofs.Common.{◌≡◌, ℕ, ◌<◌, List, [], ◌∷◌, length, Result, Ok, Err, refl, sym, ap, ◌∙◌, arith}
+use Rattle.std.proofs.Common.{◌≡◌, ℕ, ◌<◌, List, [], ◌∷◌, length, Result, Err, sym, ap, ◌∙◌, arith}
 use Rattle.gx_equation.specs.declared.equation.Definition.{Definition}
 use Rattle.gx_equation.specs.Seen.{definitions_of}
 use Rattle.gx_types.specs.declared.reasons.TypeWhy.TheVariants as why

@@ -1,8 +1,8 @@
 -- Typing doesn't tell a form from the one that a program keeps of it.
-use Rattle.std.proofs.Common.{◌≡◌, ℕ, zero, suc, ◌+◌, ◌≤◌, min, cond, Bool, true, false, List, [], ◌∷◌, length, map, Option, Some, None, Result, Ok, Err, refl, sym, ap, ◌∙◌, arith}
+use Rattle.std.proofs.Common.{◌≡◌, ℕ, zero, suc, ◌+◌, min, cond, Bool, true, false, List, [], ◌∷◌, length, map, Option, Some, None, Result, Ok, Err, refl, sym, ap, ◌∙◌, arith}
 use Rattle.std.specs.Prelude.{nat_eq, nat_le, nat_lt, not, ◌&&◌, filter, slice_index_or, is_some, codes, ◌||◌, ◌==◌}
 use Rattle.std.specs.Cmp.Lexicographic.{pointwise}
-use Rattle.std.specs.List.{list_all, list_any}
+use Rattle.std.specs.List.{list_all}
 use Rattle.std.proofs.lemmas.Bool.Decides.{nat_tests}
 use Rattle.std.proofs.lemmas.List.{length-map}
 use Rattle.gx_values.specs.Keys.{widths}
@@ -21,7 +21,7 @@ use Rattle.gx_types.specs.declared.reasons.TypeWhy.TheVariants as why
 use Rattle.gx_types.specs.declared.typing.Typing.{Typing}
 use Rattle.gx_types.specs.Fields.{field, kind_in, has_name, body_width, body_widths}
 use Rattle.gx_types.specs.Conditions.{is_key_kind, is_bytes, is_coded, is_bound, is_data, are_data, ascends, leaves_some}
-use Rattle.gx_types.specs.Rows.{◌>>=◌, tested, kind_from, data_from, any_from, body_of, leaf_row, one_bytes, row}
+use Rattle.gx_types.specs.Rows.{◌>>=◌, tested, data_from, any_from, body_of, leaf_row, one_bytes, row}
 use Rattle.gx_types.specs.Forms.{coded_kind, coded_field, index_kind, kid_form}
 use Rattle.gx_types.specs.Typing.{Mistake, behind, at, count, with_head, typed_at, kids_typed}
 use Rattle.gx_types.specs.Narrow.{narrow_kind, narrow_field, narrow}

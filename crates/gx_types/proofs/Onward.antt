@@ -1,18 +1,15 @@
 -- Terms whose child has a form that a program keeps in its own way.
-use Rattle.std.proofs.Common.{◌≡◌, ℕ, zero, suc, List, [], ◌∷◌, length, Result, Ok, Err, refl, sym, ap, ◌∙◌}
-use Rattle.gx_values.specs.declared.values.Code.{Code}
+use Rattle.std.proofs.Common.{◌≡◌, ℕ, List, Result, Ok, Err, refl, sym, ap, ◌∙◌}
 use Rattle.gx_values.specs.declared.values.Kind.{Kind}
 use Rattle.gx_values.specs.declared.records.Form.{Form}
 use Rattle.gx_equation.specs.declared.heads.Head.{Head}
-use Rattle.gx_equation.specs.declared.heads.Head.TheVariants as heads
-use Rattle.gx_equation.specs.declared.heads.Linkset.{Linkset}
 use Rattle.gx_equation.specs.declared.heads.Linkset.TheVariants as linksets
 use Rattle.gx_equation.specs.declared.equation.Term.{Term}
 use Rattle.gx_equation.specs.declared.equation.Side.{Side}
 use Rattle.gx_equation.specs.declared.equation.Side.TheVariants as sides
 use Rattle.gx_equation.specs.Seen.{tree_of, side_of}
 use Rattle.gx_types.specs.Sides.{link_typed}
-use Rattle.gx_equation.specs.Trees.{Tree, Trees, node, none, kid}
+use Rattle.gx_equation.specs.Trees.{Tree, node, none, kid}
 use Rattle.gx_types.specs.declared.reasons.TypeWhy.{TypeWhy}
 use Rattle.gx_types.specs.declared.reasons.Unbuilt.{Unbuilt}
 use Rattle.gx_types.specs.declared.reasons.Unbuilt.TheVariants as unbuilt

@@ -1,5 +1,5 @@
 -- The first place that fails is the one that typing names.
-use Rattle.std.proofs.Common.{◌≡◌, ℕ, zero, suc, ◌+◌, ◌<◌, ◌≤◌, ◌⊎◌, cond, Bool, true, false, List, [], ◌∷◌, ◌++◌, length, Result, Ok, Err, refl, sym, ap, subst, inl, inr, ◌∙◌, arith, append_assoc, length-append}
+use Rattle.std.proofs.Common.{◌≡◌, ℕ, suc, ◌+◌, ◌⊎◌, cond, true, false, List, [], ◌∷◌, ◌++◌, length, Result, Ok, Err, refl, sym, ap, subst, inl, inr, ◌∙◌, arith, append_assoc, length-append}
 use Rattle.std.specs.Prelude.{nat_lt, nat_eq}
 use Rattle.std.specs.Cmp.Lexicographic.{pointwise}
 use Rattle.gx_values.specs.declared.records.Form.{Form}
@@ -21,9 +21,9 @@ use Rattle.gx_types.specs.Forms.{kid_form, link_form}
 use Rattle.gx_types.specs.Leaves.{leaf_spec}
 use Rattle.gx_types.specs.Rows.{◌>>=◌, tested, row}
 use Rattle.gx_types.specs.Typing.{Mistake, here, behind, at, count, with_leaf, with_head, typed_at, kids_typed, Answers}
-use Rattle.gx_types.specs.Sides.{side_typed, file_typed, link_typed}
+use Rattle.gx_types.specs.Sides.{side_typed}
 use Rattle.gx_types.specs.Whole.{definition_typed, definitions_typed, no_leaves, typing_of}
-use Rattle.gx_types.specs.Places.{Place, a_name, a_name_more, an_end, other_side, link_head, a_head, leaves_at, leaves_of_place, leaf_test, asked, IsFirstFault, places_of_term, places_of_terms, places_of_side, places_of_all, places}
+use Rattle.gx_types.specs.Places.{Place, a_head, leaves_at, leaf_test, asked, IsFirstFault, places_of_term, places_of_terms, places_of_side, places_of_all, places}
 use Rattle.gx_types.proofs.RowLaws.{behind_ok}
 
 -- ---- steps

@@ -1,5 +1,5 @@
 -- The tests of a head are passed exactly where its condition is met.
-use Rattle.std.proofs.Common.{◌≡◌, ℕ, zero, suc, ◌+◌, ◌<◌, ◌≤◌, ◌⊎◌, cond, Bool, true, false, List, [], ◌∷◌, length, Option, Some, None, Result, Ok, Err, refl, sym, ap, subst, inl, inr, ◌∙◌, arith}
+use Rattle.std.proofs.Common.{◌≡◌, ℕ, suc, ◌+◌, ◌<◌, ◌≤◌, ◌⊎◌, cond, Bool, true, false, List, [], ◌∷◌, length, Option, Some, None, Result, Ok, Err, refl, sym, ap, inl, inr, ◌∙◌, arith}
 use Rattle.std.specs.Prelude.{nat_le, nat_lt, not, ◌&&◌, ◌||◌, ◌==◌, is_some, filter}
 use Rattle.std.specs.List.{list_all, list_any, AllByRecursion}
 use Rattle.std.specs.Ordering.{is_lt}
@@ -21,10 +21,9 @@ use Rattle.gx_equation.specs.declared.heads.Head.TheVariants as heads
 use Rattle.gx_types.specs.declared.reasons.TypeWhy.{TypeWhy}
 use Rattle.gx_types.specs.declared.reasons.TypeWhy.TheVariants as why
 use Rattle.gx_types.specs.Fields.{kind_in, has_name}
-use Rattle.gx_types.specs.Forms.{others_form}
 use Rattle.gx_types.specs.Conditions.{is_key_kind, is_bytes, is_coded, is_bound, is_data, are_data, ascends, leaves_some}
-use Rattle.gx_types.specs.Rows.{◌>>=◌, tested, kind_from, data_from, any_from, data_kind, any_kind, body_of, leaf_body, leaf_row, one_bytes, row}
-use Rattle.gx_types.specs.Typed.{IsDataField, IsField, AreDataFields, IsCodeFor, IsBoundFor, AscendStrictly, IsLeafData, IsOneBytes, IsLeaf, IsEncoded, IsSegmented, IsTransposed, IsPartitioned, IsIndexed, IsMet}
+use Rattle.gx_types.specs.Rows.{◌>>=◌, tested, data_from, any_from, data_kind, any_kind, body_of, leaf_body, one_bytes, row}
+use Rattle.gx_types.specs.Typed.{IsDataField, IsField, AreDataFields, IsCodeFor, IsBoundFor, AscendStrictly, IsLeafData, IsOneBytes, IsMet}
 
 -- ---- steps
 

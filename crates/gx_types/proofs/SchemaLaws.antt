@@ -1,5 +1,5 @@
 -- A schema has few files and links.
-use Rattle.std.proofs.Common.{◌≡◌, ℕ, ◌+◌, ◌<◌, ◌≤◌, List, [], ◌∷◌, ◌++◌, length, map, arith, length-append}
+use Rattle.std.proofs.Common.{◌+◌, ◌≤◌, List, [], ◌∷◌, ◌++◌, length, map, arith, length-append}
 use Rattle.std.proofs.lemmas.List.{length-map}
 use Rattle.gx_schema.specs.declared.schema.FileDef.{FileDef}
 use Rattle.gx_schema.specs.declared.schema.LinkDef.{LinkDef}

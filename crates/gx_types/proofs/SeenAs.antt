@@ -1,12 +1,12 @@
 -- Terms with lists of children as plain trees.
-use Rattle.std.proofs.Common.{◌≡◌, ℕ, List, Vec, Box, Global, refl, sym, ap, ◌∙◌}
+use Rattle.std.proofs.Common.{◌≡◌, ℕ, List, Vec, Box, Global, sym, ap, ◌∙◌}
 use Rattle.gx_values.specs.declared.values.Code.{Code}
 use Rattle.gx_values.specs.declared.values.Value.{Value}
 use Rattle.gx_equation.specs.declared.heads.Head.TheVariants as heads
 use Rattle.gx_equation.specs.declared.equation.Term.{Term}
 use Rattle.gx_equation.specs.declared.equation.Term.TheVariants as terms
 use Rattle.gx_equation.specs.declared.equation.Term.TheOpen.{Actual, Encode, Transpose, Partition}
-use Rattle.gx_equation.specs.declared.equation.Term.TheFolds.{fold-Term, fold-roll-Term}
+use Rattle.gx_equation.specs.declared.equation.Term.TheFolds.{fold-roll-Term}
 use Rattle.gx_equation.specs.Trees.{Tree, node, none, kid as one, kids_from}
 use Rattle.gx_equation.specs.Seen.{seen_step, tree_of, trees_of}
 

@@ -1,5 +1,5 @@
 -- Typing gives leaves exactly where an equation is typed, and then its leaves.
-use Rattle.std.proofs.Common.{◌≡◌, ℕ, zero, suc, ◌+◌, ◌<◌, ◌≤◌, cond, Bool, true, false, List, [], ◌∷◌, ◌++◌, length, map, Result, Ok, Err, refl, sym, ap, subst, ◌∙◌, arith, append_assoc, length-append}
+use Rattle.std.proofs.Common.{◌≡◌, ℕ, suc, ◌<◌, ◌≤◌, cond, true, false, List, [], ◌∷◌, ◌++◌, length, map, Result, Ok, Err, refl, sym, ap, subst, ◌∙◌, arith, append_assoc, length-append}
 use Rattle.std.specs.Prelude.{nat_lt, nat_eq, IfOk, IfErr}
 use Rattle.std.specs.Cmp.Lexicographic.{pointwise, bytes_decides}
 use Rattle.std.proofs.lemmas.Bool.{cond-true}
@@ -22,11 +22,11 @@ use Rattle.gx_types.specs.declared.typing.Typing.{Typing}
 use Rattle.gx_types.specs.Dues.{dues}
 use Rattle.gx_types.specs.Forms.{kid_form, link_form}
 use Rattle.gx_types.specs.Leaves.{leaf_spec}
-use Rattle.gx_types.specs.Rows.{◌>>=◌, tested, row}
-use Rattle.gx_types.specs.Typing.{Mistake, here, behind, at, count, with_leaf, with_head, typed_at, kids_typed, Answers}
-use Rattle.gx_types.specs.Sides.{side_typed, file_typed, link_typed}
-use Rattle.gx_types.specs.Whole.{definition_typed, definitions_typed, no_leaves, typing_of}
-use Rattle.gx_types.specs.Typed.{IsMet, IsTypedTerm, AreTypedTerms, Leaf, leaf_here, leaves_of, leaves_of_kids, IsTypedSide, leaves_of_side, AreTyped, leaves_of_all, leaves, IsTyped, owner_of, spec_of, typing_with}
+use Rattle.gx_types.specs.Rows.{tested, row}
+use Rattle.gx_types.specs.Typing.{Mistake, behind, at, count, with_leaf, with_head, typed_at, kids_typed, Answers}
+use Rattle.gx_types.specs.Sides.{side_typed}
+use Rattle.gx_types.specs.Whole.{definition_typed, definitions_typed, typing_of}
+use Rattle.gx_types.specs.Typed.{IsTypedTerm, AreTypedTerms, Leaf, leaf_here, leaves_of, leaves_of_kids, IsTypedSide, leaves_of_side, AreTyped, leaves_of_all, leaves, IsTyped, owner_of, spec_of, typing_with}
 use Rattle.gx_types.proofs.RowLaws.{behind_ok, ok_behind, tested_ok, ok_tested, row_found, row_again}
 
 at_ok : {A : Type 0} (lines : List ℕ) (r : Result A TypeWhy) (x : A) → at lines r ≡ Ok x → r ≡ Ok x

@@ -1,19 +1,17 @@
 -- Steps of typing.
-use Rattle.std.proofs.Common.{◌≡◌, ℕ, zero, suc, ◌+◌, ◌<◌, ◌≤◌, List, [], ◌∷◌, length, drop, get_or, map, Result, Ok, Err, refl, sym, ap, ◌∙◌, arith}
-use Rattle.std.proofs.lemmas.List.{drop_more}
+use Rattle.std.proofs.Common.{◌≡◌, ℕ, suc, List, [], ◌∷◌, length, Result, Ok, Err, refl, sym, ap, ◌∙◌}
 use Rattle.gx_values.specs.declared.records.Form.{Form}
 use Rattle.gx_equation.specs.declared.equation.Term.{Term}
 use Rattle.gx_equation.specs.declared.heads.Head.{Head}
-use Rattle.gx_equation.specs.declared.heads.Head.TheVariants as heads
-use Rattle.gx_equation.specs.Trees.{Tree, Trees, node, none, kid, kids_from}
-use Rattle.gx_equation.specs.Seen.{tree_of, trees_of}
+use Rattle.gx_equation.specs.Trees.{Tree, node, kids_from}
+use Rattle.gx_equation.specs.Seen.{trees_of}
 use Rattle.gx_types.specs.declared.reasons.TypeWhy.{TypeWhy}
 use Rattle.gx_types.specs.declared.reasons.Unbuilt.{Unbuilt}
 use Rattle.gx_types.specs.declared.reasons.Unbuilt.TheVariants as unbuilt
 use Rattle.gx_types.specs.declared.typing.Typing.{Typing}
-use Rattle.gx_types.specs.Rows.{◌>>=◌, row}
+use Rattle.gx_types.specs.Rows.{row}
 use Rattle.gx_types.specs.Forms.{kid_form}
-use Rattle.gx_types.specs.Typing.{Mistake, here, behind, at, count, with_head, typed_at, kids_typed, FailsSo}
+use Rattle.gx_types.specs.Typing.{behind, at, count, with_head, typed_at, kids_typed, FailsSo}
 
 pub count_kids : (ts : List Term) → count (kids_from (trees_of ts)) ≡ length ts
 count_kids [] = refl

@@ -1,5 +1,5 @@
 -- What is to be defined, in its order.
-use Rattle.std.specs.Prelude.{ℕ, List, ◌++◌, map, take, drop, slice_index_or}
+use Rattle.std.specs.Prelude.{List, ◌++◌, map, take, slice_index_or}
 use Rattle.gx_values.specs.declared.records.Form.{Form}
 use Rattle.gx_schema.specs.declared.schema.FileDef.{FileDef}
 use Rattle.gx_schema.specs.declared.schema.LinkDef.{LinkDef}

@@ -1,5 +1,5 @@
 -- The forms that heads give to their children, which are counted from 0.
-use Rattle.std.specs.Prelude.{ℕ, zero, suc, ◌*◌, max, not, List, [], ◌∷◌, ◌++◌, map, filter, Option, Some, None, nat_eq, if◌then◌else◌, slice_index_or, codes}
+use Rattle.std.specs.Prelude.{ℕ, zero, suc, ◌*◌, max, not, List, [], ◌∷◌, ◌++◌, map, filter, Option, Some, nat_eq, if◌then◌else◌, slice_index_or, codes}
 use Rattle.std.specs.Cmp.Lexicographic.{pointwise}
 use Rattle.gx_values.specs.Keys.{width_of}
 use Rattle.gx_values.specs.declared.values.Code.{Code}
@@ -12,11 +12,8 @@ use Rattle.gx_equation.specs.declared.heads.Head.{Head}
 use Rattle.gx_equation.specs.declared.heads.Head.TheVariants as heads
 use Rattle.gx_equation.specs.declared.heads.Linkset.{Linkset}
 use Rattle.gx_equation.specs.declared.heads.Linkset.TheVariants as linksets
-use Rattle.gx_types.specs.Fields.{field, kind_in, has_name, body_widths}
-
--- (K; `_body` bytes of all widths)
-abbrev pub actual_form : Form → Form
-actual_form form = record { keys = form.keys; fields = field (codes "_body") (kinds.Bytes (body_widths form.fields)) ∷ [] }
+pub use Rattle.gx_actual.specs.Forms.{actual_form}
+use Rattle.gx_types.specs.Fields.{field, kind_in, has_name}
 
 -- an int becomes bytes 8, a text of at most n bytes becomes bytes 2 n
 abbrev pub coded_kind : Code → Kind → Kind

@@ -1,5 +1,5 @@
 -- What the leaves of an equation are, and how many pages they need.
-use Rattle.std.specs.Prelude.{ℕ, ◌+◌, ◌*◌, List, [], ◌∷◌, ◌++◌, map, sum}
+use Rattle.std.specs.Prelude.{ℕ, ◌+◌, ◌*◌, List, map, sum}
 use Rattle.gx_values.specs.Keys.{widths}
 use Rattle.gx_values.specs.declared.records.Form.{Form}
 use Rattle.gx_ports.specs.declared.kinds.LeafKind.{LeafKind}

@@ -11,3 +11,6 @@ pub mod Whole
 pub mod Typed
 pub mod Places
 pub mod Narrow
+pub mod Any
+pub mod Nodes
+pub mod Build

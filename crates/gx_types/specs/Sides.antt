@@ -1,5 +1,5 @@
 -- Typing of sides.
-use Rattle.std.specs.Prelude.{ℕ, List, Result, Ok, Err}
+use Rattle.std.specs.Prelude.{ℕ, List, Result, Err}
 use Rattle.gx_values.specs.declared.values.Kind.{Kind}
 use Rattle.gx_values.specs.declared.records.Form.{Form}
 use Rattle.gx_equation.specs.Trees.{kids_from, SideTree, file_side, link_side}

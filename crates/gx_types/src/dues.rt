@@ -38,7 +38,8 @@ fn split_first(fields: &[Field]) -> (&[Field], &[Field])
     fields.split_at(fields.len().min(1))
 }
 
-fn file_form(alloc: Global, file: &FileDef) -> Result<Form, AllocError>
+/// The form of a file's records: the first field is the key.
+pub fn file_form(alloc: Global, file: &FileDef) -> Result<Form, AllocError>
     ensures { IfOk result (λ form. form ≡ file_form file.now) }
 {
     let (keys, others) = split_first(&file.fields.0);

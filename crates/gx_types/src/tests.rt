@@ -1,9 +1,17 @@
 // Worked equations: their leaves, or the line and the reason of their first place that fails.
-ghost use Rattle.std.specs.Prelude.{◌≤◌, length, IfOk};
+ghost use Rattle.std.specs.Prelude.{◌≡◌, ◌≤◌, ◌∷◌, [], length, IfOk};
+ghost use Rattle.gx_values.specs.declared.values.Kind.TheVariants as kind;
+ghost use Rattle.gx_values.specs.declared.values.Value.TheVariants as value;
+ghost use Rattle.gx_mapping.specs.Rule.{IsOf};
+ghost use Rattle.gx_schema.specs.Rules.{IsSchema};
 
 use super::*;
-use gx_equation::read_equation;
-use gx_schema::read_schema;
+use gx_actual::actual;
+use gx_equation::{Equation, read_equation};
+use gx_mapping::Mapping;
+use gx_schema::{Schema, read_schema};
+use gx_stack::Node;
+use gx_values::{Field, Fields, Form, Kind, Name, NoMemory, Rec, Value, Values};
 use std::alloc::Global;
 use std::test::*;
 
@@ -18,8 +26,8 @@ fn leaves(alloc: Global, typing: &Typing) -> Result<String, Fail> {
     Ok(text)
 }
 
-fn type_texts(alloc: Global, schema: &[u8], equation: &[u8]) -> Result<Typing, Unbuilt>
-    ensures { IfOk result (λ typing. length typing.specs ≤ 255) }
+fn read_texts(alloc: Global, schema: &[u8], equation: &[u8]) -> Result<(Schema, Equation), Unbuilt>
+    ensures { IfOk result (λ texts. IsSchema texts.0) }
 {
     if schema.len() >= 4_294_967_295 || equation.len() >= 4_294_967_295 {
         return Err(Unbuilt::NoMemory);
@@ -30,7 +38,23 @@ fn type_texts(alloc: Global, schema: &[u8], equation: &[u8]) -> Result<Typing, U
     let Ok(equation) = read_equation(alloc, equation) else {
         return Err(Unbuilt::NoMemory);
     };
+    Ok((schema, equation))
+}
+
+fn type_texts(alloc: Global, schema: &[u8], equation: &[u8]) -> Result<Typing, Unbuilt>
+    ensures { IfOk result (λ typing. length typing.specs ≤ 255) }
+{
+    let (schema, equation) = read_texts(alloc, schema, equation)?;
     typed(alloc, &schema, &equation)
+}
+
+// What is built of the texts, or none where the equation has other heads.
+fn build_texts(alloc: Global, schema: &[u8], equation: &[u8]) -> Result<Option<Built>, Unbuilt> {
+    let (schema, equation) = read_texts(alloc, schema, equation)?;
+    if !heads_built(&equation) {
+        return Ok(None);
+    }
+    Ok(Some(build(alloc, &schema, &equation)?))
 }
 
 const DEPARTMENTS: &[u8] = b"file dept (dno int, dname text 12)
@@ -500,6 +524,99 @@ fn counts_leaves(rt: HostRuntime) -> Result<(), Fail> {
         .err()
         .ok_or("an error")?;
     assert_eq!(rt; error, Unbuilt::Mistyped(257, TypeWhy::Leaves));
+    Ok(())
+}
+
+// Appends the numbers of the leaves in the order in which they stand in the node.
+fn push_leaves(node: &Node<AnyMapping>, numbers: &mut Vec<u32>) -> Result<(), Fail> {
+    match node {
+        Node::Leaf(leaf) => numbers.push(leaf.leaf)?,
+        Node::Layer(layer) => {
+            for kid in &layer.kids {
+                push_leaves(kid, numbers)?;
+            }
+        }
+    }
+    Ok(())
+}
+
+#[test]
+fn builds_a_node_for_each_file(rt: HostRuntime) -> Result<(), Fail> {
+    let alloc = rt.alloc();
+    let built = build_texts(
+        alloc,
+        b"file f (k int, v int) file g (k text 7)",
+        b"f = partition(v 10, actual(heap), actual(heap)) g = bplus",
+    )?
+    .ok_or("nodes")?;
+    let mut leaves = Vec::new(alloc);
+    for node in &built.files.0 {
+        let mut numbers = Vec::new(alloc);
+        push_leaves(node, &mut numbers)?;
+        leaves.push(numbers)?;
+    }
+    assert_eq!(rt; leaves.len(), 2);
+    assert_eq!(rt; leaves[0].as_slice(), [0, 1].as_slice());
+    assert_eq!(rt; leaves[1].as_slice(), [2].as_slice());
+    assert_eq!(rt; built.owners.0.as_slice(), [0, 0, 1].as_slice());
+    assert_eq!(rt; built.specs.0.len(), 3);
+    Ok(())
+}
+
+#[test]
+fn builds_no_other_heads(rt: HostRuntime) -> Result<(), Fail> {
+    let alloc = rt.alloc();
+    let schema = b"file f (k int, v int)".as_slice();
+    let other = build_texts(alloc, schema, b"f = actual(divide(64, heap))")?;
+    assert!(rt; other.is_none());
+    let error = build_texts(alloc, schema, b"f = partition(v 10, actual(heap), heap)")
+        .err()
+        .ok_or("an error")?;
+    assert_eq!(rt; error, Unbuilt::Mistyped(1, TypeWhy::LeafForm));
+    Ok(())
+}
+
+// The child that the one part of a record goes to.
+fn child_of<M: Mapping>(alloc: Global, mapping: &M, rec: &Rec) -> Result<Option<u16>, NoMemory>
+    requires { IsOf (M.rule mapping.now).form rec.now }
+{
+    match mapping.parts(alloc, rec)?.0.as_slice() {
+        [part] => Ok(Some(part.child)),
+        _ => Ok(None),
+    }
+}
+
+fn key_form(alloc: Global) -> Result<Form, NoMemory>
+    ensures keys { IfOk result (λ form. form.keys ≡ record { name = 107 ∷ []; kind = kind.Int } ∷ []) }
+    ensures fields { IfOk result (λ form. form.fields ≡ []) }
+{
+    let key = Field {
+        name: Name::from_slice(b"k"),
+        kind: Kind::Int,
+    };
+    Ok(Form {
+        keys: Fields(vec![in alloc; key]?),
+        fields: Fields(Vec::new(alloc)),
+    })
+}
+
+fn key_rec(alloc: Global, key: i64) -> Result<Rec, NoMemory>
+    ensures key { IfOk result (λ r. r.key ≡ value.Int key ∷ []) }
+    ensures fields { IfOk result (λ r. r.fields ≡ []) }
+{
+    Ok(Rec {
+        key: Values(vec![in alloc; Value::Int(key)]?),
+        fields: Values(Vec::new(alloc)),
+    })
+}
+
+#[test]
+fn records_go_through_layers(rt: HostRuntime) -> Result<(), Fail> {
+    let alloc = rt.alloc();
+    let form = key_form(alloc)?;
+    let layer = AnyMapping::Actual(actual(alloc, &form)?);
+    let rec = key_rec(alloc, 7)?;
+    assert_eq!(rt; child_of(alloc, &layer, &rec)?, Some(0));
     Ok(())
 }
 

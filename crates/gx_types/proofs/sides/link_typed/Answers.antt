@@ -1,5 +1,3 @@
-use Rattle.std.proofs.Common.{◌≡◌, sym}
-use Rattle.gx_equation.specs.Seen.{tree_of}
 use Rattle.gx_equation.specs.declared.heads.Linkset.TheVariants as linksets
 use Rattle.gx_types.specs.Forms.{link_form}
 use Rattle.gx_types.proofs.Onward.{array_goes_on, ring_goes_on, inverted_goes_on}

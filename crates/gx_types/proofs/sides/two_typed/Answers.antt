@@ -1,4 +1,3 @@
-use Rattle.std.proofs.Common.{◌≡◌, sym}
 use Rattle.std.proofs.lemmas.Result.{err_from_is_err_and}
 use Rattle.gx_equation.specs.Seen.{tree_of}
 use Rattle.gx_types.proofs.Onward.{first_fails, second_goes_on}

@@ -1,4 +1,4 @@
-use Rattle.std.proofs.Common.{◌≡◌, arith}
+use Rattle.std.proofs.Common.{arith}
 use Rattle.gx_types.proofs.Missing.{missing}
 use Rattle.gx_types.proofs.whole.definitions_typed.Goals as goal
 

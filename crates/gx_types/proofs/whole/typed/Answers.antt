@@ -1,4 +1,3 @@
-use Rattle.std.proofs.Common.{◌≡◌}
 use Rattle.gx_types.proofs.PlaceLaws.{first_fault}
 use Rattle.gx_types.proofs.TypedLaws.{ok_typed, ok_leaves, ok_few, only_memory}
 use Rattle.gx_types.proofs.whole.typed.Goals as goal

@@ -1,4 +1,4 @@
-use Rattle.std.proofs.Common.{◌≡◌, length, ap, arith}
+use Rattle.std.proofs.Common.{length, ap, arith}
 use Rattle.gx_types.proofs.SchemaLaws.{few_dues}
 use Rattle.gx_types.proofs.whole.typed_exactly.Goals as goal
 

@@ -1,0 +1,112 @@
+-- Steps of building: terms of each kind as trees, and a child behind those before it.
+use Rattle.std.proofs.Common.{◌≡◌, ◌≢◌, true, false, ℕ, zero, suc, ◌+◌, ◌<◌, ◌≤◌, List, [], ◌∷◌, ◌++◌, length, get_or, map, drop, refl, sym, ap, subst, ◌∙◌, arith, append_assoc}
+use Rattle.std.specs.Prelude.{nat_eq, Option}
+use Rattle.std.specs.Cmp.Lexicographic.{pointwise, bytes_decides}
+use Rattle.std.proofs.lemmas.Bool.{true≢false, cond-false}
+use Rattle.std.proofs.lemmas.List.{drop_more, append-nil}
+use Rattle.std.proofs.Math.Numerals.{add-one}
+use Rattle.gx_ports.specs.declared.kinds.LeafKind.{LeafKind}
+use Rattle.gx_values.specs.declared.values.Kind.{Kind}
+use Rattle.gx_values.specs.declared.records.Field.{Field}
+use Rattle.gx_values.specs.declared.records.Form.{Form}
+use Rattle.gx_schema.specs.declared.schema.FileDef.{FileDef}
+use Rattle.gx_equation.specs.declared.heads.Head.TheVariants as heads
+use Rattle.gx_equation.specs.declared.equation.Term.{Term}
+use Rattle.gx_equation.specs.declared.equation.Term.TheVariants as terms
+use Rattle.gx_equation.specs.declared.equation.Term.TheOpen.{Leaf}
+use Rattle.gx_equation.specs.declared.equation.Term.TheFolds.{fold-roll-Term}
+use Rattle.gx_equation.specs.Trees.{Tree, Trees, node, none, kid, kids_from}
+use Rattle.gx_equation.specs.declared.equation.Definition.{Definition}
+use Rattle.gx_equation.specs.Seen.{seen_step, tree_of, trees_of, definitions_of}
+use Rattle.gx_stack.specs.declared.node.Node.{Node}
+use Rattle.gx_stack.specs.Tree.{no_kids}
+use Rattle.gx_stack.specs.Seen.{tree_of as node_tree, kids_from as node_kids}
+use Rattle.gx_types.specs.declared.any.AnyMapping.{AnyMapping}
+use Rattle.gx_types.specs.Build.{leaf_count, leaf_counts, IsFirstOf, IsTreeOf, AreTreesOf, AreTreesOfFiles, IsReady, AreReady, AreReadyFiles}
+use Rattle.gx_types.specs.Fields.{kind_in}
+use Rattle.gx_types.proofs.ReadyLaws.{first_ready, others_ready}
+
+pub seen_leaf : (t : Term) (kind : LeafKind) → t ≡ terms.Leaf kind → tree_of t ≡ node (heads.Leaf kind) none
+seen_leaf t kind is = ap tree_of (is ∙ sym (terms.rolls-Leaf kind)) ∙ fold-roll-Term Tree seen_step (Leaf kind)
+
+-- ---- one child of several
+
+kids_at : (ts : List Term) (i : ℕ) (t : Term) → i < length ts → t ≡ get_or ts i t → kids_from (trees_of (drop i ts)) ≡ kid (tree_of t) (kids_from (trees_of (drop (i + 1) ts)))
+kids_at ts i t lt read =
+    ap (λ (us : List Term). kids_from (trees_of us)) (drop_more ts i t lt)
+    ∙ ap (λ (x : Term). kid (tree_of x) (kids_from (trees_of (drop (i + 1) ts)))) (sym read)
+
+module _ (n : ℕ) (form : Form) (ts : List Term) (i : ℕ) (t : Term) (lt : i < length ts) (read : t ≡ get_or ts i t) where
+  pub child_ready : AreReady n (λ _. form) i (kids_from (trees_of (drop i ts))) → IsReady n form (tree_of t)
+  child_ready r =
+      first_ready n (λ _. form) i (tree_of t) (kids_from (trees_of (drop (i + 1) ts))) (subst (AreReady n (λ _. form) i) (kids_at ts i t lt read) r)
+
+  pub behind_ready : (next : ℕ) → next ≡ n + leaf_count (tree_of t) → AreReady n (λ _. form) i (kids_from (trees_of (drop i ts))) → AreReady next (λ _. form) (i + 1) (kids_from (trees_of (drop (i + 1) ts)))
+  behind_ready next is r =
+      let more = others_ready n (λ _. form) i (tree_of t) (kids_from (trees_of (drop (i + 1) ts))) (subst (AreReady n (λ _. form) i) (kids_at ts i t lt read) r) in
+      let more' = subst (λ (m : ℕ). AreReady m (λ _. form) (suc i) (kids_from (trees_of (drop (i + 1) ts)))) (sym is) more in
+      subst (λ (j : ℕ). AreReady next (λ _. form) j (kids_from (trees_of (drop (i + 1) ts)))) (sym (add-one i)) more'
+
+  pub behind_count : (next total : ℕ) → next ≡ n + leaf_count (tree_of t) → n + leaf_counts (kids_from (trees_of (drop i ts))) ≡ total → next + leaf_counts (kids_from (trees_of (drop (i + 1) ts))) ≡ total
+  behind_count next total is so_far =
+      let e : leaf_counts (kids_from (trees_of (drop i ts))) ≡ leaf_count (tree_of t) + leaf_counts (kids_from (trees_of (drop (i + 1) ts))) = ap leaf_counts (kids_at ts i t lt read) in
+      omega arith
+
+  pub behind_trees : (next : ℕ) (Goal : List (Node AnyMapping) → Type 0) (nodes pushed : List (Node AnyMapping)) (x : Node AnyMapping) → next ≡ n + leaf_count (tree_of t) → pushed ≡ nodes ++ x ∷ [] → IsTreeOf n form (tree_of t) (node_tree x)
+      → ((more : List (Node AnyMapping)) → AreTreesOf n (λ _. form) i (kids_from (trees_of (drop i ts))) (node_kids (map node_tree more)) → Goal (nodes ++ more))
+      → (more : List (Node AnyMapping)) → AreTreesOf next (λ _. form) (i + 1) (kids_from (trees_of (drop (i + 1) ts))) (node_kids (map node_tree more)) → Goal (pushed ++ more)
+  behind_trees next Goal nodes pushed x is push tree so_far more h =
+      let rest = kids_from (trees_of (drop (i + 1) ts)) in
+      let h' = subst (λ (m : ℕ). AreTreesOf m (λ _. form) (i + 1) rest (node_kids (map node_tree more))) is h in
+      let h'' = subst (λ (j : ℕ). AreTreesOf (n + leaf_count (tree_of t)) (λ _. form) j rest (node_kids (map node_tree more))) (add-one i) h' in
+      let all = so_far (x ∷ more) (subst (λ (us : Trees). AreTreesOf n (λ _. form) i us (node_kids (map node_tree (x ∷ more)))) (sym (kids_at ts i t lt read)) (tree, h'')) in
+      subst Goal (sym (ap (λ (ys : List (Node AnyMapping)). ys ++ more) push ∙ append_assoc nodes (x ∷ []) more)) all
+
+-- behind the last child
+pub all_trees : (n next : ℕ) (form : Form) (ts : List Term) (i : ℕ) (nodes : List (Node AnyMapping)) → length ts ≤ i
+    → ((more : List (Node AnyMapping)) → AreTreesOf next (λ _. form) i (kids_from (trees_of (drop i ts))) (node_kids (map node_tree more)) → AreTreesOf n (λ _. form) 0 (kids_from (trees_of ts)) (node_kids (map node_tree (nodes ++ more))))
+    → AreTreesOf n (λ _. form) 0 (kids_from (trees_of ts)) (node_kids (map node_tree nodes))
+all_trees n next form ts i nodes end so_far =
+    let last : drop i ts ≡ [] = drop_past i ts end in
+    subst (λ (ys : List (Node AnyMapping)). AreTreesOf n (λ _. form) 0 (kids_from (trees_of ts)) (node_kids (map node_tree ys))) (append-nil nodes)
+    (so_far [] (subst (λ (us : List Term). AreTreesOf next (λ _. form) i (kids_from (trees_of us)) no_kids) (sym last) tt))
+  where
+    drop_past : (i : ℕ) (ts : List Term) → length ts ≤ i → drop i ts ≡ []
+    drop_past zero [] le = refl
+    drop_past (suc i) [] le = refl
+    drop_past zero (t ∷ ts) le = absurd (omega arith)
+    drop_past (suc i) (t ∷ ts) le = drop_past i ts (omega arith)
+
+-- behind the last definition
+pub all_files : (files : List FileDef) (definitions : List Definition) (left : List FileDef) (rest : List Definition) (next : ℕ) (nodes : List (Node AnyMapping)) → length rest < 1 → AreReadyFiles next left (definitions_of rest)
+    → ((more : List (Node AnyMapping)) → AreTreesOfFiles next left (definitions_of rest) more → AreTreesOfFiles 0 files (definitions_of definitions) (nodes ++ more))
+    → AreTreesOfFiles 0 files (definitions_of definitions) nodes
+all_files files definitions [] [] next nodes end ready so_far = subst (AreTreesOfFiles 0 files (definitions_of definitions)) (append-nil nodes) (so_far [] tt)
+all_files files definitions (file ∷ left) [] next nodes end ready so_far = absurd ready
+all_files files definitions left (d ∷ rest) next nodes end ready so_far = absurd (omega arith)
+
+-- ---- one field of several
+
+plus_none : (i : ℕ) → i + 0 ≡ i
+plus_none i = omega arith
+
+plus_one : (i k : ℕ) → i + suc k ≡ i + 1 + k
+plus_one i k = omega arith
+
+module _ (fs : List Field) (name spelled : List ℕ) (i : ℕ) (f : Field) (lt : i < length fs) (read : f ≡ get_or fs i f) (spelling : spelled ≡ f.name) where
+  name_at : spelled ≡ (get_or fs i f).name
+  name_at = spelling ∙ ap (λ (g : Field). g.name) read
+
+  pub first_here : pointwise nat_eq spelled name ≡ true → ((k : ℕ) → IsFirstOf (drop i fs) name k → IsFirstOf fs name (i + k)) → IsFirstOf fs name i
+  first_here same so_far =
+      let here : (get_or fs i f).name ≡ name = sym name_at ∙ (bytes_decides spelled name).0 same in
+      subst (IsFirstOf fs name) (plus_none i) (so_far 0 (subst (λ (gs : List Field). IsFirstOf gs name 0) (sym (drop_more fs i f lt)) here))
+
+  pub first_behind : pointwise nat_eq spelled name ≡ false → ((k : ℕ) → IsFirstOf (drop i fs) name k → IsFirstOf fs name (i + k)) → (k : ℕ) → IsFirstOf (drop (i + 1) fs) name k → IsFirstOf fs name (i + 1 + k)
+  first_behind other so_far k h =
+      let ne : (get_or fs i f).name ≢ name = λ e. true≢false (sym ((bytes_decides spelled name).1 (name_at ∙ e)) ∙ other) in
+      subst (IsFirstOf fs name) (plus_one i k) (so_far (suc k) (subst (λ (gs : List Field). IsFirstOf gs name (suc k)) (sym (drop_more fs i f lt)) (ne, h)))
+
+  pub kind_behind : (total : Option Kind) → pointwise nat_eq spelled name ≡ false → kind_in (drop i fs) name ≡ total → kind_in (drop (i + 1) fs) name ≡ total
+  kind_behind total other so_far =
+      sym (ap (λ (gs : List Field). kind_in gs name) (drop_more fs i f lt) ∙ cond-false (pointwise nat_eq (get_or fs i f).name name) _ _ (ap (λ (n : List ℕ). pointwise nat_eq n name) (sym name_at) ∙ other)) ∙ so_far

@@ -1,0 +1,165 @@
+-- A node that a term means is valid, has the term's form, and has leaves with the numbers of the term.
+use Rattle.std.proofs.Common.{◌≡◌, ℕ, suc, ◌+◌, ◌-◌, ◌<◌, ◌≤◌, true, List, [], ◌∷◌, ◌++◌, ◌⊎◌, length, refl, sym, ap, subst, inl, inr, ◌∙◌, arith}
+use Rattle.gx_values.specs.Keys.{widths}
+use Rattle.gx_values.specs.declared.values.Kind.{Kind}
+use Rattle.gx_values.specs.declared.records.Field.{Field}
+use Rattle.gx_values.specs.declared.records.Form.{Form}
+use Rattle.gx_mapping.specs.Rule.{In}
+use Rattle.gx_actual.specs.Forms.{actual_form}
+use Rattle.gx_partition.specs.Rules.{bounds_of}
+use Rattle.gx_equation.specs.declared.heads.Head.{Head}
+use Rattle.gx_equation.specs.declared.heads.Head.TheVariants as heads
+use Rattle.gx_equation.specs.Trees.{Tree, Trees, node, none, kid}
+use Rattle.gx_stack.specs.Tree.{Tree as NodeTree, Kids as NodeKids, leaf, layer, no_kids, kid as node_kid, leaves_of, kids_leaves, kid_count, tree_form, IsBytesUpTo, IsLeafData as IsNodeData, IsLeafForm, IsValid, AreValid}
+use Rattle.gx_types.specs.declared.any.AnyMapping.{AnyMapping}
+use Rattle.gx_types.specs.declared.any.AnyMapping.TheVariants as any
+use Rattle.gx_types.specs.Any.{any_rule}
+use Rattle.gx_types.specs.Build.{is_built_head, are_built_terms, leaf_count, leaf_counts, IsMappingOf, IsLeafOf, IsTreeOf, AreTreesOf, IsFileForm, IsReady, AreReady}
+use Rattle.gx_types.specs.Forms.{kid_form}
+use Rattle.gx_types.specs.Places.{leaves_at}
+use Rattle.gx_types.specs.Typed.{IsLeafData, IsLeaf, IsMet}
+use Rattle.gx_types.specs.Typing.{count}
+use Rattle.gx_types.proofs.ReadyLaws.{both_built, is_number, kids_ready, first_ready, others_ready}
+
+-- ---- leaves
+
+-- a leaf has the number, the form, and the conditions of its term
+record IsLeafAt (n : ℕ) (form : Form) (top : Head) (kids : Trees) (m : ℕ) (f : Form) : Type 0 where
+  number : m ≡ n
+  records : f ≡ form
+  one : leaves_at top ≡ 1
+  met : IsMet top form (count kids) → IsLeaf form
+
+leaf_at : (n : ℕ) (form : Form) (top : Head) (kids : Trees) (m : ℕ) (f : Form) → IsLeafOf n form top kids m f → IsLeafAt n form top kids m f
+leaf_at n form (heads.Leaf kind) none m f is = record { number = is.0; records = is.1; one = refl; met = λ h. h }
+leaf_at n form (heads.Leaf kind) (kid t ts) m f is = absurd is
+leaf_at n form heads.Actual kids m f is = absurd is
+leaf_at n form (heads.Encode name code) kids m f is = absurd is
+leaf_at n form (heads.Segment names) kids m f is = absurd is
+leaf_at n form heads.Transpose kids m f is = absurd is
+leaf_at n form (heads.Partition name bounds) kids m f is = absurd is
+leaf_at n form (heads.Divide size) kids m f is = absurd is
+leaf_at n form (heads.Index name) kids m f is = absurd is
+
+leaf_data : (fs : List Field) (bytes most : ℕ) → IsLeafData fs bytes → bytes ≤ most → IsNodeData fs most
+leaf_data [] bytes most is le = tt
+leaf_data (f ∷ []) bytes most is le = subst (λ (k : Kind). IsBytesUpTo k most) (sym is) le
+leaf_data (f ∷ g ∷ fs) bytes most is le = absurd is
+
+leaf_form : (form : Form) → IsFileForm form → IsLeaf form → IsLeafForm form
+leaf_form form fits is = record {
+  keys = fits.keys;
+  key_small = is.key;
+  entry_small = leaf_data form.fields is.bytes (1000 - widths form.keys) is.fields (omega (arith, is.entry));
+}
+
+-- ---- the numbers of the leaves
+
+in_cases : {A : Type 0} (x : A) (xs ys : List A) → In x (xs ++ ys) → In x xs ⊎ In x ys
+in_cases x [] ys h = inr h
+in_cases x (z ∷ xs) ys (inl e) = inl (inl e)
+in_cases x (z ∷ xs) ys (inr h) = elim (in_cases x xs ys h) [ inl a ↦ inl (inr a) | inr b ↦ inr b ]
+
+mutual
+  pub leaves_between : (n : ℕ) (form : Form) (t : Tree) (u : NodeTree AnyMapping) (x : ℕ) → IsTreeOf n form t u → In x (leaves_of u) → (n ≤ x) × (x < n + leaf_count t)
+  leaves_between n form (node top kids) (leaf m f) x is (inl e) =
+      let at = leaf_at n form top kids m f is in
+      let number : x ≡ n = e ∙ at.number in
+      let one = at.one in
+      (omega arith, omega arith)
+  leaves_between n form (node top kids) (leaf m f) x is (inr h) = absurd h
+  leaves_between n form (node top kids) (layer m ks) x is h =
+      let b = kids_between n (kid_form top form) 0 kids ks x is.1 h in
+      (b.0, omega (arith, b.1))
+
+  kids_between : (n : ℕ) (forms : ℕ → Form) (i : ℕ) (ts : Trees) (us : NodeKids AnyMapping) (x : ℕ) → AreTreesOf n forms i ts us → In x (kids_leaves us) → (n ≤ x) × (x < n + leaf_counts ts)
+  kids_between n forms i none no_kids x are h = absurd h
+  kids_between n forms i none (node_kid u us) x are h = absurd are
+  kids_between n forms i (kid t ts) no_kids x are h = absurd are
+  kids_between n forms i (kid t ts) (node_kid u us) x are h = elim (in_cases x (leaves_of u) (kids_leaves us) h) [
+    | inl a ↦ (let b = leaves_between n (forms i) t u x are.0 a in (b.0, omega (arith, b.1)))
+    | inr a ↦ (let b = kids_between (n + leaf_count t) forms (suc i) ts us x are.1 a in (omega (arith, b.0), omega (arith, b.1)))
+  ]
+
+-- ---- layers
+
+mapping_form : (top : Head) (form : Form) (m : AnyMapping) → IsMappingOf top form m → (any_rule m).form ≡ form
+mapping_form heads.Actual form (any.Actual m) is = is
+mapping_form heads.Actual form (any.Partition m) is = absurd is
+mapping_form (heads.Partition name bounds) form (any.Actual m) is = absurd is
+mapping_form (heads.Partition name bounds) form (any.Partition m) is = is.records
+mapping_form (heads.Leaf kind) form m is = absurd is
+mapping_form (heads.Encode name code) form m is = absurd is
+mapping_form (heads.Segment names) form m is = absurd is
+mapping_form heads.Transpose form m is = absurd is
+mapping_form (heads.Divide size) form m is = absurd is
+mapping_form (heads.Index name) form m is = absurd is
+
+mapping_kid_form : (top : Head) (form : Form) (m : AnyMapping) → IsMappingOf top form m → (c : ℕ) → (any_rule m).kid_form c ≡ kid_form top form c
+mapping_kid_form heads.Actual form (any.Actual m) is c = ap actual_form is
+mapping_kid_form heads.Actual form (any.Partition m) is c = absurd is
+mapping_kid_form (heads.Partition name bounds) form (any.Actual m) is c = absurd is
+mapping_kid_form (heads.Partition name bounds) form (any.Partition m) is c = is.records
+mapping_kid_form (heads.Leaf kind) form m is c = absurd is
+mapping_kid_form (heads.Encode name code) form m is c = absurd is
+mapping_kid_form (heads.Segment names) form m is c = absurd is
+mapping_kid_form heads.Transpose form m is c = absurd is
+mapping_kid_form (heads.Divide size) form m is c = absurd is
+mapping_kid_form (heads.Index name) form m is c = absurd is
+
+mapping_kids : (top : Head) (form : Form) (kids : ℕ) (m : AnyMapping) → IsMappingOf top form m → IsMet top form kids → is_built_head top kids ≡ true → kids ≡ (any_rule m).kids
+mapping_kids heads.Actual form kids (any.Actual m) is met built = is_number kids 1 built
+mapping_kids heads.Actual form kids (any.Partition m) is met built = absurd is
+mapping_kids (heads.Partition name bounds) form kids (any.Actual m) is met built = absurd is
+mapping_kids (heads.Partition name bounds) form kids (any.Partition m) is met built =
+    let e : length (bounds_of m) ≡ length bounds = ap length is.ranges in
+    omega (arith, met.each)
+mapping_kids (heads.Leaf kind) form kids m is met built = absurd is
+mapping_kids (heads.Encode name code) form kids m is met built = absurd is
+mapping_kids (heads.Segment names) form kids m is met built = absurd is
+mapping_kids heads.Transpose form kids m is met built = absurd is
+mapping_kids (heads.Divide size) form kids m is met built = absurd is
+mapping_kids (heads.Index name) form kids m is met built = absurd is
+
+as_many : (n : ℕ) (forms : ℕ → Form) (i : ℕ) (ts : Trees) (us : NodeKids AnyMapping) → AreTreesOf n forms i ts us → kid_count us ≡ count ts
+as_many n forms i none no_kids are = refl
+as_many n forms i none (node_kid u us) are = absurd are
+as_many n forms i (kid t ts) no_kids are = absurd are
+as_many n forms i (kid t ts) (node_kid u us) are = ap suc (as_many (n + leaf_count t) forms (suc i) ts us are.1)
+
+-- ---- valid nodes
+
+all_shift : (c : ℕ) → c ≡ 0 + c
+all_shift c = omega arith
+
+no_shift : (i : ℕ) → i + 0 ≡ i
+no_shift i = omega arith
+
+one_shift : (i c : ℕ) → i + suc c ≡ suc i + c
+one_shift i c = omega arith
+
+mutual
+  pub valid : (n : ℕ) (form : Form) (t : Tree) (u : NodeTree AnyMapping) → IsReady n form t → IsTreeOf n form t u → IsValid any_rule u × (tree_form any_rule u ≡ form)
+  valid n form (node top kids) (leaf m f) ready is =
+      let at = leaf_at n form top kids m f is in
+      (subst IsLeafForm (sym at.records) (leaf_form form ready.records (at.met ready.typed.0)), at.records)
+  valid n form (node top kids) (layer m ks) ready is =
+      let b = both_built (is_built_head top (count kids)) (are_built_terms kids) ready.built in (
+        (
+          as_many n (kid_form top form) 0 kids ks is.1 ∙ mapping_kids top form (count kids) m is.0 ready.typed.0 b.0,
+          are_valid n (kid_form top form) 0 kids ks (any_rule m).kid_form (λ c. mapping_kid_form top form m is.0 c ∙ ap (kid_form top form) (all_shift c)) (kids_ready n form top kids ready) is.1,
+        ),
+        mapping_form top form m is.0,
+      )
+
+  are_valid : (n : ℕ) (forms : ℕ → Form) (i : ℕ) (ts : Trees) (us : NodeKids AnyMapping) (given : ℕ → Form) → ((c : ℕ) → given c ≡ forms (i + c)) → AreReady n forms i ts → AreTreesOf n forms i ts us → AreValid any_rule given us
+  are_valid n forms i none no_kids given same ready are = tt
+  are_valid n forms i none (node_kid u us) given same ready are = absurd are
+  are_valid n forms i (kid t ts) no_kids given same ready are = absurd are
+  are_valid n forms i (kid t ts) (node_kid u us) given same ready are =
+      let v = valid n (forms i) t u (first_ready n forms i t ts ready) are.0 in (
+        v.1 ∙ sym (same 0 ∙ ap forms (no_shift i)),
+        v.0,
+        λ x h k. (let a = leaves_between n (forms i) t u x are.0 h in let b = kids_between (n + leaf_count t) forms (suc i) ts us x are.1 k in omega (arith, a.1, b.0)),
+        are_valid (n + leaf_count t) forms (suc i) ts us (λ c. given (suc c)) (λ c. same (suc c) ∙ ap forms (one_shift i c)) (others_ready n forms i t ts ready) are.1,
+      )

@@ -1,0 +1,17 @@
+-- The mappings of all layers, each with what is true of it.
+use Rattle.gx_mapping.specs.Rule.{Rule}
+use Rattle.gx_mapping.specs.Laws.{MappingLaws}
+use Rattle.gx_actual.specs.Rules.{actual_rule, form_of}
+use Rattle.gx_actual.specs.Laws.{actual_laws}
+use Rattle.gx_partition.specs.Rules.{rule_of}
+use Rattle.gx_partition.specs.Laws.{partition_laws}
+use Rattle.gx_types.specs.declared.any.AnyMapping.{AnyMapping}
+use Rattle.gx_types.specs.declared.any.AnyMapping.TheVariants as any
+
+abbrev pub any_rule : AnyMapping → Rule
+any_rule (any.Actual m) = actual_rule (form_of m)
+any_rule (any.Partition m) = rule_of m
+
+pub any_laws : (m : AnyMapping) → MappingLaws (any_rule m)
+any_laws (any.Actual m) = actual_laws m.form m.short
+any_laws (any.Partition m) = partition_laws m.form m.at m.bounds m.sound

@@ -1,0 +1,157 @@
+-- The equations that nodes are built of, and the nodes that they mean.
+use Rattle.std.specs.Prelude.{◌≡◌, ◌≢◌, ℕ, zero, suc, ◌+◌, ◌≤◌, Bool, true, false, ◌&&◌, ◌==◌, List, [], ◌∷◌, length, None}
+use Rattle.gx_values.specs.Keys.{AreKeyFields}
+use Rattle.gx_values.specs.declared.values.Value.{Value}
+use Rattle.gx_values.specs.declared.records.Field.{Field}
+use Rattle.gx_values.specs.declared.records.Form.{Form}
+use Rattle.gx_schema.specs.declared.schema.FileDef.{FileDef}
+use Rattle.gx_equation.specs.declared.heads.Head.{Head}
+use Rattle.gx_equation.specs.declared.heads.Head.TheVariants as heads
+use Rattle.gx_equation.specs.Trees.{Tree, Trees, node, none, kid, SideTree, file_side, link_side, DefinitionTree}
+use Rattle.gx_actual.specs.Bodies.{AreShortTexts}
+use Rattle.gx_actual.specs.Rules.{form_of as form_of_actual}
+use Rattle.gx_partition.specs.Rules.{form_of as form_of_partition, at_of, bounds_of}
+use Rattle.gx_partition.specs.declared.layer.Partition.{Partition}
+use Rattle.gx_partition.specs.declared.place.Where.{Where}
+use Rattle.gx_partition.specs.declared.place.Where.TheVariants.{Key, Rest}
+use Rattle.gx_stack.specs.declared.node.Node.{Node}
+use Rattle.gx_stack.specs.Tree.{Tree as NodeTree, Kids as NodeKids, leaf, layer, no_kids, kid as node_kid}
+use Rattle.gx_stack.specs.Seen.{tree_of}
+use Rattle.gx_types.specs.declared.any.AnyMapping.{AnyMapping}
+use Rattle.gx_types.specs.declared.any.AnyMapping.TheVariants as any
+use Rattle.gx_types.specs.Dues.{file_form}
+use Rattle.gx_types.specs.Fields.{kind_in}
+use Rattle.gx_types.specs.Forms.{kid_form}
+use Rattle.gx_types.specs.Places.{leaves_at}
+use Rattle.gx_types.specs.Typed.{IsTypedTerm, AreTypedTerms}
+use Rattle.gx_types.specs.Typing.{count}
+
+-- ---- the equations
+
+-- a head with so many children: a leaf, `actual` or `partition`
+abbrev pub is_built_head : Head → ℕ → Bool
+is_built_head (heads.Leaf kind) kids = kids == 0
+is_built_head heads.Actual kids = kids == 1
+is_built_head (heads.Partition name bounds) kids = true
+is_built_head other kids = false
+
+abbrev mutual
+  pub is_built_term : Tree → Bool
+  is_built_term (node top kids) = is_built_head top (count kids) && are_built_terms kids
+
+  pub are_built_terms : Trees → Bool
+  are_built_terms none = true
+  are_built_terms (kid t ts) = is_built_term t && are_built_terms ts
+
+-- the side of a file
+abbrev pub is_built_side : SideTree → Bool
+is_built_side (file_side t) = is_built_term t
+is_built_side (link_side linkset ts) = false
+
+abbrev pub heads_built : List DefinitionTree → Bool
+heads_built [] = true
+heads_built (d ∷ ds) = is_built_side d.side && heads_built ds
+
+-- ---- how many leaves there are
+
+abbrev mutual
+  pub leaf_count : Tree → ℕ
+  leaf_count (node top kids) = leaves_at top + leaf_counts kids
+
+  pub leaf_counts : Trees → ℕ
+  leaf_counts none = 0
+  leaf_counts (kid t ts) = leaf_count t + leaf_counts ts
+
+abbrev pub side_leaf_count : SideTree → ℕ
+side_leaf_count (file_side t) = leaf_count t
+side_leaf_count (link_side linkset ts) = 0
+
+abbrev pub all_leaf_count : List DefinitionTree → ℕ
+all_leaf_count [] = 0
+all_leaf_count (d ∷ ds) = side_leaf_count d.side + all_leaf_count ds
+
+-- ---- what terms mean
+
+-- the first field of the name has this number
+abbrev pub IsFirstOf : List Field → List ℕ → ℕ → Type 0
+IsFirstOf [] name i = ⊥
+IsFirstOf (f ∷ fs) name zero = f.name ≡ name
+IsFirstOf (f ∷ fs) name (suc i) = (f.name ≢ name) × IsFirstOf fs name i
+
+-- keys before data
+abbrev pub IsPlaceOf : Form → List ℕ → Where → Type 0
+IsPlaceOf form name (Key i) = IsFirstOf form.keys name i
+IsPlaceOf form name (Rest i) = (kind_in form.keys name ≡ None) × IsFirstOf form.fields name i
+
+-- the layer has the records of the form, and parts them by the field of the name at these bounds
+pub record IsPartitionOf (name : List ℕ) (bounds : List Value) (form : Form) (m : Partition) : Type 0 where
+  pub records : form_of_partition m ≡ form
+  pub field : IsPlaceOf form name (at_of m)
+  pub ranges : bounds_of m ≡ bounds
+
+-- the mapping is that of the head, for the records of the form
+abbrev pub IsMappingOf : Head → Form → AnyMapping → Type 0
+IsMappingOf heads.Actual form (any.Actual m) = form_of_actual m ≡ form
+IsMappingOf (heads.Partition name bounds) form (any.Partition m) = IsPartitionOf name bounds form m
+IsMappingOf other form m = ⊥
+
+-- the leaf has the number n, and the records of the form
+abbrev pub IsLeafOf : ℕ → Form → Head → Trees → ℕ → Form → Type 0
+IsLeafOf n form (heads.Leaf kind) none m f = (m ≡ n) × (f ≡ form)
+IsLeafOf n form top kids m f = ⊥
+
+-- the node is what the term means for the records of the form; its leaves have the numbers from n on, in the order of the text
+abbrev mutual
+  pub IsTreeOf : ℕ → Form → Tree → NodeTree AnyMapping → Type 0
+  IsTreeOf n form (node top kids) (leaf m f) = IsLeafOf n form top kids m f
+  IsTreeOf n form (node top kids) (layer m ks) = IsMappingOf top form m × AreTreesOf n (kid_form top form) 0 kids ks
+
+  -- the first of the children has the number i
+  pub AreTreesOf : ℕ → (ℕ → Form) → ℕ → Trees → NodeKids AnyMapping → Type 0
+  AreTreesOf n forms i none no_kids = Unit {0}
+  AreTreesOf n forms i none (node_kid u us) = ⊥
+  AreTreesOf n forms i (kid t ts) no_kids = ⊥
+  AreTreesOf n forms i (kid t ts) (node_kid u us) = IsTreeOf n (forms i) t u × AreTreesOf (n + leaf_count t) forms (suc i) ts us
+
+abbrev pub IsTreeOfSide : ℕ → Form → SideTree → NodeTree AnyMapping → Type 0
+IsTreeOfSide n form (file_side t) u = IsTreeOf n form t u
+IsTreeOfSide n form (link_side linkset ts) u = ⊥
+
+-- the nodes are what the definitions mean, each for the records of its file
+abbrev pub AreTreesOfFiles : ℕ → List FileDef → List DefinitionTree → List (Node AnyMapping) → Type 0
+AreTreesOfFiles n [] [] [] = Unit {0}
+AreTreesOfFiles n (file ∷ files) (d ∷ ds) (x ∷ xs) = IsTreeOfSide n (file_form file) d.side (tree_of x) × AreTreesOfFiles (n + side_leaf_count d.side) files ds xs
+AreTreesOfFiles n files ds xs = ⊥
+
+-- ---- what building asks
+
+-- few fields, with short texts, and keys of ints and texts
+pub record IsFileForm (form : Form) : Type 0 where
+  pub keys : AreKeyFields form.keys
+  pub key_texts : AreShortTexts form.keys
+  pub texts : AreShortTexts form.fields
+  pub few_keys : length form.keys ≤ 32
+  pub few_fields : length form.fields ≤ 32
+
+-- a typed term of the heads, whose leaves, numbered from n on, are among the first 255
+pub record IsReady (n : ℕ) (form : Form) (t : Tree) : Type 0 where
+  pub records : IsFileForm form
+  pub typed : IsTypedTerm form t
+  pub built : is_built_term t ≡ true
+  pub few : n + leaf_count t ≤ 255
+
+pub record AreReady (n : ℕ) (forms : ℕ → Form) (i : ℕ) (ts : Trees) : Type 0 where
+  pub records : (c : ℕ) → IsFileForm (forms c)
+  pub typed : AreTypedTerms forms i ts
+  pub built : are_built_terms ts ≡ true
+  pub few : n + leaf_counts ts ≤ 255
+
+abbrev pub IsReadySide : ℕ → Form → SideTree → Type 0
+IsReadySide n form (file_side t) = IsReady n form t
+IsReadySide n form (link_side linkset ts) = ⊥
+
+-- a definition for each file
+abbrev pub AreReadyFiles : ℕ → List FileDef → List DefinitionTree → Type 0
+AreReadyFiles n [] [] = Unit {0}
+AreReadyFiles n (file ∷ files) (d ∷ ds) = IsReadySide n (file_form file) d.side × AreReadyFiles (n + side_leaf_count d.side) files ds
+AreReadyFiles n files ds = ⊥

@@ -1,0 +1,88 @@
+// The mappings of all layers as one type.
+ghost use Rattle.std.specs.Prelude.{◌≡◌};
+
+use gx_actual::Actual;
+use gx_mapping::{Mapping, Parts};
+use gx_partition::Partition;
+use gx_values::{Form, Name, NoMemory, Rec, Span, Values};
+use std::alloc::Global;
+
+/// The mapping of one of the layers.
+#[derive(Debug, Drop)]
+pub enum AnyMapping {
+    /// all data fields as one field of bytes
+    Actual(Actual),
+    /// whole records, by the value of one field
+    Partition(Partition),
+}
+
+impl Mapping for AnyMapping {
+    ghost use Rattle.gx_types.specs.Any.{any_rule, any_laws};
+
+    ghost rule = { any_rule };
+
+    ghost laws = { any_laws };
+
+    fn kids(&self) -> u16 {
+        match self {
+            AnyMapping::Actual(mapping) => mapping.kids(),
+            AnyMapping::Partition(mapping) => mapping.kids(),
+        }
+    }
+
+    fn form(&self) -> &Form {
+        match self {
+            AnyMapping::Actual(mapping) => mapping.form(),
+            AnyMapping::Partition(mapping) => mapping.form(),
+        }
+    }
+
+    fn kid_form(&self, child: u16) -> &Form {
+        match self {
+            AnyMapping::Actual(mapping) => mapping.kid_form(child),
+            AnyMapping::Partition(mapping) => mapping.kid_form(child),
+        }
+    }
+
+    fn holds_rest(&self, child: u16) -> bool {
+        match self {
+            AnyMapping::Actual(mapping) => mapping.holds_rest(child),
+            AnyMapping::Partition(mapping) => mapping.holds_rest(child),
+        }
+    }
+
+    fn parts(&self, alloc: Global, rec: &Rec) -> Result<Parts, NoMemory> {
+        match self {
+            AnyMapping::Actual(mapping) => mapping.parts(alloc, rec),
+            AnyMapping::Partition(mapping) => mapping.parts(alloc, rec),
+        }
+    }
+
+    fn gather(&self, alloc: Global, key: &Values, parts: &Parts) -> Result<Option<Rec>, NoMemory> {
+        match self {
+            AnyMapping::Actual(mapping) => mapping.gather(alloc, key, parts),
+            AnyMapping::Partition(mapping) => mapping.gather(alloc, key, parts),
+        }
+    }
+
+    fn skips(&self, child: u16, span: &Span) -> bool {
+        match self {
+            AnyMapping::Actual(mapping) => mapping.skips(child, span),
+            AnyMapping::Partition(mapping) => mapping.skips(child, span),
+        }
+    }
+
+    fn indexes(&self, field: &Name) -> Option<u16> {
+        match self {
+            AnyMapping::Actual(mapping) => mapping.indexes(field),
+            AnyMapping::Partition(mapping) => mapping.indexes(field),
+        }
+    }
+
+    fn carries(&self, child: u16, field: &Name) -> bool {
+        match self {
+            AnyMapping::Actual(mapping) => mapping.carries(child, field),
+            AnyMapping::Partition(mapping) => mapping.carries(child, field),
+        }
+    }
+}

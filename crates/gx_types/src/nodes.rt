@@ -1,0 +1,237 @@
+// Nodes of terms and of files.
+ghost use Rattle.std.specs.Prelude.{◌≡◌, ◌<◌, ◌≤◌, ◌+◌, ℕ, length, map, None, OnOk, IfOk, IfSome, IfNone};
+ghost use Rattle.gx_actual.specs.Bodies.{field_widths, AreShortTexts};
+ghost use Rattle.gx_values.specs.Values.{IsSized, AreSized};
+ghost use Rattle.gx_values.specs.declared.values.Kind.{Kind as KindOf};
+ghost use Rattle.gx_equation.specs.declared.heads.Head.TheVariants as heads;
+ghost use Rattle.gx_equation.specs.Seen.{tree_of, trees_of, side_of, definitions_of};
+ghost use Rattle.gx_equation.specs.Trees.{kids_from};
+ghost use Rattle.gx_stack.specs.Seen.{tree_of as node_tree, kids_from as node_kids};
+ghost use Rattle.gx_stack.specs.Tree.{leaf, layer, kid, no_kids};
+ghost use Rattle.gx_types.specs.Build.{leaf_count, leaf_counts, side_leaf_count, IsFirstOf, IsPlaceOf, IsMappingOf, IsTreeOf, AreTreesOf, IsTreeOfSide, AreTreesOfFiles, IsFileForm, IsReady, AreReady, IsReadySide, AreReadyFiles};
+ghost use Rattle.gx_types.specs.Dues.{file_form};
+ghost use Rattle.gx_types.specs.Fields.{kind_in};
+ghost use Rattle.gx_types.specs.Typed.{IsField, IsPartitioned};
+
+use crate::any::AnyMapping;
+use crate::dues::file_form;
+use gx_actual::actual;
+use gx_equation::{Definition, Side, Term};
+use gx_mapping::Mapping;
+use gx_partition::{Where, partition};
+use gx_schema::FileDef;
+use gx_stack::{LayerNode, LeafNode, Node};
+use gx_values::{Field, Form, Name, NoMemory, Value, Values};
+use std::alloc::Global;
+
+// ---- nodes
+
+fn leaf_node(number: u32, form: Form) -> Node<AnyMapping>
+    ensures { node_tree result ≡ leaf number form }
+{
+    Node::Leaf(LeafNode { leaf: number, form })
+}
+
+fn layer_node(mapping: AnyMapping, kids: Vec<Node<AnyMapping>>) -> Node<AnyMapping>
+    ensures { node_tree result ≡ layer mapping (node_kids (map node_tree kids.items)) }
+{
+    Node::Layer(LayerNode { mapping, kids })
+}
+
+// A mapping over one child.
+fn over_one(
+    alloc: Global,
+    mapping: AnyMapping,
+    child: Node<AnyMapping>,
+) -> Result<Node<AnyMapping>, NoMemory>
+    ensures { IfOk result (λ node. node_tree node ≡ layer mapping (kid (node_tree child) no_kids)) }
+{
+    let mut kids = Vec::with_capacity(alloc, 1)?;
+    kids.push(child)?;
+    Ok(layer_node(mapping, kids))
+}
+
+// The leaf with the next number.
+fn next_leaf(alloc: Global, form: &Form, next: &mut u32) -> Result<Node<AnyMapping>, NoMemory>
+    requires { next.old < 255 }
+    ensures node { IfOk result (λ node. node_tree node ≡ leaf next.old form.now) }
+    ensures next { OnOk result (next.new ≡ next.old + 1) }
+{
+    let number = *next;
+    let form = form.copy(alloc)?;
+    *next = number + 1;
+    Ok(leaf_node(number, form))
+}
+
+// ---- mappings
+
+// The mapping of `actual` for the records of the form.
+fn actual_of(alloc: Global, form: &Form) -> Result<AnyMapping, NoMemory>
+    requires texts { AreShortTexts form.now.fields }
+    requires narrow { field_widths form.now.fields ≤ 65535 }
+    ensures { IfOk result (IsMappingOf heads.Actual form.now) }
+{
+    Ok(AnyMapping::Actual(actual(alloc, form)?))
+}
+
+// The number of the first field of the name.
+fn position(fields: &[Field], name: &[u8]) -> Option<u16>
+    requires { length fields.now ≤ 32 }
+    ensures some { IfSome result (IsFirstOf fields.now name.now) }
+    ensures none { IfNone result (kind_in fields.now name.now ≡ None) }
+{
+    for (i, field) in fields.iter().enumerate() {
+        if field.name.as_slice() == name {
+            return Some(i as u16);
+        }
+    }
+    None
+}
+
+// The place of the first field of the name, keys before data.
+fn place_of(form: &Form, name: &[u8]) -> Where
+    requires fits { IsFileForm form.now }
+    requires named { (kind : KindOf) × IsField form.now name.now kind }
+    ensures { IsPlaceOf form.now name.now result }
+{
+    if let Some(i) = position(&form.keys.0, name) {
+        return Where::Key(i);
+    }
+    match position(&form.fields.0, name) {
+        Some(i) => Where::Rest(i),
+        None => unreachable!(),
+    }
+}
+
+// An int has 64 bits, which is known of each one that is read. It does nothing else.
+fn is_sized(value: &Value)
+    ensures { IsSized value.now }
+{
+    if let Value::Int(n) = value {
+        let _read = *n;
+    }
+}
+
+// The ints among the values have 64 bits. It does nothing else.
+fn are_sized(values: &[Value])
+    ensures { AreSized values.now }
+{
+    let mut rest = values;
+    while let [value, after @ ..] = rest {
+        is_sized(value);
+        rest = after;
+    }
+}
+
+// The mapping of `partition` by the field of the name, for the records of the form.
+fn partition_of(
+    alloc: Global,
+    form: &Form,
+    name: &Name,
+    bounds: &Values,
+) -> Result<AnyMapping, NoMemory>
+    requires fits { IsFileForm form.now }
+    requires met { (kids : ℕ) × IsPartitioned name.now bounds.now form.now kids }
+    requires few { length bounds.now ≤ 255 }
+    ensures { IfOk result (IsMappingOf (heads.Partition name.now bounds.now) form.now) }
+{
+    let at = place_of(form, name.as_slice());
+    are_sized(&bounds.0);
+    Ok(AnyMapping::Partition(partition(alloc, form, at, bounds)?))
+}
+
+// ---- terms
+
+// Terms as children that have the records of one form.
+#[cycle(nodes)]
+fn same_nodes(
+    alloc: Global,
+    form: &Form,
+    kids: &[Term],
+    next: &mut u32,
+) -> Result<Vec<Node<AnyMapping>>, NoMemory>
+    requires { AreReady next.old (λ _. form.now) 0 (kids_from (trees_of kids.now)) }
+    ensures trees { IfOk result (λ nodes. AreTreesOf next.old (λ _. form.now) 0 (kids_from (trees_of kids.now)) (node_kids (map node_tree nodes.items))) }
+    ensures next { OnOk result (next.new ≡ next.old + leaf_counts (kids_from (trees_of kids.now))) }
+{
+    let mut nodes = Vec::with_capacity(alloc, kids.len())?;
+    for kid in kids {
+        nodes.push(node_of(alloc, form, kid, next)?)?;
+    }
+    Ok(nodes)
+}
+
+/// The node of a term for the records of the form. Its leaves have the numbers from `next` on, which then is the number behind
+/// them. `NoMemory`: there was none for it.
+#[cycle(nodes)]
+pub fn node_of(
+    alloc: Global,
+    form: &Form,
+    term: &Term,
+    next: &mut u32,
+) -> Result<Node<AnyMapping>, NoMemory>
+    requires { IsReady next.old form.now (tree_of term.now) }
+    ensures tree { IfOk result (λ node. IsTreeOf next.old form.now (tree_of term.now) (node_tree node)) }
+    ensures next { OnOk result (next.new ≡ next.old + leaf_count (tree_of term.now)) }
+{
+    match term {
+        Term::Leaf(_) => next_leaf(alloc, form, next),
+        Term::Actual(kid) => {
+            let mapping = actual_of(alloc, form)?;
+            let child = node_of(alloc, mapping.kid_form(0), kid, next)?;
+            over_one(alloc, mapping, child)
+        }
+        Term::Partition(name, bounds, kids) => {
+            let mapping = partition_of(alloc, form, name, bounds)?;
+            let nodes = same_nodes(alloc, form, kids, next)?;
+            Ok(layer_node(mapping, nodes))
+        }
+        _ => unreachable!(),
+    }
+}
+
+// ---- files
+
+// The node of a file by the side of its definition.
+fn node_of_file(
+    alloc: Global,
+    file: &FileDef,
+    side: &Side,
+    next: &mut u32,
+) -> Result<Node<AnyMapping>, NoMemory>
+    requires { IsReadySide next.old (file_form file.now) (side_of side.now) }
+    ensures tree { IfOk result (λ node. IsTreeOfSide next.old (file_form file.now) (side_of side.now) (node_tree node)) }
+    ensures next { OnOk result (next.new ≡ next.old + side_leaf_count (side_of side.now)) }
+{
+    match side {
+        Side::File(term) => {
+            let form = file_form(alloc, file)?;
+            node_of(alloc, &form, term, next)
+        }
+        _ => unreachable!(),
+    }
+}
+
+/// A node for each file by its definition, in the order of the files. `NoMemory`: there was none for them.
+pub fn nodes_of_files(
+    alloc: Global,
+    files: &[FileDef],
+    definitions: &[Definition],
+) -> Result<Vec<Node<AnyMapping>>, NoMemory>
+    requires { AreReadyFiles 0 files.now (definitions_of definitions.now) }
+    ensures { IfOk result (λ nodes. AreTreesOfFiles 0 files.now (definitions_of definitions.now) nodes.items) }
+{
+    let mut nodes = Vec::with_capacity(alloc, files.len())?;
+    let mut next = 0;
+    let mut left = files;
+    let mut rest = definitions;
+    while let [definition, after @ ..] = rest {
+        let [file, others @ ..] = left else {
+            unreachable!()
+        };
+        nodes.push(node_of_file(alloc, file, &definition.side, &mut next)?)?;
+        left = others;
+        rest = after;
+    }
+    Ok(nodes)
+}
