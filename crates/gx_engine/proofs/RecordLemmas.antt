@@ -1,6 +1,6 @@
--- Records in leaves: how long their entries are, what is found of them, and what edits do.
-use Rattle.std.proofs.Common.{◌≡◌, ℕ, zero, suc, ◌+◌, ◌-◌, ◌<◌, ◌≤◌, List, [], ◌∷◌, length, take, drop, get_or, set, cond, Bool, true, false, Option, Some, None, refl, sym, ap, subst, ◌∙◌, arith, length-append}
-use Rattle.std.specs.Prelude.{IfSome, is_some, unwrap_or, slice_set}
+-- Records of a file: what is found of them, and what edits do.
+use Rattle.std.proofs.Common.{◌≡◌, ℕ, zero, suc, ◌+◌, ◌-◌, ◌*◌, ◌<◌, ◌≤◌, List, [], ◌∷◌, ◌++◌, length, take, drop, get_or, map, set, cond, Bool, true, false, Option, Some, None, refl, sym, ap, subst, ◌∙◌, arith, length-append, inl, inr}
+use Rattle.std.specs.Prelude.{IfSome, is_some, unwrap_or, slice_set, not}
 use Rattle.std.specs.List.{AllByRecursion}
 use Rattle.std.specs.Option.{option_map}
 use Rattle.std.specs.FinMap as fin
@@ -10,20 +10,33 @@ use Rattle.gx_values.specs.declared.values.Kind.TheVariants as kind
 use Rattle.gx_values.specs.declared.values.Value.{Value}
 use Rattle.gx_values.specs.declared.values.Value.TheVariants as value
 use Rattle.gx_values.specs.declared.records.Field.{Field}
+use Rattle.gx_values.specs.declared.records.Form.{Form}
+use Rattle.gx_values.specs.declared.records.Rec.{Rec}
 use Rattle.gx_values.specs.Values.{Fits, AreFit, IsSized, AreSized}
 use Rattle.gx_values.specs.Keys.{bytes_of, width_of, IsKeyKind}
-use Rattle.gx_values.specs.Written.{AreRead}
 use Rattle.gx_schema.specs.declared.schema.FileDef.{FileDef}
 use Rattle.gx_schema.specs.Lookups.{no_field, key_kind, data_fields}
 use Rattle.gx_script.specs.declared.command.Change.{Change}
 use Rattle.gx_script.specs.Commands.{IsChangeOf}
-use Rattle.gx_ports.specs.LeafMaps.{LeafMap, map_at, with_entry, without_entry}
-use Rattle.gx_model.specs.States.{File}
+use Rattle.gx_ports.specs.LeafMaps.{LeafMap, Limits, map_at, entry_count, IsCrowdedBy}
+use Rattle.gx_mapping.specs.Rule.{In, IsOf}
+use Rattle.gx_stack.specs.Tree.{Tree, leaves_of, entries_of, IsValid}
+use Rattle.gx_stack.specs.Internal.{changed as changed_records, IsInternal as IsHeld}
+use Rattle.gx_types.specs.declared.any.AnyMapping.{AnyMapping}
+use Rattle.gx_types.specs.Any.{any_rule}
+use Rattle.gx_types.specs.Dues.{file_form}
+use Rattle.gx_schema.specs.declared.schema.Schema.{Schema}
+use Rattle.gx_schema.specs.Lookups.{file_at}
+use Rattle.std.specs.Option.{option_to_list}
+use Rattle.gx_stack.specs.declared.node.Node.{Node}
+use Rattle.gx_stack.specs.Seen.{tree_of}
+use Rattle.gx_stack.proofs.Lists.{in_right}
+use Rattle.gx_types.specs.Nodes.{tree_at, AreNodes}
+use Rattle.gx_model.specs.States.{File, Row}
 use Rattle.gx_model.specs.Commands.{changed, updated}
-use Rattle.gx_engine.specs.Bodies.{field_bytes, body_of, AreShort}
-use Rattle.gx_engine.specs.Internal.{IsInternal, IsStorable, IsEdited, IsEditedWhere, field_width, field_widths}
-use Rattle.gx_engine.proofs.BodyLemmas.{same_body}
-use Rattle.gx_engine.proofs.LeafLemmas.{get_fits, internal_put, internal_remove}
+use Rattle.gx_engine.specs.Internal.{rec_of, records_of, IsInternal, IsTreeFor, IsEdited, IsEditedWhere}
+use Rattle.gx_engine.specs.Records.{record_at, list_of_one}
+use Rattle.gx_engine.proofs.FileLemmas.{key_of_form, held_inserted, held_updated, held_removed, insert_fits, remove_fits, there_fits}
 
 -- ---- lengths
 
@@ -36,97 +49,83 @@ key_width kind.Int (value.Bytes t) key h = absurd h
 key_width (kind.Text most) (value.Int n) key h = absurd h
 key_width (kind.Text most) (value.Bytes n) key h = absurd h
 
-one_width : (k : Kind) (v : Value) → Fits k v → length (field_bytes v) ≤ field_width k
-one_width kind.Int (value.Int n) h = omega arith
-one_width (kind.Text most) (value.Text t) h = omega (arith, h.0)
-one_width (kind.Bytes most) (value.Bytes t) h = omega (arith, h)
-one_width kind.Int (value.Text t) h = absurd h
-one_width kind.Int (value.Bytes t) h = absurd h
-one_width (kind.Text most) (value.Int n) h = absurd h
-one_width (kind.Text most) (value.Bytes n) h = absurd h
-one_width (kind.Bytes most) (value.Int n) h = absurd h
-one_width (kind.Bytes most) (value.Text n) h = absurd h
-
-body_width : (fs : List Field) (vs : List Value) → AreFit fs vs → length (body_of vs) ≤ field_widths fs
-body_width [] [] h = omega arith
-body_width [] (v ∷ vs) h = absurd h
-body_width (f ∷ fs) [] h = absurd h
-body_width (f ∷ fs) (v ∷ vs) h = omega (arith, length-append (field_bytes v) (body_of vs), one_width f.kind v h.0, body_width fs vs h.1)
-
--- the entry of a record fits a leaf
-pub entry_width : (file : FileDef) (k : Value) (vs : List Value) (key body : List ℕ) → IsStorable file → Fits (key_kind file) k → AreFit (data_fields file) vs → key ≡ bytes_of k → body ≡ body_of vs → length key + length body ≤ 1000
-entry_width file k vs key body is of are e g =
-    omega (arith, ap length e, ap length g, key_width (key_kind file) k is.key of, body_width (data_fields file) vs are, is.small)
-
 -- ---- what is found
 
-same_values : (file : FileDef) (found : Option (List Value)) (body : List ℕ) (vs : List Value) → AreShort (data_fields file) → IfSome found (AreFit (data_fields file)) → Some body ≡ option_map body_of found → AreFit (data_fields file) vs → body_of vs ≡ body
-    → ◌≡◌ {A = Option (List Value)} (Some vs) found
-same_values file None body vs short fits e are is = cc
-same_values file (Some ws) body vs short fits e are is = ap Some (same_body (data_fields file) vs ws short are fits (is ∙ (let x : body ≡ body_of ws = cc in x)))
-
-no_values : (file : FileDef) (found : Option (List Value)) (body : List ℕ) → IfSome found (AreFit (data_fields file)) → Some body ≡ option_map body_of found → AreRead field_bytes (data_fields file) body None → ⊥
-no_values file None body fits e none = cc
-no_values file (Some ws) body fits e none = none ws fits (let x : body_of ws ≡ body = cc in x)
-
--- a body at a key is that of the record's values
-pub values_found : (file : FileDef) (m : LeafMap) (f : File) (k : Value) (fields : List Field) (bytes body : List ℕ) (vs : List Value) → IsStorable file → IsInternal file m f → fields ≡ data_fields file → bytes ≡ body → Some body ≡ option_map body_of (fin.get f k)
-    → AreRead field_bytes fields bytes (Some vs) → ◌≡◌ {A = Option (List Value)} (Some vs) (fin.get f k)
-values_found file m f k fields bytes body vs is stands same whole there read =
-    same_values file (fin.get f k) body vs is.short (get_fits file is.key m f k stands) there (subst (λ (fs : List Field). AreFit fs vs) same read.0) (read.1 ∙ whole)
-
--- and is read
-pub values_there : (file : FileDef) (m : LeafMap) (f : File) (k : Value) (fields : List Field) (bytes body : List ℕ) → IsStorable file → IsInternal file m f → fields ≡ data_fields file → bytes ≡ body → Some body ≡ option_map body_of (fin.get f k)
-    → AreRead field_bytes fields bytes None → ⊥
-values_there file m f k fields bytes body is stands same whole there none =
-    no_values file (fin.get f k) body (get_fits file is.key m f k stands) there
-    (subst (λ (fs : List Field). AreRead field_bytes fs body None) same (subst (λ (l : List ℕ). AreRead field_bytes fields l None) whole none))
-
-pub is_there : (f : File) (k : Value) (found : Option (List ℕ)) (some : Bool) → found ≡ option_map body_of (fin.get f k) → some ≡ is_some found → is_some (fin.get f k) ≡ some
-is_there f k found some e t = sym (t ∙ absent (fin.get f k) found e)
+pub is_there : (f : File) (k : Value) (found : Option Rec) (some : Bool) → found ≡ record_at f k → some ≡ is_some found → is_some (fin.get f k) ≡ some
+is_there f k found some e t = sym (t ∙ ap is_some e ∙ same (fin.get f k))
   where
-    absent : (o : Option (List Value)) (found : Option (List ℕ)) → found ≡ option_map body_of o → is_some found ≡ is_some o
-    absent None found e = ap is_some e
-    absent (Some x) found e = ap is_some e
+    same : (o : Option (List Value)) → is_some (option_map (λ values. rec_of (k, values)) o) ≡ is_some o
+    same None = refl
+    same (Some values) = refl
+
+pub none_there : (f : File) (k : Value) → is_some (fin.get f k) ≡ false → fin.get f k ≡ None
+none_there f k = go (fin.get f k)
+  where
+    go : (o : Option (List Value)) → is_some o ≡ false → o ≡ None
+    go None e = refl
+    go (Some values) e = cc
+
+-- the values of the record that was found
+pub found_values : (f : File) (k : Value) (r : Rec) → Some r ≡ record_at f k → (values : List Value) × (fin.get f k ≡ Some values) × (r ≡ rec_of (k, values))
+found_values f k r = go (fin.get f k) refl
+  where
+    go : (o : Option (List Value)) → fin.get f k ≡ o → Some r ≡ option_map (λ values. rec_of (k, values)) o → (values : List Value) × (fin.get f k ≡ Some values) × (r ≡ rec_of (k, values))
+    go None e is = cc
+    go (Some values) e is = (values, e, ap (λ o. unwrap_or o r) is)
+
+pub not_found : (f : File) (k : Value) → ◌≡◌ {A = Option Rec} None (record_at f k) → is_some (fin.get f k) ≡ false
+not_found f k e = is_there f k None false e refl
 
 -- ---- edits
 
-set_same : (maps : List LeafMap) (i : ℕ) → slice_set maps i (map_at maps i) ≡ maps
-set_same [] i = refl
-set_same (m ∷ maps) zero = refl
-set_same (m ∷ maps) (suc i) = ap (λ (ms : List LeafMap). m ∷ ms) (set_same maps i)
-
-pub unedited : (file : FileDef) (old new : List LeafMap) (leaf : ℕ) (f : File) → new ≡ old → IsInternal file (map_at old leaf) f → IsEdited file old new leaf f
-unedited file old new leaf f same is = record { map = map_at old leaf; new_is = same ∙ sym (set_same old leaf); stands = is }
+pub unedited : (file : FileDef) (t : Tree AnyMapping) (old new : List LeafMap) (f : File) → new ≡ old → IsInternal file t old f → IsEdited file t old new f
+unedited file t old new f same is = record {
+  stands = subst (λ (maps : List LeafMap). IsInternal file t maps f) (sym same) is;
+  others = λ n out. ap (λ (maps : List LeafMap). map_at maps n) same;
+}
 
 -- nothing was done where nothing may be
-pub not_done : (file : FileDef) (old new : List LeafMap) (leaf : ℕ) (f after : File) (may : Bool) → may ≡ false → new ≡ old → IsInternal file (map_at old leaf) f → IsEditedWhere file old new leaf f may after false
-not_done file old new leaf f after may none same is = record {
+pub not_done : (file : FileDef) (t : Tree AnyMapping) (old new : List LeafMap) (f after : File) (may : Bool) → may ≡ false → new ≡ old → IsInternal file t old f → IsEditedWhere file t old new f may after false
+not_done file t old new f after may none same is = record {
   done_is = sym none;
-  edited = subst (λ b. IsEdited file old new leaf (cond b after f)) (sym none) (unedited file old new leaf f same is);
+  edited = subst (λ b. IsEdited file t old new (cond b after f)) (sym none) (unedited file t old new f same is);
 }
 
 -- what may be done was done
-pub is_done : (file : FileDef) (old new : List LeafMap) (leaf : ℕ) (f after : File) (may : Bool) → may ≡ true → IsEdited file old new leaf after → IsEditedWhere file old new leaf f may after true
-is_done file old new leaf f after may yes_ is = record {
+pub is_done : (file : FileDef) (t : Tree AnyMapping) (old new : List LeafMap) (f after : File) (may : Bool) → may ≡ true → IsEdited file t old new after → IsEditedWhere file t old new f may after true
+is_done file t old new f after may yes_ is = record {
   done_is = sym yes_;
-  edited = subst (λ b. IsEdited file old new leaf (cond b after f)) (sym yes_) is;
+  edited = subst (λ b. IsEdited file t old new (cond b after f)) (sym yes_) is;
 }
 
-pub put_edit : (file : FileDef) (old mid new : List LeafMap) (leaf : ℕ) (f : File) (k : Value) (vs : List Value) → IsStorable file → Fits (key_kind file) k → AreFit (data_fields file) vs → IsInternal file (map_at old leaf) f → mid ≡ old → new ≡ with_entry mid leaf (bytes_of k) (body_of vs)
-    → IsEdited file old new leaf (fin.insert f k vs)
-put_edit file old mid new leaf f k vs is of are stands same put = record {
-  map = fin.insert (map_at old leaf) (bytes_of k) (body_of vs);
-  new_is = put ∙ (λ i. with_entry (same i) leaf (bytes_of k) (body_of vs));
-  stands = internal_put file is.key (map_at old leaf) f k vs stands of are;
+pub insert_edit : (file : FileDef) (t : Tree AnyMapping) (old new : List LeafMap) (f : File) (k : Value) (vs : List Value) (r : Rec) → IsValid any_rule t → Fits (key_kind file) k → AreFit (data_fields file) vs → IsInternal file t old f → fin.get f k ≡ None → r ≡ rec_of (k, vs)
+    → IsHeld any_rule t (changed_records (records_of f) None (Some r)) new → ((n : ℕ) → ¬ In n (leaves_of t) → map_at new n ≡ map_at old n) → IsEdited file t old new (fin.insert f k vs)
+insert_edit file t old new f k vs r valid of are is none same held others = record {
+  stands = record {
+    fit = insert_fits file f k vs of are is.fit;
+    held = held_inserted t new valid f k vs none (subst (λ (x : Rec). IsHeld any_rule t (changed_records (records_of f) None (Some x)) new) same held);
+  };
+  others = others;
 }
 
-pub remove_edit : (file : FileDef) (old mid new : List LeafMap) (leaf : ℕ) (f : File) (k : Value) → IsStorable file → Fits (key_kind file) k → IsInternal file (map_at old leaf) f → mid ≡ old → new ≡ without_entry mid leaf (bytes_of k)
-    → IsEdited file old new leaf (fin.remove f k)
-remove_edit file old mid new leaf f k is of stands same put = record {
-  map = fin.remove (map_at old leaf) (bytes_of k);
-  new_is = put ∙ (λ i. without_entry (same i) leaf (bytes_of k));
-  stands = internal_remove file is.key (map_at old leaf) f k stands of;
+pub update_edit : (file : FileDef) (t : Tree AnyMapping) (old new : List LeafMap) (f : File) (k : Value) (before vs : List Value) (o r : Rec) → IsValid any_rule t → Fits (key_kind file) k → AreFit (data_fields file) vs → IsInternal file t old f → o ≡ rec_of (k, before) → r ≡ rec_of (k, vs)
+    → IsHeld any_rule t (changed_records (records_of f) (Some o) (Some r)) new → ((n : ℕ) → ¬ In n (leaves_of t) → map_at new n ≡ map_at old n) → IsEdited file t old new (fin.insert f k vs)
+update_edit file t old new f k before vs o r valid of are is was same held others = record {
+  stands = record {
+    fit = insert_fits file f k vs of are is.fit;
+    held = held_updated t new valid f k before vs (subst (λ (x : Rec). IsHeld any_rule t (changed_records (records_of f) (Some x) (Some (rec_of (k, vs)))) new) was (subst (λ (x : Rec). IsHeld any_rule t (changed_records (records_of f) (Some o) (Some x)) new) same held));
+  };
+  others = others;
+}
+
+pub delete_edit : (file : FileDef) (t : Tree AnyMapping) (old new : List LeafMap) (f : File) (k : Value) (before : List Value) (o : Rec) → IsValid any_rule t → IsInternal file t old f → o ≡ rec_of (k, before)
+    → IsHeld any_rule t (changed_records (records_of f) (Some o) None) new → ((n : ℕ) → ¬ In n (leaves_of t) → map_at new n ≡ map_at old n) → IsEdited file t old new (fin.remove f k)
+delete_edit file t old new f k before o valid is was held others = record {
+  stands = record {
+    fit = remove_fits file f k is.fit;
+    held = held_removed t new valid f k before (subst (λ (x : Rec). IsHeld any_rule t (changed_records (records_of f) (Some x) None) new) was held);
+  };
+  others = others;
 }
 
 -- ---- an update
@@ -212,3 +211,64 @@ never_empty fs values [] some fit same e = none fs (subst (AreFit fs) (sym same)
     none [] h lt = absurd (omega arith)
     none (g ∷ gs) h lt = h
 never_empty fs values (v ∷ vs) some fit same e = absurd (omega arith)
+
+-- ---- nodes of files
+
+pub tree_read : (ns : List (Node AnyMapping)) (i : ℕ) (n : Node AnyMapping) → i < length ns → n ≡ get_or ns i n → tree_of n ≡ tree_at ns i
+tree_read [] i n lt is = absurd (omega arith)
+tree_read (m ∷ ns) zero n lt is = ap tree_of is
+tree_read (m ∷ ns) (suc i) n lt is = tree_read ns i n (omega arith) is
+
+pub tree_for : (schema : Schema) (ns : List (Node AnyMapping)) (leaves i : ℕ) (t : Tree AnyMapping) → i < length ns → t ≡ tree_at ns i → AreNodes schema ns leaves → IsTreeFor (file_at schema i) t leaves
+tree_for schema ns leaves i t lt is nodes =
+    let there : i < length schema.files = omega (arith, nodes.many) in
+    subst (λ (x : Tree AnyMapping). IsTreeFor (file_at schema i) x leaves) (sym is) (record {
+      valid = nodes.valid i there;
+      form = nodes.form i there;
+      below = λ n h. nodes.below i n there h;
+    })
+
+-- ---- lists of records
+
+pub last_fits : (P : Rec → Type 0) (found front : List Rec) (o : Option Rec) → found ≡ front ++ option_to_list o → ((r : Rec) → In r found → P r) → IfSome o P
+last_fits P found front None is all = tt
+last_fits P found front (Some r) is all = all r (subst (In r) (sym is) (in_right r front (r ∷ []) (inl refl)))
+
+same_last : (k q : Value) (front : List Value) → front ++ k ∷ [] ≡ q ∷ [] → k ≡ q
+same_last k q [] e = ap (λ (l : List Value). get_or l 0 k) e
+same_last k q (x ∷ front) e = absurd (omega (arith, ap length e, length-append front (k ∷ [])))
+
+-- the key of a file's record is one value
+pub row_sized : (file : FileDef) (r : Rec) (k : Value) (front vs : List Value) → 0 < length file.fields → IsOf (file_form file) r → r.key ≡ front ++ k ∷ [] → r.fields ≡ vs → IsSized k × AreSized vs
+row_sized file r k front vs keyed fits key fields =
+    let one = key_of_form file.fields r.key keyed fits.key in
+    let same : k ≡ one.0 = same_last k one.0 front (sym key ∙ one.1) in
+    (subst IsSized (sym same) (fit_sized _ one.0 one.2), subst AreSized fields (are_sized (data_fields file) r.fields fits.fields))
+
+-- the key and the data of a file's record
+pub rec_sized : (file : FileDef) (r : Rec) → 0 < length file.fields → IsOf (file_form file) r → AreSized r.key × AreSized r.fields
+rec_sized file r keyed fits =
+    let one = key_of_form file.fields r.key keyed fits.key in
+    (subst AreSized (sym one.1) (fit_sized _ one.0 one.2, tt), are_sized (data_fields file) r.fields fits.fields)
+
+pub new_sized : (file : FileDef) (k : Value) (vs : List Value) → Fits (key_kind file) k → AreFit (data_fields file) vs → AreSized (k ∷ vs)
+new_sized file k vs of are = (fit_sized _ k of, are_sized (data_fields file) vs are)
+
+-- the record after changes of its data
+pub rec_made : (old new : Rec) (k : Value) (values : List Value) (cs : List Change) → old ≡ rec_of (k, values) → new.key ≡ old.key → new.fields ≡ changed old.fields cs → new ≡ rec_of (k, changed values cs)
+rec_made old new k values cs was key fields =
+    let keys : new.key ≡ k ∷ [] = key ∙ ap (λ (r : Rec). r.key) was in
+    let others : new.fields ≡ changed values cs = fields ∙ ap (λ (r : Rec). changed r.fields cs) was in
+    λ i. record { key = keys i; fields = others i }
+
+pub sized_item : (vs : List Value) (i : ℕ) (v : Value) → AreSized vs → i < length vs → v ≡ get_or vs i v → IsSized v
+sized_item [] i v all lt is = absurd (omega arith)
+sized_item (w ∷ vs) zero v all lt is = subst IsSized (sym is) all.0
+sized_item (w ∷ vs) (suc i) v all lt is = sized_item vs i v all.1 (omega arith) is
+
+-- the cause of a full device after a look-up, which changed nothing
+pub crowded_same : (limit limit' : Option Limits) (maps maps' : List LeafMap) (t : Tree AnyMapping) (row : Row) (r : Rec) → limit' ≡ limit → maps' ≡ maps → r ≡ rec_of row → IsCrowdedBy limit' (entry_count maps' + length (entries_of any_rule t r)) → IsCrowdedBy limit (entry_count maps + length (entries_of any_rule t (rec_of row)))
+crowded_same limit limit' maps maps' t row r l m e crowded =
+    subst (λ (o : Option Limits). IsCrowdedBy o (entry_count maps + length (entries_of any_rule t (rec_of row)))) l
+    (subst (λ (ms : List LeafMap). IsCrowdedBy limit' (entry_count ms + length (entries_of any_rule t (rec_of row)))) m
+    (subst (λ (x : Rec). IsCrowdedBy limit' (entry_count maps' + length (entries_of any_rule t x))) e crowded))

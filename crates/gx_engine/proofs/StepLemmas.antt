@@ -1,8 +1,9 @@
 -- What the commands on one file do to the states that leaves stand for, and what they answer.
-use Rattle.std.proofs.Common.{◌≡◌, ℕ, zero, suc, ◌<◌, List, [], ◌∷◌, length, get_or, set, cond, Bool, true, false, Option, Some, None, refl, sym, ap, subst, ◌∙◌, arith, inl, inr}
-use Rattle.std.specs.Prelude.{filter, is_some, not, ◌&&◌, unwrap_or, slice_set, codes}
+use Rattle.std.proofs.Common.{◌≡◌, ℕ, zero, suc, ◌+◌, ◌*◌, ◌<◌, ◌≤◌, List, [], ◌∷◌, length, get_or, set, cond, Bool, true, false, Option, Some, None, refl, sym, ap, subst, ◌∙◌, arith, inl, inr}
+use Rattle.std.specs.Prelude.{filter, is_some, not, ◌&&◌, ◌++◌, unwrap_or, slice_set, codes, if◌then◌else◌}
 use Rattle.std.specs.FinMap as fin
 use Rattle.std.proofs.lemmas.Bool.{cases_eq}
+use Rattle.std.proofs.lemmas.List.Sums.{sum_by-cons}
 use Rattle.std.proofs.lemmas.List.{get_or-set_same, get_or-set_other, length-set}
 use Rattle.gx_values.specs.declared.values.Value.{Value}
 use Rattle.gx_schema.specs.declared.schema.FileDef.{FileDef}
@@ -13,32 +14,44 @@ use Rattle.gx_script.specs.declared.command.Command.TheVariants as command
 use Rattle.gx_script.specs.declared.command.Of.{Of}
 use Rattle.gx_script.specs.declared.command.Find.{Find}
 use Rattle.gx_script.specs.declared.command.OrderBy.{OrderBy}
-use Rattle.gx_script.specs.Commands.{IsOfOf}
-use Rattle.gx_ports.specs.LeafMaps.{LeafMap, map_at}
+use Rattle.gx_script.specs.Commands.{IsOfOf, place_reason}
+use Rattle.gx_script.specs.declared.command.LineWhy.TheVariants as why
+use Rattle.gx_ports.specs.LeafMaps.{LeafMap, Limits, IsCrowdedBy}
+use Rattle.gx_values.specs.declared.records.Rec.{Rec}
+use Rattle.gx_mapping.specs.Rule.{In}
+use Rattle.gx_stack.specs.declared.node.Node.{Node}
+use Rattle.gx_stack.specs.Tree.{Tree, entries_of, entry_total}
+use Rattle.gx_stack.proofs.Same.{internal_elsewhere}
+use Rattle.gx_types.specs.declared.any.AnyMapping.{AnyMapping}
+use Rattle.gx_types.specs.Any.{any_rule}
+use Rattle.gx_types.specs.Nodes.{tree_at, AreNodes}
 use Rattle.gx_model.specs.States.{File, Link, State, Row, file_in}
 use Rattle.gx_model.specs.Found.{IsListed, is_chosen, meets_conds, meets_of}
-use Rattle.gx_model.specs.Commands.{Refusal, key_exists, no_record, linked, next_state, refusal_text, first_refusal, is_linked, with_file, IsAnswerOr, IsListText, lacks_of}
-use Rattle.gx_model.specs.Play.{Playing, IsAnswered, seen_state, working_after, with_working}
-use Rattle.gx_engine.specs.Internal.{IsInternal, AreInternal, Stands, IsEdited, IsEditedWhere}
+use Rattle.gx_model.specs.Commands.{Refusal, key_exists, no_record, linked, changed, updated, next_state, refusal_text, first_refusal, is_linked, with_file, IsAnswerOr, IsListText, lacks_of}
+use Rattle.gx_script.specs.declared.command.Change.{Change}
+use Rattle.gx_engine.proofs.FileLemmas.{inserted_new}
+use Rattle.gx_model.specs.Play.{Playing, IsAnswered, seen_state, is_inside, working_after, with_working, next_of}
+use Rattle.gx_engine.specs.Internal.{rec_of, records_of, IsInternal, AreInternal, Stands, IsEdited, IsEditedWhere, entries_from, IsCarried}
 
--- ---- one leaf among all
+-- ---- one file among all
 
-are_set : (schema : Schema) (maps : List LeafMap) (s : State) (i : ℕ) (m : LeafMap) (f : File) → AreInternal schema maps s → i < length schema.files → IsInternal (file_at schema i) m f → AreInternal schema (slice_set maps i m) (with_file s i f)
-are_set schema maps s i m f are lt one = record {
-  maps_many = length-set maps i m ∙ are.maps_many;
+-- the nodes hold the state with one file changed
+edited_are : (schema : Schema) (nodes : List (Node AnyMapping)) (leaves : ℕ) (old new : List LeafMap) (s : State) (i : ℕ) (f : File) → AreNodes schema nodes leaves → AreInternal schema nodes old s → i < length schema.files → IsEdited (file_at schema i) (tree_at nodes i) old new f → AreInternal schema nodes new (with_file s i f)
+edited_are schema nodes leaves old new s i f of are lt edit = record {
   files_many = length-set s.files i f ∙ are.files_many;
   links_none = are.links_none;
-  each = λ j h. elim (cases_eq j i) as (λ _. IsInternal (file_at schema j) (map_at (slice_set maps i m) j) (file_in (with_file s i f) j)) [
-    | inl e ↦ subst (λ n. IsInternal (file_at schema n) (map_at (slice_set maps i m) n) (file_in (with_file s i f) n)) (sym e)
-        (subst (λ (x : LeafMap). IsInternal (file_at schema i) x (file_in (with_file s i f) i)) (sym (get_or-set_same maps i m fin.empty (omega (arith, are.maps_many))))
-        (subst (λ (x : File). IsInternal (file_at schema i) m x) (sym (get_or-set_same s.files i f fin.empty (omega (arith, are.files_many)))) one))
-    | inr ne ↦ subst (λ (x : LeafMap). IsInternal (file_at schema j) x (file_in (with_file s i f) j)) (sym (get_or-set_other maps i j m fin.empty ne))
-        (subst (λ (x : File). IsInternal (file_at schema j) (map_at maps j) x) (sym (get_or-set_other s.files i j f fin.empty ne)) (are.each j h))
+  each = λ j h. elim (cases_eq j i) as (λ _. IsInternal (file_at schema j) (tree_at nodes j) new (file_in (with_file s i f) j)) [
+    | inl e ↦ subst (λ n. IsInternal (file_at schema n) (tree_at nodes n) new (file_in (with_file s i f) n)) (sym e)
+        (subst (λ (x : File). IsInternal (file_at schema i) (tree_at nodes i) new x) (sym (get_or-set_same s.files i f fin.empty (omega (arith, are.files_many)))) edit.stands)
+    | inr ne ↦ (
+        let was = are.each j h in
+        subst (λ (x : File). IsInternal (file_at schema j) (tree_at nodes j) new x) (sym (get_or-set_other s.files i j f fin.empty ne))
+        (record {
+          fit = was.fit;
+          held = internal_elsewhere any_rule (tree_at nodes j) (records_of (file_in s j)) old new (of.valid j h) (λ n there. edit.others n (λ too. ne (of.apart j i n h lt there too))) was.held;
+        }))
   ];
 }
-
-edited_are : (schema : Schema) (old new : List LeafMap) (s : State) (i : ℕ) (f : File) → AreInternal schema old s → i < length schema.files → IsEdited (file_at schema i) old new i f → AreInternal schema new (with_file s i f)
-edited_are schema old new s i f are lt edit = subst (λ (maps : List LeafMap). AreInternal schema maps (with_file s i f)) (sym edit.new_is) (are_set schema old s i edit.map f are lt edit.stands)
 
 set_itself : (fs : List File) (i : ℕ) → set fs i (get_or fs i fin.empty) ≡ fs
 set_itself [] i = refl
@@ -48,9 +61,39 @@ set_itself (f ∷ fs) (suc i) = ap (λ (l : List File). f ∷ l) (set_itself fs 
 file_itself : (s : State) (i : ℕ) → with_file s i (file_in s i) ≡ s
 file_itself s i = ap (λ (fs : List File). record { files = fs; links = s.links }) (set_itself s.files i)
 
-where_are : (schema : Schema) (old new : List LeafMap) (s : State) (i : ℕ) (after : File) (may : Bool) → AreInternal schema old s → i < length schema.files → IsEdited (file_at schema i) old new i (cond may after (file_in s i)) → AreInternal schema new (cond may (with_file s i after) s)
-where_are schema old new s i after true are lt edit = edited_are schema old new s i after are lt edit
-where_are schema old new s i after false are lt edit = subst (AreInternal schema new) (file_itself s i) (edited_are schema old new s i (file_in s i) are lt edit)
+where_are : (schema : Schema) (nodes : List (Node AnyMapping)) (leaves : ℕ) (old new : List LeafMap) (s : State) (i : ℕ) (after : File) (may : Bool) → AreNodes schema nodes leaves → AreInternal schema nodes old s → i < length schema.files → IsEdited (file_at schema i) (tree_at nodes i) old new (cond may after (file_in s i)) → AreInternal schema nodes new (cond may (with_file s i after) s)
+where_are schema nodes leaves old new s i after true of are lt edit = edited_are schema nodes leaves old new s i after of are lt edit
+where_are schema nodes leaves old new s i after false of are lt edit = subst (AreInternal schema nodes new) (file_itself s i) (edited_are schema nodes leaves old new s i (file_in s i) of are lt edit)
+
+-- ---- counts of entries
+
+one_total : (t : Tree AnyMapping) (rs : List Rec) (r : Rec) → In r rs → length (entries_of any_rule t r) ≤ entry_total any_rule t rs
+one_total t [] r h = absurd h
+one_total t (q ∷ rs) r (inl is) = omega (arith, ap (λ (x : Rec). length (entries_of any_rule t x)) is, sum_by-cons (λ (x : Rec). length (entries_of any_rule t x)) q rs)
+one_total t (q ∷ rs) r (inr h) = omega (arith, one_total t rs r h, sum_by-cons (λ (x : Rec). length (entries_of any_rule t x)) q rs)
+
+one_file : (nodes : List (Node AnyMapping)) (fs : List File) (i : ℕ) → i < length nodes → i < length fs → entry_total any_rule (tree_at nodes i) (records_of (get_or fs i fin.empty)) ≤ entries_from nodes fs
+one_file [] fs i l m = absurd (omega arith)
+one_file (n ∷ ns) [] i l m = absurd (omega arith)
+one_file (n ∷ ns) (f ∷ fs) zero l m = omega arith
+one_file (n ∷ ns) (f ∷ fs) (suc i) l m = omega (arith, one_file ns fs i (omega arith) (omega arith))
+
+crowded_more : (limit : Option Limits) (m n : ℕ) → m ≤ n → IsCrowdedBy limit m → IsCrowdedBy limit n
+crowded_more None m n le c = c
+crowded_more (Some l) m n le c = omega (arith, c)
+
+-- the entries of a record of a file are among those of the state
+pub short_with : (limit : Option Limits) (schema : Schema) (nodes : List (Node AnyMapping)) (leaves before : ℕ) (s : State) (i : ℕ) (f : File) (r : Rec) → AreNodes schema nodes leaves → length s.files ≡ length schema.files → i < length schema.files → In r (records_of f)
+    → IsCrowdedBy limit (before + length (entries_of any_rule (tree_at nodes i) r)) → IsCrowdedBy limit (before + entries_from nodes (with_file s i f).files)
+short_with limit schema nodes leaves before s i f r of many lt there = crowded_more limit _ _
+    (let at : get_or (set s.files i f) i fin.empty ≡ f = get_or-set_same s.files i f fin.empty (omega (arith, many)) in
+    let one = one_total (tree_at nodes i) (records_of f) r there in
+    let all : entry_total any_rule (tree_at nodes i) (records_of f) ≤ entries_from nodes (with_file s i f).files =
+    subst (λ (x : File). entry_total any_rule (tree_at nodes i) (records_of x) ≤ entries_from nodes (with_file s i f).files) at (one_file nodes (set s.files i f) i (omega (arith, of.many)) (omega (arith, many, length-set s.files i f))) in
+    omega (arith, one, all))
+
+pub short_as_it_is : (limit : Option Limits) (before more : ℕ) → IsCrowdedBy limit before → IsCrowdedBy limit (before + more)
+short_as_it_is limit before more = crowded_more limit before (before + more) (omega arith)
 
 -- ---- moments of the play
 
@@ -67,29 +110,29 @@ seen_again None k = refl
 seen_again (Some old) k = refl
 
 -- inside a transaction the working maps may stand for another state
-stands_with : (schema : Schema) (inside : Bool) (commits : ℕ) (old new kept : List LeafMap) (p : Playing) (s : State) → Stands schema inside commits old kept p → inside ≡ true → AreInternal schema new s → Stands schema inside commits new kept (with_working p s)
-stands_with schema inside commits old new kept p s stands open_ are = record {
+stands_with : (schema : Schema) (nodes : List (Node AnyMapping)) (inside : Bool) (commits : ℕ) (old new kept : List LeafMap) (p : Playing) (s : State) → Stands schema nodes inside commits old kept p → inside ≡ true → AreInternal schema nodes new s → Stands schema nodes inside commits new kept (with_working p s)
+stands_with schema nodes inside commits old new kept p s stands open_ are = record {
   inside_same = stands.inside_same ∙ sym (inside_stays p.working s);
   commits_same = stands.commits_same;
-  working_is = subst (AreInternal schema new) (sym (seen_after p.working s p.kept (sym stands.inside_same ∙ open_))) are;
+  working_is = subst (AreInternal schema nodes new) (sym (seen_after p.working s p.kept (sym stands.inside_same ∙ open_))) are;
   kept_is = stands.kept_is;
 }
 
 -- a command on one file that was done where it may be
-pub stands_where : (schema : Schema) (inside : Bool) (commits : ℕ) (old new kept : List LeafMap) (p : Playing) (i : ℕ) (after : File) (may done : Bool) (s : State) → Stands schema inside commits old kept p → inside ≡ true → i < length schema.files
-    → IsEditedWhere (file_at schema i) old new i (file_in (seen_state p) i) may after done → s ≡ cond may (with_file (seen_state p) i after) (seen_state p) → Stands schema inside commits new kept (with_working p s)
-stands_where schema inside commits old new kept p i after may done s stands open_ lt edit is =
-    subst (λ (x : State). Stands schema inside commits new kept (with_working p x)) (sym is)
-    (stands_with schema inside commits old new kept p (cond may (with_file (seen_state p) i after) (seen_state p)) stands open_ (where_are schema old new (seen_state p) i after may stands.working_is lt edit.edited))
+pub stands_where : (schema : Schema) (nodes : List (Node AnyMapping)) (leaves : ℕ) (inside : Bool) (commits : ℕ) (old new kept : List LeafMap) (p : Playing) (i : ℕ) (after : File) (may done : Bool) (s : State) → AreNodes schema nodes leaves → Stands schema nodes inside commits old kept p → inside ≡ true → i < length schema.files
+    → IsEditedWhere (file_at schema i) (tree_at nodes i) old new (file_in (seen_state p) i) may after done → s ≡ cond may (with_file (seen_state p) i after) (seen_state p) → Stands schema nodes inside commits new kept (with_working p s)
+stands_where schema nodes leaves inside commits old new kept p i after may done s of stands open_ lt edit is =
+    subst (λ (x : State). Stands schema nodes inside commits new kept (with_working p x)) (sym is)
+    (stands_with schema nodes inside commits old new kept p (cond may (with_file (seen_state p) i after) (seen_state p)) stands open_ (where_are schema nodes leaves old new (seen_state p) i after may of stands.working_is lt edit.edited))
 
 -- a command that leaves the state as it is
-pub stands_still : (schema : Schema) (inside : Bool) (commits : ℕ) (old new kept now : List LeafMap) (p : Playing) (s : State) → Stands schema inside commits old kept p → new ≡ old → now ≡ kept → s ≡ seen_state p → Stands schema inside commits new now (with_working p s)
-stands_still schema inside commits old new kept now p s stands same kept_same is = record {
+pub stands_still : (schema : Schema) (nodes : List (Node AnyMapping)) (inside : Bool) (commits : ℕ) (old new kept now : List LeafMap) (p : Playing) (s : State) → Stands schema nodes inside commits old kept p → new ≡ old → now ≡ kept → s ≡ seen_state p → Stands schema nodes inside commits new now (with_working p s)
+stands_still schema nodes inside commits old new kept now p s stands same kept_same is = record {
   inside_same = stands.inside_same ∙ sym (inside_stays p.working s);
   commits_same = stands.commits_same;
-  working_is = subst (λ (maps : List LeafMap). AreInternal schema maps (unwrap_or (working_after p.working s) p.kept)) (sym same)
-      (subst (λ (x : State). AreInternal schema old (unwrap_or (working_after p.working x) p.kept)) (sym is) (subst (AreInternal schema old) (sym (seen_again p.working p.kept)) stands.working_is));
-  kept_is = subst (λ (maps : List LeafMap). AreInternal schema maps p.kept) (sym kept_same) stands.kept_is;
+  working_is = subst (λ (maps : List LeafMap). AreInternal schema nodes maps (unwrap_or (working_after p.working s) p.kept)) (sym same)
+      (subst (λ (x : State). AreInternal schema nodes old (unwrap_or (working_after p.working x) p.kept)) (sym is) (subst (AreInternal schema nodes old) (sym (seen_again p.working p.kept)) stands.working_is));
+  kept_is = subst (λ (maps : List LeafMap). AreInternal schema nodes maps p.kept) (sym kept_same) stands.kept_is;
 }
 
 -- ---- answers
@@ -139,6 +182,40 @@ answer_delete there true done text f e t = cc
 answer_delete true false done text f e t = t ∙ ap (λ d. cond d (codes "ok\n") (refusal_text no_record)) e
 answer_delete false false done text f e t = t ∙ ap (λ d. cond d (codes "ok\n") (refusal_text no_record)) e
 
+-- ---- how many entries come after a command
+
+-- inside a transaction a command leaves its next state
+pub seen_next : (p : Playing) (s : State) → is_inside p ≡ true → seen_state (with_working p s) ≡ s
+seen_next p s open_ = seen_after p.working s p.kept open_
+
+short_after : (limit : Option Limits) (nodes : List (Node AnyMapping)) (before : ℕ) (s t : State) → t ≡ s → IsCrowdedBy limit (before + entries_from nodes s.files) → IsCrowdedBy limit (before + entries_from nodes t.files)
+short_after limit nodes before s t same c = subst (λ (x : State). IsCrowdedBy limit (before + entries_from nodes x.files)) (sym same) c
+
+pub short_insert : (limit : Option Limits) (schema : Schema) (nodes : List (Node AnyMapping)) (leaves before : ℕ) (p : Playing) (i : ℕ) (values rest : List Value) (key : Value) (t : Tree AnyMapping) → AreNodes schema nodes leaves → length (seen_state p).files ≡ length schema.files → i < length schema.files → is_inside p ≡ true
+    → values ≡ key ∷ rest → t ≡ tree_at nodes i → fin.get (file_in (seen_state p) i) key ≡ None → IsCrowdedBy limit (before + length (entries_of any_rule t (rec_of (key, rest)))) → IsCrowdedBy limit (before + entries_from nodes (seen_state (next_of schema p (command.Insert i values))).files)
+short_insert limit schema nodes leaves before p i values rest key t of many lt open_ parts tree none c =
+    let f = file_in (seen_state p) i in
+    let after : State = with_file (seen_state p) i (fin.insert f key rest) in
+    let next : seen_state (next_of schema p (command.Insert i values)) ≡ after =
+    ap (λ (vs : List Value). seen_state (with_working p (next_state schema (seen_state p) (command.Insert i vs)))) parts ∙ seen_next p (next_state schema (seen_state p) (command.Insert i (key ∷ rest))) open_
+    ∙ insert_next schema (seen_state p) i (key ∷ rest) rest key refl ∙ ap (λ (o : Option (List Value)). cond (not (is_some o)) after (seen_state p)) none in
+    short_after limit nodes before after (seen_state (next_of schema p (command.Insert i values))) next
+    (short_with limit schema nodes leaves before (seen_state p) i (fin.insert f key rest) (rec_of (key, rest)) of many lt (inserted_new f key rest)
+    (subst (λ (x : Tree AnyMapping). IsCrowdedBy limit (before + length (entries_of any_rule x (rec_of (key, rest))))) tree c))
+
+pub short_update : (limit : Option Limits) (schema : Schema) (nodes : List (Node AnyMapping)) (leaves before : ℕ) (p : Playing) (i : ℕ) (key : Value) (changes : List Change) (values : List Value) (t : Tree AnyMapping) → AreNodes schema nodes leaves → length (seen_state p).files ≡ length schema.files → i < length schema.files → is_inside p ≡ true
+    → t ≡ tree_at nodes i → fin.get (file_in (seen_state p) i) key ≡ Some values → IsCrowdedBy limit (before + length (entries_of any_rule t (rec_of (key, changed values changes)))) → IsCrowdedBy limit (before + entries_from nodes (seen_state (next_of schema p (command.Update i key changes))).files)
+short_update limit schema nodes leaves before p i key changes values t of many lt open_ tree there c =
+    let f = file_in (seen_state p) i in
+    let after : State = with_file (seen_state p) i (fin.insert f key (changed values changes)) in
+    let next : seen_state (next_of schema p (command.Update i key changes)) ≡ after =
+    seen_next p (next_state schema (seen_state p) (command.Update i key changes)) open_
+    ∙ next_where (is_some (fin.get f key)) no_record (seen_state p) (with_file (seen_state p) i (updated f key changes))
+    ∙ ap (λ (o : Option (List Value)). cond (is_some o) (with_file (seen_state p) i (fin.insert f key (changed (unwrap_or o []) changes))) (seen_state p)) there in
+    short_after limit nodes before after (seen_state (next_of schema p (command.Update i key changes))) next
+    (short_with limit schema nodes leaves before (seen_state p) i (fin.insert f key (changed values changes)) (rec_of (key, changed values changes)) of many lt (inserted_new f key (changed values changes))
+    (subst (λ (x : Tree AnyMapping). IsCrowdedBy limit (before + length (entries_of any_rule x (rec_of (key, changed values changes))))) tree c))
+
 -- ---- find without links
 
 pub no_of : (schema : Schema) (file : ℕ) (of : Option Of) → schema.links ≡ [] → IsOfOf schema file of → of ≡ None
@@ -173,3 +250,83 @@ found_answer schema s (Some of) Reply text none is = cc
 pub found_next : (schema : Schema) (s : State) (of : Option Of) → of ≡ None → cond (is_some (first_refusal ((lacks_of schema s of, no_record) ∷ []))) s s ≡ s
 found_next schema s None none = refl
 found_next schema s (Some of) none = cc
+
+-- ---- commands that were carried out
+
+-- of a file and its tree under other names
+pub internal_at : (schema : Schema) (nodes : List (Node AnyMapping)) (i : ℕ) (file : FileDef) (t : Tree AnyMapping) (maps : List LeafMap) (f : File) → file ≡ file_at schema i → t ≡ tree_at nodes i → IsInternal (file_at schema i) (tree_at nodes i) maps f → IsInternal file t maps f
+internal_at schema nodes i file t maps f e d is = subst (λ (x : FileDef). IsInternal x t maps f) (sym e) (subst (λ (x : Tree AnyMapping). IsInternal (file_at schema i) x maps f) (sym d) is)
+
+edited_at : (schema : Schema) (nodes : List (Node AnyMapping)) (i : ℕ) (file : FileDef) (t : Tree AnyMapping) (old new : List LeafMap) (before after : File) (may done : Bool) → file ≡ file_at schema i → t ≡ tree_at nodes i → IsEditedWhere file t old new before may after done
+    → IsEditedWhere (file_at schema i) (tree_at nodes i) old new before may after done
+edited_at schema nodes i file t old new before after may done e d is =
+    subst (λ (x : Tree AnyMapping). IsEditedWhere (file_at schema i) x old new before may after done) d (subst (λ (x : FileDef). IsEditedWhere x t old new before may after done) e is)
+
+pub open_of : (inside : Bool) → (if inside then None else Some why.NoTransaction) ≡ None → inside ≡ true
+open_of true e = refl
+open_of false e = cc
+
+kept_stands : (schema : Schema) (nodes : List (Node AnyMapping)) (inside : Bool) (commits : ℕ) (working kept now : List LeafMap) (p : Playing) → now ≡ kept → Stands schema nodes inside commits working kept p → Stands schema nodes inside commits working now p
+kept_stands schema nodes inside commits working kept now p same is = subst (λ (maps : List LeafMap). Stands schema nodes inside commits working maps p) (sym same) is
+
+pub insert_carried : (schema : Schema) (nodes : List (Node AnyMapping)) (leaves : ℕ) (inside : Bool) (commits : ℕ) (old new kept now : List LeafMap) (p : Playing) (i : ℕ) (values rest : List Value) (key : Value) (done : Bool) (file : FileDef) (t : Tree AnyMapping) (out said text : List ℕ) → AreNodes schema nodes leaves → i < length schema.files
+    → place_reason inside (command.Insert i values) ≡ None → Stands schema nodes inside commits old kept p → now ≡ kept → values ≡ key ∷ rest → file ≡ file_at schema i → t ≡ tree_at nodes i
+    → IsEditedWhere file t old new (file_in (seen_state p) i) (not (is_some (fin.get (file_in (seen_state p) i) key))) (fin.insert (file_in (seen_state p) i) key rest) done → text ≡ cond done (codes "ok\n") (codes "refused: key exists\n") → said ≡ out ++ text
+    → IsCarried schema nodes p (command.Insert i values) out said inside commits new now
+insert_carried schema nodes leaves inside commits old new kept now p i values rest key done file t out said text of lt place stands same parts e d edited is_text is_said =
+    let f = file_in (seen_state p) i in
+    let edit = edited_at schema nodes i file t old new f (fin.insert f key rest) (not (is_some (fin.get f key))) done e d edited in
+    record {
+      answer = text;
+      said = is_said;
+      answered = insert_answered schema p i values rest key done text parts edit.done_is is_text;
+      stands = kept_stands schema nodes inside commits new kept now (next_of schema p (command.Insert i values)) same
+          (stands_where schema nodes leaves inside commits old new kept p i (fin.insert f key rest) (not (is_some (fin.get f key))) done (next_state schema (seen_state p) (command.Insert i values)) of stands (open_of inside place) lt edit (insert_next schema (seen_state p) i values rest key parts));
+    }
+
+pub update_carried : (schema : Schema) (nodes : List (Node AnyMapping)) (leaves : ℕ) (inside : Bool) (commits : ℕ) (old new kept now : List LeafMap) (p : Playing) (i : ℕ) (key : Value) (changes : List Change) (done : Bool) (file : FileDef) (t : Tree AnyMapping) (out said text : List ℕ) → AreNodes schema nodes leaves → i < length schema.files
+    → place_reason inside (command.Update i key changes) ≡ None → Stands schema nodes inside commits old kept p → now ≡ kept → file ≡ file_at schema i → t ≡ tree_at nodes i
+    → IsEditedWhere file t old new (file_in (seen_state p) i) (is_some (fin.get (file_in (seen_state p) i) key)) (updated (file_in (seen_state p) i) key changes) done → text ≡ cond done (codes "ok\n") (codes "refused: no record\n") → said ≡ out ++ text
+    → IsCarried schema nodes p (command.Update i key changes) out said inside commits new now
+update_carried schema nodes leaves inside commits old new kept now p i key changes done file t out said text of lt place stands same e d edited is_text is_said =
+    let f = file_in (seen_state p) i in
+    let there = is_some (fin.get f key) in
+    let edit = edited_at schema nodes i file t old new f (updated f key changes) there done e d edited in
+    record {
+      answer = text;
+      said = is_said;
+      answered = answer_where there done no_record text edit.done_is is_text;
+      stands = kept_stands schema nodes inside commits new kept now (next_of schema p (command.Update i key changes)) same
+          (stands_where schema nodes leaves inside commits old new kept p i (updated f key changes) there done (next_state schema (seen_state p) (command.Update i key changes)) of stands (open_of inside place) lt edit
+          (next_where there no_record (seen_state p) (with_file (seen_state p) i (updated f key changes))));
+    }
+
+pub delete_carried : (schema : Schema) (nodes : List (Node AnyMapping)) (leaves : ℕ) (inside : Bool) (commits : ℕ) (old new kept now : List LeafMap) (p : Playing) (i : ℕ) (key : Value) (done : Bool) (file : FileDef) (t : Tree AnyMapping) (out said text : List ℕ) → AreNodes schema nodes leaves → schema.links ≡ [] → i < length schema.files
+    → place_reason inside (command.Delete i key) ≡ None → Stands schema nodes inside commits old kept p → now ≡ kept → file ≡ file_at schema i → t ≡ tree_at nodes i
+    → IsEditedWhere file t old new (file_in (seen_state p) i) (is_some (fin.get (file_in (seen_state p) i) key)) (fin.remove (file_in (seen_state p) i) key) done → text ≡ cond done (codes "ok\n") (codes "refused: no record\n") → said ≡ out ++ text
+    → IsCarried schema nodes p (command.Delete i key) out said inside commits new now
+delete_carried schema nodes leaves inside commits old new kept now p i key done file t out said text of none lt place stands same e d edited is_text is_said =
+    let f = file_in (seen_state p) i in
+    let there = is_some (fin.get f key) in
+    let free = unlinked schema.links (seen_state p).links i key none in
+    let edit = edited_at schema nodes i file t old new f (fin.remove f key) there done e d edited in
+    record {
+      answer = text;
+      said = is_said;
+      answered = answer_delete there (is_linked schema.links (seen_state p).links i key) done text free edit.done_is is_text;
+      stands = kept_stands schema nodes inside commits new kept now (next_of schema p (command.Delete i key)) same
+          (stands_where schema nodes leaves inside commits old new kept p i (fin.remove f key) there done (next_state schema (seen_state p) (command.Delete i key)) of stands (open_of inside place) lt edit
+          (next_delete there (is_linked schema.links (seen_state p).links i key) (seen_state p) (with_file (seen_state p) i (fin.remove f key)) free));
+    }
+
+pub find_carried : (schema : Schema) (nodes : List (Node AnyMapping)) (inside : Bool) (commits : ℕ) (old new kept now : List LeafMap) (p : Playing) (q : Find) (file : FileDef) (out said text : List ℕ) → schema.links ≡ [] → IsOfOf schema q.file q.of → Stands schema nodes inside commits old kept p → new ≡ old → now ≡ kept → file ≡ file_at schema q.file
+    → IsListText file (file_in (seen_state p) q.file) (meets_conds q.conds) q.order text → said ≡ out ++ text → IsCarried schema nodes p (command.Find q) out said inside commits new now
+find_carried schema nodes inside commits old new kept now p q file out said text none of stands same kept_same e listed is_said =
+    let no = no_of schema q.file q.of none of in
+    let at = subst (λ (x : FileDef). IsListText x (file_in (seen_state p) q.file) (meets_conds q.conds) q.order text) e listed in
+    record {
+      answer = text;
+      said = is_said;
+      answered = found_answer schema (seen_state p) q.of (IsListText (file_at schema q.file) (file_in (seen_state p) q.file) (is_chosen (seen_state p) q) q.order) text no (found_by_conds (seen_state p) q (file_at schema q.file) (file_in (seen_state p) q.file) text no at);
+      stands = stands_still schema nodes inside commits old new kept now p (next_state schema (seen_state p) (command.Find q)) stands same kept_same (found_next schema (seen_state p) q.of no);
+    }

@@ -1,3 +1,5 @@
-pub mod Bodies
 pub mod Internal
+pub mod Records
+pub mod Entries
+pub mod Scan
 pub mod Steps

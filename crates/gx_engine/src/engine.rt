@@ -3,20 +3,26 @@ ghost use Rattle.std.specs.Prelude.{◌≡◌, ◌∷◌, ◌≤◌, ◌<◌, �
 ghost use Rattle.std.specs.Fmt.{decimal};
 ghost use Rattle.gx_device.specs.Content.{Silent, Hears, Listens, Says, Speaks};
 ghost use Rattle.gx_device.specs.Faults.{Rose, HasCause};
-ghost use Rattle.gx_ports.specs.LeafMaps.{IsCrowded};
 ghost use Rattle.gx_values.specs.Values.{Fits, AreFit};
 ghost use Rattle.gx_schema.specs.Lookups.{file_at, key_kind, data_fields};
 ghost use Rattle.gx_script.specs.Commands.{inside_after};
 ghost use Rattle.gx_model.specs.States.{State, file_in};
 ghost use Rattle.gx_model.specs.Play.{Playing, start_at, next_count};
+ghost use Rattle.gx_schema.specs.declared.schema.Schema.{Schema as TheSchema};
+ghost use Rattle.gx_ports.specs.LeafMaps.{LeafMap};
+ghost use Rattle.gx_stack.specs.Seen.{tree_of};
+ghost use Rattle.gx_types.specs.Nodes.{tree_at, AreNodes};
+ghost use Rattle.gx_engine.specs.Internal.{IsTreeFor};
 
 use crate::listing::found_text;
-use crate::records::{delete_record, find_values, insert_record, update_record};
+use crate::records::{delete_record, find_record, insert_record, reorganize_file, update_record};
 use crate::texts::{commit_line, record_line};
 use gx_device::Failed;
 use gx_ports::{Leaves, Stop};
 use gx_schema::{FileDef, Schema};
 use gx_script::{Changes, Command, Find};
+use gx_stack::Node;
+use gx_types::{AnyMapping, Built};
 use gx_values::{Octets, Value, Values};
 use std::alloc::{AllocError, Global};
 
@@ -33,6 +39,7 @@ pub enum StepStop {
 #[derive(Drop)]
 pub struct Engine<B: Leaves + Drop> {
     schema: Schema,
+    built: Built,
     leaves: B,
     inside: bool,
     commits: u64,
@@ -41,25 +48,26 @@ pub struct Engine<B: Leaves + Drop> {
 
 impl<B: Leaves + Drop> Engine<B> {
     ghost use Rattle.gx_script.specs.declared.command.Command.TheVariants as command;
-    ghost use Rattle.gx_engine.specs.Internal.{AreInternal, AreStorable, IsCarried};
-    ghost use Rattle.gx_engine.specs.Steps.{schema_of, leaves_of, is_open, commits_of, stop_of, IsReady, IsDue, StandsFor, IsStep, IsServed, IsSame};
+    ghost use Rattle.gx_engine.specs.Internal.{AreInternal, IsCarried};
+    ghost use Rattle.gx_engine.specs.Steps.{schema_of, built_of, nodes_of, leaves_of, is_open, AreFor, IsShortFor, commits_of, stop_of, IsReady, IsDue, StandsFor, IsStep, IsServed, IsSame};
     ghost use Rattle.gx_engine.specs.declared.engine.StepStop.TheVariants.{Now, Stopped};
 
-    /// An engine over leaves, of which there is one for each file of the schema: its entries are the
-    /// records of the file. No transaction is open, and no stop is kept.
-    pub fn start(schema: Schema, leaves: B) -> Engine<B>
-        requires storable { AreStorable schema }
-        requires many { length (B.working leaves) ≡ length schema.files }
+    /// An engine over leaves, which hold the records of each file of the schema as it is built. No
+    /// transaction is open, and no stop is kept.
+    pub fn start(schema: Schema, built: Built, leaves: B) -> Engine<B>
+        requires { AreFor schema built (length (B.working leaves)) }
         ensures ready { IsReady B.working result }
         ensures schema { schema_of result ≡ schema }
+        ensures built { built_of result ≡ built }
         ensures leaves { leaves_of result ≡ leaves }
         ensures inside { is_open result ≡ false }
         ensures commits { commits_of result ≡ 0 }
         ensures stop { stop_of result ≡ None }
-        ensures stands { (s : State) → AreInternal schema (B.working leaves) s → B.kept leaves ≡ B.working leaves → StandsFor B.working B.kept result (start_at s) }
+        ensures stands { (s : State) → AreInternal schema built.files (B.working leaves) s → B.kept leaves ≡ B.working leaves → StandsFor B.working B.kept result (start_at s) }
     {
         Engine {
             schema,
+            built,
             leaves,
             inside: false,
             commits: 0,
@@ -86,8 +94,8 @@ impl<B: Leaves + Drop> Engine<B> {
     ///
     /// `Now` gives this call up and is kept: `out` is as before, the transaction is given up, and each
     /// later call answers `Stopped` with it and does nothing. `Now(Fault)`: the count of faults rose.
-    /// `Now(Full)`: the pages may be too few for what was to be stored. `Now(Damaged)`: the leaves stood
-    /// for no state. `Now(NoMemory)`: there was no memory.
+    /// `Now(Full)`: the pages may be too few for the entries of the states before and after. `Now(Damaged)`:
+    /// the leaves stood for no state. `Now(NoMemory)`: there was no memory.
     pub fn step(
         &mut self,
         alloc: Global,
@@ -96,14 +104,14 @@ impl<B: Leaves + Drop> Engine<B> {
     ) -> Result<(), StepStop>
         requires ready { IsReady B.working self.old }
         requires due { IsDue self.old command.now }
-        ensures carried { (p : Playing) → B.whole (leaves_of self.old) → B.kept_whole (leaves_of self.old) → StandsFor B.working B.kept self.old p → OnOk result (IsCarried (schema_of self.old) p command.now out.old out.new (is_open self.new) (commits_of self.new) (B.working (leaves_of self.new)) (B.kept (leaves_of self.new))) }
+        ensures carried { (p : Playing) → B.whole (leaves_of self.old) → B.kept_whole (leaves_of self.old) → StandsFor B.working B.kept self.old p → OnOk result (IsCarried (schema_of self.old) (nodes_of self.old) p command.now out.old out.new (is_open self.new) (commits_of self.new) (B.working (leaves_of self.new)) (B.kept (leaves_of self.new))) }
         ensures unsaid { OnErr result (out.new ≡ out.old) }
         ensures served { IsServed (stop_of self.old) (stop_of self.new) result }
         ensures still { IsSome (stop_of self.old) → self.new ≡ self.old }
 
         // The causes of a stop.
         ensures fault { result ≡ Err (Now Stop.Fault) → Rose (B.faults (leaves_of self.old)) (B.faults (leaves_of self.new)) }
-        ensures full { B.whole (leaves_of self.old) → result ≡ Err (Now Stop.Full) → IsCrowded (B.limit (leaves_of self.old)) (B.working (leaves_of self.old)) }
+        ensures full { (p : Playing) → B.whole (leaves_of self.old) → B.kept_whole (leaves_of self.old) → StandsFor B.working B.kept self.old p → result ≡ Err (Now Stop.Full) → IsShortFor (B.limit (leaves_of self.old)) (nodes_of self.old) (B.working (leaves_of self.old)) (schema_of self.old) p command.now }
         ensures damaged { (block : ℕ) (p : Playing) → result ≡ Err (Now (Stop.Damaged block)) → B.whole (leaves_of self.old) → B.kept_whole (leaves_of self.old) → StandsFor B.working B.kept self.old p → ⊥ }
 
         // What stays.
@@ -111,6 +119,7 @@ impl<B: Leaves + Drop> Engine<B> {
         ensures whole { OnOk result (B.whole (leaves_of self.old) → B.kept_whole (leaves_of self.old) → B.whole (leaves_of self.new)) }
         ensures kept_whole { OnOk result (B.whole (leaves_of self.old) → B.kept_whole (leaves_of self.old) → B.kept_whole (leaves_of self.new)) }
         ensures schema { schema_of self.new ≡ schema_of self.old }
+        ensures built { built_of self.new ≡ built_of self.old }
         ensures ready { IsReady B.working self.new }
         ensures limit { B.limit (leaves_of self.new) ≡ B.limit (leaves_of self.old) }
         ensures silent { Silent (B.content (leaves_of self.old)) (B.content (leaves_of self.new)) }
@@ -127,6 +136,12 @@ impl<B: Leaves + Drop> Engine<B> {
             }
         }
     }
+
+    /// The leaves stand for one state at most. It does nothing.
+    pub fn leaves_tell_the_state(&self)
+        requires { IsReady B.working self.now }
+        ensures { (maps : List LeafMap) (s t : State) → AreInternal (schema_of self.now) (nodes_of self.now) maps s → AreInternal (schema_of self.now) (nodes_of self.now) maps t → s ≡ t }
+    {}
 
     fn carry_out(&mut self, alloc: Global, command: &Command, out: &mut Octets) -> Result<(), Stop>
         requires ready { IsReady B.working self.old }
@@ -219,8 +234,9 @@ impl<B: Leaves + Drop> Engine<B> {
         ensures { IsStep B.working B.kept B.whole B.kept_whole B.limit B.faults B.content self.old self.new (command.Insert file values.now) out.old out.new result }
     {
         let def = file_def(&self.schema, file);
+        let node = file_node(&self.built, file);
         let (key, values) = key_and_values(def, values);
-        let done = insert_record(alloc, def, u32::from(file), key, values, &mut self.leaves)?;
+        let done = insert_record(alloc, def, node, key, values, &mut self.leaves)?;
         append(out, insert_answer(done))?;
         Ok(())
     }
@@ -238,14 +254,8 @@ impl<B: Leaves + Drop> Engine<B> {
         ensures { IsStep B.working B.kept B.whole B.kept_whole B.limit B.faults B.content self.old self.new (command.Update file key.now changes.now) out.old out.new result }
     {
         let def = file_def(&self.schema, file);
-        let done = update_record(
-            alloc,
-            def,
-            u32::from(file),
-            key,
-            &changes.0,
-            &mut self.leaves,
-        )?;
+        let node = file_node(&self.built, file);
+        let done = update_record(alloc, def, node, key, &changes.0, &mut self.leaves)?;
         append(out, edit_answer(done))?;
         Ok(())
     }
@@ -262,7 +272,8 @@ impl<B: Leaves + Drop> Engine<B> {
         ensures { IsStep B.working B.kept B.whole B.kept_whole B.limit B.faults B.content self.old self.new (command.Delete file key.now) out.old out.new result }
     {
         let def = file_def(&self.schema, file);
-        let done = delete_record(alloc, def, u32::from(file), key, &mut self.leaves)?;
+        let node = file_node(&self.built, file);
+        let done = delete_record(alloc, def, node, key, &mut self.leaves)?;
         append(out, edit_answer(done))?;
         Ok(())
     }
@@ -273,11 +284,12 @@ impl<B: Leaves + Drop> Engine<B> {
         ensures { IsStep B.working B.kept B.whole B.kept_whole B.limit B.faults B.content self.old self.new (command.Get file key.now) out.old out.new result }
     {
         let def = file_def(&self.schema, file);
-        let Some(values) = find_values(alloc, def, u32::from(file), key, &mut self.leaves)? else {
+        let node = file_node(&self.built, file);
+        let Some(found) = find_record(alloc, def, node, key, &mut self.leaves)? else {
             append(out, b"none\n")?;
             return Ok(());
         };
-        let line = record_line(alloc, def, key, &values.0)?;
+        let line = record_line(alloc, def, key, &found.fields.0)?;
         append(out, line.as_slice())?;
         Ok(())
     }
@@ -288,7 +300,8 @@ impl<B: Leaves + Drop> Engine<B> {
         ensures { IsStep B.working B.kept B.whole B.kept_whole B.limit B.faults B.content self.old self.new (command.Find find.now) out.old out.new result }
     {
         let def = file_def(&self.schema, find.file);
-        let text = found_text(alloc, def, u32::from(find.file), find, &mut self.leaves)?;
+        let node = file_node(&self.built, find.file);
+        let text = found_text(alloc, def, node, find, &mut self.leaves)?;
         append(out, text.as_slice())?;
         Ok(())
     }
@@ -298,7 +311,7 @@ impl<B: Leaves + Drop> Engine<B> {
         requires due { IsDue self.old (command.ReorganizeFile file) }
         ensures { IsStep B.working B.kept B.whole B.kept_whole B.limit B.faults B.content self.old self.new (command.ReorganizeFile file) out.old out.new result }
     {
-        self.leaves.reorganize(alloc, u32::from(file))?;
+        reorganize_file(alloc, &self.built.owners, file, &mut self.leaves)?;
         append(out, b"ok\n")?;
         Ok(())
     }
@@ -351,6 +364,14 @@ fn file_def(schema: &Schema, file: u16) -> &FileDef
     &schema.files.0[usize::from(file)]
 }
 
+fn file_node(built: &Built, file: u16) -> &Node<AnyMapping>
+    requires { file < length built.now.files }
+    ensures tree { tree_of result.now ≡ tree_at built.now.files file }
+    ensures fit { (schema : TheSchema) (leaves : ℕ) → AreNodes schema built.now.files leaves → IsTreeFor (file_at schema file) (tree_of result.now) leaves }
+{
+    &built.files.0[usize::from(file)]
+}
+
 fn insert_answer(done: bool) -> &'static [u8]
     ensures { result.now ≡ (if done then codes "ok\n" else codes "refused: key exists\n") }
 {
@@ -374,7 +395,7 @@ fn edit_answer(done: bool) -> &'static [u8]
 
 // The key of a new record, and its other values.
 fn key_and_values<'a>(file: &FileDef, values: &'a Values) -> (&'a Value, &'a [Value])
-    requires keyed { 0 < length file.now.fields }
+    requires storable { 0 < length file.now.fields }
     requires fit { AreFit file.now.fields values.now }
     ensures parts { values.now ≡ result.0.now ∷ result.1.now }
     ensures key { Fits (key_kind file.now) result.0.now }

@@ -1,105 +1,41 @@
-// Records in leaves: a file is one leaf, with an entry for each record.
-ghost use Rattle.std.specs.Prelude.{◌≡◌, ◌<◌, ◌≤◌, ◌↔◌, ◌++◌, List, ℕ, length, IfOk, OnOk, OnErr, IfSome, IsErrOf, Option};
+// Records of a file: each is looked up and changed in the file's node.
+ghost use Rattle.std.specs.Prelude.{◌≡◌, ◌<◌, ◌≤◌, ◌↔◌, ◌∷◌, [], ◌+◌, ℕ, List, length, IfOk, OnOk, IfSome, IsErrOf, Option, not, is_some};
 ghost use Rattle.std.specs.Option.{option_map};
 ghost use Rattle.std.specs.FinMap as fin;
-ghost use Rattle.gx_device.specs.Content.{Silent};
-ghost use Rattle.gx_values.specs.Values.{Fits, AreFit};
-ghost use Rattle.gx_values.specs.Keys.{bytes_of, IsKeyKind};
-ghost use Rattle.gx_schema.specs.declared.schema.FileDef.{FileDef as File};
-ghost use Rattle.gx_schema.specs.Lookups.{key_kind, data_fields};
-ghost use Rattle.gx_device.specs.Faults.{Rose};
-ghost use Rattle.gx_ports.specs.LeafMaps.{map_at, with_entry, without_entry, IsCrowded};
-ghost use Rattle.gx_ports.specs.Stops.{HasStopCause};
-ghost use Rattle.gx_model.specs.States.{File as FileMap};
-ghost use Rattle.gx_engine.specs.Bodies.{body_of};
-ghost use Rattle.std.specs.Prelude.{not, is_some};
 ghost use Rattle.std.specs.List.{AllByRecursion};
+ghost use Rattle.gx_device.specs.Content.{Silent};
+ghost use Rattle.gx_device.specs.Faults.{Rose};
+ghost use Rattle.gx_values.specs.Values.{Fits, AreFit, AreSized};
+ghost use Rattle.gx_values.specs.Keys.{bytes_of};
+ghost use Rattle.gx_values.specs.declared.values.Value.{Value as TheValue};
+ghost use Rattle.gx_values.specs.declared.records.Rec.{Rec as Record};
+ghost use Rattle.gx_schema.specs.Lookups.{key_kind, data_fields};
 ghost use Rattle.gx_script.specs.Commands.{IsChangeOf};
+ghost use Rattle.gx_ports.specs.LeafMaps.{entry_count, IsCrowded, IsCrowdedBy};
+ghost use Rattle.gx_ports.specs.Stops.{HasStopCause};
+ghost use Rattle.gx_values.specs.declared.records.Form.{Form as TheForm};
+ghost use Rattle.gx_mapping.specs.Rule.{In, IsOf};
+ghost use Rattle.gx_stack.specs.Tree.{entries_of};
+ghost use Rattle.gx_stack.specs.Seen.{tree_of};
+ghost use Rattle.gx_types.specs.Any.{any_rule};
+ghost use Rattle.gx_types.specs.Dues.{file_form};
+ghost use Rattle.gx_model.specs.States.{File as FileMap};
 ghost use Rattle.gx_model.specs.Commands.{changed, updated};
-ghost use Rattle.gx_engine.specs.Internal.{IsInternal, IsStorable, IsEditedWhere, entries_at};
+ghost use Rattle.gx_engine.specs.Internal.{rec_of, records_of, IsInternal, IsStorable, IsTreeFor, IsEditedWhere};
+ghost use Rattle.gx_engine.specs.Records.{record_at, list_of_one};
 
-use crate::bodies::{body_bytes, read_body};
-use gx_ports::{Entries, Leaves, Stop};
+use gx_ports::{Leaves, Stop};
 use gx_schema::FileDef;
 use gx_script::Change;
-use gx_values::{Field, NoMemory, Octets, Span, Value, Values, value_key};
+use gx_stack::{Node, Recs};
+use gx_types::{AnyMapping, Owners};
+use gx_values::{Field, NoMemory, Rec, Span, Value, Values, value_key};
 use std::alloc::Global;
 
 // Records see no blocks: damage that they show is said of block 0.
 pub(crate) const NO_BLOCK: u32 = 0;
 
-// The body of the record with this key, where there is one.
-fn find_body<B: Leaves>(
-    alloc: Global,
-    file: &FileDef,
-    leaf: u32,
-    key: &Value,
-    leaves: &mut B,
-) -> Result<Option<Octets>, Stop>
-    requires leaf { leaf < length (B.working leaves.old) }
-    requires storable { IsStorable file.now }
-    requires key { Fits (key_kind file.now) key.now }
-    ensures found { (f : FileMap) → B.whole leaves.old → IsInternal file.now (map_at (B.working leaves.old) leaf) f → IfOk result (λ found. found ≡ option_map body_of (fin.get f key.now)) }
-    ensures working { B.working leaves.new ≡ B.working leaves.old }
-    ensures kept { B.kept leaves.new ≡ B.kept leaves.old }
-    ensures whole { OnOk result (B.whole leaves.old → B.whole leaves.new) }
-    ensures kept_whole { B.kept_whole leaves.old ↔ B.kept_whole leaves.new }
-    ensures limit { B.limit leaves.new ≡ B.limit leaves.old }
-    ensures silent { Silent (B.content leaves.old) (B.content leaves.new) }
-    ensures cause { HasStopCause (B.faults leaves.old) (B.faults leaves.new) (B.whole leaves.old) result }
-    ensures not_full { ¬ IsErrOf result Stop.Full }
-{
-    let _file = file;
-    let span = Span {
-        lo: value_key(key),
-        hi: value_key(key),
-    };
-    let mut entries = Entries::new(alloc);
-    leaves.select(alloc, leaf, &span, &mut entries)?;
-    Ok(last_body(entries))
-}
-
-fn last_body(entries: Entries) -> Option<Octets>
-    ensures { (key : List ℕ) (found : Option (List ℕ)) → entries ≡ entries_at key found → result ≡ found }
-{
-    let mut entries = entries.0;
-    entries.pop().map(|entry| entry.body)
-}
-
-// The values of the record with this key, where there is one.
-pub(crate) fn find_values<B: Leaves>(
-    alloc: Global,
-    file: &FileDef,
-    leaf: u32,
-    key: &Value,
-    leaves: &mut B,
-) -> Result<Option<Values>, Stop>
-    requires leaf { leaf < length (B.working leaves.old) }
-    requires storable { IsStorable file.now }
-    requires key { Fits (key_kind file.now) key.now }
-    ensures found { (f : FileMap) → B.whole leaves.old → IsInternal file.now (map_at (B.working leaves.old) leaf) f → IfOk result (λ found. found ≡ fin.get f key.now) }
-    ensures fits { IfOk result (λ found. IfSome found (AreFit (data_fields file.now))) }
-    ensures working { B.working leaves.new ≡ B.working leaves.old }
-    ensures kept { B.kept leaves.new ≡ B.kept leaves.old }
-    ensures whole { OnOk result (B.whole leaves.old → B.whole leaves.new) }
-    ensures kept_whole { B.kept_whole leaves.old ↔ B.kept_whole leaves.new }
-    ensures limit { B.limit leaves.new ≡ B.limit leaves.old }
-    ensures silent { Silent (B.content leaves.old) (B.content leaves.new) }
-    ensures later { B.faults leaves.old ≤ B.faults leaves.new }
-    ensures fault { IsErrOf result Stop.Fault → Rose (B.faults leaves.old) (B.faults leaves.new) }
-    ensures damaged { (block : ℕ) (f : FileMap) → IsErrOf result (Stop.Damaged block) → B.whole leaves.old → IsInternal file.now (map_at (B.working leaves.old) leaf) f → ⊥ }
-    ensures not_full { ¬ IsErrOf result Stop.Full }
-{
-    let Some(body) = find_body(alloc, file, leaf, key, leaves)? else {
-        return Ok(None);
-    };
-    match read_body(alloc, data_fields(file), body.as_slice())? {
-        Some(values) => Ok(Some(values)),
-        None => Err(Stop::Damaged(NO_BLOCK)),
-    }
-}
-
-// The fields of a file other than its key.
+/// The fields of a file other than its key.
 pub(crate) fn data_fields(file: &FileDef) -> &[Field]
     requires { 0 < length file.now.fields }
     ensures { result.now ≡ data_fields file.now }
@@ -107,130 +43,86 @@ pub(crate) fn data_fields(file: &FileDef) -> &[Field]
     &file.fields.0[1..]
 }
 
-// Puts a record into its leaf, in the place of one with the same key.
-fn put_record<B: Leaves>(
-    alloc: Global,
-    file: &FileDef,
-    leaf: u32,
-    key: &Value,
-    values: &[Value],
-    leaves: &mut B,
-) -> Result<(), Stop>
-    requires leaf { leaf < length (B.working leaves.old) }
-    requires storable { IsStorable file.now }
-    requires key { Fits (key_kind file.now) key.now }
-    requires values { AreFit (data_fields file.now) values.now }
-    ensures ok { B.whole leaves.old → OnOk result (B.working leaves.new ≡ with_entry (B.working leaves.old) leaf (bytes_of key.now) (body_of values.now)) }
-    ensures leaves { length (B.working leaves.new) ≡ length (B.working leaves.old) }
-    ensures kept { B.kept leaves.new ≡ B.kept leaves.old }
-    ensures whole { OnOk result (B.whole leaves.old → B.whole leaves.new) }
-    ensures kept_whole { B.kept_whole leaves.old ↔ B.kept_whole leaves.new }
-    ensures limit { B.limit leaves.new ≡ B.limit leaves.old }
-    ensures silent { Silent (B.content leaves.old) (B.content leaves.new) }
-    ensures cause { HasStopCause (B.faults leaves.old) (B.faults leaves.new) (B.whole leaves.old) result }
-    ensures full { B.whole leaves.old → IsErrOf result Stop.Full → IsCrowded (B.limit leaves.old) (B.working leaves.old) }
+// The span of one key.
+fn key_span(key: &Value) -> Span
+    requires { length (bytes_of key.now) ≤ 400 }
+    ensures lo { result.lo ≡ bytes_of key.now }
+    ensures hi { result.hi ≡ bytes_of key.now }
 {
-    let body = body_bytes(alloc, data_fields(file), values)?;
-    leaves.put(alloc, leaf, value_key(key).as_slice(), &body)
+    Span {
+        lo: value_key(key),
+        hi: value_key(key),
+    }
 }
 
-// Takes the record with this key out of its leaf.
-fn remove_record<B: Leaves>(
+/// The record with this key, where there is one.
+pub(crate) fn find_record<B: Leaves>(
     alloc: Global,
     file: &FileDef,
-    leaf: u32,
+    node: &Node<AnyMapping>,
     key: &Value,
     leaves: &mut B,
-) -> Result<(), Stop>
-    requires leaf { leaf < length (B.working leaves.old) }
+) -> Result<Option<Rec>, Stop>
+    requires tree { IsTreeFor file.now (tree_of node.now) (length (B.working leaves.old)) }
     requires storable { IsStorable file.now }
     requires key { Fits (key_kind file.now) key.now }
-    ensures ok { B.whole leaves.old → OnOk result (B.working leaves.new ≡ without_entry (B.working leaves.old) leaf (bytes_of key.now)) }
-    ensures leaves { length (B.working leaves.new) ≡ length (B.working leaves.old) }
+    ensures found { (f : FileMap) → B.whole leaves.old → IsInternal file.now (tree_of node.now) (B.working leaves.old) f → IfOk result (λ found. found ≡ record_at f key.now) }
+    ensures fits { IfOk result (λ found. IfSome found (IsOf (file_form file.now))) }
+    ensures working { B.working leaves.new ≡ B.working leaves.old }
     ensures kept { B.kept leaves.new ≡ B.kept leaves.old }
     ensures whole { OnOk result (B.whole leaves.old → B.whole leaves.new) }
     ensures kept_whole { B.kept_whole leaves.old ↔ B.kept_whole leaves.new }
     ensures limit { B.limit leaves.new ≡ B.limit leaves.old }
     ensures silent { Silent (B.content leaves.old) (B.content leaves.new) }
-    ensures cause { HasStopCause (B.faults leaves.old) (B.faults leaves.new) (B.whole leaves.old) result }
+    ensures later { B.faults leaves.old ≤ B.faults leaves.new }
+    ensures fault { IsErrOf result Stop.Fault → Rose (B.faults leaves.old) (B.faults leaves.new) }
+    ensures damaged { (block : ℕ) (f : FileMap) → IsErrOf result (Stop.Damaged block) → B.whole leaves.old → IsInternal file.now (tree_of node.now) (B.working leaves.old) f → ⊥ }
     ensures not_full { ¬ IsErrOf result Stop.Full }
 {
     let _file = file;
-    leaves.remove(alloc, leaf, value_key(key).as_slice())
+    let mut found = Recs::new(alloc);
+    node.select(alloc, leaves, &key_span(key), &mut found)?;
+    Ok(last_record(found))
 }
 
-/// Puts a new record into its leaf, and answers whether it did: not where one has its key.
+fn last_record(found: Recs) -> Option<Rec>
+    ensures last { (one : Option Record) → found ≡ list_of_one one → result ≡ one }
+    ensures fits { (form : TheForm) → ((r : Record) → In r found → IsOf form r) → IfSome result (IsOf form) }
+{
+    let mut found = found.0;
+    found.pop()
+}
+
+// The record of a key and other values.
+fn new_record(alloc: Global, key: &Value, values: &[Value]) -> Result<Rec, NoMemory>
+    ensures { AreSized (key.now ∷ values.now) → IfOk result (λ made. made ≡ rec_of (key.now, values.now)) }
+{
+    let mut keys = Vec::with_capacity(alloc, 1)?;
+    keys.push(key.copy(alloc)?)?;
+    let mut fields = Vec::with_capacity(alloc, values.len())?;
+    for value in values {
+        fields.push(value.copy(alloc)?)?;
+    }
+    Ok(Rec {
+        key: Values(keys),
+        fields: Values(fields),
+    })
+}
+
+/// Puts a new record into the file's node, and answers whether it did: not where one has its key.
 pub(crate) fn insert_record<B: Leaves>(
     alloc: Global,
     file: &FileDef,
-    leaf: u32,
+    node: &Node<AnyMapping>,
     key: &Value,
     values: &[Value],
     leaves: &mut B,
 ) -> Result<bool, Stop>
-    requires leaf { leaf < length (B.working leaves.old) }
+    requires tree { IsTreeFor file.now (tree_of node.now) (length (B.working leaves.old)) }
     requires storable { IsStorable file.now }
     requires key { Fits (key_kind file.now) key.now }
     requires values { AreFit (data_fields file.now) values.now }
-    ensures inserted { (f : FileMap) → B.whole leaves.old → IsInternal file.now (map_at (B.working leaves.old) leaf) f → IfOk result (λ done. IsEditedWhere file.now (B.working leaves.old) (B.working leaves.new) leaf f (not (is_some (fin.get f key.now))) (fin.insert f key.now values.now) done) }
-    ensures leaves { length (B.working leaves.new) ≡ length (B.working leaves.old) }
-    ensures kept { B.kept leaves.new ≡ B.kept leaves.old }
-    ensures whole { OnOk result (B.whole leaves.old → B.whole leaves.new) }
-    ensures kept_whole { B.kept_whole leaves.old ↔ B.kept_whole leaves.new }
-    ensures limit { B.limit leaves.new ≡ B.limit leaves.old }
-    ensures silent { Silent (B.content leaves.old) (B.content leaves.new) }
-    ensures cause { HasStopCause (B.faults leaves.old) (B.faults leaves.new) (B.whole leaves.old) result }
-    ensures full { B.whole leaves.old → IsErrOf result Stop.Full → IsCrowded (B.limit leaves.old) (B.working leaves.old) }
-{
-    if find_body(alloc, file, leaf, key, leaves)?.is_some() {
-        return Ok(false);
-    }
-    put_record(alloc, file, leaf, key, values, leaves)?;
-    Ok(true)
-}
-
-/// Takes the record with this key away, and answers whether there was one.
-pub(crate) fn delete_record<B: Leaves>(
-    alloc: Global,
-    file: &FileDef,
-    leaf: u32,
-    key: &Value,
-    leaves: &mut B,
-) -> Result<bool, Stop>
-    requires leaf { leaf < length (B.working leaves.old) }
-    requires storable { IsStorable file.now }
-    requires key { Fits (key_kind file.now) key.now }
-    ensures deleted { (f : FileMap) → B.whole leaves.old → IsInternal file.now (map_at (B.working leaves.old) leaf) f → IfOk result (λ done. IsEditedWhere file.now (B.working leaves.old) (B.working leaves.new) leaf f (is_some (fin.get f key.now)) (fin.remove f key.now) done) }
-    ensures leaves { length (B.working leaves.new) ≡ length (B.working leaves.old) }
-    ensures kept { B.kept leaves.new ≡ B.kept leaves.old }
-    ensures whole { OnOk result (B.whole leaves.old → B.whole leaves.new) }
-    ensures kept_whole { B.kept_whole leaves.old ↔ B.kept_whole leaves.new }
-    ensures limit { B.limit leaves.new ≡ B.limit leaves.old }
-    ensures silent { Silent (B.content leaves.old) (B.content leaves.new) }
-    ensures cause { HasStopCause (B.faults leaves.old) (B.faults leaves.new) (B.whole leaves.old) result }
-    ensures not_full { ¬ IsErrOf result Stop.Full }
-{
-    if find_body(alloc, file, leaf, key, leaves)?.is_some() {
-        remove_record(alloc, file, leaf, key, leaves)?;
-        return Ok(true);
-    }
-    Ok(false)
-}
-
-/// Changes the record with this key, and answers whether there was one.
-pub(crate) fn update_record<B: Leaves>(
-    alloc: Global,
-    file: &FileDef,
-    leaf: u32,
-    key: &Value,
-    changes: &[Change],
-    leaves: &mut B,
-) -> Result<bool, Stop>
-    requires leaf { leaf < length (B.working leaves.old) }
-    requires storable { IsStorable file.now }
-    requires key { Fits (key_kind file.now) key.now }
-    requires changes { AllByRecursion (IsChangeOf file.now) changes.now }
-    ensures updated { (f : FileMap) → B.whole leaves.old → IsInternal file.now (map_at (B.working leaves.old) leaf) f → IfOk result (λ done. IsEditedWhere file.now (B.working leaves.old) (B.working leaves.new) leaf f (is_some (fin.get f key.now)) (updated f key.now changes.now) done) }
+    ensures inserted { (f : FileMap) → B.whole leaves.old → IsInternal file.now (tree_of node.now) (B.working leaves.old) f → IfOk result (λ done. IsEditedWhere file.now (tree_of node.now) (B.working leaves.old) (B.working leaves.new) f (not (is_some (fin.get f key.now))) (fin.insert f key.now values.now) done) }
     ensures leaves { length (B.working leaves.new) ≡ length (B.working leaves.old) }
     ensures kept { B.kept leaves.new ≡ B.kept leaves.old }
     ensures whole { OnOk result (B.whole leaves.old → B.whole leaves.new) }
@@ -239,15 +131,97 @@ pub(crate) fn update_record<B: Leaves>(
     ensures silent { Silent (B.content leaves.old) (B.content leaves.new) }
     ensures later { B.faults leaves.old ≤ B.faults leaves.new }
     ensures fault { IsErrOf result Stop.Fault → Rose (B.faults leaves.old) (B.faults leaves.new) }
-    ensures damaged { (block : ℕ) (f : FileMap) → IsErrOf result (Stop.Damaged block) → B.whole leaves.old → IsInternal file.now (map_at (B.working leaves.old) leaf) f → ⊥ }
+    ensures damaged { (block : ℕ) (f : FileMap) → IsErrOf result (Stop.Damaged block) → B.whole leaves.old → IsInternal file.now (tree_of node.now) (B.working leaves.old) f → ⊥ }
+    ensures full { (f : FileMap) → B.whole leaves.old → IsInternal file.now (tree_of node.now) (B.working leaves.old) f → IsErrOf result Stop.Full → (fin.get f key.now ≡ Option.None) × IsCrowdedBy (B.limit leaves.old) (entry_count (B.working leaves.old) + length (entries_of any_rule (tree_of node.now) (rec_of (key.now, values.now)))) }
+{
+    if find_record(alloc, file, node, key, leaves)?.is_some() {
+        return Ok(false);
+    }
+    let new = new_record(alloc, key, values)?;
+    node.replace(alloc, leaves, None, Some(&new))?;
+    Ok(true)
+}
+
+/// Takes the record with this key away, and answers whether there was one.
+pub(crate) fn delete_record<B: Leaves>(
+    alloc: Global,
+    file: &FileDef,
+    node: &Node<AnyMapping>,
+    key: &Value,
+    leaves: &mut B,
+) -> Result<bool, Stop>
+    requires tree { IsTreeFor file.now (tree_of node.now) (length (B.working leaves.old)) }
+    requires storable { IsStorable file.now }
+    requires key { Fits (key_kind file.now) key.now }
+    ensures deleted { (f : FileMap) → B.whole leaves.old → IsInternal file.now (tree_of node.now) (B.working leaves.old) f → IfOk result (λ done. IsEditedWhere file.now (tree_of node.now) (B.working leaves.old) (B.working leaves.new) f (is_some (fin.get f key.now)) (fin.remove f key.now) done) }
+    ensures leaves { length (B.working leaves.new) ≡ length (B.working leaves.old) }
+    ensures kept { B.kept leaves.new ≡ B.kept leaves.old }
+    ensures whole { OnOk result (B.whole leaves.old → B.whole leaves.new) }
+    ensures kept_whole { B.kept_whole leaves.old ↔ B.kept_whole leaves.new }
+    ensures limit { B.limit leaves.new ≡ B.limit leaves.old }
+    ensures silent { Silent (B.content leaves.old) (B.content leaves.new) }
+    ensures later { B.faults leaves.old ≤ B.faults leaves.new }
+    ensures fault { IsErrOf result Stop.Fault → Rose (B.faults leaves.old) (B.faults leaves.new) }
+    ensures damaged { (block : ℕ) (f : FileMap) → IsErrOf result (Stop.Damaged block) → B.whole leaves.old → IsInternal file.now (tree_of node.now) (B.working leaves.old) f → ⊥ }
     ensures full { B.whole leaves.old → IsErrOf result Stop.Full → IsCrowded (B.limit leaves.old) (B.working leaves.old) }
 {
-    let Some(values) = find_values(alloc, file, leaf, key, leaves)? else {
+    let Some(old) = find_record(alloc, file, node, key, leaves)? else {
         return Ok(false);
     };
-    let values = changed_values(alloc, file, values, changes)?;
-    put_record(alloc, file, leaf, key, &values.0, leaves)?;
+    node.replace(alloc, leaves, Some(&old), None)?;
     Ok(true)
+}
+
+/// Changes the record with this key, and answers whether there was one.
+pub(crate) fn update_record<B: Leaves>(
+    alloc: Global,
+    file: &FileDef,
+    node: &Node<AnyMapping>,
+    key: &Value,
+    changes: &[Change],
+    leaves: &mut B,
+) -> Result<bool, Stop>
+    requires tree { IsTreeFor file.now (tree_of node.now) (length (B.working leaves.old)) }
+    requires storable { IsStorable file.now }
+    requires key { Fits (key_kind file.now) key.now }
+    requires changes { AllByRecursion (IsChangeOf file.now) changes.now }
+    ensures updated { (f : FileMap) → B.whole leaves.old → IsInternal file.now (tree_of node.now) (B.working leaves.old) f → IfOk result (λ done. IsEditedWhere file.now (tree_of node.now) (B.working leaves.old) (B.working leaves.new) f (is_some (fin.get f key.now)) (updated f key.now changes.now) done) }
+    ensures leaves { length (B.working leaves.new) ≡ length (B.working leaves.old) }
+    ensures kept { B.kept leaves.new ≡ B.kept leaves.old }
+    ensures whole { OnOk result (B.whole leaves.old → B.whole leaves.new) }
+    ensures kept_whole { B.kept_whole leaves.old ↔ B.kept_whole leaves.new }
+    ensures limit { B.limit leaves.new ≡ B.limit leaves.old }
+    ensures silent { Silent (B.content leaves.old) (B.content leaves.new) }
+    ensures later { B.faults leaves.old ≤ B.faults leaves.new }
+    ensures fault { IsErrOf result Stop.Fault → Rose (B.faults leaves.old) (B.faults leaves.new) }
+    ensures damaged { (block : ℕ) (f : FileMap) → IsErrOf result (Stop.Damaged block) → B.whole leaves.old → IsInternal file.now (tree_of node.now) (B.working leaves.old) f → ⊥ }
+    ensures full { (f : FileMap) → B.whole leaves.old → IsInternal file.now (tree_of node.now) (B.working leaves.old) f → IsErrOf result Stop.Full → (values : List TheValue) × (fin.get f key.now ≡ Option.Some values) × IsCrowdedBy (B.limit leaves.old) (entry_count (B.working leaves.old) + length (entries_of any_rule (tree_of node.now) (rec_of (key.now, changed values changes.now)))) }
+{
+    let Some(old) = find_record(alloc, file, node, key, leaves)? else {
+        return Ok(false);
+    };
+    let new = changed_record(alloc, file, &old, changes)?;
+    node.replace(alloc, leaves, Some(&old), Some(&new))?;
+    Ok(true)
+}
+
+// The record after the changes.
+fn changed_record(
+    alloc: Global,
+    file: &FileDef,
+    old: &Rec,
+    changes: &[Change],
+) -> Result<Rec, NoMemory>
+    requires old { IsOf (file_form file.now) old.now }
+    requires changes { AllByRecursion (IsChangeOf file.now) changes.now }
+    ensures key { IfOk result (λ made. made.key ≡ old.now.key) }
+    ensures fields { IfOk result (λ made. made.fields ≡ changed old.now.fields changes.now) }
+    ensures fits { IfOk result (IsOf (file_form file.now)) }
+{
+    Ok(Rec {
+        key: old.key.copy(alloc)?,
+        fields: changed_values(alloc, file, old.fields.copy(alloc)?, changes)?,
+    })
 }
 
 // The values after the changes.
@@ -269,4 +243,31 @@ fn changed_values(
         values[change.field as usize - 1] = value;
     }
     Ok(Values(values))
+}
+
+/// Lays the entries of each leaf of the file out anew.
+pub(crate) fn reorganize_file<B: Leaves>(
+    alloc: Global,
+    owners: &Owners,
+    file: u16,
+    leaves: &mut B,
+) -> Result<(), Stop>
+    requires owned { length owners.now ≡ length (B.working leaves.old) }
+    requires few { length owners.now ≤ 255 }
+    ensures working { B.whole leaves.old → OnOk result (B.working leaves.new ≡ B.working leaves.old) }
+    ensures leaves { length (B.working leaves.new) ≡ length (B.working leaves.old) }
+    ensures kept { B.kept leaves.new ≡ B.kept leaves.old }
+    ensures whole { OnOk result (B.whole leaves.old → B.whole leaves.new) }
+    ensures kept_whole { B.kept_whole leaves.old ↔ B.kept_whole leaves.new }
+    ensures limit { B.limit leaves.new ≡ B.limit leaves.old }
+    ensures silent { Silent (B.content leaves.old) (B.content leaves.new) }
+    ensures cause { HasStopCause (B.faults leaves.old) (B.faults leaves.new) (B.whole leaves.old) result }
+    ensures full { B.whole leaves.old → IsErrOf result Stop.Full → IsCrowded (B.limit leaves.old) (B.working leaves.old) }
+{
+    for leaf in 0..owners.0.len() {
+        if owners.0[leaf] == file {
+            leaves.reorganize(alloc, leaf as u32)?;
+        }
+    }
+    Ok(())
 }
