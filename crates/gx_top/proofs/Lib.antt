@@ -1,8 +1,6 @@
 mod WordLemmas
 mod SayLemmas
 mod LineLemmas
-mod StorableLemmas
-mod SchemaLemmas
 mod RequestLemmas
 mod PlayLemmas
 mod TryLemmas

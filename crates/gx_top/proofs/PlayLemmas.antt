@@ -12,7 +12,7 @@ use Rattle.gx_script.specs.declared.command.LineWhy.TheVariants as why
 use Rattle.gx_script.specs.Commands.{place_reason}
 use Rattle.gx_script.specs.Lines.{Lines, Parts, with_line, no_lines, with_byte, parts_of, without_cr, last_line, up_to_limit, lines_within, longest_line, longest_script, script_lines, stopped as stopped_lines}
 use Rattle.gx_script.specs.Reading.{IsReading}
-use Rattle.gx_ports.specs.LeafMaps.{LeafMap, Limits, IsCrowded}
+use Rattle.gx_ports.specs.LeafMaps.{LeafMap, Limits, IsCrowdedBy}
 use Rattle.gx_ports.specs.declared.stop.Stop.{Stop}
 use Rattle.gx_model.specs.Play.{Playing, End, stopped, end_at, is_inside, next_of, IsAnswered, IsPlayed, IsPlacedLine}
 use Rattle.gx_engine.specs.declared.engine.Engine.{Engine}
@@ -186,7 +186,7 @@ rose_since before mid now le rose = omega (arith, rose)
 
 pub cause_since : (limit start : Option Limits) (before mid now : ℕ) (why : Stop) → limit ≡ start → before ≤ mid → HasPlayCause limit mid now why → HasPlayCause start before now why
 cause_since limit start before mid now stop.Fault limit_is le cause = rose_since before mid now le cause
-cause_since limit start before mid now stop.Full limit_is le cause = (cause.0, subst (λ l. IsCrowded l cause.0) limit_is cause.1)
+cause_since limit start before mid now stop.Full limit_is le cause = (cause.0, subst (λ l. IsCrowdedBy l cause.0) limit_is cause.1)
 cause_since limit start before mid now stop.NoMemory limit_is le cause = tt
 cause_since limit start before mid now (stop.Damaged block) limit_is le cause = absurd cause
 

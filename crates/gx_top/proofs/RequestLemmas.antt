@@ -37,15 +37,24 @@ unaccepted words texts before now a s e ending.Fault asked h = absurd h
 
 -- accepted texts that can't be carried out
 pub unbuilt : (words : List (List ℕ)) (texts : Texts) (before now : ℕ) (a : Action) (s e : List ℕ) (schema : Schema) (ds : List DefinitionTree) (typing : Typing) (why : Ending) → IsAsked words texts a s e → AreAccepted s e schema ds typing → IsUnbuilt a schema ds why → IsUnprepared words texts before now why
-unbuilt words texts before now a s e schema ds typing why asked is un =
-    subst (IsUnprepared words texts before now) (sym un.why_is)
-    (inl (schema, ds, typing, (s, e, subst (λ b. IsAsked words texts b s e) un.try asked, is), un.unbuilt))
+unbuilt words texts before now a s e schema ds typing ending.NotBuilt asked is un = inl (schema, ds, typing, (s, e, subst (λ b. IsAsked words texts b s e) un.0 asked, is), un.1)
+unbuilt words texts before now a s e schema ds typing ending.NoMemory asked is un = inr tt
+unbuilt words texts before now a s e schema ds typing (ending.Schema line reason) asked is un = absurd un
+unbuilt words texts before now a s e schema ds typing (ending.Equation line reason) asked is un = absurd un
+unbuilt words texts before now a s e schema ds typing (ending.Type line reason) asked is un = absurd un
+unbuilt words texts before now a s e schema ds typing ending.TextsTooLong asked is un = absurd un
+unbuilt words texts before now a s e schema ds typing (ending.Accepted summary) asked is un = absurd un
+unbuilt words texts before now a s e schema ds typing ending.Words asked is un = absurd un
+unbuilt words texts before now a s e schema ds typing (ending.Missing name) asked is un = absurd un
+unbuilt words texts before now a s e schema ds typing (ending.TooLong name) asked is un = absurd un
+unbuilt words texts before now a s e schema ds typing (ending.Line number reason) asked is un = absurd un
+unbuilt words texts before now a s e schema ds typing ending.Fault asked is un = absurd un
 
 pub prepared_for : (words : List (List ℕ)) (texts : Texts) (a : Action) (s e : List ℕ) (schema : Schema) (ds : List DefinitionTree) (typing : Typing) (p : Prepared) → IsAsked words texts a s e → AreAccepted s e schema ds typing → IsPreparedFor a schema ds typing p → IsPrepared words texts p
 prepared_for words texts action.Check s e schema ds typing (prepared.Check summary) asked is for = (schema, ds, typing, (s, e, asked, is), for)
-prepared_for words texts action.Check s e schema ds typing (prepared.Try played) asked is for = absurd for
+prepared_for words texts action.Check s e schema ds typing (prepared.Try played built) asked is for = absurd for
 prepared_for words texts action.Try s e schema ds typing (prepared.Check summary) asked is for = absurd for
-prepared_for words texts action.Try s e schema ds typing (prepared.Try played) asked is (same, built) = (ds, typing, (s, e, asked, subst (λ k. AreAccepted s e k ds typing) (sym same) is), subst (λ k. is_built k ds ≡ true) (sym same) built)
+prepared_for words texts action.Try s e schema ds typing (prepared.Try played nodes) asked is (same, built, trees) = (ds, typing, (s, e, asked, subst (λ k. AreAccepted s e k ds typing) (sym same) is), subst (λ k. is_built k ds ≡ true) (sym same) built)
 
 -- the same for what a call answers
 pub all_prepared : (words : List (List ℕ)) (texts : Texts) (a : Action) (s e : List ℕ) (schema : Schema) (ds : List DefinitionTree) (typing : Typing) (result : Result Prepared Ending) → IsAsked words texts a s e → AreAccepted s e schema ds typing → IfOk result (IsPreparedFor a schema ds typing) → IfOk result (IsPrepared words texts)

@@ -28,6 +28,7 @@ same_again working kept whole kept_whole limit a b c p q = record {
   kept_whole_stays = λ w. q.kept_whole_stays (p.kept_whole_stays w);
   limit_is = q.limit_is ∙ p.limit_is;
   schema_is = q.schema_is ∙ p.schema_is;
+  built_is = q.built_is ∙ p.built_is;
   inside_is = q.inside_is ∙ p.inside_is;
   commits_is = q.commits_is ∙ p.commits_is;
   stop_is = q.stop_is ∙ p.stop_is;

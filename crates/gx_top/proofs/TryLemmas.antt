@@ -5,7 +5,7 @@ use Rattle.std.proofs.lemmas.Bool.Decides.{nat_tests}
 use Rattle.std.proofs.Math.Seq.{take-append-add}
 use Rattle.gx_device.specs.Content.{Texts}
 use Rattle.gx_device.specs.Faults.{Rose}
-use Rattle.gx_ports.specs.LeafMaps.{Limits, IsCrowded}
+use Rattle.gx_ports.specs.LeafMaps.{Limits, IsCrowdedBy}
 use Rattle.gx_script.specs.declared.command.Command.{Command}
 use Rattle.gx_script.specs.declared.command.LineWhy.TheVariants as why
 use Rattle.gx_script.specs.Commands.{place_reason}
@@ -28,7 +28,6 @@ use Rattle.gx_script.specs.Lines.{Lines, parts_of, up_to_limit, with_line, witho
 use Rattle.gx_script.proofs.LineLaws.{enough_lines}
 use Rattle.gx_model.specs.States.{Link, IsRowOf, empty_state, file_in}
 use Rattle.gx_model.specs.Play.{Playing, End, good, stopped, end_at, is_inside, next_of, start_at, IsPlacedLine, IsPlayedLine, IsPlayed, IsPlay}
-use Rattle.gx_engine.specs.Internal.{IsInternal, AreInternal, entry_of_row}
 use Rattle.gx_top.specs.declared.ending.Ending.{Ending}
 use Rattle.gx_top.specs.declared.ending.Ending.TheVariants as ending
 use Rattle.gx_top.specs.declared.play.PlayEnd.{PlayEnd}
@@ -55,34 +54,6 @@ heard_by_end script left heard front (inr long) = heard_long heard left long ∙
 
 heard_lines : (script left heard : List ℕ) → IsHeard script left heard → script_lines heard ≡ script_lines script
 heard_lines script left heard is = heard_by_end script left heard is.front is.end
-
--- leaves with empty maps stand for the empty state
-no_length : {A : Type 0} (xs : List A) → length xs ≡ 0 → xs ≡ []
-no_length [] e = refl
-no_length (x ∷ xs) e = absurd (omega arith)
-
-no_entries : {K : Type 0} (R : K → K → Ordering) (X : Type 0) → fin.entries (fin.empty {X = X} {R = R}) ≡ []
-no_entries R X = no_length _ (sym (fin.len-entries (fin.empty {X = X} {R = R})) ∙ fin.len-empty R X)
-
-empty_internal : (file : FileDef) → IsInternal file fin.empty fin.empty
-empty_internal file = record {
-  fit = subst (AllByRecursion (IsRowOf file)) (sym (no_entries value_cmp (List Value))) tt;
-  same = no_entries (slice_cmp nat_cmp) (List ℕ) ∙ sym (ap (map entry_of_row) (no_entries value_cmp (List Value)));
-}
-
-no_links : (links : List LinkDef) → links ≡ [] → ◌≡◌ {A = List Link} (replicate (length links) fin.empty) []
-no_links links none = ap (λ ls. replicate (length ls) fin.empty) none
-
-pub start_state : (schema : Schema) (count : ℕ) → count ≡ length schema.files → schema.links ≡ [] → AreInternal schema (replicate count fin.empty) (empty_state schema)
-start_state schema count many none = record {
-  maps_many = length-replicate count fin.empty ∙ many;
-  files_many = length-replicate (length schema.files) fin.empty;
-  links_none = no_links schema.links none;
-  each = λ i lt.
-      subst (λ m. IsInternal (file_at schema i) m (file_in (empty_state schema) i)) (sym (get_or-replicate count i fin.empty fin.empty (omega (arith, many))))
-      (subst (λ f. IsInternal (file_at schema i) fin.empty f) (sym (get_or-replicate (length schema.files) i fin.empty fin.empty lt))
-      (empty_internal (file_at schema i)));
-}
 
 -- the play of what was heard is the play of the script
 played_out : (schema : Schema) (old mid new : Content) (left heard : List ℕ) (end : End) → mid.now.said ≡ old.now.said → IsHeard old.script left heard → IsPlayedUp schema (start_at (empty_state schema)) (script_lines heard) mid new end → IsPlayedOut schema old new end
@@ -237,7 +208,7 @@ fault_cause limit before now (Err (play_end.Stop stop.NoMemory)) result none is 
 fault_cause limit before now (Err (play_end.Stop stop.Fault)) result none is e cause = cause stop.Fault refl
 fault_cause limit before now (Err (play_end.Stop stop.Full)) result none is e cause =
     let full = cause stop.Full refl in
-    absurd (subst (λ l. IsCrowded l full.0) none full.1)
+    absurd (subst (λ l. IsCrowdedBy l full.0) none full.1)
 fault_cause limit before now (Err (play_end.Stop (stop.Damaged block))) result none is e cause = absurd (cause (stop.Damaged block) refl)
 
 pub rose_before : (start before now end : ℕ) → start ≤ before → now ≡ end → Rose before now → Rose start end

@@ -8,7 +8,7 @@ use Rattle.gx_script.specs.declared.command.LineWhy.{LineWhy}
 use Rattle.gx_script.specs.Commands.{place_reason}
 use Rattle.gx_script.specs.Lines.{Lines, stopped as stopped_lines}
 use Rattle.gx_script.specs.Reading.{IsReading}
-use Rattle.gx_ports.specs.LeafMaps.{LeafMap, Limits, IsCrowded}
+use Rattle.gx_ports.specs.LeafMaps.{LeafMap, Limits, IsCrowdedBy}
 use Rattle.gx_ports.specs.declared.stop.Stop.{Stop}
 use Rattle.gx_ports.specs.declared.stop.Stop.TheVariants as stop
 use Rattle.gx_model.specs.Play.{Playing, End, good, stopped, is_inside, next_of, IsAnswered, IsPlayed}
@@ -54,7 +54,7 @@ IsLineCut schema p line old new = (new.now.said ≡ old.now.said) ⊎ ((command 
 abbrev pub HasPlayCause : Option Limits → ℕ → ℕ → Stop → Type 0
 HasPlayCause limit before now stop.NoMemory = Unit {0}
 HasPlayCause limit before now stop.Fault = Rose before now
-HasPlayCause limit before now stop.Full = (maps : List LeafMap) × IsCrowded limit maps
+HasPlayCause limit before now stop.Full = (needed : ℕ) × IsCrowdedBy limit needed
 HasPlayCause limit before now (stop.Damaged block) = ⊥
 
 -- ---- the play of lines

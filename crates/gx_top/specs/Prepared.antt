@@ -1,11 +1,12 @@
 -- The steps before a script is played.
-use Rattle.std.specs.Prelude.{◌≡◌, ℕ, List, true, false, Err}
+use Rattle.std.specs.Prelude.{◌≡◌, ℕ, List, length, true, false, Err}
 use Rattle.gx_tokens.specs.declared.why.Unread.TheVariants as unread
 use Rattle.gx_schema.specs.declared.schema.Schema.{Schema}
 use Rattle.gx_schema.specs.Reading.{schema_of}
 use Rattle.gx_schema.specs.WellFormed.{IsWellFormed}
 use Rattle.gx_equation.specs.Trees.{DefinitionTree}
-use Rattle.gx_engine.specs.Internal.{AreStorable}
+use Rattle.gx_engine.specs.Steps.{AreFor}
+use Rattle.gx_types.specs.Build.{AreTreesOfFiles}
 use Rattle.gx_types.specs.declared.typing.Typing.{Typing}
 use Rattle.gx_types.specs.Whole.{typing_of}
 use Rattle.gx_top.specs.declared.ending.Ending.{Ending}
@@ -39,16 +40,16 @@ IsUntyped schema ds lines _ = ⊥
 -- what is to be done with accepted texts
 abbrev pub IsPreparedFor : Action → Schema → List DefinitionTree → Typing → Prepared → Type 0
 IsPreparedFor action.Check schema ds typing (prepared.Check summary) = summary ≡ summary_of typing.specs
-IsPreparedFor action.Try schema ds typing (prepared.Try played) = (played ≡ schema) × (is_built schema ds ≡ true)
+IsPreparedFor action.Try schema ds typing (prepared.Try played built) = (played ≡ schema) × (is_built schema ds ≡ true) × AreTreesOfFiles 0 schema.files ds built.files
 IsPreparedFor _ schema ds typing _ = ⊥
 
 -- or why nothing is to be done
-pub record IsUnbuilt (a : Action) (schema : Schema) (ds : List DefinitionTree) (why : Ending) : Type 0 where
-  pub try : a ≡ action.Try
-  pub why_is : why ≡ ending.NotBuilt
-  pub unbuilt : is_built schema ds ≡ false
+abbrev pub IsUnbuilt : Action → Schema → List DefinitionTree → Ending → Type 0
+IsUnbuilt a schema ds ending.NotBuilt = (a ≡ action.Try) × (is_built schema ds ≡ false)
+IsUnbuilt a schema ds ending.NoMemory = Unit {0}
+IsUnbuilt a schema ds why = ⊥
 
--- a script can be played on the schema
+-- a script can be played on the schema as it is built
 abbrev pub CanPlay : Prepared → Type 0
 CanPlay (prepared.Check summary) = Unit {0}
-CanPlay (prepared.Try schema) = AreStorable schema × IsWellFormed schema
+CanPlay (prepared.Try schema built) = AreFor schema built (length built.specs) × IsWellFormed schema

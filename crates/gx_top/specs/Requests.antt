@@ -103,7 +103,7 @@ IsRunnable words texts schema = (ds : List DefinitionTree) × (typing : Typing) 
 -- what is to be done
 abbrev pub IsPrepared : List (List ℕ) → Texts → Prepared → Type 0
 IsPrepared words texts (prepared.Check summary) = (schema : Schema) × (ds : List DefinitionTree) × (typing : Typing) × IsAccepted words texts action.Check schema ds typing × (summary ≡ summary_of typing.specs)
-IsPrepared words texts (prepared.Try schema) = IsRunnable words texts schema
+IsPrepared words texts (prepared.Try schema built) = IsRunnable words texts schema
 
 -- why a request is refused: the first reason in the order of words, texts, schema, equation, types, lengths, and what is built
 abbrev pub IsRefused : List (List ℕ) → Texts → Ending → Type 0

@@ -1,5 +1,5 @@
 // What comes before a script is played: the texts, and what the checker says of them.
-ghost use Rattle.std.specs.Prelude.{◌≡◌, ◌≤◌, ◌<◌, length, List, ℕ, IsTrue, Ok, IfOk, IfErr, IsErrOf};
+ghost use Rattle.std.specs.Prelude.{◌≡◌, ◌≤◌, ◌<◌, length, List, ℕ, true, IsTrue, Ok, IfOk, IfErr, IsErrOf};
 ghost use Rattle.gx_device.specs.Content.{SameContent};
 ghost use Rattle.gx_device.specs.Faults.{Rose};
 ghost use Rattle.gx_schema.specs.Grammar.{IsSchemaText};
@@ -7,7 +7,8 @@ ghost use Rattle.gx_schema.specs.Rules.{IsSchema};
 ghost use Rattle.gx_schema.specs.WellFormed.{IsWellFormed};
 ghost use Rattle.gx_equation.specs.Grammar.{Means};
 ghost use Rattle.gx_equation.specs.Seen.{definitions_of};
-ghost use Rattle.gx_engine.specs.Internal.{AreStorable};
+ghost use Rattle.gx_types.specs.Build.{heads_built, AreTreesOfFiles};
+ghost use Rattle.gx_types.specs.Nodes.{AreNodes};
 ghost use Rattle.gx_types.specs.Typed.{IsTyped, leaves, typing_with};
 ghost use Rattle.gx_top.specs.Words.{texts_of};
 ghost use Rattle.gx_top.specs.Built.{is_built};
@@ -22,7 +23,7 @@ use crate::words::{Action, read_words};
 use gx_device::Machine;
 use gx_equation::{Equation, read_equation};
 use gx_schema::{Schema, Unread, read_schema};
-use gx_types::{Typing, Unbuilt, typed};
+use gx_types::{Built, Typing, Unbuilt, build, typed};
 use std::alloc::Global;
 
 /// What is to be done where the texts are accepted.
@@ -30,8 +31,8 @@ use std::alloc::Global;
 pub enum Prepared {
     /// To say what leaves there are.
     Check(Summary),
-    /// To play the script over leaves in memory.
-    Try(Schema),
+    /// To play the script over leaves in memory, which store the files of the schema as they are built.
+    Try(Schema, Built),
 }
 
 // What two accepted texts give.
@@ -63,7 +64,7 @@ pub fn prepare<'a, M: Machine>(
     let schema_text = fetch_text(alloc, request.schema, machine)?;
     let equation_text = fetch_text(alloc, request.equation, machine)?;
     let checked = check_texts(alloc, &schema_text, &equation_text)?;
-    carried_out(request.action, checked)
+    carried_out(alloc, request.action, checked)
 }
 
 // What the checker says of two texts.
@@ -133,7 +134,7 @@ fn typing_from<'a>(
 }
 
 // What is to be done with accepted texts.
-fn carried_out<'a>(action: Action, checked: Checked) -> Result<Prepared, Ending<'a>>
+fn carried_out<'a>(alloc: Global, action: Action, checked: Checked) -> Result<Prepared, Ending<'a>>
     requires rules { IsSchema checked.schema }
     requires well_formed { IsWellFormed checked.schema }
     requires typed { IsTyped checked.schema (definitions_of checked.equation.definitions) }
@@ -148,7 +149,25 @@ fn carried_out<'a>(action: Action, checked: Checked) -> Result<Prepared, Ending<
             if !is_built(&checked.schema, &checked.equation) {
                 return Err(Ending::NotBuilt);
             }
-            Ok(Prepared::Try(checked.schema))
+            let built = built_from(alloc, &checked.schema, &checked.equation)?;
+            Ok(Prepared::Try(checked.schema, built))
         }
+    }
+}
+
+// The nodes and leaves of an equation that was typed before.
+fn built_from<'a>(alloc: Global, schema: &Schema, equation: &Equation) -> Result<Built, Ending<'a>>
+    requires schema { IsSchema schema.now }
+    requires typed { IsTyped schema.now (definitions_of equation.now.definitions) }
+    requires built { heads_built (definitions_of equation.now.definitions) ≡ true }
+    ensures trees { IfOk result (λ built. AreTreesOfFiles 0 schema.now.files (definitions_of equation.now.definitions) built.files) }
+    ensures nodes { IfOk result (λ built. AreNodes schema.now built.files (length built.specs)) }
+    ensures owned { IfOk result (λ built. length built.owners ≡ length built.specs) }
+    ensures few { IfOk result (λ built. length built.specs ≤ 255) }
+    ensures cause { IfErr result (λ ending. ending ≡ Ending.NoMemory) }
+{
+    match build(alloc, schema, equation) {
+        Ok(built) => Ok(built),
+        Err(_) => Err(Ending::NoMemory),
     }
 }

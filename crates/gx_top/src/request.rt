@@ -3,7 +3,7 @@ ghost use Rattle.std.specs.Prelude.{◌≡◌, ◌≢◌, ◌⊎◌, ◌≤◌, 
 ghost use Rattle.gx_device.specs.Faults.{Rose};
 ghost use Rattle.gx_schema.specs.WellFormed.{IsWellFormed};
 ghost use Rattle.gx_model.specs.Play.{good};
-ghost use Rattle.gx_engine.specs.Internal.{AreStorable};
+ghost use Rattle.gx_engine.specs.Steps.{AreFor};
 ghost use Rattle.gx_top.specs.Words.{texts_of};
 ghost use Rattle.gx_top.specs.Endings.{status_of};
 ghost use Rattle.gx_top.specs.Requests.{IsRefused};
@@ -18,6 +18,7 @@ use gx_device::Machine;
 use gx_engine::Engine;
 use gx_ports::{PlainLeaves, Stop};
 use gx_schema::Schema;
+use gx_types::Built;
 use gx_values::NoMemory;
 use std::alloc::Global;
 
@@ -55,7 +56,7 @@ pub fn top<M: Machine + Drop>(alloc: Global, words: &[String], machine: M) -> (S
 {
     let mut machine = machine;
     match prepare(alloc, words, &mut machine) {
-        Ok(Prepared::Try(schema)) => try_script(alloc, schema, machine),
+        Ok(Prepared::Try(schema, built)) => try_script(alloc, schema, built, machine),
         Ok(Prepared::Check(summary)) => {
             let status = end(alloc, Ending::Accepted(summary), &mut machine);
             (status, machine)
@@ -68,8 +69,13 @@ pub fn top<M: Machine + Drop>(alloc: Global, words: &[String], machine: M) -> (S
 }
 
 // Plays the script, and says why it ends early.
-fn try_script<M: Machine + Drop>(alloc: Global, schema: Schema, machine: M) -> (Status, M)
-    requires storable { AreStorable schema }
+fn try_script<M: Machine + Drop>(
+    alloc: Global,
+    schema: Schema,
+    built: Built,
+    machine: M,
+) -> (Status, M)
+    requires built { AreFor schema built (length built.specs) }
     requires well_formed { IsWellFormed schema }
     ensures done { IsTrue M.tells → result.0 ≡ Status.Done → Says (IsPlayText schema (M.content machine).script good) (M.content machine) (M.content result.1) }
     ensures heard { IsTrue M.tells → result.0 ≡ Status.Done → (M.content result.1).script ≡ [] }
@@ -80,7 +86,7 @@ fn try_script<M: Machine + Drop>(alloc: Global, schema: Schema, machine: M) -> (
     ensures played { result.0 ≢ Status.Refused }
     ensures later { M.faults machine ≤ M.faults result.1 }
 {
-    let (played, mut machine) = play_script(alloc, schema, machine);
+    let (played, mut machine) = play_script(alloc, schema, built, machine);
     match played {
         Ok(()) => (Status::Done, machine),
         Err(ending) => {
@@ -94,9 +100,10 @@ fn try_script<M: Machine + Drop>(alloc: Global, schema: Schema, machine: M) -> (
 fn play_script<'a, M: Machine + Drop>(
     alloc: Global,
     schema: Schema,
+    built: Built,
     machine: M,
 ) -> (Result<(), Ending<'a>>, M)
-    requires storable { AreStorable schema }
+    requires built { AreFor schema built (length built.specs) }
     requires well_formed { IsWellFormed schema }
     ensures answered { IsTrue M.tells → IsPlayedAs schema (M.content machine) (M.content result.1) result.0 }
     ensures heard { IsTrue M.tells → result.0 ≡ Ok tt → (M.content result.1).script ≡ [] }
@@ -109,10 +116,10 @@ fn play_script<'a, M: Machine + Drop>(
         Ok(script) => script,
         Err(ending) => return (Err(ending), machine),
     };
-    let count = schema.files.as_slice().len() as u32;
+    let count = built.specs.0.len() as u32;
     match PlainLeaves::make(alloc, machine, count) {
         Ok(leaves) => {
-            let mut engine = Engine::start(schema, leaves);
+            let mut engine = Engine::start(schema, built, leaves);
             let played = play(alloc, &script, &mut engine);
             (ended(played), engine.into_leaves().into_device())
         }

@@ -169,7 +169,7 @@ fn requests_are_refused(rt: HostRuntime) -> Result<(), Fail> {
         let mut machine = machine(alloc, SCRIPT)?;
         machine.add_text(alloc, "keyed", b"file f (k text 101)\n")?;
         machine.add_text(alloc, "linked", b"file f (k int)\nlink l (f, f)\n")?;
-        machine.add_text(alloc, "E2", b"f = actual(bplus)\n")?;
+        machine.add_text(alloc, "E2", b"f = encode(t rle, actual(heap))\n")?;
         machine.add_text(
             alloc,
             "wide",

@@ -7,7 +7,8 @@ use Rattle.gx_top.specs.Plays.{IsPlayedTo}
 use Rattle.gx_top.specs.Requests.{IsHeard}
 use Rattle.gx_top.specs.Tries.{IsPlayedAs}
 use Rattle.gx_top.specs.declared.ending.Ending.TheVariants as ending
-use Rattle.gx_top.proofs.TryLemmas.{start_state, played_as, unheard, heard_to_end, fault_cause, rose_before}
+use Rattle.gx_engine.proofs.StartLemmas.{start_state}
+use Rattle.gx_top.proofs.TryLemmas.{played_as, unheard, heard_to_end, fault_cause, rose_before}
 use Rattle.gx_top.proofs.request.play_script.Goals as goal
 
 -- src/request.rt:101:24
@@ -21,7 +22,7 @@ returns-clause-answered g c = λ told. unheard c.args.schema (g.M.Device.content
 -- src/request.rt:73:1
 pub returns-in-Ok-make-clause-answered : goal.returns-in-Ok-make-clause-answered
 returns-in-Ok-make-clause-answered g c = λ told.
-    let internal = subst (λ w. AreInternal c.args.schema w (empty_state c.args.schema)) (sym c.in-Ok-make.ensures.working) (start_state c.args.schema _ (search rules) c.requires.storable.links) in
+    let internal = subst (λ w. AreInternal c.args.schema c.args.built.files w (empty_state c.args.schema)) (sym c.in-Ok-make.ensures.working) (start_state c.args.schema c.args.built _ _ c.requires.built) in
     let stands = c.start-engine.ensures.stands (empty_state c.args.schema) internal (c.in-Ok-make.ensures.kept ∙ sym c.in-Ok-make.ensures.working) in
     let to = c.play-played.ensures.played told (start_at (empty_state c.args.schema)) (record { stands = stands; whole_is = tt; kept_whole_is = tt }) in
     subst (λ m. IsPlayedAs c.args.schema (g.M.Device.content c.args.machine) (g.M.Device.content m) c.ended.result) (sym (c.into_device.ensures ∙ ap (λ l. l.device) c.into_leaves.ensures))
@@ -34,7 +35,7 @@ returns-in-Ok-make-clause-answered g c = λ told.
 -- src/request.rt:97:1
 pub returns-in-Ok-make-clause-heard : goal.returns-in-Ok-make-clause-heard
 returns-in-Ok-make-clause-heard g c = λ told e.
-    let internal = subst (λ w. AreInternal c.args.schema w (empty_state c.args.schema)) (sym c.in-Ok-make.ensures.working) (start_state c.args.schema _ (search rules) c.requires.storable.links) in
+    let internal = subst (λ w. AreInternal c.args.schema c.args.built.files w (empty_state c.args.schema)) (sym c.in-Ok-make.ensures.working) (start_state c.args.schema c.args.built _ _ c.requires.built) in
     let stands = c.start-engine.ensures.stands (empty_state c.args.schema) internal (c.in-Ok-make.ensures.kept ∙ sym c.in-Ok-make.ensures.working) in
     let to = c.play-played.ensures.played told (start_at (empty_state c.args.schema)) (record { stands = stands; whole_is = tt; kept_whole_is = tt }) in
     ap (λ m. (g.M.Device.content m).script) (c.into_device.ensures ∙ ap (λ l. l.device) c.into_leaves.ensures)
@@ -50,7 +51,7 @@ returns-in-Ok-make-clause-heard g c = λ told e.
 -- src/request.rt:97:1
 pub returns-in-Ok-make-clause-fault : goal.returns-in-Ok-make-clause-fault
 returns-in-Ok-make-clause-fault g c = λ e.
-    let internal = subst (λ w. AreInternal c.args.schema w (empty_state c.args.schema)) (sym c.in-Ok-make.ensures.working) (start_state c.args.schema _ (search rules) c.requires.storable.links) in
+    let internal = subst (λ w. AreInternal c.args.schema c.args.built.files w (empty_state c.args.schema)) (sym c.in-Ok-make.ensures.working) (start_state c.args.schema c.args.built _ _ c.requires.built) in
     let stands = c.start-engine.ensures.stands (empty_state c.args.schema) internal (c.in-Ok-make.ensures.kept ∙ sym c.in-Ok-make.ensures.working) in
     rose_before (g.M.Device.faults c.args.machine) (g.M.Device.faults c.start-engine.result.leaves.device) (g.M.Device.faults c.play-played.new.engine.leaves.device) (g.M.Device.faults c.into_device.result)
     (omega (arith, c.in-Ok.ensures.later, ap (λ l. g.M.Device.faults l.device) c.start-engine.ensures.leaves ∙ ap g.M.Device.faults c.in-Ok-make.ensures.device))
