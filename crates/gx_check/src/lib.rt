@@ -3,3 +3,5 @@
 
 #[cfg(test)]
 mod plays;
+#[cfg(test)]
+mod structures;

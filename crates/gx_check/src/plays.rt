@@ -9,7 +9,13 @@ use std::test::Fail;
 const FILES: &[u8] =
     b"file dept (dno int, dname text 12)\nfile emp (eno int, name text 24, pay int, room text 8)\nfile word (w text 6, n int)\n";
 
-const EQUATION: &[u8] = b"dept = actual(heap)\nemp = actual(heap)\nword = actual(heap)\n";
+// Equations that store the same records in other ways: by kinds of leaves, by parts, and by layers one below the other.
+const EQUATIONS: [&str; 4] = [
+    "dept = actual(heap)\nemp = actual(heap)\nword = actual(heap)\n",
+    "dept = actual(bplus)\nemp = actual(hash(8))\nword = actual(isam)\n",
+    "dept = partition(dno 2 5, actual(heap), actual(bplus), actual(isam))\nemp = partition(pay 0 10, actual(heap), actual(hash(2)), actual(heap))\nword = partition(w \"a\" \"b\", actual(heap), actual(heap), actual(heap))\n",
+    "dept = actual(partition(dno 2 5, heap, bplus, isam))\nemp = partition(eno 6, partition(pay 0, actual(heap), actual(heap)), partition(room \"8\", actual(heap), actual(actual(heap))))\nword = actual(actual(heap))\n",
+];
 
 const LINKED: &[u8] =
     b"file dept (dno int, dname text 12)\nfile emp (eno int, name text 24, pay int, room text 8)\nlink works (dept, emp)\nlink boss (emp, emp)\n";
@@ -20,10 +26,10 @@ fn plain(alloc: Global, schema: &[u8], script: &[u8]) -> Result<Vec<u8>, Fail> {
     Ok(text.0)
 }
 
-fn tried(alloc: Global, script: &[u8]) -> Result<MemoryMachine, Fail> {
+fn tried(alloc: Global, equation: &str, script: &[u8]) -> Result<MemoryMachine, Fail> {
     let mut machine = MemoryMachine::new(alloc)?;
     machine.add_text(alloc, "S", FILES)?;
-    machine.add_text(alloc, "E", EQUATION)?;
+    machine.add_text(alloc, "E", equation.as_bytes())?;
     machine.set_script(alloc, script)?;
     machine.reserve(alloc, 1000, 20000)?;
     let mut words = Vec::new(alloc);
@@ -80,11 +86,11 @@ fn plain_plays_are_right(rt: HostRuntime) -> Result<(), Fail> {
     Ok(())
 }
 
-// Every command on records, every refusal, every order, and every end.
+// Every command on records, every refusal, every order, and every end, and records that move between parts.
 #[test]
 fn the_program_says_what_the_plain_one_does(rt: HostRuntime) -> Result<(), Fail> {
     let alloc = rt.alloc();
-    let scripts: [&[u8]; 26] = [
+    let scripts: [&[u8]; 28] = [
         b"",
         b"\n# x\n \t\nget dept -0\nget word \"\"\nfind emp\nfind word order n desc",
         b"begin\r\ninsert dept 7 \"a\"\"b\"\r\ninsert dept -3 \"\"\nget dept 7\ncommit\nget dept -3\nfind dept\n",
@@ -111,10 +117,15 @@ fn the_program_says_what_the_plain_one_does(rt: HostRuntime) -> Result<(), Fail>
         b"begin\ninsert dept 1 \"a\"\nupdate dept 1 dno 2\n",
         b"begin\ninsert dept 1 \"a\"\ninsert dept 2 \"thirteen byte\"\n",
         b"get dept 1\nget word \"a\x01\"\n",
+        b"begin\ninsert dept 6 \"f\"\ninsert dept 1 \"a\"\ninsert dept 5 \"b\"\ninsert dept 2 \"b\"\ninsert dept 4 \"\"\ninsert dept 2 \"c\"\nfind dept\nfind dept where dno >= 2 and dno < 5\nfind dept where dname = \"b\" order dno desc\ndelete dept 5\nget dept 5\nreorganize dept\nfind dept order dname\ncommit\n",
+        b"begin\ninsert emp 7 \"g\" 0 \"8\"\ninsert emp 5 \"e\" -1 \"s\"\ninsert emp 6 \"f\" 10 \"\"\ninsert emp -1 \"n\" 9 \"7\"\nfind emp order pay\nupdate emp 5 pay 10\nupdate emp 7 room \"\" pay -5\nupdate emp 6 room \"9\"\ninsert emp 5 \"again\" 0 \"\"\nfind emp\nfind emp where pay >= 0 and pay < 10\nget emp 7\ncommit\nbegin\nupdate emp 5 pay -9\ndelete emp 6\nfind emp\nabort\nfind emp where room > \"7\"\n",
     ];
     for script in scripts.iter() {
-        let machine = tried(alloc, script)?;
-        assert_eq!(rt; machine.said(), plain(alloc, FILES, script)?.as_slice());
+        let text = plain(alloc, FILES, script)?;
+        for equation in EQUATIONS {
+            let machine = tried(alloc, equation, script)?;
+            assert_eq!(rt; machine.said(), text.as_slice(), "{equation}");
+        }
     }
     Ok(())
 }
@@ -132,20 +143,20 @@ fn commented(alloc: Global, letters: usize) -> Result<Vec<u8>, Fail> {
 fn long_lines_are_told_alike(rt: HostRuntime) -> Result<(), Fail> {
     let alloc = rt.alloc();
     let script = commented(alloc, 4095)?;
-    let machine = tried(alloc, &script)?;
+    let machine = tried(alloc, EQUATIONS[0], &script)?;
     assert_eq!(rt;
         machine.said(),
         b"begun\nok\ncommitted 1\ndept 1 \"a\"\n".as_slice()
     );
     assert_eq!(rt; machine.said(), plain(alloc, FILES, &script)?.as_slice());
     let script = commented(alloc, 4096)?;
-    let machine = tried(alloc, &script)?;
+    let machine = tried(alloc, EQUATIONS[0], &script)?;
     assert_eq!(rt;
         machine.said(),
         b"begun\nok\ncommitted 1\nstopped at line 4: too long\n".as_slice()
     );
     assert_eq!(rt; machine.said(), plain(alloc, FILES, &script)?.as_slice());
-    let machine = tried(alloc, b"get dept 1\nget word \"a")?;
+    let machine = tried(alloc, EQUATIONS[0], b"get dept 1\nget word \"a")?;
     assert_eq!(rt;
         machine.said(),
         b"none\nstopped at line 2: quote\n".as_slice()

@@ -1,0 +1,203 @@
+// What stands in the leaves after a script, beside entries that were worked out by hand.
+ghost use Rattle.std.specs.Prelude.{◌≡◌, length, IfOk};
+ghost use Rattle.gx_schema.specs.WellFormed.{IsWellFormed};
+ghost use Rattle.gx_ports.specs.Plain.{working_of};
+ghost use Rattle.gx_engine.specs.Steps.{AreFor, IsReady, schema_of};
+
+use gx_device::MemoryMachine;
+use gx_engine::Engine;
+use gx_equation::read_equation;
+use gx_ports::{Entries, Leaves, PlainLeaves};
+use gx_schema::{Schema, read_schema};
+use gx_script::{allowed, read_command};
+use gx_types::{Built, build, heads_built};
+use gx_values::{KeyBuf, Octets, Span};
+use std::alloc::Global;
+use std::process::Abort;
+use std::test::Fail;
+
+// A schema without links, and how its files are stored.
+fn built(
+    rt: &impl Abort,
+    alloc: Global,
+    schema: &[u8],
+    equation: &[u8],
+) -> Result<(Schema, Built), Fail>
+    ensures stored { IfOk result (λ texts. AreFor texts.0 texts.1 (length texts.1.specs)) }
+    ensures well_formed { IfOk result (λ texts. IsWellFormed texts.0) }
+{
+    assert!(rt; schema.len() < 100 && equation.len() < 100);
+    let schema = read_schema(alloc, schema)?;
+    let equation = read_equation(alloc, equation)?;
+    assert!(rt; schema.links.as_slice().is_empty());
+    assert!(rt; heads_built(&equation));
+    let built = build(alloc, &schema, &equation)?;
+    Ok((schema, built))
+}
+
+fn started(
+    rt: &impl Abort,
+    alloc: Global,
+    schema: &[u8],
+    equation: &[u8],
+) -> Result<Engine<PlainLeaves<MemoryMachine>>, Fail>
+    ensures ready { IfOk result (λ engine. IsReady working_of engine) }
+    ensures well_formed { IfOk result (λ engine. IsWellFormed (schema_of engine)) }
+{
+    let (schema, built) = built(rt, alloc, schema, equation)?;
+    let machine = MemoryMachine::new(alloc)?;
+    let count = built.specs.0.len() as u32;
+    match PlainLeaves::make(alloc, machine, count) {
+        Ok(leaves) => Ok(Engine::start(schema, built, leaves)),
+        Err((_, error)) => Err(error)?,
+    }
+}
+
+// Carries out the command of a line, and appends its answer.
+fn carry_out<B: Leaves + Drop>(
+    alloc: Global,
+    line: &[u8],
+    engine: &mut Engine<B>,
+    answers: &mut Octets,
+) -> Result<(), Fail>
+    requires ready { IsReady B.working engine.old }
+    requires well_formed { IsWellFormed (schema_of engine.old) }
+    ensures ready { IsReady B.working engine.new }
+    ensures schema { schema_of engine.new ≡ schema_of engine.old }
+{
+    let command = read_command(alloc, engine.schema(), line)?;
+    allowed(engine.inside(), &command)?;
+    engine.step(alloc, &command, answers)?;
+    Ok(())
+}
+
+// The answers of a script's lines.
+fn played<B: Leaves + Drop>(
+    alloc: Global,
+    script: &str,
+    engine: &mut Engine<B>,
+) -> Result<Octets, Fail>
+    requires ready { IsReady B.working engine.old }
+    requires well_formed { IsWellFormed (schema_of engine.old) }
+{
+    let mut answers = Octets(Vec::new(alloc));
+    for line in script.split('\n') {
+        carry_out(alloc, line.as_bytes(), engine, &mut answers)?;
+    }
+    Ok(answers)
+}
+
+// The bytes, each as two hexadecimal digits.
+fn digits(alloc: Global, bytes: &[u8]) -> Result<String, Fail> {
+    let mut text = String::new(alloc);
+    for byte in bytes {
+        text.push_str(format!(in alloc; "{byte:02x}")?.as_str())?;
+    }
+    Ok(text)
+}
+
+// Each entry of a leaf as a line: the number of the leaf, the key and the body.
+fn entries_text(alloc: Global, leaf: u32, entries: &Entries) -> Result<String, Fail> {
+    let mut text = String::new(alloc);
+    for index in 0..entries.len() {
+        let entry = entries.entry(index);
+        let key = digits(alloc, entry.key)?;
+        let body = digits(alloc, entry.body)?;
+        text.push_str(format!(in alloc; "{leaf} {key}={body}\n")?.as_str())?;
+    }
+    Ok(text)
+}
+
+// The entries of all leaves.
+fn leaves_text<B: Leaves>(alloc: Global, leaves: &mut B) -> Result<String, Fail> {
+    let mut text = String::new(alloc);
+    let all = Span {
+        lo: KeyBuf::from_slice(b""),
+        hi: KeyBuf::from_slice(b""),
+    };
+    for leaf in 0..leaves.leaves() {
+        let mut entries = Entries::new(alloc);
+        leaves.select(alloc, leaf, &all, &mut entries)?;
+        text.push_str(entries_text(alloc, leaf, &entries)?.as_str())?;
+    }
+    Ok(text)
+}
+
+// A script on one file that is stored by an equation, its answers, and the entries that there are after it.
+#[derive(Clone, Copy)]
+struct Case {
+    schema: &'static str,
+    equation: &'static str,
+    script: &'static str,
+    answers: &'static str,
+    entries: &'static str,
+}
+
+const CASES: [Case; 6] = [
+    // Parts by the key: each bound is the least key of its part.
+    Case {
+        schema: "file f (k int)",
+        equation: "f = partition(k 10 20, heap, heap, heap)",
+        script: "begin\ninsert f 19\ninsert f 20\ninsert f 9\ninsert f 10",
+        answers: "begun\nok\nok\nok\nok\n",
+        entries: "0 8000000000000009=\n1 800000000000000a=\n1 8000000000000013=\n2 8000000000000014=\n",
+    },
+    // Parts by another field: a record stands in one part at a time.
+    Case {
+        schema: "file f (k int, v int)",
+        equation: "f = partition(v 10, actual(heap), actual(heap))",
+        script: "begin\ninsert f 1 10",
+        answers: "begun\nok\n",
+        entries: "1 8000000000000001=000000000000000a\n",
+    },
+    Case {
+        schema: "file f (k int, v int)",
+        equation: "f = partition(v 10, actual(heap), actual(heap))",
+        script: "begin\ninsert f 1 10\nupdate f 1 v 9",
+        answers: "begun\nok\nok\n",
+        entries: "0 8000000000000001=0000000000000009\n",
+    },
+    Case {
+        schema: "file f (k int, v int)",
+        equation: "f = partition(v 10, actual(heap), actual(heap))",
+        script: "begin\ninsert f 1 10\nupdate f 1 v 9\ndelete f 1",
+        answers: "begun\nok\nok\nok\n",
+        entries: "",
+    },
+    // The key and a text, whose body has its length first.
+    Case {
+        schema: "file f (k int, t text 5)",
+        equation: "f = actual(heap)",
+        script: "begin\ninsert f 7 \"ann\"\nget f 7\nget f 8\ncommit",
+        answers: "begun\nok\nf 7 \"ann\"\nnone\ncommitted 1\n",
+        entries: "0 8000000000000007=03616e6e\n",
+    },
+    // A body within a body, whose length is in two bytes.
+    Case {
+        schema: "file f (k int, t text 5)",
+        equation: "f = actual(actual(heap))",
+        script: "begin\ninsert f 7 \"ann\"",
+        answers: "begun\nok\n",
+        entries: "0 8000000000000007=000403616e6e\n",
+    },
+];
+
+#[test]
+fn leaves_hold_the_parts_of_records(rt: HostRuntime) -> Result<(), Fail> {
+    let alloc = rt.alloc();
+    for case in CASES {
+        let (schema, equation) = (case.schema.as_bytes(), case.equation.as_bytes());
+        let mut engine = started(&rt, alloc, schema, equation)?;
+        let answers = played(alloc, case.script, &mut engine)?;
+        assert_eq!(rt;
+            answers.as_slice(),
+            case.answers.as_bytes(),
+            "{}",
+            case.script
+        );
+        let mut leaves = engine.into_leaves();
+        let entries = leaves_text(alloc, &mut leaves)?;
+        assert_eq!(rt; entries.as_str(), case.entries, "{}", case.script);
+    }
+    Ok(())
+}
