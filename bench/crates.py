@@ -1,9 +1,9 @@
-"""Measures single crates: crates.py FOLDER ROUNDS, where crates.sh built the programs in the folder."""
+"""Measures single crates: crates.py FOLDER ROUNDS [rows], where crates.sh built the programs in the folder. With rows it prints no heads of the table."""
 import pathlib
 import random
 import sys
 
-from measure import Job, measure, median, table
+from measure import Job, Work, heads, measure, median, row, show
 
 SCHEMA_BYTES = 16_380
 SCHEMAS = 10_000
@@ -38,16 +38,12 @@ def script_text():
 
 def rows(jobs):
     schema, lines = jobs["schema"], jobs["lines"]
-    yield [f"{SCHEMAS:,} schemas of {SCHEMA_BYTES:,} bytes read", *timed(schema), rate(schema, SCHEMAS * SCHEMA_BYTES / 1e6, "MB"), *[""] * 3]
-    yield [f"{LINES:,} lines of a script read", *timed(lines), rate(lines, LINES / 1e6, "million lines"), *[""] * 3]
+    yield row(f"{SCHEMAS:,} schemas of {SCHEMA_BYTES:,} bytes read", Work(schema), rate=rate(schema, SCHEMAS * SCHEMA_BYTES / 1e6, "MB"))
+    yield row(f"{LINES:,} lines of a script read", Work(lines), rate=rate(lines, LINES / 1e6, "million lines"))
     for name, count in SLOTS.items():
         title = f"{count:,} entries {'looked up' if name == 'find' else 'looked up and added'}, a page of 100"
         yield beside(title, jobs[f"slots {name}"], "plain Rust", jobs[f"plain {name}"], count)
     yield beside(f"{GETS:,} gets over 64 frames", jobs["frames"], "the crate lru", jobs["lru"], GETS)
-
-
-def timed(job):
-    return [f"{median(job.seconds):.3f}", f"{min(job.seconds):.3f}"]
 
 
 def rate(job, count, unit):
@@ -55,8 +51,7 @@ def rate(job, count, unit):
 
 
 def beside(title, job, peer, other, count):
-    ratio = median(job.seconds) / median(other.seconds)
-    return [title, *timed(job), rate(job, count / 1e6, "million"), peer, *timed(other), f"{ratio:.2f}"]
+    return row(title, Work(job), peer, Work(other), rate(job, count / 1e6, "million"))
 
 
 def main():
@@ -74,8 +69,7 @@ def main():
         jobs[f"slots {name}"] = Job(f"slots {name}", [program("slots"), name])
         jobs[f"plain {name}"] = Job(f"plain {name}", [str(folder / "slots_plain"), name])
     measure(jobs.values(), rounds)
-    heads = ["work", "median s", "least s", "rate", "beside", "median s", "least s", "ratio"]
-    table(heads, ([it or " " for it in row] for row in rows(jobs)))
+    show([*([] if sys.argv[3:] == ["rows"] else heads()), *rows(jobs)])
 
 
 main()

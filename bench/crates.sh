@@ -1,5 +1,5 @@
 #!/bin/sh
-# Measures single crates: crates.sh [ROUNDS]. It proves and builds the programs in programs/ with rt, in a folder outside the repository, since the
+# Measures single crates: crates.sh [ROUNDS [rows]]. It proves and builds the programs in programs/ with rt, in a folder outside the repository, since the
 # gate takes only the programs that crates.txt lists. What is built there stays for the next time.
 
 say() {
@@ -53,4 +53,4 @@ for name in schema lines slots frames lru; do
     build "$name"
 done
 rustc --edition 2021 -O "$bench/programs/slots.rs" -o "$folder/slots_plain" || exit
-python3 -B "$bench/crates.py" "$folder" "${1:-5}"
+python3 -B "$bench/crates.py" "$folder" "${1:-5}" ${2:+"$2"}

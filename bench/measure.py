@@ -9,6 +9,8 @@ import tempfile
 
 # Python's own memory would count as that of a program that it starts itself, so a smaller one starts it, where it is installed.
 TIME = shutil.which("time")
+FIGURES = ["median s", "least s", "peak MB"]
+HEADS = ["work", *FIGURES, "beside", *FIGURES, "ratio of medians", "ratio of leasts", "rate"]
 
 
 @dataclasses.dataclass
@@ -40,6 +42,27 @@ class Job:
         return f"{max(self.peaks) / 1e6:.1f}" if self.peaks else "not taken"
 
 
+@dataclasses.dataclass
+class Work:
+    """A job, without what another job takes that does the work before it."""
+
+    job: Job
+    before: Job = None
+
+    def seconds(self, of):
+        """The median or the least of the seconds."""
+        return of(self.job.seconds) - (of(self.before.seconds) if self.before else 0)
+
+    def figures(self):
+        return [*(f"{self.seconds(of):.3f}" for of in (median, min)), self.job.peak()]
+
+
+def row(title, ours, name="", theirs=None, rate=""):
+    """A row of the table: some work, and beside it that of another program or another way of this one."""
+    ratios = [f"{ours.seconds(of) / theirs.seconds(of):.2f}" for of in (median, min)] if theirs else [""] * 2
+    return [title, *ours.figures(), name, *(theirs.figures() if theirs else [""] * len(FIGURES)), *ratios, rate]
+
+
 def median(seconds):
     return statistics.median(seconds)
 
@@ -52,6 +75,10 @@ def measure(jobs, rounds):
             job.run()
 
 
-def table(heads, rows):
-    for row in [heads, ["---"] * len(heads), *rows]:
-        print(f"| {' | '.join(row)} |")
+def heads():
+    return [HEADS, ["---"] * len(HEADS)]
+
+
+def show(rows):
+    for cells in rows:
+        print(f"| {' | '.join(cells)} |", flush=True)

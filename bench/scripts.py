@@ -10,6 +10,7 @@ FEW_RECORDS = 10_000
 
 SCHEMA = "file part (number int, quantity int, name text 20)\n"
 EQUATION = "part = actual(heap)\n"
+PARTITIONS = 10
 FILES = 32
 LEAVES = 255
 TABLE = "create table part (number integer primary key, quantity integer not null, name text not null);"
@@ -97,6 +98,14 @@ def works():
     return made
 
 
+def nested():
+    """An equation of so many partitions in one another, with bounds above each key: every record goes through all of them."""
+    term = "actual(heap)"
+    for number in range(PARTITIONS):
+        term = f"partition(number {RECORDS + number}, {term}, actual(heap))"
+    return f"part = {term}\n"
+
+
 def divided(file, leaves):
     """A definition of one file with so many leaves, by its key."""
     bounds = " ".join(str(10 * number) for number in range(1, leaves))
@@ -114,6 +123,7 @@ def main():
     folder = pathlib.Path(sys.argv[1])
     (folder / "schema").write_text(SCHEMA)
     (folder / "equation").write_text(EQUATION)
+    (folder / "nested.equation").write_text(nested())
     write_check(folder)
     for name, work in works().items():
         work.write(folder, name)

@@ -1,11 +1,11 @@
-"""Measures the program beside sqlite3: try.py PROGRAM FOLDER ROUNDS, where scripts.py filled the folder."""
+"""Measures the program beside sqlite3, and beside itself: try.py PROGRAM FOLDER ROUNDS, where scripts.py filled the folder."""
 import math
 import os
 import re
 import shutil
 import sys
 
-from measure import Job, measure, median, table
+from measure import Job, Work, heads, measure, median, row, show
 
 # The work of each row, and what is taken off because it was there before.
 ROWS = [
@@ -18,6 +18,8 @@ ROWS = [
 ]
 GROWTH = [25_000, 50_000, 100_000]
 RECORDS = 100_000
+# The script that is also played under ten nested partitions.
+NESTED = "get"
 
 
 def jobs_of(words, folder, ending):
@@ -25,66 +27,61 @@ def jobs_of(words, folder, ending):
     return {it[1]: Job(f"{words[0]}: {it[1]}", words, f"{folder}/{it[1]}{ending}") for it in names if it}
 
 
-def compare(ours, theirs):
-    """Runs each work once, and stops where sqlite3 says other records."""
+def compare(ours, theirs, nested):
+    """Runs each work once, and stops where sqlite3, or the program under the other equation, says other records."""
     for name in ours:
-        said = [it[len("part ") :] for it in ours[name].run().splitlines() if it.startswith("part ")]
+        said = ours[name].run()
+        if name == NESTED and said != nested.run():
+            sys.exit(f"{name}: what is said under ten partitions is something else")
+        said = [it[len("part ") :] for it in said.splitlines() if it.startswith("part ")]
         said = [re.sub(r'^(\S+) (\S+) "(.*)"$', r"\1|\2|\3", it) for it in said]
         if theirs and said != theirs[name].run().splitlines():
             sys.exit(f"{name}: the records that sqlite3 says are others")
 
 
-def taken(jobs, name, before, of):
-    """The median or the least of the seconds that some work took, without those of the work before it."""
-    return of(jobs[name].seconds) - (of(jobs[before].seconds) if before else 0)
-
-
-def beside(ours, theirs):
+def rows(ours, theirs, nested):
     for title, name, before in ROWS:
-        row = [title]
-        for jobs in (ours, theirs):
-            if jobs:
-                row += [f"{taken(jobs, name, before, of):.3f}" for of in (median, min)]
-                row.append(jobs[name].peak())
-        if theirs:
-            row += [f"{taken(ours, name, before, of) / taken(theirs, name, before, of):.2f}" for of in (median, min)]
-        yield row
+        work = Work(ours[name], ours.get(before))
+        yield row(title, work, *(["sqlite3", Work(theirs[name], theirs.get(before))] if theirs else []))
+    yield row("100,000 inserts and 100,000 gets, under ten nested partitions", Work(nested), "under none", Work(ours[NESTED]))
 
 
-def growth(ours, theirs):
-    first = GROWTH[0]
-    for count in GROWTH:
-        row = [f"{count:,}", f"{count * math.log(count) / (first * math.log(first)):.2f}"]
-        for jobs in (ours, theirs):
-            if jobs:
-                times = [taken(jobs, f"insert-{it}", "nothing", min) for it in (first, count)]
-                row.append(f"{times[1] / times[0]:.2f}")
-        yield row
+def growth(name, jobs):
+    """How the least time grows with the inserts."""
+    times = [Work(jobs[f"insert-{count}"], jobs["nothing"]).seconds(min) for count in GROWTH]
+    return f"{name} {', '.join(f'{it / times[0]:.2f}' for it in times)}"
+
+
+def notes(ours, theirs, check):
+    expected = [count * math.log(count) for count in GROWTH]
+    said = [f"n log n {', '.join(f'{it / expected[0]:.2f}' for it in expected)}", growth("genesis", ours)]
+    said += [growth("sqlite3", theirs)] if theirs else []
+    yield f"How the least time grows with {', '.join(f'{it:,}' for it in GROWTH)} inserts: {'; '.join(said)}."
+    work = Work(check, ours["nothing"])
+    yield f"`check` of 255 leaves and 32 files beyond start and end: median {1000 * work.seconds(median):.1f} ms, least {1000 * work.seconds(min):.1f} ms."
+    job = ours[f"insert-{RECORDS}"]
+    if job.peaks:
+        beyond = (max(job.peaks) - os.path.getsize(job.stdin)) / RECORDS
+        yield f"Peak memory of the {RECORDS:,} inserts beyond their script: {beyond:.0f} bytes a record."
 
 
 def main():
     program, folder, rounds = sys.argv[1:]
     ours = jobs_of([program, "try", f"{folder}/schema", f"{folder}/equation"], folder, ".script")
+    nested = Job("genesis: ten partitions", [program, "try", f"{folder}/schema", f"{folder}/nested.equation"], f"{folder}/{NESTED}.script")
     theirs = {}
     if shutil.which("sqlite3"):
         theirs = jobs_of(["sqlite3", "-batch", ":memory:"], folder, ".sql")
     else:
-        print("sqlite3 is not installed: its columns are left out")
-    compare(ours, theirs)
+        print("sqlite3 is not installed: the program is measured alone\n")
+    compare(ours, theirs, nested)
     check = Job("genesis: check", [program, "check", f"{folder}/check.schema", f"{folder}/check.equation"])
     print(f"{check.run()}", end="", file=sys.stderr)
-    measure([check, *(job for name in ours for job in (ours[name], *([theirs[name]] if theirs else [])))], int(rounds))
-    sides = ["genesis", *["sqlite3"] * bool(theirs)]
-    heads = [f"{side} {it}" for side in sides for it in ("median s", "least s", "peak MB")]
-    table(["work", *heads, *["ratio of medians", "ratio of leasts"] * bool(theirs)], beside(ours, theirs))
-    print("\nHow the least time grows with the inserts, 25,000 being 1:\n")
-    table(["inserts", "n log n", *sides], growth(ours, theirs))
-    start = ours["nothing"].seconds
-    print(f"\n`check` of 255 leaves and 32 files beyond start and end: median {1000 * (median(check.seconds) - median(start)):.1f} ms, least {1000 * (min(check.seconds) - min(start)):.1f} ms.")
-    job = ours[f"insert-{RECORDS}"]
-    if job.peaks:
-        beyond = (max(job.peaks) - os.path.getsize(job.stdin)) / RECORDS
-        print(f"\nPeak memory of the {RECORDS:,} inserts beyond their script: {beyond:.0f} bytes a record.")
+    beside = [it for name in ours for it in (ours[name], theirs.get(name), nested if name == NESTED else None) if it]
+    measure([check, *beside], int(rounds))
+    for note in notes(ours, theirs, check):
+        print(f"{note}\n")
+    show([*heads(), *rows(ours, theirs, nested)])
 
 
 main()
