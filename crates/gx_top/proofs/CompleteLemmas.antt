@@ -31,7 +31,7 @@ use Rattle.gx_top.specs.declared.words.Action.TheVariants as action
 use Rattle.gx_top.specs.Built.{is_built, text_length}
 use Rattle.gx_top.specs.Endings.{status_of, IsOutside}
 use Rattle.gx_top.specs.Requests.{IsText, IsThere, IsTooLong, IsNamed, IsAsked, AreRead, AreAccepted, AreUnaccepted, IsAccepted, IsRunnable, IsPrepared, IsRefused, IsUnprepared, equation_of, text_limit}
-use Rattle.gx_top.specs.Tries.{Says, IsStoppedText, IsTry, IsPlayable, IsCheckable}
+use Rattle.gx_top.specs.Tries.{Says, IsPlayText, IsStoppedText, IsTry, IsPlayable, IsStoppable, IsCheckable}
 use Rattle.gx_top.specs.Words.{request_words, word_of}
 
 -- the words of one request are those of no other
@@ -262,17 +262,44 @@ played_complete words schema old mid new s accepted script playable refused stop
     let play : (answers : List ℕ) × (final : Playing) × IsPlay schema mid.script answers final good = (playable.2.0, playable.2.1, subst (λ (t : List ℕ). IsPlay schema t playable.2.0 playable.2.1 good) (sym script) (subst (λ (k : Schema). IsPlay k old.script playable.2.0 playable.2.1 good) same playable.2.2)) in
     done_or_memory s refused (not_stopped schema mid new s play stops) outside
 
--- none could be had
-pub unprepared_complete : (words : List (List ℕ)) (texts : Texts) (before now : ℕ) (why : Ending) (s : Status) → IsUnprepared words texts before now why → (IsRefused words texts why → ⊥) → (s ≢ status.Outside → s ≢ status.Memory → s ≡ status_of why) → (why ≡ ending.Fault → s ≡ status.Outside) → s ≢ status.Outside → (s ≡ status.Done) ⊎ (s ≡ status.Memory)
-unprepared_complete words texts before now why s (inl refused) never is fault outside = absurd (never refused)
-unprepared_complete words texts before now why s (inr out) never is fault outside = by_ending why s out is fault outside
+-- ---- where it ends at a line
+
+pub not_done : (schema : Schema) (old new : Content) (s : Status) → ((number : ℕ) × (why : LineWhy) × (answers : List ℕ) × (final : Playing) × IsPlay schema old.script answers final (stopped number why)) → (s ≡ status.Done → Says (IsPlayText schema old.script good) old new) → s ≢ status.Done
+not_done schema old new s play dones e =
+    let text = dones e in
+    let lines = script_lines old.script in
+    let once = played_once schema 0 (start_at (empty_state schema)) lines.lines lines.stop text.1.answers play.2 text.1.final play.3 good (stopped play.0 play.1) text.1.play play.4 in
+    never play.0 play.1 once.2
   where
-    by_ending : (why : Ending) (s : Status) → IsOutside before now why → (s ≢ status.Outside → s ≢ status.Memory → s ≡ status_of why) → (why ≡ ending.Fault → s ≡ status.Outside) → s ≢ status.Outside → (s ≡ status.Done) ⊎ (s ≡ status.Memory)
+    never : (number : ℕ) (why : LineWhy) → ◌≡◌ {A = End} good (stopped number why) → ⊥
+    never number why f = cc
+
+script_or_memory : (s : Status) → s ≢ status.Refused → s ≢ status.Done → s ≢ status.Outside → (s ≡ status.Script) ⊎ (s ≡ status.Memory)
+script_or_memory status.Script r d o = inl refl
+script_or_memory status.Memory r d o = inr refl
+script_or_memory status.Refused r d o = absurd (r refl)
+script_or_memory status.Done r d o = absurd (d refl)
+script_or_memory status.Outside r d o = absurd (o refl)
+
+pub stopped_complete : (words : List (List ℕ)) (schema : Schema) (old mid new : Content) (s : Status) → IsRunnable words old.aside.texts schema → mid.script ≡ old.script → IsStoppable words old → s ≢ status.Refused → (s ≡ status.Done → Says (IsPlayText schema mid.script good) mid new) → s ≢ status.Outside → (s ≡ status.Script) ⊎ (s ≡ status.Memory)
+stopped_complete words schema old mid new s accepted script stoppable refused dones outside =
+    let same = runnable_once words old.aside.texts stoppable.0 schema stoppable.1 accepted in
+    let end : End = stopped stoppable.2.0 stoppable.2.1 in
+    let play : IsPlay schema mid.script stoppable.2.2 stoppable.2.3 end = subst (λ (t : List ℕ). IsPlay schema t stoppable.2.2 stoppable.2.3 end) (sym script) (subst (λ (k : Schema). IsPlay k old.script stoppable.2.2 stoppable.2.3 end) same stoppable.2.4) in
+    script_or_memory s refused (not_done schema mid new s (stoppable.2.0, stoppable.2.1, stoppable.2.2, stoppable.2.3, play) dones) outside
+
+-- ---- where the request isn't refused, and can't be carried out
+
+pub unprepared_memory : (words : List (List ℕ)) (texts : Texts) (before now : ℕ) (why : Ending) (s : Status) → IsUnprepared words texts before now why → (IsRefused words texts why → ⊥) → (s ≢ status.Outside → s ≢ status.Memory → s ≡ status_of why) → (why ≡ ending.Fault → s ≡ status.Outside) → s ≢ status.Outside → s ≡ status.Memory
+unprepared_memory words texts before now why s (inl refused) never is fault outside = absurd (never refused)
+unprepared_memory words texts before now why s (inr out) never is fault outside = by_ending why s out is fault outside
+  where
+    by_ending : (why : Ending) (s : Status) → IsOutside before now why → (s ≢ status.Outside → s ≢ status.Memory → s ≡ status_of why) → (why ≡ ending.Fault → s ≡ status.Outside) → s ≢ status.Outside → s ≡ status.Memory
     by_ending ending.Fault s out is fault outside = absurd (outside (fault refl))
-    by_ending ending.NoMemory status.Memory out is fault outside = inr refl
-    by_ending ending.NoMemory status.Done out is fault outside = inl refl
-    by_ending ending.NoMemory status.Refused out is fault outside = inr (is (λ e. cc) (λ e. cc))
-    by_ending ending.NoMemory status.Script out is fault outside = inr (is (λ e. cc) (λ e. cc))
+    by_ending ending.NoMemory status.Memory out is fault outside = refl
+    by_ending ending.NoMemory status.Done out is fault outside = is (λ e. cc) (λ e. cc)
+    by_ending ending.NoMemory status.Refused out is fault outside = is (λ e. cc) (λ e. cc)
+    by_ending ending.NoMemory status.Script out is fault outside = is (λ e. cc) (λ e. cc)
     by_ending ending.NoMemory status.Outside out is fault outside = absurd (outside refl)
     by_ending ending.Words s out is fault outside = absurd out
     by_ending (ending.Missing name) s out is fault outside = absurd out

@@ -1,6 +1,6 @@
 -- From the play of lines to what a request says.
 use Rattle.std.proofs.Common.{◌≡◌, ℕ, zero, suc, ◌+◌, ◌<◌, ◌≤◌, List, [], ◌∷◌, ◌++◌, length, take, Bool, true, false, Result, Ok, Err, Option, Some, None, refl, sym, ap, subst, ◌∙◌, arith, inl, inr}
-use Rattle.std.specs.Prelude.{replicate, map, ◌⊎◌, ◌≢◌, min, nat_lt, if◌then◌else◌, IsErrOf}
+use Rattle.std.specs.Prelude.{◌⊎◌, ◌≢◌, min, nat_lt, if◌then◌else◌, IsErrOf}
 use Rattle.std.proofs.lemmas.Bool.Decides.{nat_tests}
 use Rattle.std.proofs.Math.Seq.{take-append-add}
 use Rattle.gx_device.specs.Content.{Texts}
@@ -11,22 +11,13 @@ use Rattle.gx_script.specs.declared.command.LineWhy.TheVariants as why
 use Rattle.gx_script.specs.Commands.{place_reason}
 use Rattle.gx_ports.specs.declared.stop.Stop.{Stop}
 use Rattle.gx_ports.specs.declared.stop.Stop.TheVariants as stop
-use Rattle.std.proofs.Common.{Ordering, nat_cmp}
-use Rattle.std.specs.List.{AllByRecursion}
-use Rattle.std.specs.Cmp.Lexicographic.{slice_cmp}
-use Rattle.gx_values.specs.declared.values.Value.{Value}
-use Rattle.gx_values.specs.Values.{value_cmp}
-use Rattle.gx_schema.specs.declared.schema.FileDef.{FileDef}
-use Rattle.std.proofs.lemmas.List.{append-nil, append_assoc, take_all, take-append-le, get_or-replicate, length-replicate}
-use Rattle.std.specs.FinMap as fin
+use Rattle.std.proofs.lemmas.List.{append-nil, append_assoc, take_all, take-append-le}
 use Rattle.gx_device.specs.Content.{Content}
-use Rattle.gx_schema.specs.declared.schema.LinkDef.{LinkDef}
 use Rattle.gx_schema.specs.declared.schema.Schema.{Schema}
-use Rattle.gx_schema.specs.Lookups.{file_at}
 use Rattle.gx_script.specs.declared.command.LineWhy.{LineWhy}
 use Rattle.gx_script.specs.Lines.{Lines, parts_of, up_to_limit, with_line, without_cr, last_line, lines_within, longest_line, script_lines, longest_script, stopped as stopped_lines}
 use Rattle.gx_script.proofs.LineLaws.{enough_lines}
-use Rattle.gx_model.specs.States.{Link, IsRowOf, empty_state, file_in}
+use Rattle.gx_model.specs.States.{empty_state}
 use Rattle.gx_model.specs.Play.{Playing, End, good, stopped, end_at, is_inside, next_of, start_at, IsPlacedLine, IsPlayedLine, IsPlayed, IsPlay}
 use Rattle.gx_top.specs.declared.ending.Ending.{Ending}
 use Rattle.gx_top.specs.declared.ending.Ending.TheVariants as ending

@@ -81,10 +81,15 @@ IsRequestText words before text = IsRefusalText words before text ⊎ (text ≡ 
 abbrev pub IsTry : List (List ℕ) → Type 0
 IsTry words = (schema : List ℕ) × (equation : List ℕ) × (words ≡ request_words action.Try schema equation)
 
--- a script can be played, and its play ends at no line; or the texts to be checked are accepted
+-- a script can be played, and its play ends at no line
 abbrev pub IsPlayable : List (List ℕ) → Content → Type 0
 IsPlayable words before = (schema : Schema) × IsRunnable words before.aside.texts schema × ((answers : List ℕ) × (final : Playing) × IsPlay schema before.script answers final good)
 
+-- a script can be played, and its play ends at a line
+abbrev pub IsStoppable : List (List ℕ) → Content → Type 0
+IsStoppable words before = (schema : Schema) × IsRunnable words before.aside.texts schema × ((number : ℕ) × (why : LineWhy) × (answers : List ℕ) × (final : Playing) × IsPlay schema before.script answers final (stopped number why))
+
+-- the texts to be checked are accepted
 abbrev pub IsCheckable : List (List ℕ) → Content → Type 0
 IsCheckable words before = (schema : Schema) × (ds : List DefinitionTree) × (typing : Typing) × IsAccepted words before.aside.texts action.Check schema ds typing
 

@@ -7,7 +7,7 @@ ghost use Rattle.gx_engine.specs.Steps.{AreFor};
 ghost use Rattle.gx_top.specs.Words.{texts_of};
 ghost use Rattle.gx_top.specs.Endings.{status_of};
 ghost use Rattle.gx_top.specs.Requests.{IsRefused};
-ghost use Rattle.gx_top.specs.Tries.{Says, SaysFront, IsPlayText, IsStoppedText, IsShortText, IsTryText, IsDoneText, IsRefusalText, IsRunText, IsMemoryText, IsRequestText, IsTry, IsPlayable, IsCheckable, IsPlayedAs, IsEndingOf};
+ghost use Rattle.gx_top.specs.Tries.{Says, SaysFront, IsPlayText, IsStoppedText, IsShortText, IsTryText, IsDoneText, IsRefusalText, IsRunText, IsMemoryText, IsRequestText, IsTry, IsPlayable, IsStoppable, IsCheckable, IsPlayedAs, IsEndingOf};
 
 use crate::ending::{Ending, end};
 use crate::play::{PlayEnd, play};
@@ -40,7 +40,8 @@ use std::alloc::Global;
 ///
 /// `Outside` comes only where a call of the machine failed in this one. So where none failed, a request for
 /// whose refusal there is a reason is answered `Refused` or `Memory`; `check` of accepted texts is answered
-/// `Done` or `Memory`, and so is `try` where the script can be played and its play ends at no line.
+/// `Done` or `Memory`, and so is `try` where the script can be played and its play ends at no line; where it ends at
+/// a line, the answer is `Script` or `Memory`.
 pub fn top<M: Machine + Drop>(alloc: Global, words: &[String], machine: M) -> (Status, M)
     ensures done { IsTrue M.tells → result.0 ≡ Status.Done → Says (IsDoneText (texts_of words.now) (M.content machine)) (M.content machine) (M.content result.1) }
     ensures heard { IsTrue M.tells → result.0 ≡ Status.Done → IsTry (texts_of words.now) → (M.content result.1).script ≡ [] }
@@ -51,6 +52,7 @@ pub fn top<M: Machine + Drop>(alloc: Global, words: &[String], machine: M) -> (S
     ensures outside { result.0 ≡ Status.Outside → Rose (M.faults machine) (M.faults result.1) }
     ensures refuses { IsTrue M.tells → (why : Ending) → IsRefused (texts_of words.now) (M.content machine).aside.texts why → result.0 ≢ Status.Outside → (result.0 ≡ Status.Refused) ⊎ (result.0 ≡ Status.Memory) }
     ensures plays { IsTrue M.tells → IsPlayable (texts_of words.now) (M.content machine) → result.0 ≢ Status.Outside → (result.0 ≡ Status.Done) ⊎ (result.0 ≡ Status.Memory) }
+    ensures stops { IsTrue M.tells → IsStoppable (texts_of words.now) (M.content machine) → result.0 ≢ Status.Outside → (result.0 ≡ Status.Script) ⊎ (result.0 ≡ Status.Memory) }
     ensures checks { IsTrue M.tells → IsCheckable (texts_of words.now) (M.content machine) → result.0 ≢ Status.Outside → (result.0 ≡ Status.Done) ⊎ (result.0 ≡ Status.Memory) }
     ensures later { M.faults machine ≤ M.faults result.1 }
 {

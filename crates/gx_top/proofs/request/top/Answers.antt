@@ -1,8 +1,8 @@
-use Rattle.std.proofs.Common.{ap, subst}
+use Rattle.std.proofs.Common.{ap, subst, inr}
 use Rattle.gx_top.specs.Requests.{IsPrepared}
 use Rattle.gx_top.specs.Words.{texts_of}
 use Rattle.gx_top.proofs.TryLemmas.{run_front, unprepared_front}
-use Rattle.gx_top.proofs.CompleteLemmas.{played_complete, unprepared_complete, runnable_not_refused, checkable_not_refused, unprepared_refuses}
+use Rattle.gx_top.proofs.CompleteLemmas.{played_complete, stopped_complete, unprepared_memory, runnable_not_refused, checkable_not_refused, checked_not_played, unprepared_refuses}
 use Rattle.gx_top.proofs.request.top.Goals as goal
 
 pub returns-in-Ok-Try-clause-cut : goal.returns-in-Ok-Try-clause-cut
@@ -15,22 +15,38 @@ returns-in-Ok-Try-clause-plays g c = λ told playable outside.
     played_complete (texts_of c.args.words.now) c.in-Ok-Try.schema (g.M.Device.content c.args.machine) (g.M.Device.content c.prepare.new.machine) (g.M.Device.content c.try_script.result.1) c.try_script.result.0
     (subst (IsPrepared (texts_of c.args.words.now) (g.M.Device.content c.args.machine).aside.texts) c.in-Ok-Try.field-0-is (c.in-Ok-Try.ensures.prepared told)) c.in-Ok-Try.ensures.content.script playable c.try_script.ensures.played (c.try_script.ensures.stopped told) outside
 
+pub returns-in-Ok-Try-clause-stops : goal.returns-in-Ok-Try-clause-stops
+returns-in-Ok-Try-clause-stops g c = λ told stoppable outside.
+    stopped_complete (texts_of c.args.words.now) c.in-Ok-Try.schema (g.M.Device.content c.args.machine) (g.M.Device.content c.prepare.new.machine) (g.M.Device.content c.try_script.result.1) c.try_script.result.0
+    (subst (IsPrepared (texts_of c.args.words.now) (g.M.Device.content c.args.machine).aside.texts) c.in-Ok-Try.field-0-is (c.in-Ok-Try.ensures.prepared told)) c.in-Ok-Try.ensures.content.script stoppable c.try_script.ensures.played (c.try_script.ensures.done told) outside
+
+pub returns-in-Ok-Check-clause-stops : goal.returns-in-Ok-Check-clause-stops
+returns-in-Ok-Check-clause-stops g c = λ told stoppable outside.
+    let is = subst (IsPrepared (texts_of c.args.words.now) (g.M.Device.content c.args.machine).aside.texts) c.in-Ok-Check.field-0-is (c.in-Ok-Check.ensures.prepared told) in
+    absurd (checked_not_played (texts_of c.args.words.now) (g.M.Device.content c.args.machine) stoppable.0 (is.0, is.1, is.2, is.3) stoppable.1)
+
 pub returns-in-Err-clause-cut : goal.returns-in-Err-clause-cut
 returns-in-Err-clause-cut g c = λ told e.
     unprepared_front (texts_of c.args.words.now) (g.M.Device.content c.args.machine) (g.M.Device.content c.prepare.new.machine) (g.M.Device.content c.end-status-in-Err.new.machine) _ _ c.in-Err.ending
     (c.in-Err.ensures.unprepared told) (c.end-status-in-Err.ensures.silent told) (c.end-status-in-Err.ensures.cut told e) (ap (λ n. n.said) c.in-Err.ensures.content.now)
 
 pub returns-in-Err-clause-plays : goal.returns-in-Err-clause-plays
-returns-in-Err-clause-plays g c = λ told playable outside.
-    unprepared_complete (texts_of c.args.words.now) (g.M.Device.content c.args.machine).aside.texts _ _ c.in-Err.ending c.end-status-in-Err.result (c.in-Err.ensures.unprepared told)
+returns-in-Err-clause-plays g c = λ told playable outside. inr
+    (unprepared_memory (texts_of c.args.words.now) (g.M.Device.content c.args.machine).aside.texts _ _ c.in-Err.ending c.end-status-in-Err.result (c.in-Err.ensures.unprepared told)
     (runnable_not_refused (texts_of c.args.words.now) (g.M.Device.content c.args.machine).aside.texts playable.0 c.in-Err.ending playable.1)
-    c.end-status-in-Err.ensures.status c.end-status-in-Err.ensures.fault outside
+    c.end-status-in-Err.ensures.status c.end-status-in-Err.ensures.fault outside)
+
+pub returns-in-Err-clause-stops : goal.returns-in-Err-clause-stops
+returns-in-Err-clause-stops g c = λ told stoppable outside. inr
+    (unprepared_memory (texts_of c.args.words.now) (g.M.Device.content c.args.machine).aside.texts _ _ c.in-Err.ending c.end-status-in-Err.result (c.in-Err.ensures.unprepared told)
+    (runnable_not_refused (texts_of c.args.words.now) (g.M.Device.content c.args.machine).aside.texts stoppable.0 c.in-Err.ending stoppable.1)
+    c.end-status-in-Err.ensures.status c.end-status-in-Err.ensures.fault outside)
 
 pub returns-in-Err-clause-checks : goal.returns-in-Err-clause-checks
-returns-in-Err-clause-checks g c = λ told checkable outside.
-    unprepared_complete (texts_of c.args.words.now) (g.M.Device.content c.args.machine).aside.texts _ _ c.in-Err.ending c.end-status-in-Err.result (c.in-Err.ensures.unprepared told)
+returns-in-Err-clause-checks g c = λ told checkable outside. inr
+    (unprepared_memory (texts_of c.args.words.now) (g.M.Device.content c.args.machine).aside.texts _ _ c.in-Err.ending c.end-status-in-Err.result (c.in-Err.ensures.unprepared told)
     (checkable_not_refused (texts_of c.args.words.now) (g.M.Device.content c.args.machine) c.in-Err.ending checkable)
-    c.end-status-in-Err.ensures.status c.end-status-in-Err.ensures.fault outside
+    c.end-status-in-Err.ensures.status c.end-status-in-Err.ensures.fault outside)
 
 pub returns-in-Ok-Try-clause-refuses : goal.returns-in-Ok-Try-clause-refuses
 returns-in-Ok-Try-clause-refuses g c = λ told why refused outside.
