@@ -10,6 +10,7 @@ FEW_RECORDS = 10_000
 
 SCHEMA = "file part (number int, quantity int, name text 20)\n"
 EQUATION = "part = actual(heap)\n"
+PARTED = "part = partition(quantity 2500 5000 7500, actual(heap), actual(heap), actual(heap), actual(heap))\n"
 PARTITIONS = 10
 FILES = 32
 LEAVES = 255
@@ -124,6 +125,7 @@ def main():
     (folder / "schema").write_text(SCHEMA)
     (folder / "equation").write_text(EQUATION)
     (folder / "nested.equation").write_text(nested())
+    (folder / "parted.equation").write_text(PARTED)
     write_check(folder)
     for name, work in works().items():
         work.write(folder, name)

@@ -18,8 +18,9 @@ ROWS = [
 ]
 GROWTH = [25_000, 50_000, 100_000]
 RECORDS = 100_000
-# The script that is also played under ten nested partitions.
+# The scripts that are also played under other equations: gets under ten nested partitions, finds in four parts.
 NESTED = "get"
+PARTED = ["few", "find"]
 
 
 def jobs_of(words, folder, ending):
@@ -27,23 +28,26 @@ def jobs_of(words, folder, ending):
     return {it[1]: Job(f"{words[0]}: {it[1]}", words, f"{folder}/{it[1]}{ending}") for it in names if it}
 
 
-def compare(ours, theirs, nested):
-    """Runs each work once, and stops where sqlite3, or the program under the other equation, says other records."""
+def compare(ours, theirs, others):
+    """Runs each work once, and stops where sqlite3, or the program under another equation, says other records."""
     for name in ours:
         said = ours[name].run()
-        if name == NESTED and said != nested.run():
-            sys.exit(f"{name}: what is said under ten partitions is something else")
+        if name in others and said != others[name].run():
+            sys.exit(f"{others[name].name}: what is said is something else")
         said = [it[len("part ") :] for it in said.splitlines() if it.startswith("part ")]
         said = [re.sub(r'^(\S+) (\S+) "(.*)"$', r"\1|\2|\3", it) for it in said]
         if theirs and said != theirs[name].run().splitlines():
             sys.exit(f"{name}: the records that sqlite3 says are others")
 
 
-def rows(ours, theirs, nested):
+def rows(ours, theirs, others):
     for title, name, before in ROWS:
         work = Work(ours[name], ours.get(before))
         yield row(title, work, *(["sqlite3", Work(theirs[name], theirs.get(before))] if theirs else []))
-    yield row("100,000 inserts and 100,000 gets, under ten nested partitions", Work(nested), "under none", Work(ours[NESTED]))
+    few, find = PARTED
+    work = Work(others[find], others[few])
+    yield row("the same finds, of records in four parts", work, *(["sqlite3", Work(theirs[find], theirs[few])] if theirs else []))
+    yield row("100,000 inserts and 100,000 gets, under ten nested partitions", Work(others[NESTED]), "under none", Work(ours[NESTED]))
 
 
 def growth(name, jobs):
@@ -68,20 +72,24 @@ def notes(ours, theirs, check):
 def main():
     program, folder, rounds = sys.argv[1:]
     ours = jobs_of([program, "try", f"{folder}/schema", f"{folder}/equation"], folder, ".script")
-    nested = Job("genesis: ten partitions", [program, "try", f"{folder}/schema", f"{folder}/nested.equation"], f"{folder}/{NESTED}.script")
+    equations = {NESTED: "nested", **dict.fromkeys(PARTED, "parted")}
+    others = {
+        name: Job(f"genesis: {name} under another equation", [program, "try", f"{folder}/schema", f"{folder}/{it}.equation"], f"{folder}/{name}.script")
+        for name, it in equations.items()
+    }
     theirs = {}
     if shutil.which("sqlite3"):
         theirs = jobs_of(["sqlite3", "-batch", ":memory:"], folder, ".sql")
     else:
         print("sqlite3 is not installed: the program is measured alone\n")
-    compare(ours, theirs, nested)
+    compare(ours, theirs, others)
     check = Job("genesis: check", [program, "check", f"{folder}/check.schema", f"{folder}/check.equation"])
     print(f"{check.run()}", end="", file=sys.stderr)
-    beside = [it for name in ours for it in (ours[name], theirs.get(name), nested if name == NESTED else None) if it]
+    beside = [it for name in ours for it in (ours[name], theirs.get(name), others.get(name)) if it]
     measure([check, *beside], int(rounds))
     for note in notes(ours, theirs, check):
         print(f"{note}\n")
-    show([*heads(), *rows(ours, theirs, nested)])
+    show([*heads(), *rows(ours, theirs, others)])
 
 
 main()

@@ -1,16 +1,15 @@
 -- The records of a file as a set of records, what a selection of them finds, and what changes of one record do.
-use Rattle.std.proofs.Common.{◌≡◌, ℕ, zero, suc, ◌<◌, List, [], ◌∷◌, ◌++◌, ◌⊎◌, length, take, drop, get_or, map, cond, Bool, true, false, Option, Some, None, inl, inr, refl, sym, ap, subst, ◌∙◌, arith, append-nil, length-append}
+use Rattle.std.proofs.Common.{◌≡◌, ℕ, ◌<◌, List, [], ◌∷◌, ◌++◌, ◌⊎◌, length, take, get_or, cond, Bool, true, false, Option, Some, None, inl, inr, refl, sym, ap, subst, ◌∙◌, arith, append-nil, length-append}
 use Rattle.std.specs.Prelude.{T, ◌&&◌, not, ◌≢◌}
 use Rattle.std.specs.List.{AllByRecursion}
 use Rattle.std.specs.Option.{option_map}
-use Rattle.std.specs.Ordering.{nat_cmp, is_eq, is_lt, eq_by_cmp, ordering_then, ordering_reverse}
+use Rattle.std.specs.Ordering.{is_eq, is_lt, eq_by_cmp, ordering_reverse}
 use Rattle.std.specs.declared.cmp.Ordering.{Ordering}
 use Rattle.std.specs.declared.cmp.Ordering.TheVariants.{Less, Equal, Greater}
 use Rattle.std.specs.Cmp.{IsTotalOrder, tied_itself}
 use Rattle.std.specs.FinMap as fin
 use Rattle.std.specs.FinMap.Entries.{by_order, below_all}
 use Rattle.std.proofs.lemmas.Bool.{true≢false}
-use Rattle.gx_values.specs.declared.values.Kind.{Kind}
 use Rattle.gx_values.specs.declared.values.Value.{Value}
 use Rattle.gx_values.specs.declared.records.Field.{Field}
 use Rattle.gx_values.specs.declared.records.Rec.{Rec}
@@ -27,7 +26,7 @@ use Rattle.gx_stack.specs.Internal.{IsSet, IsChange, changed, has_key_of, IsInte
 use Rattle.gx_stack.specs.Gather.{rec_cmp}
 use Rattle.gx_stack.specs.Selected.{IsKeySpan, IsSelection}
 use Rattle.gx_stack.proofs.Lists.{in_map, from_map, in_filter, filter_in, all_at, some_same, none_some}
-use Rattle.gx_stack.proofs.Orders.{Ascends, ascends, ascends_unique, rec_total, values_same, values_itself, values_other}
+use Rattle.gx_stack.proofs.Orders.{Ascends, ascends, ascends_unique, rec_total, values_itself, values_other}
 use Rattle.gx_stack.proofs.Same.{internal_of_members}
 use Rattle.gx_types.specs.declared.any.AnyMapping.{AnyMapping}
 use Rattle.gx_types.specs.Any.{any_rule}
@@ -148,25 +147,7 @@ set_of file f keyed fit = record {
       a.is ∙ (λ j. rec_of (keys j, values j)) ∙ sym b.is;
 }
 
-one_less : (k q : Value) → value_cmp k q ≡ Less → values_cmp (k ∷ []) (q ∷ []) ≡ Less
-one_less k q e = ap (λ o. ordering_then o Equal) e
-
-rows_below : (x : Row) (rs : List Row) → T (below_all value_cmp x.0 rs) → AllByRecursion (λ y. rec_cmp (rec_of x) y ≡ Less) (map rec_of rs)
-rows_below x [] h = tt
-rows_below x (r ∷ rs) h = (one_less x.0 r.0 (is_less _ (first_of_both _ _ h)), rows_below x rs (second_of_both _ _ h))
-
-rows_ascend : (rs : List Row) → T (fin.is_sorted value_cmp rs) → Ascends rec_cmp (map rec_of rs)
-rows_ascend [] h = tt
-rows_ascend (r ∷ rs) h = (rows_below r rs (first_of_both _ _ h), rows_ascend rs (second_of_both _ _ h))
-
-pub records_ascend : (f : File) → Ascends rec_cmp (records_of f)
-records_ascend f = rows_ascend (fin.entries f) (fin.entries_sorted f)
-
 -- ---- spans
-
-empty_front : (a b : List ℕ) → [] ≡ a ++ b → b ≡ []
-empty_front [] b e = sym e
-empty_front (x ∷ a) b e = cc
 
 nothing_more : (a b : List ℕ) → a ≡ a ++ b → b ≡ []
 nothing_more a [] e = refl
@@ -188,22 +169,7 @@ span_of_key file k span keyed kind fit lo hi = record {
   hi_whole = λ key rest fits e. whole_key file k key rest keyed kind fit fits (sym hi ∙ e);
 }
 
-pub span_of_all : (file : FileDef) (span : Span) → span.lo ≡ [] → span.hi ≡ [] → IsKeySpan (file_form file) span
-span_of_all file span lo hi = record {
-  lo_whole = λ key rest fits e. empty_front (key_of key) rest (sym lo ∙ e);
-  hi_whole = λ key rest fits e. empty_front (key_of key) rest (sym hi ∙ e);
-}
-
 -- ---- what a selection finds
-
-inside_all : (key : List ℕ) → is_inside [] [] key ≡ true
-inside_all [] = refl
-inside_all (x ∷ key) = refl
-
-pub all_found : (f : File) (span : Span) (found : List Rec) → span.lo ≡ [] → span.hi ≡ [] → IsSelection (records_of f) span found → found ≡ records_of f
-all_found f span found lo hi is = ascends_unique rec_total found (records_of f) (ascends rec_cmp found is.in_order) (records_ascend f)
-    (λ q h. (is.sound q h).0)
-    (λ q h. is.complete q h ((λ i. is_inside (lo i) (hi i) (key_of q.key)) ∙ inside_all (key_of q.key)))
 
 -- the key of a record is inside the span of one key exactly where it is that key
 inside_key : (file : FileDef) (k q : Value) → IsKeyKind (key_kind file) → Fits (key_kind file) k → Fits (key_kind file) q → is_inside (bytes_of k) (bytes_of k) (key_of (q ∷ [])) ≡ eq_by_cmp value_cmp k q

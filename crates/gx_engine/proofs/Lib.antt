@@ -1,5 +1,6 @@
 mod FileLemmas
 mod EntryLemmas
+mod PlaceLemmas
 mod ListingLemmas
 mod RecordLemmas
 mod ScanLemmas

@@ -1,6 +1,6 @@
 -- Records of a file: what is found of them, and what edits do.
-use Rattle.std.proofs.Common.{◌≡◌, ℕ, zero, suc, ◌+◌, ◌-◌, ◌*◌, ◌<◌, ◌≤◌, List, [], ◌∷◌, ◌++◌, length, take, drop, get_or, map, set, cond, Bool, true, false, Option, Some, None, refl, sym, ap, subst, ◌∙◌, arith, length-append, inl, inr}
-use Rattle.std.specs.Prelude.{IfSome, is_some, unwrap_or, slice_set, not}
+use Rattle.std.proofs.Common.{◌≡◌, ℕ, zero, suc, ◌+◌, ◌-◌, ◌<◌, ◌≤◌, List, [], ◌∷◌, ◌++◌, length, take, drop, get_or, set, cond, Bool, true, false, Option, Some, None, refl, sym, ap, subst, ◌∙◌, arith, length-append, inl}
+use Rattle.std.specs.Prelude.{IfSome, is_some, unwrap_or, slice_set}
 use Rattle.std.specs.List.{AllByRecursion}
 use Rattle.std.specs.Option.{option_map}
 use Rattle.std.specs.FinMap as fin
@@ -10,7 +10,6 @@ use Rattle.gx_values.specs.declared.values.Kind.TheVariants as kind
 use Rattle.gx_values.specs.declared.values.Value.{Value}
 use Rattle.gx_values.specs.declared.values.Value.TheVariants as value
 use Rattle.gx_values.specs.declared.records.Field.{Field}
-use Rattle.gx_values.specs.declared.records.Form.{Form}
 use Rattle.gx_values.specs.declared.records.Rec.{Rec}
 use Rattle.gx_values.specs.Values.{Fits, AreFit, IsSized, AreSized}
 use Rattle.gx_values.specs.Keys.{bytes_of, width_of, IsKeyKind}
@@ -35,8 +34,8 @@ use Rattle.gx_types.specs.Nodes.{tree_at, AreNodes}
 use Rattle.gx_model.specs.States.{File, Row}
 use Rattle.gx_model.specs.Commands.{changed, updated}
 use Rattle.gx_engine.specs.Internal.{rec_of, records_of, IsInternal, IsTreeFor, IsEdited, IsEditedWhere}
-use Rattle.gx_engine.specs.Records.{record_at, list_of_one}
-use Rattle.gx_engine.proofs.FileLemmas.{key_of_form, held_inserted, held_updated, held_removed, insert_fits, remove_fits, there_fits}
+use Rattle.gx_engine.specs.Records.{record_at}
+use Rattle.gx_engine.proofs.FileLemmas.{key_of_form, held_inserted, held_updated, held_removed, insert_fits, remove_fits}
 
 -- ---- lengths
 
@@ -233,17 +232,6 @@ tree_for schema ns leaves i t lt is nodes =
 pub last_fits : (P : Rec → Type 0) (found front : List Rec) (o : Option Rec) → found ≡ front ++ option_to_list o → ((r : Rec) → In r found → P r) → IfSome o P
 last_fits P found front None is all = tt
 last_fits P found front (Some r) is all = all r (subst (In r) (sym is) (in_right r front (r ∷ []) (inl refl)))
-
-same_last : (k q : Value) (front : List Value) → front ++ k ∷ [] ≡ q ∷ [] → k ≡ q
-same_last k q [] e = ap (λ (l : List Value). get_or l 0 k) e
-same_last k q (x ∷ front) e = absurd (omega (arith, ap length e, length-append front (k ∷ [])))
-
--- the key of a file's record is one value
-pub row_sized : (file : FileDef) (r : Rec) (k : Value) (front vs : List Value) → 0 < length file.fields → IsOf (file_form file) r → r.key ≡ front ++ k ∷ [] → r.fields ≡ vs → IsSized k × AreSized vs
-row_sized file r k front vs keyed fits key fields =
-    let one = key_of_form file.fields r.key keyed fits.key in
-    let same : k ≡ one.0 = same_last k one.0 front (sym key ∙ one.1) in
-    (subst IsSized (sym same) (fit_sized _ one.0 one.2), subst AreSized fields (are_sized (data_fields file) r.fields fits.fields))
 
 -- the key and the data of a file's record
 pub rec_sized : (file : FileDef) (r : Rec) → 0 < length file.fields → IsOf (file_form file) r → AreSized r.key × AreSized r.fields

@@ -1,7 +1,8 @@
 -- Values found in the bytes of entries.
-use Rattle.std.proofs.Common.{◌≡◌, ℕ, zero, suc, ◌+◌, ◌<◌, ◌≤◌, List, [], ◌∷◌, ◌++◌, length, take, drop, get_or, map, cond, Bool, true, false, Some, refl, sym, ap, subst, ◌∙◌, arith, append-nil}
+use Rattle.std.proofs.Common.{◌≡◌, ℕ, zero, suc, ◌+◌, ◌<◌, ◌≤◌, List, [], ◌∷◌, ◌++◌, length, take, drop, get_or, map, cond, Bool, true, false, Some, refl, sym, ap, subst, ◌∙◌, arith, append-nil, append_assoc}
 use Rattle.std.specs.Prelude.{pos, filter, slice_get}
 use Rattle.std.specs.List.{AllByRecursion}
+use Rattle.std.proofs.lemmas.List.Elements.{filter-append}
 use Rattle.std.proofs.lemmas.Option.{slice_get_within, get_or_from_slice_get}
 use Rattle.gx_values.specs.declared.values.Value.{Value}
 use Rattle.gx_values.specs.declared.values.Value.TheVariants as value
@@ -14,7 +15,6 @@ use Rattle.gx_actual.specs.Bodies.{field_bytes, body_of}
 use Rattle.gx_model.specs.States.{Row, IsRowOf}
 use Rattle.gx_engine.specs.Entries.{entry_of_row}
 use Rattle.gx_engine.proofs.EntryLemmas.{RowAt, entry_at}
-use Rattle.gx_engine.proofs.ListingLemmas.{filter_append}
 
 abbrev none : Value
 none = value.Int (pos 0)
@@ -57,16 +57,18 @@ none_past (f ∷ fs) (v ∷ vs) (suc i) fit le = none_past fs vs i fit.1 (omega 
 -- ---- records chosen
 
 -- the record of an entry
-pub row_of : (file : FileDef) (rs : List Row) (es : List Entry) (i : ℕ) (e : Entry) → AllByRecursion (IsRowOf file) rs → es ≡ map (λ (r : Row). entry_of (entry_of_row r)) rs → slice_get es i ≡ Some e → RowAt file rs i e
-row_of file rs es i e all same h = entry_at file rs es i e all same (slice_get_within es i e h) (sym (get_or_from_slice_get es i e e h))
+pub row_of : (file : FileDef) (n : ℕ) (rs : List Row) (es : List Entry) (i : ℕ) (e : Entry) → AllByRecursion (IsRowOf file) rs → es ≡ map (λ (r : Row). entry_of (entry_of_row n r)) rs → slice_get es i ≡ Some e → RowAt file n rs i e
+row_of file n rs es i e all same h = entry_at file n rs es i e all same (slice_get_within es i e h) (sym (get_or_from_slice_get es i e e h))
 
 -- one more record was tested
-pub row_kept : (file : FileDef) (test : Row → Bool) (rs rows after : List Row) (row : Row) (i : ℕ) (e : Entry) (at : RowAt file rs i e) → rows ≡ filter test (take i rs) → test at.row ≡ true → row ≡ at.row → after ≡ rows ++ row ∷ [] → after ≡ filter test (take (i + 1) rs)
-row_kept file test rs rows after row i e at so_far met same pushed =
-    pushed ∙ (λ k. so_far k ++ same k ∷ []) ∙ ap (λ b. filter test (take i rs) ++ cond b (at.row ∷ []) []) (sym met)
-    ∙ sym (ap (filter test) at.more ∙ filter_append test (take i rs) (at.row ∷ []))
+pub row_kept : (file : FileDef) (n : ℕ) (test : Row → Bool) (rs before rows after : List Row) (row : Row) (i : ℕ) (e : Entry) (at : RowAt file n rs i e) → rows ≡ before ++ filter test (take i rs) → test at.row ≡ true → row ≡ at.row → after ≡ rows ++ row ∷ [] → after ≡ before ++ filter test (take (i + 1) rs)
+row_kept file n test rs before rows after row i e at so_far met same pushed =
+    pushed ∙ (λ k. so_far k ++ same k ∷ []) ∙ append_assoc before (filter test (take i rs)) (at.row ∷ [])
+    ∙ ap (λ b. before ++ (filter test (take i rs) ++ cond b (at.row ∷ []) [])) (sym met)
+    ∙ sym (ap (λ l. before ++ filter test l) at.more ∙ ap (λ l. before ++ l) (filter-append test (take i rs) (at.row ∷ [])))
 
-pub row_left : (file : FileDef) (test : Row → Bool) (rs rows : List Row) (i : ℕ) (e : Entry) (at : RowAt file rs i e) → rows ≡ filter test (take i rs) → test at.row ≡ false → rows ≡ filter test (take (i + 1) rs)
-row_left file test rs rows i e at so_far unmet =
-    so_far ∙ sym (append-nil (filter test (take i rs))) ∙ ap (λ b. filter test (take i rs) ++ cond b (at.row ∷ []) []) (sym unmet)
-    ∙ sym (ap (filter test) at.more ∙ filter_append test (take i rs) (at.row ∷ []))
+pub row_left : (file : FileDef) (n : ℕ) (test : Row → Bool) (rs before rows : List Row) (i : ℕ) (e : Entry) (at : RowAt file n rs i e) → rows ≡ before ++ filter test (take i rs) → test at.row ≡ false → rows ≡ before ++ filter test (take (i + 1) rs)
+row_left file n test rs before rows i e at so_far unmet =
+    so_far ∙ ap (λ l. before ++ l) (sym (append-nil (filter test (take i rs))))
+    ∙ ap (λ b. before ++ (filter test (take i rs) ++ cond b (at.row ∷ []) [])) (sym unmet)
+    ∙ sym (ap (λ l. before ++ filter test l) at.more ∙ ap (λ l. before ++ l) (filter-append test (take i rs) (at.row ∷ [])))

@@ -1,5 +1,5 @@
 -- The files of a schema that some text means can be stored, and leaves without entries stand for the empty state.
-use Rattle.std.proofs.Common.{◌≡◌, ℕ, zero, suc, ◌<◌, ◌≤◌, List, [], ◌∷◌, ◌++◌, length, get_or, map, drop, Bool, true, refl, sym, ap, subst, ◌∙◌, arith, Ordering, nat_cmp}
+use Rattle.std.proofs.Common.{◌≡◌, ℕ, zero, suc, ◌<◌, ◌≤◌, List, [], ◌∷◌, ◌++◌, length, get_or, map, drop, Bool, true, refl, sym, ap, subst, ◌∙◌, arith, Ordering}
 use Rattle.std.specs.Prelude.{◌&&◌, ◌==◌, replicate}
 use Rattle.std.specs.List.{AllByRecursion}
 use Rattle.std.specs.FinMap as fin
@@ -11,7 +11,7 @@ use Rattle.gx_values.specs.declared.values.Value.{Value}
 use Rattle.gx_values.specs.declared.records.Field.{Field}
 use Rattle.gx_values.specs.declared.records.Rec.{Rec}
 use Rattle.gx_values.specs.Values.{value_cmp}
-use Rattle.gx_values.specs.Keys.{width_of, IsKeyKind}
+use Rattle.gx_values.specs.Keys.{width_of, IsKeyKind, AreKeyFields}
 use Rattle.gx_schema.specs.declared.schema.FileDef.{FileDef}
 use Rattle.gx_schema.specs.declared.schema.LinkDef.{LinkDef}
 use Rattle.gx_schema.specs.declared.schema.Schema.{Schema}
@@ -26,7 +26,7 @@ use Rattle.gx_types.specs.declared.any.AnyMapping.{AnyMapping}
 use Rattle.gx_types.specs.declared.built.Built.{Built}
 use Rattle.gx_types.specs.Any.{any_rule}
 use Rattle.gx_types.specs.Nodes.{tree_at}
-use Rattle.gx_model.specs.States.{Link, IsRowOf, empty_state, file_in}
+use Rattle.gx_model.specs.States.{Link, IsRowOf, empty_state}
 use Rattle.gx_engine.specs.Internal.{rec_of, records_of, IsInternal, AreInternal, IsStorable, AreStorable}
 use Rattle.gx_engine.specs.Steps.{AreFor}
 
@@ -57,14 +57,18 @@ key_is first kind.Int is = (tt, omega arith)
 key_is first (kind.Text most) is = (tt, omega (arith, is.1))
 key_is first (kind.Bytes most) is = absurd is
 
-first_stored : (fs : List Field) → AreFields [] fs → 0 < length fs → IsKeyKind (get_or fs 0 no_field).kind × (width_of (get_or fs 0 no_field).kind ≤ 400) × AreShort (drop 1 fs)
+fields_plain : (before fs : List Field) → AreFields before fs → AreKeyFields fs
+fields_plain before [] are = tt
+fields_plain before (f ∷ fs) are = ((key_is (length before == 0) f.kind are.0.kind).0, fields_plain (before ++ f ∷ []) fs are.1)
+
+first_stored : (fs : List Field) → AreFields [] fs → 0 < length fs → IsKeyKind (get_or fs 0 no_field).kind × (width_of (get_or fs 0 no_field).kind ≤ 400) × AreKeyFields (drop 1 fs) × AreShort (drop 1 fs)
 first_stored [] are some = absurd (omega arith)
-first_stored (f ∷ fs) are some = let key = key_is true f.kind are.0.kind in (key.0, key.1, fields_short (f ∷ []) fs are.1)
+first_stored (f ∷ fs) are some = let key = key_is true f.kind are.0.kind in (key.0, key.1, fields_plain (f ∷ []) fs are.1, fields_short (f ∷ []) fs are.1)
 
 file_stored : (file : FileDef) → HasRules file → IsStorable file
 file_stored file rules =
     let all = first_stored file.fields rules.fields rules.some in
-    record { keyed = rules.some; key = all.0; key_small = all.1; short = all.2 }
+    record { keyed = rules.some; key = all.0; key_small = all.1; others = all.2; short = all.3 }
 
 no_links : (links : List LinkDef) (rest : Bool) → ((length links == 0) && rest) ≡ true → links ≡ []
 no_links [] rest e = refl

@@ -1,5 +1,5 @@
 -- Leaves stand for one state at most.
-use Rattle.std.proofs.Common.{◌≡◌, ℕ, zero, suc, ◌<◌, List, [], ◌∷◌, length, get_or, Option, Some, None, refl, sym, ap, subst, ◌∙◌, arith}
+use Rattle.std.proofs.Common.{◌≡◌, ℕ, suc, ◌<◌, List, [], ◌∷◌, length, get_or, Option, Some, None, refl, sym, ap, subst, ◌∙◌, arith}
 use Rattle.std.specs.FinMap as fin
 use Rattle.gx_values.specs.declared.values.Value.{Value}
 use Rattle.gx_values.specs.declared.records.Rec.{Rec}
@@ -12,13 +12,12 @@ use Rattle.gx_mapping.specs.Rule.{In}
 use Rattle.gx_stack.specs.declared.node.Node.{Node}
 use Rattle.gx_stack.specs.Tree.{Tree, tree_form, IsValid}
 use Rattle.gx_stack.specs.Internal.{IsSet}
-use Rattle.gx_stack.proofs.Lists.{some_same}
 use Rattle.gx_stack.proofs.Told.{internal_told}
 use Rattle.gx_types.specs.declared.any.AnyMapping.{AnyMapping}
 use Rattle.gx_types.specs.Any.{any_rule, any_laws}
 use Rattle.gx_types.specs.Dues.{file_form}
 use Rattle.gx_types.specs.Nodes.{tree_at, AreNodes}
-use Rattle.gx_model.specs.States.{File, Link, State, file_in}
+use Rattle.gx_model.specs.States.{File, State, file_in}
 use Rattle.gx_engine.specs.Internal.{rec_of, records_of, IsInternal, AreInternal, AreStorable}
 use Rattle.gx_engine.proofs.FileLemmas.{in_there, there_in, one_key, set_of}
 

@@ -1,9 +1,8 @@
 -- The leaves that stand for a state: for each file a node, which holds the file's records.
-use Rattle.std.specs.Prelude.{◌≡◌, ℕ, ◌+◌, ◌<◌, ◌≤◌, List, [], ◌∷◌, ◌++◌, length, map, Bool, Option, Some, None, if◌then◌else◌}
+use Rattle.std.specs.Prelude.{◌≡◌, ℕ, ◌+◌, ◌<◌, ◌≤◌, List, [], ◌∷◌, ◌++◌, length, map, Bool, if◌then◌else◌}
 use Rattle.std.specs.FinMap as fin
 use Rattle.gx_values.specs.declared.records.Rec.{Rec}
-use Rattle.gx_values.specs.declared.records.Form.{Form}
-use Rattle.gx_values.specs.Keys.{width_of, IsKeyKind}
+use Rattle.gx_values.specs.Keys.{width_of, IsKeyKind, AreKeyFields}
 use Rattle.gx_schema.specs.declared.schema.FileDef.{FileDef}
 use Rattle.gx_schema.specs.declared.schema.Schema.{Schema}
 use Rattle.gx_schema.specs.Lookups.{file_at, key_kind, data_fields}
@@ -48,11 +47,12 @@ pub record Stands (schema : Schema) (nodes : List (Node AnyMapping)) (inside : B
   pub working_is : AreInternal schema nodes working (seen_state p)
   pub kept_is : AreInternal schema nodes kept p.kept
 
--- the file has a key whose bytes can stand in a leaf, and the lengths of its other values can be written
+-- the file has a key whose bytes can stand in a leaf; its other values are ints and texts, whose lengths can be written
 pub record IsStorable (file : FileDef) : Type 0 where
   pub keyed : 0 < length file.fields
   pub key : IsKeyKind (key_kind file)
   pub key_small : width_of (key_kind file) ≤ 400
+  pub others : AreKeyFields (data_fields file)
   pub short : AreShort (data_fields file)
 
 -- so each file of the schema has, and there is no link

@@ -3,6 +3,7 @@
 
 mod engine;
 mod listing;
+mod places;
 mod records;
 mod rows;
 mod scan;

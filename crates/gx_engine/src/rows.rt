@@ -1,16 +1,16 @@
 // Records of files, and their order.
-ghost use Rattle.std.specs.Prelude.{◌≡◌, ◌&&◌, filter, OnOk, OnErr, pos};
+ghost use Rattle.std.specs.Prelude.{◌≡◌, filter, OnOk, pos};
 ghost use Rattle.std.specs.FinMap as fin;
 ghost use Rattle.std.specs.List.Sorted.{IsPermutation, IsSortedBy};
 ghost use Rattle.std.specs.Ordering.{is_lt};
 ghost use Rattle.gx_values.specs.Values.{value_cmp};
 ghost use Rattle.gx_values.specs.declared.values.Value.TheVariants as value;
 ghost use Rattle.gx_model.specs.States.{File, Row as TheRow};
-ghost use Rattle.gx_model.specs.Found.{IsListed, meets_conds, meets_cond, row_cmp, value_at};
+ghost use Rattle.gx_model.specs.Found.{IsListed, row_cmp, value_at};
 ghost use Rattle.std.specs.Prelude.{Bool};
 
-use gx_script::{Cond, OrderBy};
-use gx_values::{Value, Values, compare, meets};
+use gx_script::OrderBy;
+use gx_values::{Value, Values, compare};
 use std::alloc::AllocError;
 use std::cmp::Ordering;
 use std::marker::Model;
@@ -33,25 +33,11 @@ impl Model for Row {
     ghost invariant = { λ r. IsSized r.key × AreSized r.values };
 }
 
-/// Whether a record meets every condition.
-pub(crate) fn meets_all(conds: &[Cond], row: &Row) -> bool
-    ensures { result ≡ meets_conds conds.now row.now }
-{
-    conds.iter().all(|cond| meets_one(cond, row))
-}
-
-fn meets_one(cond: &Cond, row: &Row) -> bool
-    ensures { result ≡ meets_cond row.now cond.now }
-{
-    let absent = Value::Int(0);
-    meets(field_value(cond.field, row, &absent), cond.op, &cond.bound)
-}
-
 /// Sorts records by an order.
 pub(crate) fn sort_rows(rows: &mut Vec<Row>, order: OrderBy) -> Result<(), AllocError>
     ensures those { IsPermutation rows.old.items rows.new.items }
     ensures in_order { OnOk result (IsSortedBy (λ a b. is_lt (row_cmp order a b)) rows.new.items) }
-    ensures listed { (f : File) (test : TheRow → Bool) → rows.old.items ≡ filter test (fin.entries f) → OnOk result (IsListed f test order rows.new.items) }
+    ensures listed { (f : File) (test : TheRow → Bool) → IsPermutation (filter test (fin.entries f)) rows.old.items → OnOk result (IsListed f test order rows.new.items) }
 {
     rows.sort_by(|a, b| compare_rows(order, a, b))?;
     Ok(())

@@ -1,9 +1,10 @@
 // The records of a file among the entries of its leaf that meet conditions: the conditions are tested on
 // the bytes of an entry, and only a record that meets them all is made.
-ghost use Rattle.std.specs.Prelude.{◌≡◌, ◌<◌, ◌≤◌, ◌++◌, ◌∷◌, List, ℕ, ℤ, pos, length, map, filter, slice_index_or, Some, IfOk, IsSomeAnd, MatchOption};
+ghost use Rattle.std.specs.Prelude.{◌≡◌, ◌<◌, ◌≤◌, ◌++◌, ◌∷◌, List, ℕ, ℤ, pos, suc, length, map, filter, slice_index_or, true, Some, IfOk, IsSomeAnd};
 ghost use Rattle.std.specs.Int.{w16, w64, to_be_bytes, cast_unsigned};
 ghost use Rattle.std.specs.Int.RustNames.{FitsSigned};
 ghost use Rattle.std.specs.List.{AllByRecursion};
+ghost use Rattle.gx_values.specs.declared.records.Rec.{Rec as Record};
 ghost use Rattle.gx_values.specs.declared.values.Value.{Value as FieldValue};
 ghost use Rattle.gx_values.specs.declared.values.Value.TheVariants as value;
 ghost use Rattle.gx_values.specs.Values.{Fits, AreFit, value_cmp, is_met};
@@ -13,7 +14,8 @@ ghost use Rattle.gx_actual.specs.Bodies.{field_bytes, body_of, IsShort, AreShort
 ghost use Rattle.gx_model.specs.States.{Row as TheRow, IsRowOf};
 ghost use Rattle.gx_model.specs.Found.{value_at, meets_conds};
 ghost use Rattle.gx_engine.specs.Internal.{IsStorable};
-ghost use Rattle.gx_engine.specs.Entries.{entry_of_row};
+ghost use Rattle.gx_stack.specs.Tree.{leaf_body};
+ghost use Rattle.gx_engine.specs.Entries.{entry_of_row, wrapped};
 ghost use Rattle.gx_engine.specs.Scan.{value_of};
 
 use crate::records::data_fields;
@@ -26,33 +28,46 @@ use gx_values::{Field, Kind, NoMemory, Op, Value, read_value_key};
 use std::alloc::Global;
 use std::cmp::Ordering;
 
-/// The records of entries that meet the conditions, in the order of the entries. `None`: an entry was found
-/// to be that of no record of the file; an entry that a condition rules out is read no further. `NoMemory`:
-/// there was none for the records.
-pub(crate) fn chosen_rows(
+/// Appends the records of entries that meet the conditions, in the order of the entries, and answers whether
+/// each entry looked at was that of a record of the file; one that a condition rules out is read no
+/// further. So many lengths stand before the values in each body. `NoMemory`: there was none for the
+/// records.
+pub(crate) fn add_chosen_rows(
     alloc: Global,
     file: &FileDef,
+    lengths: u32,
     conds: &[Cond],
     entries: &Entries,
-) -> Result<Option<Vec<Row>>, NoMemory>
+    rows: &mut Vec<Row>,
+) -> Result<bool, NoMemory>
     requires { IsStorable file.now }
-    ensures { (rs : List TheRow) → AllByRecursion (IsRowOf file.now) rs → entries.now ≡ map (λ r. entry_of (entry_of_row r)) rs → IfOk result (λ found. MatchOption found ⊥ (λ rows. rows.items ≡ filter (meets_conds conds.now) rs)) }
+    ensures { (rs : List TheRow) → AllByRecursion (IsRowOf file.now) rs → entries.now ≡ map (λ r. entry_of (entry_of_row lengths r)) rs → IfOk result (λ all. (all ≡ true) × (rows.new.items ≡ rows.old.items ++ filter (meets_conds conds.now) rs)) }
 {
-    let mut rows = Vec::new(alloc);
     for index in 0..entries.len() {
         let entry = entries.entry(index);
-        let Some(is_chosen) = meets_all(file, conds, entry.key, entry.body) else {
-            return Ok(None);
+        let Some(body) = behind_lengths(entry.body, lengths) else {
+            return Ok(false);
+        };
+        let Some(is_chosen) = meets_all(file, conds, entry.key, body) else {
+            return Ok(false);
         };
         if !is_chosen {
             continue;
         }
-        let Some(row) = read_row(alloc, file, entry.key, entry.body)? else {
-            return Ok(None);
+        let Some(row) = read_row(alloc, file, entry.key, body)? else {
+            return Ok(false);
         };
         rows.push(row)?;
     }
-    Ok(Some(rows))
+    Ok(true)
+}
+
+// The bytes of the values in a body. `None`: the body is too short for the lengths before them.
+fn behind_lengths(body: &[u8], lengths: u32) -> Option<&[u8]>
+    ensures { (r : Record) → body.now ≡ leaf_body (wrapped (suc lengths) r).fields → IsSomeAnd result (λ values. values.now ≡ body_of r.fields) }
+{
+    let (_, values) = body.split_at_checked(2 * lengths as usize)?;
+    Some(values)
 }
 
 // The record of an entry, if it is one.

@@ -1,4 +1,4 @@
-use Rattle.std.proofs.Common.{◌<◌, ◌∙◌, List, Some, None, length, sym, ap, subst}
+use Rattle.std.proofs.Common.{◌<◌, ◌∙◌, List, length, sym, ap, subst}
 use Rattle.std.specs.Prelude.{is_some}
 use Rattle.gx_values.specs.declared.records.Rec.{Rec}
 use Rattle.gx_mapping.specs.Rule.{In}

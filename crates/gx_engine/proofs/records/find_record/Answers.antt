@@ -5,7 +5,7 @@ use Rattle.gx_ports.specs.declared.stop.Stop.TheVariants as stop
 use Rattle.gx_stack.specs.Internal.{IsSet}
 use Rattle.gx_stack.specs.Selected.{IsKeySpan}
 use Rattle.gx_engine.specs.Internal.{records_of}
-use Rattle.gx_engine.specs.Records.{record_at, list_of_one}
+use Rattle.gx_engine.specs.Records.{record_at}
 use Rattle.gx_engine.proofs.FileLemmas.{span_of_key, set_of, one_found}
 use Rattle.gx_engine.proofs.records.find_record.Goals as goal
 

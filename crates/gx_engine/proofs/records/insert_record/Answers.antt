@@ -1,4 +1,4 @@
-use Rattle.std.proofs.Common.{rules, ◌<◌, ◌∙◌, ◌+◌, ℕ, List, Some, None, length, sym, ap, subst, refl}
+use Rattle.std.proofs.Common.{rules, ◌<◌, ◌∙◌, List, length, sym, ap, subst}
 use Rattle.std.specs.Prelude.{not, ◌≢◌}
 use Rattle.gx_values.specs.declared.records.Rec.{Rec}
 use Rattle.gx_mapping.specs.Rule.{In, IsOf}

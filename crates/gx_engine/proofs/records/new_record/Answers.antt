@@ -1,6 +1,5 @@
-use Rattle.std.proofs.Common.{◌∙◌, ◌++◌, ◌∷◌, [], List, ap, sym}
+use Rattle.std.proofs.Common.{◌∙◌, ◌++◌, ◌∷◌, [], sym}
 use Rattle.std.proofs.lemmas.List.{take_more}
-use Rattle.gx_values.specs.declared.values.Value.{Value}
 use Rattle.gx_engine.proofs.RecordLemmas.{sized_item}
 use Rattle.gx_engine.proofs.records.new_record.Goals as goal
 

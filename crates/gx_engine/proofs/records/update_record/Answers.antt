@@ -1,6 +1,5 @@
-use Rattle.std.proofs.Common.{◌<◌, ◌∙◌, ◌+◌, List, Some, None, length, sym, ap, subst, refl}
+use Rattle.std.proofs.Common.{◌<◌, ◌∙◌, List, length, sym, ap, subst, refl}
 use Rattle.std.specs.Prelude.{is_some}
-use Rattle.gx_values.specs.declared.values.Value.{Value}
 use Rattle.gx_values.specs.declared.records.Rec.{Rec}
 use Rattle.gx_mapping.specs.Rule.{In}
 use Rattle.gx_ports.specs.LeafMaps.{LeafMap, map_at}
@@ -10,7 +9,7 @@ use Rattle.gx_types.specs.Any.{any_rule}
 use Rattle.gx_values.specs.Values.{AreFit}
 use Rattle.gx_schema.specs.Lookups.{data_fields}
 use Rattle.gx_model.specs.Commands.{changed}
-use Rattle.gx_engine.specs.Internal.{rec_of, records_of, IsEdited}
+use Rattle.gx_engine.specs.Internal.{records_of, IsEdited}
 use Rattle.gx_engine.proofs.FileLemmas.{set_of, there_in}
 use Rattle.gx_engine.proofs.RecordLemmas.{found_values, is_done, update_edit, updated_is, rec_made}
 use Rattle.gx_engine.proofs.records.update_record.Goals as goal
