@@ -32,7 +32,7 @@ words_read schema line (Ok c) no_comment characters words e = inr (inr (inr (no_
 words_read schema line (Err (no_command.Bad reason)) no_comment characters words e = inr (inr (inr (no_comment, characters, (words.0, words.1, sym e ∙ ap (reading schema) (words_of_line line words.0 words.1)))))
 words_read schema line (Err no_command.NoMemory) no_comment characters words e = tt
 
-line_found : (schema : Schema) (line : List ℕ) (c : Command) → IsWellFormed schema → IsReading schema line (Ok c) → IsLineOf schema line c
+pub line_found : (schema : Schema) (line : List ℕ) (c : Command) → IsWellFormed schema → IsReading schema line (Ok c) → IsLineOf schema line c
 line_found schema line c whole (inl r) = inl (r.0, ok_is c command.Nothing r.1)
 line_found schema line c whole (inr (inl r)) = absurd (let e = r.2 in cc)
 line_found schema line c whole (inr (inr (inl r))) = absurd (let e = r.3 in cc)
@@ -53,7 +53,7 @@ is_of_schema schema line (Err e) h = tt
 differ : {A : Type 0} (b : Bool) → b ≡ true → b ≡ false → A
 differ b t f = absurd cc
 
-reading_of_line : (schema : Schema) (line : List ℕ) (c : Command) → IsLineOf schema line c → IsReading schema line (Ok c)
+pub reading_of_line : (schema : Schema) (line : List ℕ) (c : Command) → IsLineOf schema line c → IsReading schema line (Ok c)
 reading_of_line schema line c (inl h) = inl (h.0, ap done h.1)
 reading_of_line schema line c (inr h) = let w = h.2 in inr (inr (inr (h.0, h.1, (w.0, w.1, sym (reading_again schema w.0 c w.2)))))
 

@@ -1,5 +1,5 @@
 // Lines and the commands that they mean.
-ghost use Rattle.std.specs.Prelude.{◌≡◌, Ok, Result, IfOk, IfErr};
+ghost use Rattle.std.specs.Prelude.{◌≡◌, ◌↔◌, Ok, Result, IfOk, IfErr};
 ghost use Rattle.gx_schema.specs.WellFormed.{IsWellFormed};
 ghost use Rattle.gx_script.specs.Cutting.{words_in};
 ghost use Rattle.gx_script.specs.Reading.{Gives, insert_at, update_at, connect_at, members_at, find_at, arguments_at, reading, IsReading, AnswersUnlessNoMemory};
@@ -187,6 +187,8 @@ pub fn read_command(alloc: Global, schema: &Schema, line: &[u8]) -> Result<Comma
     ensures only { (c : Command) → IsLineOf schema.now line.now c → AnswersUnlessNoMemory result (λ given. given ≡ Ok c) }
     // The words before the first bad one begin some line of the bare grammar, and no line goes on with it.
     ensures fault { IfErr result (λ error. IsBad schema.now line.now error) }
+    // A line is read as a command exactly where it means that command by the grammar.
+    ensures means { (c : Command) → IsReading schema.now line.now (Ok c) ↔ IsLineOf schema.now line.now c }
     // A line that means no command has this first reason.
     ensures exact { AnswersUnlessNoMemory result (IsReading schema.now line.now) }
     // A line means one command at most, or has one first reason.

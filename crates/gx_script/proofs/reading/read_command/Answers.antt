@@ -1,4 +1,4 @@
-use Rattle.gx_script.proofs.ReadingLaws.{is_found, is_only, one_reading, is_of_schema}
+use Rattle.gx_script.proofs.ReadingLaws.{is_found, is_only, line_found, reading_of_line, one_reading, is_of_schema}
 use Rattle.gx_script.proofs.LocalClauses.{is_bad}
 use Rattle.gx_script.proofs.reading.read_command.Goals as goal
 
@@ -7,6 +7,9 @@ returns-clause-found c = is_found c.args.schema.now c.args.line.now c.read_line.
 
 pub returns-clause-only : goal.returns-clause-only
 returns-clause-only c d l = is_only c.args.schema.now c.args.line.now c.read_line.result c.read_line.ensures d l
+
+pub returns-clause-means : goal.returns-clause-means
+returns-clause-means c d = (line_found c.args.schema.now c.args.line.now d c.requires, reading_of_line c.args.schema.now c.args.line.now d)
 
 pub returns-clause-one : goal.returns-clause-one
 returns-clause-one c given other a b = one_reading c.args.schema.now c.args.line.now given other a b
