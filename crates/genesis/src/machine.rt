@@ -1,6 +1,6 @@
 // The real machine. A text is a file, the script is standard input, and what is said goes to
 // standard output. It tells no content, so its clauses speak of the count of faults alone.
-ghost use Rattle.std.specs.Prelude.{false, [], ◌≤◌, length, IfOk};
+ghost use Rattle.std.specs.Prelude.{◌≡◌, ◌≤◌, false, [], length, IfOk};
 ghost use Rattle.gx_device.specs.Content.{nothing_told};
 ghost use Rattle.gx_device.specs.Faults.{Rose};
 
@@ -20,7 +20,9 @@ pub struct HostMachine<R: Files + Input + Print + Drop> {
 
 impl<R: Files + Input + Print + Drop> HostMachine<R> {
     /// A machine whose calls haven't failed.
-    pub fn new(rt: R) -> Self {
+    pub fn new(rt: R) -> Self
+        ensures { result.faults ≡ 0 }
+    {
         HostMachine { rt, faults: 0 }
     }
 
