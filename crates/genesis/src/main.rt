@@ -1,6 +1,9 @@
 //! The program: a request over files, standard input and standard output.
 #![tactic(auto)]
 
+ghost use Rattle.std.specs.Prelude.{◌≡◌};
+ghost use Rattle.genesis.specs.Codes.{code};
+
 mod machine;
 
 use gx_top::{Status, top};
@@ -40,7 +43,9 @@ fn words(rt: &(impl Env + AllocGlobal), alloc: Global) -> Result<Vec<String>, Al
     }
 }
 
-fn code_of(status: Status) -> u8 {
+fn code_of(status: Status) -> u8
+    ensures { result ≡ code status }
+{
     match status {
         Status::Done => 0,
         Status::Refused => 1,
