@@ -1,8 +1,8 @@
 ghost use Rattle.std.specs.Prelude.{◌≡◌};
 
 use crate::{
-    Field, Fields, KeyBuf, Kind, Name, Octets, Op, Rec, Span, Value, Values, compare, inside,
-    key_bytes, meets, read_key, value_key,
+    Field, Fields, Form, KeyBuf, Kind, Name, Octets, Op, Rec, Span, Value, Values, compare, inside,
+    key_bytes, meets, read_key, read_value_key, value_key,
 };
 use std::alloc::Global;
 use std::cmp::Ordering;
@@ -81,6 +81,20 @@ fn keys_of_two_fields_are_read_back(rt: HostRuntime) -> Result<(), Fail> {
 }
 
 #[test]
+fn a_value_is_read_back_from_its_key(rt: HostRuntime) -> Result<(), Fail> {
+    let alloc = rt.alloc();
+    let least = read_value_key(alloc, Kind::Int, &[0; 8])?.ok_or("an int")?;
+    assert!(rt; compare(&least, &Value::Int(i64::MIN)).is_eq());
+    let found = read_value_key(alloc, Kind::Text(3), b"abc\0")?.ok_or("a text")?;
+    assert!(rt; compare(&found, &text(alloc, b"abc")?).is_eq());
+    let wrong: [&[u8]; 4] = [b"", b"ab", b"abcd\0", b"ab\0\0"];
+    for bytes in wrong {
+        assert!(rt; read_value_key(alloc, Kind::Text(3), bytes)?.is_none());
+    }
+    Ok(())
+}
+
+#[test]
 fn spans_hold_keys(rt: HostRuntime) {
     for (lo, hi, key, want) in [
         ("", "", "", true),
@@ -153,5 +167,34 @@ fn records_are_copied(rt: HostRuntime) -> Result<(), Fail> {
     let copy = record.copy(alloc)?;
     assert!(rt; are_same(&copy.key, &record.key));
     assert!(rt; are_same(&copy.fields, &record.fields));
+    Ok(())
+}
+
+fn has_fields(fields: &Fields, wanted: &[(&[u8], Kind)]) -> bool {
+    fields.0.len() == wanted.len()
+        && fields.0.iter().zip(wanted.iter()).all(|(field, (name, kind))| field.name.as_slice()
+            == *name
+            && field.kind == *kind)
+}
+
+#[test]
+fn forms_are_copied(rt: HostRuntime) -> Result<(), Fail> {
+    let alloc = rt.alloc();
+    let name = Field {
+        name: Name::from_slice(b"name"),
+        kind: Kind::Text(24),
+    };
+    let form = Form {
+        keys: Fields(vec![in alloc; field(Kind::Int)]?),
+        fields: Fields(vec![in alloc; name, field(Kind::Bytes(4))]?),
+    };
+    let copy = form.copy(alloc)?;
+    assert!(rt; has_fields(&copy.keys, &[(b"f", Kind::Int)]));
+    assert!(rt;
+        has_fields(
+            &copy.fields,
+            &[(b"name", Kind::Text(24)), (b"f", Kind::Bytes(4))]
+        )
+    );
     Ok(())
 }
