@@ -35,7 +35,7 @@ pub enum Ending<'a> {
     Type(u32, TypeWhy),
     /// The canonical texts of the schema and the equation are too long together.
     TextsTooLong,
-    /// The schema has a link, or the side of a definition isn't `actual(heap)`.
+    /// The schema has a link, or a head of the equation is one that no node is built of.
     NotBuilt,
     /// The texts are accepted, and that is all that was asked.
     Accepted(Summary),
