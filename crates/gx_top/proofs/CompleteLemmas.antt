@@ -47,12 +47,12 @@ word_once action.Try action.Check e = absurd (never e)
     never : codes "try" ≡ codes "check" → ⊥
     never f = cc
 
-record SameWords (a b : Action) (s t e f : List ℕ) : Type 0 where
+pub record SameWords (a b : Action) (s t e f : List ℕ) : Type 0 where
   pub actions : a ≡ b
   pub schemas : s ≡ t
   pub equations : e ≡ f
 
-same_words : (words : List (List ℕ)) (a b : Action) (s t e f : List ℕ) → words ≡ request_words a s e → words ≡ request_words b t f → SameWords a b s t e f
+pub same_words : (words : List (List ℕ)) (a b : Action) (s t e f : List ℕ) → words ≡ request_words a s e → words ≡ request_words b t f → SameWords a b s t e f
 same_words words a b s t e f p q =
     let same : request_words a s e ≡ request_words b t f = sym p ∙ q in
     record {
@@ -74,12 +74,12 @@ some_once a b e = ap (λ (o : Option (List ℕ)). text_or a o) e
 some_not_none : {A : Type 0} (a : A) → ◌≡◌ {A = Option A} (Some a) None → ⊥
 some_not_none a e = cc
 
-text_once : (texts : Texts) (a b x y : List ℕ) → a ≡ b → get texts a ≡ Some x → get texts b ≡ Some y → x ≡ y
+pub text_once : (texts : Texts) (a b x y : List ℕ) → a ≡ b → get texts a ≡ Some x → get texts b ≡ Some y → x ≡ y
 text_once texts a b x y same is other = some_once x y (sym is ∙ ap (λ n. get texts n) same ∙ other)
 
 -- ---- two readings of the same words
 
-one_request : (words : List (List ℕ)) (texts : Texts) (a b : Action) (s t e f : List ℕ) → IsAsked words texts a s e → IsAsked words texts b t f → SameWords a b s t e f
+pub one_request : (words : List (List ℕ)) (texts : Texts) (a b : Action) (s t e f : List ℕ) → IsAsked words texts a s e → IsAsked words texts b t f → SameWords a b s t e f
 one_request words texts a b s t e f x y =
     let same = same_words words a b x.schema_name y.schema_name x.equation_name y.equation_name x.words_are y.words_are in
     record {
@@ -89,7 +89,7 @@ one_request words texts a b s t e f x y =
     }
 
 -- neither of two texts that are there is missing or too long
-named : (words : List (List ℕ)) (texts : Texts) (name : List ℕ) (a : Action) (s e : List ℕ) → IsAsked words texts a s e → IsNamed words texts name → IsThere texts name
+pub named : (words : List (List ℕ)) (texts : Texts) (name : List ℕ) (a : Action) (s e : List ℕ) → IsAsked words texts a s e → IsNamed words texts name → IsThere texts name
 named words texts name a s e x y = there y.first
   where
     same : SameWords a y.asked x.schema_name y.schema_name x.equation_name y.equation_name
@@ -99,10 +99,10 @@ named words texts name a s e x y = there y.first
     there (inl is) = (s, subst (λ k. IsText texts k s) (same.schemas ∙ sym is) x.schema_there)
     there (inr is) = (e, subst (λ k. IsText texts k e) (same.equations ∙ sym is.1) x.equation_there)
 
-not_missing : (texts : Texts) (name : List ℕ) → IsThere texts name → get texts name ≡ None → ⊥
+pub not_missing : (texts : Texts) (name : List ℕ) → IsThere texts name → get texts name ≡ None → ⊥
 not_missing texts name is none = some_not_none is.0 (sym is.1.0 ∙ none)
 
-not_long : (texts : Texts) (name : List ℕ) → IsThere texts name → IsTooLong texts name → ⊥
+pub not_long : (texts : Texts) (name : List ℕ) → IsThere texts name → IsTooLong texts name → ⊥
 not_long texts name is long = omega (arith, is.1.1, subst (λ (o : Option (List ℕ)). IsSomeAnd o (λ text. text_limit < length text)) is.1.0 long)
 
 not_both : (b : Bool) → b ≡ true → b ≡ false → ⊥
@@ -127,7 +127,7 @@ one_reading s e schema other ds fs lines more x y =
       lines_are = ap (λ (m : List DefinitionTree × List ℕ). m.1) same;
     }
 
-equation_read : (text : List ℕ) (meaning : List DefinitionTree × List ℕ) → Means text meaning → equation_of text ≡ Ok meaning
+pub equation_read : (text : List ℕ) (meaning : List DefinitionTree × List ℕ) → Means text meaning → equation_of text ≡ Ok meaning
 equation_read text meaning is = ap (with_line text) (meaning_again text meaning is)
 
 other_not_bad : {A : Type 0} (a : A) (e : Unread) → ◌≡◌ {A = Result A Unread} (Ok a) (Err e) → ⊥
@@ -194,7 +194,7 @@ one_acceptance words texts a b schema other ds fs typing more x y =
     record { actions = same.actions; schemas = read.schemas; definitions = read.definitions }
 
 -- what is played isn't checked
-not_both_asked : action.Try ≡ action.Check → ⊥
+pub not_both_asked : action.Try ≡ action.Check → ⊥
 not_both_asked e = cc
 
 pub runnable_once : (words : List (List ℕ)) (texts : Texts) (s t : Schema) → IsRunnable words texts s → IsRunnable words texts t → s ≡ t

@@ -5,3 +5,4 @@ mod RequestLemmas
 mod PlayLemmas
 mod TryLemmas
 mod CompleteLemmas
+mod OnceLemmas

@@ -1,7 +1,8 @@
 -- What the program says: the play of the script, what the checker says, or why the request is refused, or as much of it as
 -- can be said.
-use Rattle.std.specs.Prelude.{◌≡◌, ◌⊎◌, ℕ, List, ◌++◌, take, Result, Ok, Err}
-use Rattle.gx_device.specs.Content.{Content}
+use Rattle.std.specs.Prelude.{◌≡◌, ◌⊎◌, ℕ, List, ◌++◌, take, Result, Ok, Err, Some}
+use Rattle.std.specs.FinMap.{get}
+use Rattle.gx_device.specs.Content.{Content, Texts}
 use Rattle.gx_schema.specs.declared.schema.Schema.{Schema}
 use Rattle.gx_script.specs.declared.command.LineWhy.{LineWhy}
 use Rattle.gx_model.specs.Play.{Playing, End, good, stopped, end_text, IsPlay, AreFirstAnswers}
@@ -92,6 +93,23 @@ IsStoppable words before = (schema : Schema) × IsRunnable words before.aside.te
 -- the texts to be checked are accepted
 abbrev pub IsCheckable : List (List ℕ) → Content → Type 0
 IsCheckable words before = (schema : Schema) × (ds : List DefinitionTree) × (typing : Typing) × IsAccepted words before.aside.texts action.Check schema ds typing
+
+-- ---- of two requests
+
+-- all that a request says that ends with Done or Script
+abbrev pub IsWholeText : List (List ℕ) → Content → List ℕ → Type 0
+IsWholeText words before text = IsDoneText words before text ⊎ IsRunText IsStoppedText words before text
+
+-- the words ask for a script to be played under the schema that this text means
+abbrev pub IsTryUnder : List (List ℕ) → Texts → List ℕ → Type 0
+IsTryUnder words texts schema = (schema_name : List ℕ) × (equation_name : List ℕ) × (words ≡ request_words action.Try schema_name equation_name) × (get texts schema_name ≡ Some schema)
+
+-- two requests ask for one script to be played under one schema, whatever their equations are
+pub record PlayOneScript (words others : List (List ℕ)) (before other : Content) : Type 0 where
+  pub schema : List ℕ
+  pub under : IsTryUnder words before.aside.texts schema
+  pub other_under : IsTryUnder others other.aside.texts schema
+  pub script : before.script ≡ other.script
 
 -- ---- before the line of the end is said
 

@@ -1,13 +1,14 @@
 // A request from its words to its end.
 ghost use Rattle.std.specs.Prelude.{◌≡◌, ◌≢◌, ◌⊎◌, ◌≤◌, ◌^◌, ◌<◌, ◌++◌, List, ℕ, [], Ok, length, IsTrue, IsErrOf, IfErr};
+ghost use Rattle.gx_device.specs.Content.{Content};
 ghost use Rattle.gx_device.specs.Faults.{Rose};
 ghost use Rattle.gx_schema.specs.WellFormed.{IsWellFormed};
 ghost use Rattle.gx_model.specs.Play.{good};
 ghost use Rattle.gx_engine.specs.Steps.{AreFor};
 ghost use Rattle.gx_top.specs.Words.{texts_of};
-ghost use Rattle.gx_top.specs.Endings.{status_of};
+ghost use Rattle.gx_top.specs.Endings.{line_of, status_of};
 ghost use Rattle.gx_top.specs.Requests.{IsRefused};
-ghost use Rattle.gx_top.specs.Tries.{Says, SaysFront, IsPlayText, IsStoppedText, IsShortText, IsTryText, IsDoneText, IsRefusalText, IsRunText, IsMemoryText, IsRequestText, IsTry, IsPlayable, IsStoppable, IsCheckable, IsPlayedAs, IsEndingOf};
+ghost use Rattle.gx_top.specs.Tries.{Says, SaysFront, IsPlayText, IsStoppedText, IsShortText, IsTryText, IsDoneText, IsRefusalText, IsRunText, IsMemoryText, IsRequestText, IsTry, IsPlayable, IsStoppable, IsCheckable, IsPlayedAs, IsEndingOf, IsWholeText, PlayOneScript};
 
 use crate::ending::{Ending, end};
 use crate::play::{PlayEnd, play};
@@ -54,6 +55,10 @@ pub fn top<M: Machine + Drop>(alloc: Global, words: &[String], machine: M) -> (S
     ensures plays { IsTrue M.tells → IsPlayable (texts_of words.now) (M.content machine) → result.0 ≢ Status.Outside → (result.0 ≡ Status.Done) ⊎ (result.0 ≡ Status.Memory) }
     ensures stops { IsTrue M.tells → IsStoppable (texts_of words.now) (M.content machine) → result.0 ≢ Status.Outside → (result.0 ≡ Status.Script) ⊎ (result.0 ≡ Status.Memory) }
     ensures checks { IsTrue M.tells → IsCheckable (texts_of words.now) (M.content machine) → result.0 ≢ Status.Outside → (result.0 ≡ Status.Done) ⊎ (result.0 ≡ Status.Memory) }
+    // A request is refused for one reason.
+    ensures one_reason { (why other : Ending) → IsRefused (texts_of words.now) (M.content machine).aside.texts why → IsRefused (texts_of words.now) (M.content machine).aside.texts other → line_of why ≡ line_of other }
+    // All requests that play one script under one schema, each to its end or to the line that ends it, say one text.
+    ensures one_text { (others : List (List ℕ)) (before : Content) (text other : List ℕ) → PlayOneScript (texts_of words.now) others (M.content machine) before → IsWholeText (texts_of words.now) (M.content machine) text → IsWholeText others before other → text ≡ other }
     ensures later { M.faults machine ≤ M.faults result.1 }
 {
     let mut machine = machine;

@@ -3,6 +3,7 @@ use Rattle.gx_top.specs.Requests.{IsPrepared}
 use Rattle.gx_top.specs.Words.{texts_of}
 use Rattle.gx_top.proofs.TryLemmas.{run_front, unprepared_front}
 use Rattle.gx_top.proofs.CompleteLemmas.{played_complete, stopped_complete, unprepared_memory, runnable_not_refused, checkable_not_refused, checked_not_played, unprepared_refuses}
+use Rattle.gx_top.proofs.OnceLemmas.{refused_once, one_script_once}
 use Rattle.gx_top.proofs.request.top.Goals as goal
 
 pub returns-in-Ok-Try-clause-cut : goal.returns-in-Ok-Try-clause-cut
@@ -61,3 +62,21 @@ pub returns-in-Err-clause-refuses : goal.returns-in-Err-clause-refuses
 returns-in-Err-clause-refuses g c = λ told why refused outside.
     unprepared_refuses (texts_of c.args.words.now) (g.M.Device.content c.args.machine).aside.texts _ _ c.in-Err.ending c.end-status-in-Err.result (c.in-Err.ensures.unprepared told)
     c.end-status-in-Err.ensures.status c.end-status-in-Err.ensures.fault outside
+
+pub returns-in-Ok-Try-clause-one_reason : goal.returns-in-Ok-Try-clause-one_reason
+returns-in-Ok-Try-clause-one_reason g c = λ why other x y. refused_once (texts_of c.args.words.now) (g.M.Device.content c.args.machine).aside.texts why other x y
+
+pub returns-in-Ok-Try-clause-one_text : goal.returns-in-Ok-Try-clause-one_text
+returns-in-Ok-Try-clause-one_text g c = λ others before text other one x y. one_script_once (texts_of c.args.words.now) others (g.M.Device.content c.args.machine) before text other one x y
+
+pub returns-in-Ok-Check-clause-one_reason : goal.returns-in-Ok-Check-clause-one_reason
+returns-in-Ok-Check-clause-one_reason g c = λ why other x y. refused_once (texts_of c.args.words.now) (g.M.Device.content c.args.machine).aside.texts why other x y
+
+pub returns-in-Ok-Check-clause-one_text : goal.returns-in-Ok-Check-clause-one_text
+returns-in-Ok-Check-clause-one_text g c = λ others before text other one x y. one_script_once (texts_of c.args.words.now) others (g.M.Device.content c.args.machine) before text other one x y
+
+pub returns-in-Err-clause-one_reason : goal.returns-in-Err-clause-one_reason
+returns-in-Err-clause-one_reason g c = λ why other x y. refused_once (texts_of c.args.words.now) (g.M.Device.content c.args.machine).aside.texts why other x y
+
+pub returns-in-Err-clause-one_text : goal.returns-in-Err-clause-one_text
+returns-in-Err-clause-one_text g c = λ others before text other one x y. one_script_once (texts_of c.args.words.now) others (g.M.Device.content c.args.machine) before text other one x y

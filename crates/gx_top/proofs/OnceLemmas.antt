@@ -1,0 +1,188 @@
+-- A request is refused for one reason, and a script is played by one text.
+use Rattle.std.proofs.Common.{◌≡◌, ℕ, ◌<◌, ◌≤◌, List, [], length, ◌++◌, Bool, true, false, Result, Ok, Err, Option, Some, None, refl, sym, ap, subst, ◌∙◌, arith, inl, inr}
+use Rattle.std.specs.Prelude.{◌⊎◌, ◌≢◌, IsSomeAnd, codes, nat_lt}
+use Rattle.std.specs.FinMap.{get}
+use Rattle.std.proofs.lemmas.Bool.Decides.{nat_tests}
+use Rattle.gx_device.specs.Content.{Content, Texts}
+use Rattle.gx_tokens.specs.declared.why.Unread.{Unread}
+use Rattle.gx_tokens.specs.declared.why.Unread.TheVariants as unread
+use Rattle.gx_schema.specs.declared.schema.Schema.{Schema}
+use Rattle.gx_schema.specs.Grammar.{IsSchemaText}
+use Rattle.gx_schema.specs.Reading.{schema_of}
+use Rattle.gx_schema.proofs.SchemaLaws.{schema_again, one_schema}
+use Rattle.gx_script.specs.Lines.{script_lines}
+use Rattle.gx_equation.specs.Trees.{DefinitionTree}
+use Rattle.gx_model.specs.States.{empty_state}
+use Rattle.gx_model.specs.Play.{End, good, stopped, end_text, start_at}
+use Rattle.gx_model.proofs.PlayLemmas.{played_once}
+use Rattle.gx_types.specs.declared.typing.Typing.{Typing}
+use Rattle.gx_types.specs.Typed.{leaves, typing_with}
+use Rattle.gx_types.specs.Typing.{Mistake}
+use Rattle.gx_types.specs.Whole.{typing_of}
+use Rattle.gx_types.proofs.TypedLaws.{again as typed_again}
+use Rattle.gx_top.specs.declared.ending.Ending.{Ending}
+use Rattle.gx_top.specs.declared.ending.Ending.TheVariants as ending
+use Rattle.gx_top.specs.declared.words.Action.{Action}
+use Rattle.gx_top.specs.declared.words.Action.TheVariants as action
+use Rattle.gx_top.specs.Built.{text_length}
+use Rattle.gx_top.specs.Endings.{line_of}
+use Rattle.gx_top.specs.Requests.{IsThere, IsNamed, IsAsked, AreRead, AreAccepted, AreUnaccepted, IsRunnable, IsRefused, equation_of, text_limit}
+use Rattle.gx_top.specs.Tries.{IsPlayText, IsWholeText, IsTryUnder, PlayOneScript}
+use Rattle.gx_top.specs.Words.{request_words}
+use Rattle.gx_top.proofs.CompleteLemmas.{SameWords, same_words, one_request, named, not_missing, not_long, text_once, equation_read, not_both_asked}
+
+-- ---- the line of a refusal, from what stands in the texts
+
+abbrev fetch_line : Option (List ℕ) → List ℕ → List ℕ
+fetch_line None name = codes "refused: missing " ++ name ++ codes "\n"
+fetch_line (Some text) name = codes "refused: too long " ++ name ++ codes "\n"
+
+abbrev checked_line : Result Typing Mistake → Bool → List ℕ
+checked_line (Err mistake) long = line_of (ending.Type mistake.0 mistake.1)
+checked_line (Ok typing) true = line_of ending.TextsTooLong
+checked_line (Ok typing) false = line_of ending.NotBuilt
+
+abbrev read_line : Schema → Result (List DefinitionTree × List ℕ) Unread → List ℕ
+read_line schema (Ok meaning) = checked_line (typing_of schema meaning.0 meaning.1) (nat_lt text_limit (text_length schema meaning.0))
+read_line schema (Err (unread.Bad line why)) = line_of (ending.Equation line why)
+read_line schema (Err unread.NoMemory) = []
+
+abbrev texts_line : Result Schema Unread → Result (List DefinitionTree × List ℕ) Unread → List ℕ
+texts_line (Ok schema) equation = read_line schema equation
+texts_line (Err (unread.Bad line why)) equation = line_of (ending.Schema line why)
+texts_line (Err unread.NoMemory) equation = []
+
+texts_at : (s e : List ℕ) (x : Result Schema Unread) (y : Result (List DefinitionTree × List ℕ) Unread) → schema_of s ≡ x → equation_of e ≡ y → texts_line x y ≡ texts_line (schema_of s) (equation_of e)
+texts_at s e x y p q = λ i. texts_line (sym p i) (sym q i)
+
+read_at : (s e : List ℕ) (schema : Schema) (ds : List DefinitionTree) (lines : List ℕ) (typing : Result Typing Mistake) (long : Bool) → AreRead s e schema ds lines → typing_of schema ds lines ≡ typing → nat_lt text_limit (text_length schema ds) ≡ long → checked_line typing long ≡ texts_line (schema_of s) (equation_of e)
+read_at s e schema ds lines typing long is p q = (λ i. checked_line (sym p i) (sym q i)) ∙ texts_at s e (Ok schema) (Ok (ds, lines)) (schema_again s schema is.schema_means) (equation_read e (ds, lines) is.equation_means)
+
+is_longer : (a b : ℕ) → a < b → nat_lt a b ≡ true
+is_longer a b lt = grind (arith, nat_tests)
+
+is_not_longer : (a b : ℕ) → b ≤ a → nat_lt a b ≡ false
+is_not_longer a b le = grind (arith, nat_tests)
+
+unaccepted_line : (s e : List ℕ) (why : Ending) → AreUnaccepted s e why → line_of why ≡ texts_line (schema_of s) (equation_of e)
+unaccepted_line s e (ending.Schema line why) r = texts_at s e (Err (unread.Bad line why)) (equation_of e) r refl
+unaccepted_line s e (ending.Equation line why) r = texts_at s e (Ok r.0) (Err (unread.Bad line why)) (schema_again s r.0 r.1) r.2
+unaccepted_line s e (ending.Type line why) r = read_at s e r.0 r.1 r.2 (Err (line, why)) (nat_lt text_limit (text_length r.0 r.1)) r.3 r.4 refl
+unaccepted_line s e ending.TextsTooLong r = read_at s e r.0 r.1 r.2 (Ok (typing_with (leaves r.0 r.1))) true r.3 (typed_again r.0 r.1 r.2 r.4) (is_longer text_limit (text_length r.0 r.1) r.5)
+unaccepted_line s e ending.Words r = absurd r
+unaccepted_line s e (ending.Missing name) r = absurd r
+unaccepted_line s e (ending.TooLong name) r = absurd r
+unaccepted_line s e ending.NotBuilt r = absurd r
+unaccepted_line s e (ending.Accepted summary) r = absurd r
+unaccepted_line s e ending.NoMemory r = absurd r
+unaccepted_line s e ending.Fault r = absurd r
+unaccepted_line s e (ending.Line number why) r = absurd r
+
+accepted_line : (s e : List ℕ) (schema : Schema) (ds : List DefinitionTree) (typing : Typing) → AreAccepted s e schema ds typing → line_of ending.NotBuilt ≡ texts_line (schema_of s) (equation_of e)
+accepted_line s e schema ds typing is = read_at s e schema ds is.lines (Ok (typing_with (leaves schema ds))) false is.read (typed_again schema ds is.lines is.typed) (is_not_longer text_limit (text_length schema ds) is.short)
+
+-- ---- why a request is refused: its words, a text that isn't had, or what stands in the texts
+
+abbrev AreNoRequest : List (List ℕ) → List ℕ → Type 0
+AreNoRequest words line = ((a : Action) (schema equation : List ℕ) → words ≢ request_words a schema equation) × (line ≡ line_of ending.Words)
+
+record IsLost (words : List (List ℕ)) (texts : Texts) (line : List ℕ) : Type 0 where
+  pub name : List ℕ
+  pub is_named : IsNamed words texts name
+  pub not_there : IsThere texts name → ⊥
+  pub line_is : line ≡ fetch_line (get texts name) name
+
+record IsJudged (words : List (List ℕ)) (texts : Texts) (line : List ℕ) : Type 0 where
+  pub asked : Action
+  pub schema : List ℕ
+  pub equation : List ℕ
+  pub is_asked : IsAsked words texts asked schema equation
+  pub line_is : line ≡ texts_line (schema_of schema) (equation_of equation)
+
+abbrev HasReason : List (List ℕ) → Texts → List ℕ → Type 0
+HasReason words texts line = AreNoRequest words line ⊎ IsLost words texts line ⊎ IsJudged words texts line
+
+missing_line : (name : List ℕ) (text : Option (List ℕ)) → text ≡ None → codes "refused: missing " ++ name ++ codes "\n" ≡ fetch_line text name
+missing_line name text is = ap (λ o. fetch_line o name) (sym is)
+
+long_line : (name : List ℕ) (text : Option (List ℕ)) → IsSomeAnd text (λ t. text_limit < length t) → codes "refused: too long " ++ name ++ codes "\n" ≡ fetch_line text name
+long_line name (Some text) is = refl
+long_line name None is = absurd is
+
+judged : (words : List (List ℕ)) (texts : Texts) (why : Ending) → ((a : Action) × (s : List ℕ) × (e : List ℕ) × IsAsked words texts a s e × AreUnaccepted s e why) → HasReason words texts (line_of why)
+judged words texts why r = inr (inr (record { asked = r.0; schema = r.1; equation = r.2; is_asked = r.3; line_is = unaccepted_line r.1 r.2 why r.4 }))
+
+reason : (words : List (List ℕ)) (texts : Texts) (why : Ending) → IsRefused words texts why → HasReason words texts (line_of why)
+reason words texts ending.Words r = inl (r, refl)
+reason words texts (ending.Missing name) r = inr (inl (record { name = name.now; is_named = r.0; not_there = λ there. not_missing texts name.now there r.1; line_is = missing_line name.now (get texts name.now) r.1 }))
+reason words texts (ending.TooLong name) r = inr (inl (record { name = name.now; is_named = r.0; not_there = λ there. not_long texts name.now there r.1; line_is = long_line name.now (get texts name.now) r.1 }))
+reason words texts ending.NotBuilt r = inr (inr (record { asked = action.Try; schema = r.3.0; equation = r.3.1; is_asked = r.3.2; line_is = accepted_line r.3.0 r.3.1 r.0 r.1 r.2 r.3.3 }))
+reason words texts (ending.Schema line why) r = judged words texts (ending.Schema line why) r
+reason words texts (ending.Equation line why) r = judged words texts (ending.Equation line why) r
+reason words texts (ending.Type line why) r = judged words texts (ending.Type line why) r
+reason words texts ending.TextsTooLong r = judged words texts ending.TextsTooLong r
+reason words texts (ending.Accepted summary) r = absurd r.4
+reason words texts ending.NoMemory r = absurd r.4
+reason words texts ending.Fault r = absurd r.4
+reason words texts (ending.Line number why) r = absurd r.4
+
+-- the text that isn't had is the first one of the two
+name_once : (words : List (List ℕ)) (texts : Texts) (name other : List ℕ) → IsNamed words texts name → IsNamed words texts other → (IsThere texts name → ⊥) → (IsThere texts other → ⊥) → name ≡ other
+name_once words texts name other x y lost missed = by_place x.first y.first
+  where
+    same : SameWords x.asked y.asked x.schema_name y.schema_name x.equation_name y.equation_name
+    same = same_words words x.asked y.asked x.schema_name y.schema_name x.equation_name y.equation_name x.words_are y.words_are
+
+    by_place : ((name ≡ x.schema_name) ⊎ (IsThere texts x.schema_name × (name ≡ x.equation_name))) → ((other ≡ y.schema_name) ⊎ (IsThere texts y.schema_name × (other ≡ y.equation_name))) → name ≡ other
+    by_place (inl p) (inl q) = p ∙ same.schemas ∙ sym q
+    by_place (inl p) (inr q) = absurd (lost (subst (IsThere texts) (sym (p ∙ same.schemas)) q.0))
+    by_place (inr p) (inl q) = absurd (missed (subst (IsThere texts) (same.schemas ∙ sym q) p.0))
+    by_place (inr p) (inr q) = p.1 ∙ same.equations ∙ sym q.1
+
+line_once : (words : List (List ℕ)) (texts : Texts) (line other : List ℕ) → HasReason words texts line → HasReason words texts other → line ≡ other
+line_once words texts line other (inl x) (inl y) = x.1 ∙ sym y.1
+line_once words texts line other (inl x) (inr (inl y)) = absurd (x.0 y.is_named.asked y.is_named.schema_name y.is_named.equation_name y.is_named.words_are)
+line_once words texts line other (inl x) (inr (inr y)) = absurd (x.0 y.asked y.is_asked.schema_name y.is_asked.equation_name y.is_asked.words_are)
+line_once words texts line other (inr (inl x)) (inl y) = absurd (y.0 x.is_named.asked x.is_named.schema_name x.is_named.equation_name x.is_named.words_are)
+line_once words texts line other (inr (inl x)) (inr (inl y)) = x.line_is ∙ ap (λ n. fetch_line (get texts n) n) (name_once words texts x.name y.name x.is_named y.is_named x.not_there y.not_there) ∙ sym y.line_is
+line_once words texts line other (inr (inl x)) (inr (inr y)) = absurd (x.not_there (named words texts x.name y.asked y.schema y.equation y.is_asked x.is_named))
+line_once words texts line other (inr (inr x)) (inl y) = absurd (y.0 x.asked x.is_asked.schema_name x.is_asked.equation_name x.is_asked.words_are)
+line_once words texts line other (inr (inr x)) (inr (inl y)) = absurd (y.not_there (named words texts y.name x.asked x.schema x.equation x.is_asked y.is_named))
+line_once words texts line other (inr (inr x)) (inr (inr y)) =
+    let same = one_request words texts x.asked y.asked x.schema y.schema x.equation y.equation x.is_asked y.is_asked in
+    x.line_is ∙ (λ i. texts_line (schema_of (same.schemas i)) (equation_of (same.equations i))) ∙ sym y.line_is
+
+pub refused_once : (words : List (List ℕ)) (texts : Texts) (why other : Ending) → IsRefused words texts why → IsRefused words texts other → line_of why ≡ line_of other
+refused_once words texts why other x y = line_once words texts (line_of why) (line_of other) (reason words texts why x) (reason words texts other y)
+
+-- ---- one script under one schema
+
+record IsPlayed (words : List (List ℕ)) (before : Content) (text : List ℕ) : Type 0 where
+  pub schema : Schema
+  pub runnable : IsRunnable words before.aside.texts schema
+  pub end : End
+  pub is : IsPlayText schema before.script end text
+
+is_played : (words : List (List ℕ)) (before : Content) (under text : List ℕ) → IsTryUnder words before.aside.texts under → IsWholeText words before text → IsPlayed words before text
+is_played words before under text try (inl (inl run)) = record { schema = run.0; runnable = run.1; end = good; is = run.2 }
+is_played words before under text try (inl (inr is)) = absurd (not_both_asked (same_words words action.Try action.Check try.0 is.3.2.schema_name try.1 is.3.2.equation_name try.2 is.3.2.words_are).actions)
+is_played words before under text try (inr run) = record { schema = run.0; runnable = run.1; end = stopped run.2.0 run.2.1; is = run.2.2 }
+
+-- the schema that is played on is that of the schema text
+schema_under : (words : List (List ℕ)) (texts : Texts) (under : List ℕ) (schema : Schema) → IsTryUnder words texts under → IsRunnable words texts schema → IsSchemaText under schema
+schema_under words texts under schema try is =
+    let asked = is.2.2 in
+    let same = same_words words action.Try action.Try asked.schema_name try.0 asked.equation_name try.1 asked.words_are try.2 in
+    subst (λ t. IsSchemaText t schema) (text_once texts asked.schema_name try.0 is.2.0 under same.schemas asked.schema_there.0 try.3) is.2.3.read.schema_means
+
+text_of_play : (schema : Schema) (script : List ℕ) (end close : End) (a b : List ℕ) → IsPlayText schema script end a → IsPlayText schema script close b → a ≡ b
+text_of_play schema script end close a b x y =
+    let once = played_once schema 0 (start_at (empty_state schema)) (script_lines script).lines (script_lines script).stop x.answers y.answers x.final y.final end close x.play y.play in
+    x.text_is ∙ (λ i. once.0 i ++ end_text (once.2 i)) ∙ sym y.text_is
+
+pub one_script_once : (words others : List (List ℕ)) (before other : Content) (text more : List ℕ) → PlayOneScript words others before other → IsWholeText words before text → IsWholeText others other more → text ≡ more
+one_script_once words others before other text more one x y =
+    let p = is_played words before one.schema text one.under x in
+    let q = is_played others other one.schema more one.other_under y in
+    let same = one_schema one.schema p.schema q.schema (schema_under words before.aside.texts one.schema p.schema one.under p.runnable) (schema_under others other.aside.texts one.schema q.schema one.other_under q.runnable) in
+    text_of_play q.schema other.script p.end q.end text more (subst (λ (t : List ℕ). IsPlayText q.schema t p.end text) one.script (subst (λ (k : Schema). IsPlayText k before.script p.end text) same p.is)) q.is
