@@ -3,11 +3,12 @@ ghost use Rattle.std.specs.Prelude.{◌≡◌, ◌≢◌, ◌⊎◌, ◌≤◌, 
 ghost use Rattle.gx_device.specs.Content.{Content};
 ghost use Rattle.gx_device.specs.Faults.{Rose};
 ghost use Rattle.gx_schema.specs.WellFormed.{IsWellFormed};
+ghost use Rattle.gx_schema.specs.declared.schema.Schema.{Schema as TheSchema};
 ghost use Rattle.gx_model.specs.Play.{good};
 ghost use Rattle.gx_engine.specs.Steps.{AreFor};
 ghost use Rattle.gx_top.specs.Words.{texts_of};
 ghost use Rattle.gx_top.specs.Endings.{line_of, status_of};
-ghost use Rattle.gx_top.specs.Requests.{IsRefused};
+ghost use Rattle.gx_top.specs.Requests.{IsRefused, IsRunnable};
 ghost use Rattle.gx_top.specs.Tries.{Says, SaysFront, IsPlayText, IsStoppedText, IsShortText, IsTryText, IsDoneText, IsRefusalText, IsRunText, IsMemoryText, IsRequestText, IsTry, IsPlayable, IsStoppable, IsCheckable, IsPlayedAs, IsEndingOf, IsWholeText, PlayOneScript};
 
 use crate::ending::{Ending, end};
@@ -46,6 +47,8 @@ use std::alloc::Global;
 pub fn top<M: Machine + Drop>(alloc: Global, words: &[String], machine: M) -> (Status, M)
     ensures done { IsTrue M.tells → result.0 ≡ Status.Done → Says (IsDoneText (texts_of words.now) (M.content machine)) (M.content machine) (M.content result.1) }
     ensures heard { IsTrue M.tells → result.0 ≡ Status.Done → IsTry (texts_of words.now) → (M.content result.1).script ≡ [] }
+    // Where no script is to be played, none is heard.
+    ensures unheard { IsTrue M.tells → ((schema : TheSchema) → ¬ IsRunnable (texts_of words.now) (M.content machine).aside.texts schema) → (M.content result.1).script ≡ (M.content machine).script }
     ensures stopped { IsTrue M.tells → result.0 ≡ Status.Script → Says (IsRunText IsStoppedText (texts_of words.now) (M.content machine)) (M.content machine) (M.content result.1) }
     ensures refused { IsTrue M.tells → result.0 ≡ Status.Refused → Says (IsRefusalText (texts_of words.now) (M.content machine)) (M.content machine) (M.content result.1) }
     ensures memory { IsTrue M.tells → result.0 ≡ Status.Memory → Says (IsMemoryText (texts_of words.now) (M.content machine)) (M.content machine) (M.content result.1) }

@@ -80,3 +80,7 @@ returns-in-Err-clause-one_reason g c = λ why other x y. refused_once (texts_of 
 
 pub returns-in-Err-clause-one_text : goal.returns-in-Err-clause-one_text
 returns-in-Err-clause-one_text g c = λ others before text other one x y. one_script_once (texts_of c.args.words.now) others (g.M.Device.content c.args.machine) before text other one x y
+
+pub returns-in-Ok-Try-clause-unheard : goal.returns-in-Ok-Try-clause-unheard
+returns-in-Ok-Try-clause-unheard g c = λ told none.
+    absurd (none c.in-Ok-Try.schema (subst (IsPrepared (texts_of c.args.words.now) (g.M.Device.content c.args.machine).aside.texts) c.in-Ok-Try.field-0-is (c.in-Ok-Try.ensures.prepared told)))
