@@ -136,8 +136,9 @@ impl<M: Mapping> Node<M> {
 
     /// Appends the records whose key is inside the span, in ascending order of their keys.
     ///
-    /// `Damaged`: some leaf's stored form isn't whole, or the leaves hold no set of records. `Fault`: the
-    /// count of faults rose. `NoMemory`: there was none. After a refusal `out` may have more at its end.
+    /// `Damaged`: some leaf's stored form isn't whole, or the leaves hold no set of records, which is said
+    /// of block 0. `Fault`: the count of faults rose. `NoMemory`: there was none. After a refusal `out` may
+    /// have more at its end.
     pub fn select<B: Leaves>(
         &self,
         alloc: Global,
@@ -160,6 +161,7 @@ impl<M: Mapping> Node<M> {
         ensures later { B.faults leaves.old ≤ B.faults leaves.new }
         ensures fault { IsErrOf result Stop.Fault → Rose (B.faults leaves.old) (B.faults leaves.new) }
         ensures damaged { (block : ℕ) (R : List Record) → IsErrOf result (Stop.Damaged block) → B.whole leaves.old → IsSet (tree_form M.rule (tree_of self.now)) R → IsInternal M.rule (tree_of self.now) R (B.working leaves.old) → ⊥ }
+        ensures block { (n : ℕ) → IsErrOf result (Stop.Damaged n) → B.whole leaves.old → n ≡ 0 }
         ensures not_full { ¬ IsErrOf result Stop.Full }
     {
         match self {

@@ -37,6 +37,7 @@ pub fn select_leaf<B: Leaves>(
     ensures later { B.faults leaves.old ≤ B.faults leaves.new }
     ensures fault { IsErrOf result Stop.Fault → Rose (B.faults leaves.old) (B.faults leaves.new) }
     ensures damaged { (block : ℕ) (R : List Record) → IsErrOf result (Stop.Damaged block) → B.whole leaves.old → IsSet form.now R → IsLeafMap (map_at (B.working leaves.old) leaf) R → ⊥ }
+    ensures block { (n : ℕ) → IsErrOf result (Stop.Damaged n) → B.whole leaves.old → n ≡ 0 }
     ensures not_full { ¬ IsErrOf result Stop.Full }
 {
     let mut entries = Entries::new(alloc);
@@ -50,6 +51,7 @@ fn read_records(alloc: Global, form: &Form, entries: &Entries, out: &mut Recs) -
     ensures read { OnOk result (AreRecords form.now entries.now out.old out.new) }
     ensures front { Extends out.old out.new }
     ensures damaged { (block : ℕ) → IsErrOf result (Stop.Damaged block) → (e : LeafPair) × In e entries.now × ((r : Record) → IsOf form.now r → entry_of_rec r ≢ e) }
+    ensures block { (n : ℕ) → IsErrOf result (Stop.Damaged n) → n ≡ 0 }
     ensures not_full { ¬ IsErrOf result Stop.Full }
     ensures not_fault { ¬ IsErrOf result Stop.Fault }
 {
