@@ -1,9 +1,11 @@
-ghost use Rattle.std.specs.Prelude.{◌≡◌, ◌∷◌, [], IfOk};
+ghost use Rattle.std.specs.Prelude.{◌≡◌, ◌<◌, ◌∷◌, [], IfOk};
 ghost use Rattle.gx_values.specs.declared.values.Value.TheVariants as value;
 ghost use Rattle.gx_values.specs.declared.values.Kind.TheVariants as kind;
+ghost use Rattle.gx_mapping.specs.Rule.{IsOf};
+ghost use Rattle.gx_partition.specs.Rules.{form_of, rule_of};
 
-use crate::{Where, partition};
-use gx_mapping::Mapping;
+use crate::{Partition, Where, partition};
+use gx_mapping::{Mapping, Part, Parts};
 use gx_values::{Field, Fields, Form, Kind, Name, NoMemory, Rec, Span, Value, Values, value_key};
 use std::alloc::Global;
 use std::test::Fail;
@@ -53,6 +55,43 @@ fn records_go_by_their_keys(rt: HostRuntime) -> Result<(), Fail> {
                 hi: value_key(&Value::Int(key)),
             };
             assert_eq!(rt; layer.skips(child, &span), child != want);
+        }
+    }
+    Ok(())
+}
+
+// What is gathered of a record that stands in a child.
+fn gathered(
+    alloc: Global,
+    layer: &Partition,
+    child: u16,
+    rec: &Rec,
+) -> Result<Option<Rec>, NoMemory>
+    requires child { child < (rule_of layer.now).kids }
+    requires of_form { IsOf (form_of layer.now) rec.now }
+{
+    let rec = rec.copy(alloc)?;
+    let key = rec.key.copy(alloc)?;
+    let parts = Parts::one(alloc, Part { child, rec })?;
+    layer.gather(alloc, &key, &parts)
+}
+
+#[test]
+fn records_are_gathered_from_their_own_children(rt: HostRuntime) -> Result<(), Fail> {
+    let alloc = rt.alloc();
+    let form = pair_form(alloc)?;
+    let bounds = Values(vec![in alloc; Value::Int(10), Value::Int(20)]?);
+    let layer = partition(alloc, &form, Where::Key(0), &bounds)?;
+    let rec = pair(alloc, 19, 5)?;
+    for child in 0..layer.kids() {
+        let found = gathered(alloc, &layer, child, &rec)?;
+        match found {
+            Some(found) => {
+                assert_eq!(rt; child, 1);
+                assert!(rt; matches!(found.key.0.as_slice(), [Value::Int(19)]));
+                assert!(rt; matches!(found.fields.0.as_slice(), [Value::Int(5)]));
+            }
+            None => assert!(rt; child != 1),
         }
     }
     Ok(())
