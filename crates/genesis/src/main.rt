@@ -4,6 +4,7 @@
 ghost use Rattle.std.specs.Prelude.{◌≡◌};
 ghost use Rattle.genesis.specs.Codes.{code};
 
+mod files;
 mod machine;
 
 use gx_top::{Status, top};
