@@ -1,10 +1,11 @@
 -- What one command does to an engine, over any leaves.
-use Rattle.std.specs.Prelude.{◌≡◌, ℕ, ◌+◌, ◌≤◌, List, length, Bool, Option, Some, None, Result, Ok, Err, OnOk, OnErr}
+use Rattle.std.specs.Prelude.{◌≡◌, ℕ, ◌+◌, ◌≤◌, List, length, Bool, false, Option, Some, None, Result, Ok, Err, OnOk, OnErr}
 use Rattle.gx_device.specs.Content.{Content, Silent}
 use Rattle.gx_device.specs.Faults.{Rose}
 use Rattle.gx_schema.specs.declared.schema.Schema.{Schema}
 use Rattle.gx_script.specs.declared.command.Command.{Command}
 use Rattle.gx_script.specs.Commands.{inside_after, place_reason, IsOfSchema}
+use Rattle.gx_ports.specs.Stops.{is_outside, is_fault}
 use Rattle.gx_ports.specs.declared.stop.Stop.{Stop}
 use Rattle.gx_ports.specs.declared.stop.Stop.TheVariants as stop
 use Rattle.gx_ports.specs.LeafMaps.{LeafMap, Limits, entry_count, IsCrowdedBy}
@@ -83,10 +84,16 @@ pub record IsStep {S : Type 0} (working kept : S → List LeafMap) (whole kept_w
   pub many : length (working new.leaves) ≡ length (working old.leaves)
   pub limit_stays : limit new.leaves ≡ limit old.leaves
   pub silent : Silent (content old.leaves) (content new.leaves)
+  pub counted : is_fault result ≡ false → faults new.leaves ≡ faults old.leaves
   pub later : faults old.leaves ≤ faults new.leaves
   pub fault : result ≡ Err stop.Fault → Rose (faults old.leaves) (faults new.leaves)
   pub full : (p : Playing) → whole old.leaves → kept_whole old.leaves → StandsFor working kept old p → result ≡ Err stop.Full → IsShortFor (limit old.leaves) (nodes_of old) (working old.leaves) old.schema p c
   pub damaged : (block : ℕ) (p : Playing) → result ≡ Err (stop.Damaged block) → whole old.leaves → kept_whole old.leaves → StandsFor working kept old p → ⊥
+
+-- whether the step answers that the outside failed in it
+abbrev pub is_fault_now : Result (Unit {0}) StepStop → Bool
+is_fault_now (Err (Now why)) = is_outside why
+is_fault_now _ = false
 
 -- the first stop is kept, and after it nothing happens
 abbrev pub IsServed : Option Stop → Option Stop → Result (Unit {0}) StepStop → Type 0

@@ -49,7 +49,7 @@ pub struct Engine<B: Leaves + Drop> {
 impl<B: Leaves + Drop> Engine<B> {
     ghost use Rattle.gx_script.specs.declared.command.Command.TheVariants as command;
     ghost use Rattle.gx_engine.specs.Internal.{AreInternal, IsCarried};
-    ghost use Rattle.gx_engine.specs.Steps.{schema_of, built_of, nodes_of, leaves_of, is_open, AreFor, IsShortFor, commits_of, stop_of, IsReady, IsDue, StandsFor, IsStep, IsServed, IsSame};
+    ghost use Rattle.gx_engine.specs.Steps.{schema_of, built_of, nodes_of, leaves_of, is_open, AreFor, IsShortFor, commits_of, stop_of, IsReady, IsDue, StandsFor, IsStep, IsServed, IsSame, is_fault_now};
     ghost use Rattle.gx_engine.specs.declared.engine.StepStop.TheVariants.{Now, Stopped};
 
     /// An engine over leaves, which hold the records of each file of the schema as it is built. No
@@ -111,6 +111,7 @@ impl<B: Leaves + Drop> Engine<B> {
 
         // The causes of a stop.
         ensures fault { result ≡ Err (Now Stop.Fault) → Rose (B.faults (leaves_of self.old)) (B.faults (leaves_of self.new)) }
+        ensures counted { is_fault_now result ≡ false → B.faults (leaves_of self.new) ≡ B.faults (leaves_of self.old) }
         ensures full { (p : Playing) → B.whole (leaves_of self.old) → B.kept_whole (leaves_of self.old) → StandsFor B.working B.kept self.old p → result ≡ Err (Now Stop.Full) → IsShortFor (B.limit (leaves_of self.old)) (nodes_of self.old) (B.working (leaves_of self.old)) (schema_of self.old) p command.now }
         ensures damaged { (block : ℕ) (p : Playing) → result ≡ Err (Now (Stop.Damaged block)) → B.whole (leaves_of self.old) → B.kept_whole (leaves_of self.old) → StandsFor B.working B.kept self.old p → ⊥ }
 
@@ -324,6 +325,7 @@ impl<B: Leaves + Drop> Engine<B> {
         ensures not_heard { OnErr result ((B.content (leaves_of self.new)).script ≡ (B.content (leaves_of self.old)).script) }
         ensures rest { Listens (B.content (leaves_of self.old)) (B.content (leaves_of self.new)) }
         ensures cause { HasCause (B.faults (leaves_of self.old)) (B.faults (leaves_of self.new)) result }
+        ensures counted { OnOk result (B.faults (leaves_of self.new) ≡ B.faults (leaves_of self.old)) }
         ensures same { IsSame B.working B.kept B.whole B.kept_whole B.limit self.old self.new }
     {
         self.leaves.hear(into)
@@ -336,6 +338,7 @@ impl<B: Leaves + Drop> Engine<B> {
         ensures not_said { OnErr result ((B.content (leaves_of self.new)).now.said ≡ (B.content (leaves_of self.old)).now.said) }
         ensures rest { Speaks (B.content (leaves_of self.old)) (B.content (leaves_of self.new)) }
         ensures cause { HasCause (B.faults (leaves_of self.old)) (B.faults (leaves_of self.new)) result }
+        ensures counted { IfOk result (λ n. 0 < n → B.faults (leaves_of self.new) ≡ B.faults (leaves_of self.old)) }
         ensures none_taken { result ≡ Ok 0 → 0 < length from.now → Rose (B.faults (leaves_of self.old)) (B.faults (leaves_of self.new)) }
         ensures same { IsSame B.working B.kept B.whole B.kept_whole B.limit self.old self.new }
     {

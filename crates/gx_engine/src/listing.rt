@@ -1,9 +1,10 @@
 // Records of a whole file, as `find` lists them.
-ghost use Rattle.std.specs.Prelude.{◌≡◌, ◌<◌, ◌≤◌, ◌↔◌, ◌++◌, [], ℕ, length, filter, IfOk, OnOk, IsErrOf};
+ghost use Rattle.std.specs.Prelude.{◌≡◌, ◌<◌, ◌≤◌, ◌↔◌, ◌++◌, [], ℕ, false, length, filter, IfOk, OnOk, IsErrOf};
 ghost use Rattle.std.specs.List.Sorted.{IsPermutation};
 ghost use Rattle.std.specs.FinMap as fin;
 ghost use Rattle.gx_device.specs.Content.{Silent};
 ghost use Rattle.gx_device.specs.Faults.{Rose};
+ghost use Rattle.gx_ports.specs.Stops.{is_fault};
 ghost use Rattle.gx_stack.specs.Seen.{tree_of};
 ghost use Rattle.gx_model.specs.States.{File as FileMap};
 ghost use Rattle.gx_model.specs.Found.{meets_conds};
@@ -41,6 +42,7 @@ pub(crate) fn found_text<B: Leaves>(
     ensures kept_whole { B.kept_whole leaves.old ↔ B.kept_whole leaves.new }
     ensures limit { B.limit leaves.new ≡ B.limit leaves.old }
     ensures silent { Silent (B.content leaves.old) (B.content leaves.new) }
+    ensures counted { is_fault result ≡ false → B.faults leaves.new ≡ B.faults leaves.old }
     ensures later { B.faults leaves.old ≤ B.faults leaves.new }
     ensures fault { IsErrOf result Stop.Fault → Rose (B.faults leaves.old) (B.faults leaves.new) }
     ensures damaged { (block : ℕ) (f : FileMap) → IsErrOf result (Stop.Damaged block) → B.whole leaves.old → IsInternal file.now (tree_of node.now) (B.working leaves.old) f → ⊥ }
@@ -68,6 +70,7 @@ fn chosen_rows<B: Leaves>(
     ensures kept_whole { B.kept_whole leaves.old ↔ B.kept_whole leaves.new }
     ensures limit { B.limit leaves.new ≡ B.limit leaves.old }
     ensures silent { Silent (B.content leaves.old) (B.content leaves.new) }
+    ensures counted { is_fault result ≡ false → B.faults leaves.new ≡ B.faults leaves.old }
     ensures later { B.faults leaves.old ≤ B.faults leaves.new }
     ensures fault { IsErrOf result Stop.Fault → Rose (B.faults leaves.old) (B.faults leaves.new) }
     ensures damaged { (block : ℕ) (f : FileMap) → IsErrOf result (Stop.Damaged block) → B.whole leaves.old → IsInternal file.now (tree_of node.now) (B.working leaves.old) f → ⊥ }
@@ -101,6 +104,7 @@ fn add_rows<B: Leaves>(
     ensures kept_whole { B.kept_whole leaves.old ↔ B.kept_whole leaves.new }
     ensures limit { B.limit leaves.new ≡ B.limit leaves.old }
     ensures silent { Silent (B.content leaves.old) (B.content leaves.new) }
+    ensures counted { is_fault result ≡ false → B.faults leaves.new ≡ B.faults leaves.old }
     ensures later { B.faults leaves.old ≤ B.faults leaves.new }
     ensures fault { IsErrOf result Stop.Fault → Rose (B.faults leaves.old) (B.faults leaves.new) }
     ensures damaged { (block : ℕ) (f : FileMap) → IsErrOf result (Stop.Damaged block) → B.whole leaves.old → IsInternal file.now (tree_of node.now) (B.working leaves.old) f → ⊥ }

@@ -1,5 +1,5 @@
 // Records of a file: each is looked up and changed in the file's node.
-ghost use Rattle.std.specs.Prelude.{◌≡◌, ◌<◌, ◌≤◌, ◌↔◌, ◌∷◌, [], ◌+◌, ℕ, List, length, IfOk, OnOk, IfSome, IsErrOf, Option, not, is_some};
+ghost use Rattle.std.specs.Prelude.{◌≡◌, ◌<◌, ◌≤◌, ◌↔◌, ◌∷◌, [], ◌+◌, ℕ, List, length, IfOk, OnOk, IfSome, IsErrOf, Option, false, not, is_some};
 ghost use Rattle.std.specs.Option.{option_map};
 ghost use Rattle.std.specs.FinMap as fin;
 ghost use Rattle.std.specs.List.{AllByRecursion};
@@ -12,7 +12,7 @@ ghost use Rattle.gx_values.specs.declared.records.Rec.{Rec as Record};
 ghost use Rattle.gx_schema.specs.Lookups.{key_kind, data_fields};
 ghost use Rattle.gx_script.specs.Commands.{IsChangeOf};
 ghost use Rattle.gx_ports.specs.LeafMaps.{entry_count, IsCrowded, IsCrowdedBy};
-ghost use Rattle.gx_ports.specs.Stops.{HasStopCause};
+ghost use Rattle.gx_ports.specs.Stops.{HasStopCause, is_fault};
 ghost use Rattle.gx_values.specs.declared.records.Form.{Form as TheForm};
 ghost use Rattle.gx_mapping.specs.Rule.{In, IsOf};
 ghost use Rattle.gx_stack.specs.Tree.{entries_of};
@@ -74,6 +74,7 @@ pub(crate) fn find_record<B: Leaves>(
     ensures kept_whole { B.kept_whole leaves.old ↔ B.kept_whole leaves.new }
     ensures limit { B.limit leaves.new ≡ B.limit leaves.old }
     ensures silent { Silent (B.content leaves.old) (B.content leaves.new) }
+    ensures counted { is_fault result ≡ false → B.faults leaves.new ≡ B.faults leaves.old }
     ensures later { B.faults leaves.old ≤ B.faults leaves.new }
     ensures fault { IsErrOf result Stop.Fault → Rose (B.faults leaves.old) (B.faults leaves.new) }
     ensures damaged { (block : ℕ) (f : FileMap) → IsErrOf result (Stop.Damaged block) → B.whole leaves.old → IsInternal file.now (tree_of node.now) (B.working leaves.old) f → ⊥ }
@@ -129,6 +130,7 @@ pub(crate) fn insert_record<B: Leaves>(
     ensures kept_whole { B.kept_whole leaves.old ↔ B.kept_whole leaves.new }
     ensures limit { B.limit leaves.new ≡ B.limit leaves.old }
     ensures silent { Silent (B.content leaves.old) (B.content leaves.new) }
+    ensures counted { is_fault result ≡ false → B.faults leaves.new ≡ B.faults leaves.old }
     ensures later { B.faults leaves.old ≤ B.faults leaves.new }
     ensures fault { IsErrOf result Stop.Fault → Rose (B.faults leaves.old) (B.faults leaves.new) }
     ensures damaged { (block : ℕ) (f : FileMap) → IsErrOf result (Stop.Damaged block) → B.whole leaves.old → IsInternal file.now (tree_of node.now) (B.working leaves.old) f → ⊥ }
@@ -160,6 +162,7 @@ pub(crate) fn delete_record<B: Leaves>(
     ensures kept_whole { B.kept_whole leaves.old ↔ B.kept_whole leaves.new }
     ensures limit { B.limit leaves.new ≡ B.limit leaves.old }
     ensures silent { Silent (B.content leaves.old) (B.content leaves.new) }
+    ensures counted { is_fault result ≡ false → B.faults leaves.new ≡ B.faults leaves.old }
     ensures later { B.faults leaves.old ≤ B.faults leaves.new }
     ensures fault { IsErrOf result Stop.Fault → Rose (B.faults leaves.old) (B.faults leaves.new) }
     ensures damaged { (block : ℕ) (f : FileMap) → IsErrOf result (Stop.Damaged block) → B.whole leaves.old → IsInternal file.now (tree_of node.now) (B.working leaves.old) f → ⊥ }
@@ -192,6 +195,7 @@ pub(crate) fn update_record<B: Leaves>(
     ensures kept_whole { B.kept_whole leaves.old ↔ B.kept_whole leaves.new }
     ensures limit { B.limit leaves.new ≡ B.limit leaves.old }
     ensures silent { Silent (B.content leaves.old) (B.content leaves.new) }
+    ensures counted { is_fault result ≡ false → B.faults leaves.new ≡ B.faults leaves.old }
     ensures later { B.faults leaves.old ≤ B.faults leaves.new }
     ensures fault { IsErrOf result Stop.Fault → Rose (B.faults leaves.old) (B.faults leaves.new) }
     ensures damaged { (block : ℕ) (f : FileMap) → IsErrOf result (Stop.Damaged block) → B.whole leaves.old → IsInternal file.now (tree_of node.now) (B.working leaves.old) f → ⊥ }

@@ -160,7 +160,8 @@ pub trait Leaves {
         ensures limit { limit self.new ≡ limit self.old }
         ensures head { head self.new ≡ head self.old }
         ensures silent { Silent (content self.old) (content self.new) }
-        ensures cause { HasCause (faults self.old) (faults self.new) result };
+        ensures cause { HasCause (faults self.old) (faults self.new) result }
+        ensures counted { OnOk result (faults self.new ≡ faults self.old) };
 
     /// Makes the kept maps the working ones.
     fn abort(&mut self)
@@ -173,7 +174,7 @@ pub trait Leaves {
         ensures head { head self.new ≡ head self.old }
         ensures calm { (s : Content) → calm self.old s → calm self.new s }
         ensures silent { Silent (content self.old) (content self.new) }
-        ensures later { faults self.old ≤ faults self.new };
+        ensures counted { faults self.new ≡ faults self.old };
 
     /// Hears the script, as a device does. The maps stay.
     fn hear(&mut self, into: &mut [u8]) -> Result<usize, Failed>
@@ -183,6 +184,7 @@ pub trait Leaves {
         ensures not_heard { OnErr result ((content self.new).script ≡ (content self.old).script) }
         ensures rest { Listens (content self.old) (content self.new) }
         ensures cause { HasCause (faults self.old) (faults self.new) result }
+        ensures counted { OnOk result (faults self.new ≡ faults self.old) }
         ensures working { working self.new ≡ working self.old }
         ensures kept { kept self.new ≡ kept self.old }
         ensures whole { whole self.old → whole self.new }
@@ -199,6 +201,7 @@ pub trait Leaves {
         ensures not_said { OnErr result ((content self.new).now.said ≡ (content self.old).now.said) }
         ensures rest { Speaks (content self.old) (content self.new) }
         ensures cause { HasCause (faults self.old) (faults self.new) result }
+        ensures counted { IfOk result (λ n. 0 < n → faults self.new ≡ faults self.old) }
         ensures none_taken { result ≡ Ok 0 → 0 < length from.now → Rose (faults self.old) (faults self.new) }
         ensures working { working self.new ≡ working self.old }
         ensures kept { kept self.new ≡ kept self.old }

@@ -1,8 +1,8 @@
 // Nodes: trees of mappings, with leaves below.
-ghost use Rattle.std.specs.Prelude.{◌≡◌, ◌<◌, ◌≤◌, ◌+◌, ◌++◌, ◌↔◌, List, ℕ, length, not, ◌&&◌, OnOk, IsErrOf, IfOk};
+ghost use Rattle.std.specs.Prelude.{◌≡◌, ◌<◌, ◌≤◌, ◌+◌, ◌++◌, ◌↔◌, List, ℕ, false, length, not, ◌&&◌, OnOk, IsErrOf, IfOk};
 ghost use Rattle.std.specs.Option.{option_map};
 ghost use Rattle.gx_ports.specs.LeafMaps.{LeafMap, map_at, entry_count, Extends, IsCrowdedBy};
-ghost use Rattle.gx_ports.specs.Stops.{HasStopCause};
+ghost use Rattle.gx_ports.specs.Stops.{HasStopCause, is_fault};
 ghost use Rattle.gx_device.specs.Faults.{Rose};
 ghost use Rattle.gx_values.specs.declared.records.Rec.{Rec as Record};
 ghost use Rattle.gx_mapping.specs.Rule.{In, IsOf};
@@ -158,6 +158,7 @@ impl<M: Mapping> Node<M> {
         ensures stays { Stays B.kept B.kept_whole B.limit B.head B.content B.calm leaves.old leaves.new }
 
         // The causes of a stop.
+        ensures counted { is_fault result ≡ false → B.faults leaves.new ≡ B.faults leaves.old }
         ensures later { B.faults leaves.old ≤ B.faults leaves.new }
         ensures fault { IsErrOf result Stop.Fault → Rose (B.faults leaves.old) (B.faults leaves.new) }
         ensures damaged { (block : ℕ) (R : List Record) → IsErrOf result (Stop.Damaged block) → B.whole leaves.old → IsSet (tree_form M.rule (tree_of self.now)) R → IsInternal M.rule (tree_of self.now) R (B.working leaves.old) → ⊥ }

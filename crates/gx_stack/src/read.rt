@@ -1,6 +1,7 @@
 // Records read back from the entries of a leaf.
-ghost use Rattle.std.specs.Prelude.{◌≡◌, ◌≢◌, ◌<◌, ◌≤◌, ℕ, List, length, OnOk, IsErrOf, IfOk};
+ghost use Rattle.std.specs.Prelude.{◌≡◌, ◌≢◌, ◌<◌, ◌≤◌, ℕ, List, false, length, OnOk, IsErrOf, IfOk};
 ghost use Rattle.gx_device.specs.Faults.{Rose};
+ghost use Rattle.gx_ports.specs.Stops.{is_fault};
 ghost use Rattle.gx_values.specs.declared.records.Rec.{Rec as Record};
 ghost use Rattle.gx_ports.specs.LeafMaps.{map_at, Extends};
 ghost use Rattle.gx_ports.specs.declared.leaves.Entry.{Entry as LeafPair};
@@ -34,6 +35,7 @@ pub fn select_leaf<B: Leaves>(
     ensures working { B.working leaves.new ≡ B.working leaves.old }
     ensures whole { OnOk result (B.whole leaves.old → B.whole leaves.new) }
     ensures stays { Stays B.kept B.kept_whole B.limit B.head B.content B.calm leaves.old leaves.new }
+    ensures counted { is_fault result ≡ false → B.faults leaves.new ≡ B.faults leaves.old }
     ensures later { B.faults leaves.old ≤ B.faults leaves.new }
     ensures fault { IsErrOf result Stop.Fault → Rose (B.faults leaves.old) (B.faults leaves.new) }
     ensures damaged { (block : ℕ) (R : List Record) → IsErrOf result (Stop.Damaged block) → B.whole leaves.old → IsSet form.now R → IsLeafMap (map_at (B.working leaves.old) leaf) R → ⊥ }

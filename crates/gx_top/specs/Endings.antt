@@ -1,5 +1,5 @@
 -- How a request ends that isn't played to its end: its line and its status.
-use Rattle.std.specs.Prelude.{ℕ, List, [], ◌++◌, codes}
+use Rattle.std.specs.Prelude.{ℕ, Bool, true, false, Result, Ok, Err, List, [], ◌++◌, codes}
 use Rattle.std.specs.Fmt.{decimal}
 use Rattle.gx_device.specs.Faults.{Rose}
 use Rattle.gx_tokens.specs.Whys.{word_of as why_word}
@@ -35,6 +35,15 @@ status_of (ending.Line number why) = status.Script
 status_of ending.Fault = status.Outside
 status_of ending.NoMemory = status.Memory
 status_of _ = status.Refused
+
+-- whether a call of the machine failed
+abbrev pub is_outside : Ending → Bool
+is_outside ending.Fault = true
+is_outside _ = false
+
+abbrev pub is_fault : {T : Type 0} → Result T Ending → Bool
+is_fault (Err why) = is_outside why
+is_fault (Ok x) = false
 
 -- a failed call of the machine, or want of memory
 abbrev pub IsOutside : ℕ → ℕ → Ending → Type 0

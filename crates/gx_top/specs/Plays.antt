@@ -1,5 +1,5 @@
 -- What the play of a script on an engine says, line by line.
-use Rattle.std.specs.Prelude.{◌≡◌, ◌≢◌, ◌⊎◌, ℕ, ◌+◌, List, ◌++◌, length, take, Bool, IsTrue, Option, Some, None, Result, Ok, Err}
+use Rattle.std.specs.Prelude.{◌≡◌, ◌≢◌, ◌⊎◌, ℕ, ◌+◌, List, ◌++◌, length, take, Bool, false, IsTrue, Option, Some, None, Result, Ok, Err}
 use Rattle.gx_device.specs.Content.{Content}
 use Rattle.gx_device.specs.Faults.{Rose}
 use Rattle.gx_schema.specs.declared.schema.Schema.{Schema}
@@ -9,11 +9,14 @@ use Rattle.gx_script.specs.Commands.{place_reason}
 use Rattle.gx_script.specs.Lines.{Lines, stopped as stopped_lines}
 use Rattle.gx_script.specs.Reading.{IsReading}
 use Rattle.gx_ports.specs.LeafMaps.{LeafMap, Limits, IsCrowdedBy}
+use Rattle.gx_ports.specs.Stops.{is_outside}
 use Rattle.gx_ports.specs.declared.stop.Stop.{Stop}
 use Rattle.gx_ports.specs.declared.stop.Stop.TheVariants as stop
 use Rattle.gx_model.specs.Play.{Playing, End, good, stopped, is_inside, next_of, IsAnswered, IsPlayed}
 use Rattle.gx_engine.specs.declared.engine.Engine.{Engine}
 use Rattle.gx_engine.specs.Steps.{StandsFor, schema_of, leaves_of}
+use Rattle.gx_top.specs.declared.play.LineEnd.{LineEnd}
+use Rattle.gx_top.specs.declared.play.LineEnd.TheVariants as line_end
 use Rattle.gx_top.specs.declared.play.PlayEnd.{PlayEnd}
 use Rattle.gx_top.specs.declared.play.PlayEnd.TheVariants as play_end
 
@@ -56,6 +59,16 @@ HasPlayCause limit before now stop.NoMemory = Unit {0}
 HasPlayCause limit before now stop.Fault = Rose before now
 HasPlayCause limit before now stop.Full = (needed : ℕ) × IsCrowdedBy limit needed
 HasPlayCause limit before now (stop.Damaged block) = ⊥
+
+-- whether a call below failed in a line
+abbrev pub is_line_fault : Result (Unit {0}) LineEnd → Bool
+is_line_fault (Err (line_end.Stop why)) = is_outside why
+is_line_fault _ = false
+
+-- the same in a play
+abbrev pub is_play_fault : Result (Unit {0}) PlayEnd → Bool
+is_play_fault (Err (play_end.Stop why)) = is_outside why
+is_play_fault _ = false
 
 -- ---- the play of lines
 

@@ -15,6 +15,7 @@ pub record SaysAll {T : Type 0} (tells : Bool) (old new : Content) (before now :
   pub front : IsTrue tells → (count : ℕ) × (new.now.said ≡ old.now.said ++ take count piece)
   pub rest : OnlySays old new
   pub cause : HasCause before now result
+  pub counted : OnOk result (now ≡ before)
 
 -- a front of one of the two texts was said
 abbrev pub IsCut : List ℕ → List ℕ → Content → Content → Type 0

@@ -79,6 +79,7 @@ pub fn end<M: Machine>(alloc: Global, ending: Ending<'_>, machine: &mut M) -> St
     ensures fault { ending.entry ≡ Ending.Fault → result ≡ Status.Outside }
     ensures silent { IsTrue M.tells → ending.entry ≡ Ending.Fault → (M.content machine.new).now.said ≡ (M.content machine.old).now.said }
     ensures rest { OnlySays (M.content machine.old) (M.content machine.new) }
+    ensures counted { result ≢ Status.Outside → M.faults machine.new ≡ M.faults machine.old }
     ensures later { M.faults machine.old ≤ M.faults machine.new }
 {
     match line(alloc, ending) {
@@ -96,6 +97,7 @@ fn say_line<M: Machine>(machine: &mut M, line: &[u8], status: Status) -> Status
     ensures same { status ≡ Status.Outside → result ≡ Status.Outside }
     ensures none { IsTrue M.tells → line.now ≡ [] → (M.content machine.new).now.said ≡ (M.content machine.old).now.said }
     ensures rest { OnlySays (M.content machine.old) (M.content machine.new) }
+    ensures counted { result ≢ Status.Outside → M.faults machine.new ≡ M.faults machine.old }
     ensures later { M.faults machine.old ≤ M.faults machine.new }
 {
     match say_all(machine, line) {

@@ -1,11 +1,12 @@
 // Playing a script on an engine, line by line.
-ghost use Rattle.std.specs.Prelude.{◌≡◌, ◌≢◌, ◌^◌, ◌<◌, ◌≤◌, ◌+◌, ◌++◌, List, ℕ, Option, None, Ok, Err, length, take, IsTrue, IfOk, IfErr, IfSome, OnOk, OnErr, ◌-◌, option_map};
+ghost use Rattle.std.specs.Prelude.{◌≡◌, ◌≢◌, ◌^◌, ◌<◌, ◌≤◌, ◌+◌, ◌++◌, List, ℕ, Option, None, Ok, Err, false, length, take, IsTrue, IfOk, IfErr, IfSome, OnOk, OnErr, ◌-◌, option_map};
 ghost use Rattle.gx_schema.specs.WellFormed.{IsWellFormed};
+ghost use Rattle.gx_ports.specs.Stops.{is_fault};
 ghost use Rattle.gx_engine.specs.Steps.{IsReady, IsDue, schema_of, is_open, stop_of, leaves_of};
 ghost use Rattle.gx_model.specs.Play.{Playing};
 ghost use Rattle.gx_script.specs.Lines.{script_lines, IsNext};
 ghost use Rattle.gx_script.specs.Reading.{IsReading};
-ghost use Rattle.gx_top.specs.Plays.{IsAt, IsLinePlayed, IsCommandPlayed, IsLineCut, IsCommandCut, HasPlayCause, IsBadLine, IsPlayedTo, IsLineEnd};
+ghost use Rattle.gx_top.specs.Plays.{IsAt, IsLinePlayed, IsCommandPlayed, IsLineCut, IsCommandCut, HasPlayCause, IsBadLine, IsPlayedTo, IsLineEnd, is_line_fault, is_play_fault};
 ghost use Rattle.gx_top.specs.Say.{OnlySays};
 
 use crate::say::answer_all;
@@ -76,6 +77,7 @@ fn play_line<B: Leaves + Drop>(
     ensures going { OnOk result (stop_of engine.new ≡ None) }
     ensures limit { B.limit (leaves_of engine.new) ≡ B.limit (leaves_of engine.old) }
     ensures rest { OnlySays (B.content (leaves_of engine.old)) (B.content (leaves_of engine.new)) }
+    ensures counted { is_line_fault result ≡ false → B.faults (leaves_of engine.new) ≡ B.faults (leaves_of engine.old) }
     ensures later { B.faults (leaves_of engine.old) ≤ B.faults (leaves_of engine.new) }
 {
     let command = placed_command(alloc, line, engine)?;
@@ -120,6 +122,7 @@ fn carry_out<B: Leaves + Drop>(
     ensures going { OnOk result (stop_of engine.new ≡ None) }
     ensures limit { B.limit (leaves_of engine.new) ≡ B.limit (leaves_of engine.old) }
     ensures rest { OnlySays (B.content (leaves_of engine.old)) (B.content (leaves_of engine.new)) }
+    ensures counted { is_fault result ≡ false → B.faults (leaves_of engine.new) ≡ B.faults (leaves_of engine.old) }
     ensures later { B.faults (leaves_of engine.old) ≤ B.faults (leaves_of engine.new) }
 {
     let mut answer = Octets(Vec::new(alloc));
@@ -156,6 +159,7 @@ pub fn play<B: Leaves + Drop>(
     ensures played { IsTrue B.tells → (p : Playing) → IsAt B.working B.kept B.whole B.kept_whole p engine.old → IsPlayedTo (schema_of engine.old) p (script_lines script.now) (B.content (leaves_of engine.old)) (B.content (leaves_of engine.new)) result }
     ensures cause { (p : Playing) → IsAt B.working B.kept B.whole B.kept_whole p engine.old → (stop : Stop) → result ≡ Err (PlayEnd.Stop stop) → HasPlayCause (B.limit (leaves_of engine.old)) (B.faults (leaves_of engine.old)) (B.faults (leaves_of engine.new)) stop }
     ensures rest { OnlySays (B.content (leaves_of engine.old)) (B.content (leaves_of engine.new)) }
+    ensures counted { is_play_fault result ≡ false → B.faults (leaves_of engine.new) ≡ B.faults (leaves_of engine.old) }
     ensures later { B.faults (leaves_of engine.old) ≤ B.faults (leaves_of engine.new) }
 {
     let mut lines = ScriptLines::new(script);

@@ -1,5 +1,5 @@
 // What comes before a script is played: the texts, and what the checker says of them.
-ghost use Rattle.std.specs.Prelude.{◌≡◌, ◌≤◌, ◌<◌, length, List, ℕ, true, IsTrue, Ok, IfOk, IfErr, IsErrOf};
+ghost use Rattle.std.specs.Prelude.{◌≡◌, ◌≤◌, ◌<◌, length, List, ℕ, true, false, IsTrue, Ok, IfOk, IfErr, IsErrOf};
 ghost use Rattle.gx_device.specs.Content.{SameContent};
 ghost use Rattle.gx_device.specs.Faults.{Rose};
 ghost use Rattle.gx_schema.specs.Grammar.{IsSchemaText};
@@ -13,6 +13,7 @@ ghost use Rattle.gx_types.specs.Typed.{IsTyped, leaves, typing_with};
 ghost use Rattle.gx_top.specs.Words.{texts_of};
 ghost use Rattle.gx_top.specs.Built.{is_built};
 ghost use Rattle.gx_top.specs.Prepared.{IsUnread, IsUnreadEquation, IsUntyped, IsPreparedFor, IsUnbuilt, CanPlay};
+ghost use Rattle.gx_top.specs.Endings.{is_fault};
 ghost use Rattle.gx_top.specs.Requests.{AreAccepted, AreUnchecked, IsPrepared, IsUnprepared, equation_of, text_limit};
 
 use crate::built::{canonical_length, is_built};
@@ -55,6 +56,7 @@ pub fn prepare<'a, M: Machine>(
     ensures unprepared { IsTrue M.tells → IfErr result (IsUnprepared (texts_of words.now) (M.content machine.old).aside.texts (M.faults machine.old) (M.faults machine.new)) }
     ensures fault { IsErrOf result Ending.Fault → Rose (M.faults machine.old) (M.faults machine.new) }
     ensures can_play { IfOk result CanPlay }
+    ensures counted { is_fault result ≡ false → M.faults machine.new ≡ M.faults machine.old }
     ensures later { M.faults machine.old ≤ M.faults machine.new }
     ensures content { SameContent (M.content machine.old) (M.content machine.new) }
 {

@@ -1,5 +1,5 @@
 // A request from its words to its end.
-ghost use Rattle.std.specs.Prelude.{◌≡◌, ◌≢◌, ◌⊎◌, ◌≤◌, ◌^◌, ◌<◌, ◌++◌, List, ℕ, [], Ok, length, IsTrue, IsErrOf, IfErr};
+ghost use Rattle.std.specs.Prelude.{◌≡◌, ◌≢◌, ◌⊎◌, ◌≤◌, ◌^◌, ◌<◌, ◌++◌, List, ℕ, [], Ok, false, length, IsTrue, IsErrOf, IfErr};
 ghost use Rattle.gx_device.specs.Content.{Content};
 ghost use Rattle.gx_device.specs.Faults.{Rose};
 ghost use Rattle.gx_schema.specs.WellFormed.{IsWellFormed};
@@ -7,7 +7,7 @@ ghost use Rattle.gx_schema.specs.declared.schema.Schema.{Schema as TheSchema};
 ghost use Rattle.gx_model.specs.Play.{good};
 ghost use Rattle.gx_engine.specs.Steps.{AreFor};
 ghost use Rattle.gx_top.specs.Words.{texts_of};
-ghost use Rattle.gx_top.specs.Endings.{line_of, status_of};
+ghost use Rattle.gx_top.specs.Endings.{line_of, status_of, is_fault};
 ghost use Rattle.gx_top.specs.Requests.{IsRefused, IsRunnable};
 ghost use Rattle.gx_top.specs.Tries.{Says, SaysFront, IsPlayText, IsStoppedText, IsShortText, IsTryText, IsDoneText, IsRefusalText, IsRunText, IsMemoryText, IsRequestText, IsTry, IsPlayable, IsStoppable, IsCheckable, IsPlayedAs, IsEndingOf, IsWholeText, PlayOneScript};
 
@@ -54,6 +54,8 @@ pub fn top<M: Machine + Drop>(alloc: Global, words: &[String], machine: M) -> (S
     ensures memory { IsTrue M.tells → result.0 ≡ Status.Memory → Says (IsMemoryText (texts_of words.now) (M.content machine)) (M.content machine) (M.content result.1) }
     ensures cut { IsTrue M.tells → result.0 ≡ Status.Outside → SaysFront (IsRequestText (texts_of words.now) (M.content machine)) (M.content machine) (M.content result.1) }
     ensures outside { result.0 ≡ Status.Outside → Rose (M.faults machine) (M.faults result.1) }
+    // No failure is passed over, on any machine.
+    ensures counted { result.0 ≢ Status.Outside → M.faults result.1 ≡ M.faults machine }
     ensures refuses { IsTrue M.tells → (why : Ending) → IsRefused (texts_of words.now) (M.content machine).aside.texts why → result.0 ≢ Status.Outside → (result.0 ≡ Status.Refused) ⊎ (result.0 ≡ Status.Memory) }
     ensures plays { IsTrue M.tells → IsPlayable (texts_of words.now) (M.content machine) → result.0 ≢ Status.Outside → (result.0 ≡ Status.Done) ⊎ (result.0 ≡ Status.Memory) }
     ensures stops { IsTrue M.tells → IsStoppable (texts_of words.now) (M.content machine) → result.0 ≢ Status.Outside → (result.0 ≡ Status.Script) ⊎ (result.0 ≡ Status.Memory) }
@@ -94,6 +96,7 @@ fn try_script<M: Machine + Drop>(
     ensures cut { IsTrue M.tells → result.0 ≡ Status.Outside → SaysFront (IsTryText schema (M.content machine).script) (M.content machine) (M.content result.1) }
     ensures outside { result.0 ≡ Status.Outside → Rose (M.faults machine) (M.faults result.1) }
     ensures played { result.0 ≢ Status.Refused }
+    ensures counted { result.0 ≢ Status.Outside → M.faults result.1 ≡ M.faults machine }
     ensures later { M.faults machine ≤ M.faults result.1 }
 {
     let (played, mut machine) = play_script(alloc, schema, built, machine);
@@ -119,6 +122,7 @@ fn play_script<'a, M: Machine + Drop>(
     ensures heard { IsTrue M.tells → result.0 ≡ Ok tt → (M.content result.1).script ≡ [] }
     ensures fault { IsErrOf result.0 Ending.Fault → Rose (M.faults machine) (M.faults result.1) }
     ensures played { IfErr result.0 (λ ending. status_of ending ≢ Status.Refused) }
+    ensures counted { is_fault result.0 ≡ false → M.faults result.1 ≡ M.faults machine }
     ensures later { M.faults machine ≤ M.faults result.1 }
 {
     let mut machine = machine;

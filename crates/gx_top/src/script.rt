@@ -1,7 +1,7 @@
 // Hearing the script whole, before any of it is played.
-ghost use Rattle.std.specs.Prelude.{◌≡◌, ◌⊎◌, ◌≤◌, ◌<◌, ◌^◌, List, ℕ, [], ◌++◌, length, IsTrue, IfOk, IfErr};
+ghost use Rattle.std.specs.Prelude.{◌≡◌, ◌⊎◌, ◌≤◌, ◌<◌, ◌^◌, List, ℕ, [], ◌++◌, false, length, IsTrue, IfOk, IfErr};
 ghost use Rattle.gx_device.specs.Content.{Listens};
-ghost use Rattle.gx_top.specs.Endings.{IsOutside};
+ghost use Rattle.gx_top.specs.Endings.{IsOutside, is_fault};
 ghost use Rattle.gx_top.specs.Requests.{IsHeard};
 
 use crate::ending::Ending;
@@ -15,6 +15,7 @@ pub fn hear_script<'a, M: Machine>(alloc: Global, machine: &mut M) -> Result<Vec
     ensures heard { IsTrue M.tells → IfOk result (λ script. IsHeard (M.content machine.old).script (M.content machine.new).script script.items) }
     ensures short { IfOk result (λ script. length script.items < 2 ^ 32) }
     ensures unheard { IfErr result (IsOutside (M.faults machine.old) (M.faults machine.new)) }
+    ensures counted { is_fault result ≡ false → M.faults machine.new ≡ M.faults machine.old }
     ensures later { M.faults machine.old ≤ M.faults machine.new }
     ensures rest { Listens (M.content machine.old) (M.content machine.new) }
 {

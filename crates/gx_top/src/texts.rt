@@ -1,7 +1,8 @@
 // Fetching the texts that the words name.
-ghost use Rattle.std.specs.Prelude.{◌≡◌, ◌≤◌, length, IsTrue, IfOk, IfErr, IsErrOf, Some};
+ghost use Rattle.std.specs.Prelude.{◌≡◌, ◌≤◌, false, length, IsTrue, IfOk, IfErr, IsErrOf, Some};
 ghost use Rattle.gx_device.specs.Content.{SameContent};
 ghost use Rattle.gx_device.specs.Faults.{Rose};
+ghost use Rattle.gx_top.specs.Endings.{is_fault};
 ghost use Rattle.gx_top.specs.Requests.{IsText, IsUnfetched, text_limit};
 
 use crate::ending::Ending;
@@ -22,6 +23,7 @@ pub fn fetch_text<'a, M: Machine>(
     ensures short { IfOk result (λ text. length text.items ≤ text_limit) }
     ensures unfetched { IfErr result (IsUnfetched M.tells (M.content machine.old).aside.texts (M.faults machine.old) (M.faults machine.new) name.now) }
     ensures fault { IsErrOf result Ending.Fault → Rose (M.faults machine.old) (M.faults machine.new) }
+    ensures counted { is_fault result ≡ false → M.faults machine.new ≡ M.faults machine.old }
     ensures later { M.faults machine.old ≤ M.faults machine.new }
     ensures content { SameContent (M.content machine.old) (M.content machine.new) }
 {

@@ -20,7 +20,7 @@ loop-place-init g c = record {
   kept_whole = (λ h. h, λ h. h);
   limit = refl;
   silent = search rules;
-  later = omega arith;
+  counted = refl;
 }
 
 pub add_rows-requires-clause-place : goal.add_rows-requires-clause-place
@@ -54,7 +54,7 @@ loop-place-preserved g c =
       kept_whole = (λ h. e.kept_whole.0 (inv.kept_whole.0 h), λ h. inv.kept_whole.1 (e.kept_whole.1 h));
       limit = e.limit ∙ inv.limit;
       silent = search rules;
-      later = omega (arith, e.later, inv.later);
+      counted = e.counted refl ∙ inv.counted;
     }
 
 pub returns-clause-rows : goal.returns-clause-rows

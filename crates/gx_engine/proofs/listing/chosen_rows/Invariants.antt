@@ -18,5 +18,5 @@ invariant-loop-place g l = let b = g.B.Leaves in record {
   kept_whole : b.kept_whole l.fn.leaves ↔ b.kept_whole l.leaves;
   limit : b.limit l.leaves ≡ b.limit l.fn.leaves;
   silent : Silent (b.content l.fn.leaves) (b.content l.leaves);
-  later : b.faults l.fn.leaves ≤ b.faults l.leaves;
+  counted : b.faults l.leaves ≡ b.faults l.fn.leaves;
 }

@@ -11,5 +11,5 @@ invariant-loop-leaf g l = record {
   kept_whole : g.B.Leaves.kept_whole l.fn.leaves ↔ g.B.Leaves.kept_whole l.leaves;
   limit : g.B.Leaves.limit l.leaves ≡ g.B.Leaves.limit l.fn.leaves;
   silent : Silent (g.B.Leaves.content l.fn.leaves) (g.B.Leaves.content l.leaves);
-  later : g.B.Leaves.faults l.fn.leaves ≤ g.B.Leaves.faults l.leaves;
+  counted : g.B.Leaves.faults l.leaves ≡ g.B.Leaves.faults l.fn.leaves;
 }

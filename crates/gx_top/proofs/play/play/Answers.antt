@@ -17,7 +17,7 @@ loop-line-init g c = record {
   stands = λ p at. (p, at);
   limit = refl;
   rest = record { script = refl; aside = refl };
-  later = omega arith;
+  counted = refl;
 }
 
 -- src/play.rt:164:5
@@ -35,7 +35,7 @@ loop-line-preserved g c = record {
       (_, (c.in-Ok.ensures.played now.0 now.1).played.at);
   limit = c.in-Ok.ensures.limit ∙ c.loop-line.invariant.limit;
   rest = record { script = c.in-Ok.ensures.rest.script ∙ c.loop-line.invariant.rest.script; aside = c.in-Ok.ensures.rest.aside ∙ c.loop-line.invariant.rest.aside };
-  later = omega (arith, c.in-Ok.ensures.later, c.loop-line.invariant.later);
+  counted = c.in-Ok.ensures.counted refl ∙ c.loop-line.invariant.counted;
 }
 
 -- src/play.rt:148:39
@@ -52,7 +52,7 @@ pub returns-in-Err-Stop-clause-cause : goal.returns-in-Err-Stop-clause-cause
 returns-in-Err-Stop-clause-cause g c = λ p at s e.
     let now = c.loop-line.invariant.stands p at in
     cause_of _ _ _ c.in-Err-Stop.stop s (ap (λ t. Err (play_end.Stop t)) (sym c.in-Err-Stop.stop-is) ∙ e)
-    (cause_since _ _ _ _ _ c.in-Err-Stop.stop c.loop-line.invariant.limit c.loop-line.invariant.later (c.in-Err-Stop.ensures.cause now.0 now.1 c.in-Err-Stop.stop (ap Err c.in-Err-Stop.field-0-is)))
+    (cause_since _ _ _ _ _ c.in-Err-Stop.stop c.loop-line.invariant.limit (omega (arith, c.loop-line.invariant.counted)) (c.in-Err-Stop.ensures.cause now.0 now.1 c.in-Err-Stop.stop (ap Err c.in-Err-Stop.field-0-is)))
 
 -- src/play.rt:144:28
 pub returns-in_err-line-clause-played : goal.returns-in_err-line-clause-played

@@ -16,7 +16,7 @@ invariant-loop-line g l = record {
   stands : (p : Playing) → IsAt g.B.Leaves.working g.B.Leaves.kept g.B.Leaves.whole g.B.Leaves.kept_whole p l.fn.engine → (q : Playing) × IsAt g.B.Leaves.working g.B.Leaves.kept g.B.Leaves.whole g.B.Leaves.kept_whole q l.engine;
   limit : g.B.Leaves.limit (leaves_of l.engine) ≡ g.B.Leaves.limit (leaves_of l.fn.engine);
   rest : OnlySays (g.B.Leaves.content (leaves_of l.fn.engine)) (g.B.Leaves.content (leaves_of l.engine));
-  later : g.B.Leaves.faults (leaves_of l.fn.engine) ≤ g.B.Leaves.faults (leaves_of l.engine);
+  counted : g.B.Leaves.faults (leaves_of l.engine) ≡ g.B.Leaves.faults (leaves_of l.fn.engine);
 }
 
 abbrev pub decreases-loop-line : goal.decreases-loop-line

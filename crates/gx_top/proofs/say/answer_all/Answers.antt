@@ -11,6 +11,6 @@ loop-rest-preserved g c = record {
   );
   script = c.say.ensures.rest.script ∙ c.loop-rest.invariant.script;
   aside = c.say.ensures.rest.aside ∙ c.loop-rest.invariant.aside;
-  later = omega (arith, c.say.ensures.cause.later, c.loop-rest.invariant.later);
+  counted = c.in_ok-count.ensures.counted (omega arith) ∙ c.loop-rest.invariant.counted;
   same = same_again _ _ _ _ _ _ _ _ c.loop-rest.invariant.same c.say.ensures.same;
 }

@@ -11,7 +11,7 @@ invariant-loop-rest g l =
       part : (taken : ℕ) × (l.rest ≡ drop taken l.piece) × (IsTrue g.B.Leaves.tells → (content (leaves_of l.engine)).now.said ≡ (content (leaves_of l.fn.engine)).now.said ++ take taken l.piece);
       script : (content (leaves_of l.engine)).script ≡ (content (leaves_of l.fn.engine)).script;
       aside : (content (leaves_of l.engine)).aside ≡ (content (leaves_of l.fn.engine)).aside;
-      later : faults (leaves_of l.fn.engine) ≤ faults (leaves_of l.engine);
+      counted : faults (leaves_of l.engine) ≡ faults (leaves_of l.fn.engine);
       same : IsSame g.B.Leaves.working g.B.Leaves.kept g.B.Leaves.whole g.B.Leaves.kept_whole g.B.Leaves.limit l.fn.engine l.engine;
     }
 

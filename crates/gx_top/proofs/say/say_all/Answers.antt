@@ -11,5 +11,5 @@ loop-rest-preserved g c = record {
   );
   script = c.say.ensures.rest.script ∙ c.loop-rest.invariant.script;
   aside = c.say.ensures.rest.aside ∙ c.loop-rest.invariant.aside;
-  later = omega (arith, c.say.ensures.cause.later, c.loop-rest.invariant.later);
+  counted = c.in_ok-count.ensures.counted (omega arith) ∙ c.loop-rest.invariant.counted;
 }

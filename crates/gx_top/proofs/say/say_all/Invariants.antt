@@ -9,7 +9,7 @@ invariant-loop-rest g l =
       part : (taken : ℕ) × (l.rest ≡ drop taken l.piece) × (IsTrue g.D.Device.tells → (content l.device).now.said ≡ (content l.fn.device).now.said ++ take taken l.piece);
       script : (content l.device).script ≡ (content l.fn.device).script;
       aside : (content l.device).aside ≡ (content l.fn.device).aside;
-      later : g.D.Device.faults l.fn.device ≤ g.D.Device.faults l.device;
+      counted : g.D.Device.faults l.device ≡ g.D.Device.faults l.fn.device;
     }
 
 abbrev pub decreases-loop-rest : goal.decreases-loop-rest

@@ -8,7 +8,7 @@ invariant-loop-piece g l =
     record {
       heard : IsTrue g.M.Device.tells → (content l.fn.machine).script ≡ l.script.items ++ (content l.machine).script;
       small : vec_len l.script ≤ 16781312;
-      later : g.M.Device.faults l.fn.machine ≤ g.M.Device.faults l.machine;
+      counted : g.M.Device.faults l.machine ≡ g.M.Device.faults l.fn.machine;
       now : (content l.machine).now ≡ (content l.fn.machine).now;
       aside : (content l.machine).aside ≡ (content l.fn.machine).aside;
     }

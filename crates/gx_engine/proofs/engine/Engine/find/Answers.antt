@@ -28,6 +28,7 @@ returns g c =
       many = search rules;
       limit_stays = search rules;
       silent = search rules;
+      counted = search rules;
       later = search rules;
       fault = search rules;
       full = search rules;
