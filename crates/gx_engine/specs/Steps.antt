@@ -88,6 +88,7 @@ pub record IsStep {S : Type 0} (working kept : S → List LeafMap) (whole kept_w
   pub later : faults old.leaves ≤ faults new.leaves
   pub fault : result ≡ Err stop.Fault → Rose (faults old.leaves) (faults new.leaves)
   pub full : (p : Playing) → whole old.leaves → kept_whole old.leaves → StandsFor working kept old p → result ≡ Err stop.Full → IsShortFor (limit old.leaves) (nodes_of old) (working old.leaves) old.schema p c
+  pub block : (n : ℕ) → result ≡ Err (stop.Damaged n) → whole old.leaves → n ≡ 0
   pub damaged : (block : ℕ) (p : Playing) → result ≡ Err (stop.Damaged block) → whole old.leaves → kept_whole old.leaves → StandsFor working kept old p → ⊥
 
 -- whether the step answers that the outside failed in it

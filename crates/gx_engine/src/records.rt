@@ -78,6 +78,7 @@ pub(crate) fn find_record<B: Leaves>(
     ensures later { B.faults leaves.old ≤ B.faults leaves.new }
     ensures fault { IsErrOf result Stop.Fault → Rose (B.faults leaves.old) (B.faults leaves.new) }
     ensures damaged { (block : ℕ) (f : FileMap) → IsErrOf result (Stop.Damaged block) → B.whole leaves.old → IsInternal file.now (tree_of node.now) (B.working leaves.old) f → ⊥ }
+    ensures block { (n : ℕ) → IsErrOf result (Stop.Damaged n) → B.whole leaves.old → n ≡ 0 }
     ensures not_full { ¬ IsErrOf result Stop.Full }
 {
     let _file = file;
@@ -134,6 +135,7 @@ pub(crate) fn insert_record<B: Leaves>(
     ensures later { B.faults leaves.old ≤ B.faults leaves.new }
     ensures fault { IsErrOf result Stop.Fault → Rose (B.faults leaves.old) (B.faults leaves.new) }
     ensures damaged { (block : ℕ) (f : FileMap) → IsErrOf result (Stop.Damaged block) → B.whole leaves.old → IsInternal file.now (tree_of node.now) (B.working leaves.old) f → ⊥ }
+    ensures block { (n : ℕ) → IsErrOf result (Stop.Damaged n) → B.whole leaves.old → n ≡ 0 }
     ensures full { (f : FileMap) → B.whole leaves.old → IsInternal file.now (tree_of node.now) (B.working leaves.old) f → IsErrOf result Stop.Full → (fin.get f key.now ≡ Option.None) × IsCrowdedBy (B.limit leaves.old) (entry_count (B.working leaves.old) + length (entries_of any_rule (tree_of node.now) (rec_of (key.now, values.now)))) }
 {
     if find_record(alloc, file, node, key, leaves)?.is_some() {
@@ -166,6 +168,7 @@ pub(crate) fn delete_record<B: Leaves>(
     ensures later { B.faults leaves.old ≤ B.faults leaves.new }
     ensures fault { IsErrOf result Stop.Fault → Rose (B.faults leaves.old) (B.faults leaves.new) }
     ensures damaged { (block : ℕ) (f : FileMap) → IsErrOf result (Stop.Damaged block) → B.whole leaves.old → IsInternal file.now (tree_of node.now) (B.working leaves.old) f → ⊥ }
+    ensures block { (n : ℕ) → IsErrOf result (Stop.Damaged n) → B.whole leaves.old → n ≡ 0 }
     ensures full { B.whole leaves.old → IsErrOf result Stop.Full → IsCrowded (B.limit leaves.old) (B.working leaves.old) }
 {
     let Some(old) = find_record(alloc, file, node, key, leaves)? else {
@@ -199,6 +202,7 @@ pub(crate) fn update_record<B: Leaves>(
     ensures later { B.faults leaves.old ≤ B.faults leaves.new }
     ensures fault { IsErrOf result Stop.Fault → Rose (B.faults leaves.old) (B.faults leaves.new) }
     ensures damaged { (block : ℕ) (f : FileMap) → IsErrOf result (Stop.Damaged block) → B.whole leaves.old → IsInternal file.now (tree_of node.now) (B.working leaves.old) f → ⊥ }
+    ensures block { (n : ℕ) → IsErrOf result (Stop.Damaged n) → B.whole leaves.old → n ≡ 0 }
     ensures full { (f : FileMap) → B.whole leaves.old → IsInternal file.now (tree_of node.now) (B.working leaves.old) f → IsErrOf result Stop.Full → (values : List TheValue) × (fin.get f key.now ≡ Option.Some values) × IsCrowdedBy (B.limit leaves.old) (entry_count (B.working leaves.old) + length (entries_of any_rule (tree_of node.now) (rec_of (key.now, changed values changes.now)))) }
 {
     let Some(old) = find_record(alloc, file, node, key, leaves)? else {

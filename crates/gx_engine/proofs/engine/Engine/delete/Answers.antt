@@ -31,5 +31,6 @@ returns g c =
       later = search rules;
       fault = search rules;
       full = search rules;
+      block = search rules;
       damaged = search rules;
     }

@@ -32,5 +32,6 @@ returns g c =
       later = search rules;
       fault = search rules;
       full = search rules;
+      block = search rules;
       damaged = search rules;
     }

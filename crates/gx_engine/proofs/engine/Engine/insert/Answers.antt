@@ -33,6 +33,7 @@ returns g c =
       later = search rules;
       fault = search rules;
       full = search rules;
+      block = search rules;
       damaged = search rules;
     }
 
@@ -61,5 +62,6 @@ returns-in_err-done g c =
           let short = c.in_err-done.ensures.full _ whole (internal_at e.schema e.built.files c.args.file c.file_def-def.result.now (tree_of c.file_node-node.result.now) (g.B.Leaves.working e.leaves) _ c.file_def-def.ensures c.file_node-node.ensures.tree (stands.working_is.each c.args.file c.requires.due.of_schema.0)) (ap Err (sym r.2 ∙ why)) in
           short_insert (g.B.Leaves.limit e.leaves) e.schema e.built.files _ _ p c.args.file c.args.values.now c.key_and_values.result.1.now c.key_and_values.result.0.now (tree_of c.file_node-node.result.now)
           c.requires.ready.nodes stands.working_is.files_many c.requires.due.of_schema.0 (sym stands.inside_same ∙ open_of e.inside c.requires.due.allowed) c.key_and_values.ensures.parts c.file_node-node.ensures.tree short.0 short.1;
+      block = search rules;
       damaged = search rules;
     }

@@ -42,6 +42,7 @@ returns g c =
       later = search rules;
       fault = search rules;
       full = search rules;
+      block = search rules;
       damaged = search rules;
     }
 
@@ -71,5 +72,6 @@ returns-in_err-done g c =
           short_update (g.B.Leaves.limit e.leaves) e.schema e.built.files _ _ p c.args.file c.args.key.now c.args.changes.now short.0 (tree_of c.file_node-node.result.now)
           c.requires.ready.nodes stands.working_is.files_many c.requires.due.of_schema.0 (sym stands.inside_same ∙ open_of e.inside c.requires.due.allowed) c.file_node-node.ensures.tree short.1
           (subst (λ (cs : List Change). IsCrowdedBy (g.B.Leaves.limit e.leaves) (entry_count (g.B.Leaves.working e.leaves) + length (entries_of any_rule (tree_of c.file_node-node.result.now) (rec_of (c.args.key.now, changed short.0 cs))))) (c.deref.ensures.value ∙ c.changes.view_is) short.2);
+      block = search rules;
       damaged = search rules;
     }
