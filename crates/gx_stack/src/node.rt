@@ -102,8 +102,8 @@ impl<M: Mapping> Node<M> {
     /// entries that both have are left alone.
     ///
     /// `Full`: the pages may not be enough for the entries of `new` besides all that there are.
-    /// `Damaged`: some leaf's stored form isn't whole. `Fault`: the count of faults rose. `NoMemory`: there
-    /// was none. After a refusal a part of the change may be made.
+    /// `Damaged`: some leaf's stored form isn't whole. `Fault`: the count of faults rose; with any other
+    /// answer it stays. `NoMemory`: there was none. After a refusal a part of the change may be made.
     pub fn replace<B: Leaves>(
         &self,
         alloc: Global,
@@ -137,8 +137,8 @@ impl<M: Mapping> Node<M> {
     /// Appends the records whose key is inside the span, in ascending order of their keys.
     ///
     /// `Damaged`: some leaf's stored form isn't whole, or the leaves hold no set of records, which is said
-    /// of block 0. `Fault`: the count of faults rose. `NoMemory`: there was none. After a refusal `out` may
-    /// have more at its end.
+    /// of block 0. `Fault`: the count of faults rose; with any other answer it stays. `NoMemory`: there was
+    /// none. After a refusal `out` may have more at its end.
     pub fn select<B: Leaves>(
         &self,
         alloc: Global,

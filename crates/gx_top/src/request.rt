@@ -40,10 +40,11 @@ use std::alloc::Global;
 ///   of none, and then `stopped: memory`.
 /// - `Outside`: a front was said of what one of the others says.
 ///
-/// `Outside` comes only where a call of the machine failed in this one. So where none failed, a request for
-/// whose refusal there is a reason is answered `Refused` or `Memory`; `check` of accepted texts is answered
-/// `Done` or `Memory`, and so is `try` where the script can be played and its play ends at no line; where it ends at
-/// a line, the answer is `Script` or `Memory`.
+/// `Outside` comes only where a call of the machine failed in this one, and with any other status
+/// none did: the count of faults is as before. Both hold on every machine. So where none failed, a
+/// request for whose refusal there is a reason is answered `Refused` or `Memory`; `check` of accepted
+/// texts is answered `Done` or `Memory`, and so is `try` where the script can be played and its play
+/// ends at no line; where it ends at a line, the answer is `Script` or `Memory`.
 pub fn top<M: Machine + Drop>(alloc: Global, words: &[String], machine: M) -> (Status, M)
     ensures done { IsTrue M.tells → result.0 ≡ Status.Done → Says (IsDoneText (texts_of words.now) (M.content machine)) (M.content machine) (M.content result.1) }
     ensures heard { IsTrue M.tells → result.0 ≡ Status.Done → IsTry (texts_of words.now) → (M.content result.1).script ≡ [] }
