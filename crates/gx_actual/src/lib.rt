@@ -5,8 +5,6 @@ mod bodies;
 mod layer;
 mod make;
 mod mapping;
-#[cfg(test)]
-mod tests;
 
 pub use bodies::{body_bytes, read_body};
 pub use layer::Actual;

@@ -15,6 +15,3 @@ pub use page::{
 };
 pub use splitting::split;
 pub use validity::is_inner;
-
-#[cfg(test)]
-mod tests;

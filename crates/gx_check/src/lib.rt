@@ -4,4 +4,6 @@
 #[cfg(test)]
 mod plays;
 #[cfg(test)]
+mod requests;
+#[cfg(test)]
 mod structures;

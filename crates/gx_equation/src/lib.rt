@@ -15,6 +15,3 @@ pub use equation::{Definition, Definitions, Equation, Lines, Names, Side, Term};
 pub use heads::{Head, Linkset};
 pub use printing::print_equation;
 pub use reading::read_equation;
-
-#[cfg(test)]
-mod tests;

@@ -7,8 +7,6 @@ mod make;
 mod mapping;
 mod place;
 mod ranges;
-#[cfg(test)]
-mod tests;
 
 pub use layer::Partition;
 pub use make::partition;

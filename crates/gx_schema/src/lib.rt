@@ -13,6 +13,3 @@ pub use gx_tokens::{Unread, Why};
 pub use print::print_schema;
 pub use read::read_schema;
 pub use schema::{FileDef, FileDefs, LinkDef, LinkDefs, Schema};
-
-#[cfg(test)]
-mod tests;

@@ -15,6 +15,3 @@ pub use command::{Change, Changes, Command, Cond, Conds, Find, LineWhy, NoComman
 pub use lines::{LONGEST_LINE, LONGEST_SCRIPT, ScriptLines};
 pub use reading::read_command;
 pub use rule::allowed;
-
-#[cfg(test)]
-mod tests;

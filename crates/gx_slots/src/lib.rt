@@ -11,6 +11,3 @@ pub use gx_bytes::NONE;
 pub use iter::Entries;
 pub use page::{add, clear, count, entries, entry, find, next, set_next, take};
 pub use validity::is_entries;
-
-#[cfg(test)]
-mod tests;

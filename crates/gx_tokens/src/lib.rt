@@ -22,6 +22,3 @@ pub use reading::{
 pub use split::split_quoted;
 pub use token::{Token, next_token};
 pub use why::{Unread, Why};
-
-#[cfg(test)]
-mod tests;

@@ -11,8 +11,6 @@ mod say;
 mod script;
 mod status;
 mod summary;
-#[cfg(test)]
-mod tests;
 mod texts;
 mod words;
 

@@ -21,6 +21,3 @@ pub use built::{Built, Trees};
 pub use reasons::{TypeWhy, Unbuilt};
 pub use typing::{Owners, Specs, Typing, root_pages, smallest_device};
 pub use whole::typed;
-
-#[cfg(test)]
-mod tests;

@@ -1,4 +1,4 @@
-use Rattle.std.proofs.Common.{◌≡◌, ◌++◌, ◌≤◌, ℕ, length, take, drop}
+use Rattle.std.proofs.Common.{◌≡◌, ◌++◌, ℕ, length, take, drop}
 use Rattle.std.specs.Prelude.{IsTrue}
 use Rattle.gx_top.proofs.say.say_all.Given as goal
 

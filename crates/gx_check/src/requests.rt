@@ -1,5 +1,5 @@
-use crate::{Status, top};
 use gx_device::MemoryMachine;
+use gx_top::{Status, top};
 use std::alloc::Global;
 use std::test::Fail;
 

@@ -5,7 +5,7 @@ ghost use Rattle.gx_values.specs.declared.values.Value.TheVariants as value;
 ghost use Rattle.gx_mapping.specs.Rule.{IsOf};
 ghost use Rattle.gx_schema.specs.Rules.{IsSchema};
 
-use super::*;
+use gx_types::*;
 use gx_actual::actual;
 use gx_equation::{Equation, read_equation};
 use gx_mapping::Mapping;

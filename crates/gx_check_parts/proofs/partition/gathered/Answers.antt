@@ -2,8 +2,8 @@ use Rattle.std.proofs.Common.{◌∷◌, [], ◌∙◌, ap, sym, subst}
 use Rattle.gx_values.specs.declared.records.Rec.{Rec}
 use Rattle.gx_values.specs.Values.{AreSized}
 use Rattle.gx_values.proofs.CopyLemmas.{are_sized}
-use Rattle.gx_partition.proofs.ExampleLemmas.{part_of_key}
-use Rattle.gx_partition.proofs.tests.gathered.Goals as goal
+use Rattle.gx_check_parts.proofs.LayerLemmas.{part_of_key}
+use Rattle.gx_check_parts.proofs.partition.gathered.Goals as goal
 
 pub gather-requires : goal.gather-requires
 gather-requires c =

@@ -1,6 +1,6 @@
 ghost use Rattle.std.specs.Prelude.{◌≡◌};
 
-use crate::{
+use gx_values::{
     Field, Fields, Form, KeyBuf, Kind, Name, Octets, Op, Rec, Span, Value, Values, compare, inside,
     key_bytes, meets, read_key, read_value_key, value_key,
 };

@@ -1,6 +1,6 @@
 ghost use Rattle.std.specs.Prelude.{◌≡◌};
 
-use crate::bodies::read_body;
+use gx_actual::read_body;
 use gx_values::{Field, Kind, Name};
 use std::test::Fail;
 

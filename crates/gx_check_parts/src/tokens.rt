@@ -1,5 +1,5 @@
 // Worked tokens, numbers, quoted texts, lines and words.
-use super::*;
+use gx_tokens::*;
 use std::test::*;
 
 #[test]

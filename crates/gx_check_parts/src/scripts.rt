@@ -2,7 +2,7 @@
 ghost use Rattle.std.specs.Prelude.{IfOk};
 ghost use Rattle.gx_schema.specs.WellFormed.{IsWellFormed};
 
-use super::*;
+use gx_script::*;
 use gx_schema::{FileDef, FileDefs, LinkDef, LinkDefs, Schema};
 use gx_values::{Field, Fields, Kind, Name};
 use std::alloc::{AllocError, Global};

@@ -1,6 +1,6 @@
 ghost use Rattle.std.specs.Prelude.{◌≡◌, ◌≤◌, length};
 
-use super::*;
+use gx_slots::*;
 
 /// A page that begins with these bytes, with zeros behind them.
 fn page_of(front: &[u8]) -> [u8; 4096]

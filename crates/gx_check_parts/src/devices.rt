@@ -1,4 +1,4 @@
-use crate::{Device, Failed, FetchStop, Machine, MemoryMachine};
+use gx_device::{Device, Failed, FetchStop, Machine, MemoryMachine};
 use std::alloc::Global;
 use std::test::Fail;
 

@@ -1,4 +1,4 @@
-use crate::{Entries, Leaves, PlainLeaves};
+use gx_ports::{Entries, Leaves, PlainLeaves};
 use Step::{Abort, Commit, Put, Remove};
 use gx_device::MemoryMachine;
 use gx_values::{KeyBuf, Span};

@@ -1,5 +1,5 @@
 use Rattle.std.proofs.Common.{◌≡◌}
-use Rattle.gx_frames.proofs.tests.expect_order.Given as goal
+use Rattle.gx_check_parts.proofs.frames.expect_order.Given as goal
 
 abbrev pub invariant-loop-more : goal.invariant-loop-more
 invariant-loop-more g l = l.frames.pages ≡ 4000

@@ -4,7 +4,7 @@ ghost use Rattle.gx_values.specs.declared.values.Kind.TheVariants as kind;
 ghost use Rattle.gx_mapping.specs.Rule.{IsOf};
 ghost use Rattle.gx_partition.specs.Rules.{form_of, rule_of};
 
-use crate::{Partition, Where, partition};
+use gx_partition::{Partition, Where, partition};
 use gx_mapping::{Mapping, Part, Parts};
 use gx_values::{Field, Fields, Form, Kind, Name, NoMemory, Rec, Span, Value, Values, value_key};
 use std::alloc::Global;

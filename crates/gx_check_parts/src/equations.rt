@@ -1,5 +1,5 @@
 // Worked texts: what they mean, where they go wrong, and the lines of their places.
-use super::*;
+use gx_equation::*;
 use gx_tokens::{Unread, Why};
 use gx_values::{Code, Value};
 use std::test::*;

@@ -1,5 +1,5 @@
 // Worked texts: what they mean, and where they go wrong.
-use super::*;
+use gx_schema::*;
 use gx_values::Octets;
 use std::alloc::{AllocError, Global};
 use std::test::*;
