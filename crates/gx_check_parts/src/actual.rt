@@ -1,3 +1,4 @@
+// The bodies of records under `actual`, and what is no body.
 ghost use Rattle.std.specs.Prelude.{◌≡◌};
 
 use gx_actual::read_body;

@@ -1,3 +1,4 @@
+// The machine in memory: what its calls give, and which of them fail.
 use gx_device::{Device, Failed, FetchStop, Machine, MemoryMachine};
 use std::alloc::Global;
 use std::test::Fail;

@@ -1,6 +1,7 @@
+// Pages of entries, byte for byte.
 ghost use Rattle.std.specs.Prelude.{◌≡◌, ◌≤◌, length};
 
-use gx_slots::*;
+use gx_slots::{add, clear, count, entries, entry, find, is_entries, next, set_next, take};
 
 /// A page that begins with these bytes, with zeros behind them.
 fn page_of(front: &[u8]) -> [u8; 4096]

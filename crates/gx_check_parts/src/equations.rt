@@ -1,8 +1,8 @@
 // Worked texts: what they mean, where they go wrong, and the lines of their places.
-use gx_equation::*;
+use gx_equation::{Definition, Side, Term, print_equation, read_equation};
 use gx_tokens::{Unread, Why};
 use gx_values::{Code, Value};
-use std::test::*;
+use std::test::Fail;
 
 const GOOD: [(&[u8], &[u8]); 14] = [
     (b"f=heap", b"f = heap\n"),

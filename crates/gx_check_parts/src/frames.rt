@@ -1,7 +1,7 @@
-//! Call lists with the recency list worked out by hand, at the least and the greatest number of frames.
+// Call lists with the recency list worked out by hand, at the least and the greatest number of frames.
 ghost use Rattle.std.specs.Prelude.{◌≡◌, ◌<◌, ◌≤◌, length};
 
-use gx_frames::*;
+use gx_frames::{Call, Frames};
 use std::process::Abort;
 use std::test::Fail;
 

@@ -1,6 +1,10 @@
+// Inner pages with separators and children, byte for byte.
 ghost use Rattle.std.specs.Prelude.{◌≡◌, ◌≤◌, length};
 
-use gx_bnode::*;
+use gx_bnode::{
+    branches, child, child_of, drop_child, has_room, insert, is_inner, make_inner, separator,
+    separators, split,
+};
 
 /// A page that begins with these bytes, with zeros behind them.
 fn page_of(front: &[u8]) -> [u8; 4096]

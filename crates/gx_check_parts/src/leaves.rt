@@ -1,6 +1,7 @@
-use gx_ports::{Entries, Leaves, PlainLeaves};
+// Leaves in memory: what a transaction makes of them.
 use Step::{Abort, Commit, Put, Remove};
 use gx_device::MemoryMachine;
+use gx_ports::{Entries, Leaves, PlainLeaves};
 use gx_values::{KeyBuf, Span};
 use std::alloc::Global;
 use std::test::Fail;

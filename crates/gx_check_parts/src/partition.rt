@@ -1,11 +1,12 @@
+// Records under `partition`: the children that they go to, and that they are gathered from.
 ghost use Rattle.std.specs.Prelude.{◌≡◌, ◌<◌, ◌∷◌, [], IfOk};
 ghost use Rattle.gx_values.specs.declared.values.Value.TheVariants as value;
 ghost use Rattle.gx_values.specs.declared.values.Kind.TheVariants as kind;
 ghost use Rattle.gx_mapping.specs.Rule.{IsOf};
 ghost use Rattle.gx_partition.specs.Rules.{form_of, rule_of};
 
-use gx_partition::{Partition, Where, partition};
 use gx_mapping::{Mapping, Part, Parts};
+use gx_partition::{Partition, Where, partition};
 use gx_values::{Field, Fields, Form, Kind, Name, NoMemory, Rec, Span, Value, Values, value_key};
 use std::alloc::Global;
 use std::test::Fail;

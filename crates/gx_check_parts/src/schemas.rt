@@ -1,8 +1,8 @@
 // Worked texts: what they mean, and where they go wrong.
-use gx_schema::*;
+use gx_schema::{Unread, Why, print_schema, read_schema};
 use gx_values::Octets;
 use std::alloc::{AllocError, Global};
-use std::test::*;
+use std::test::Fail;
 
 // The canonical text of what a text means; none where it means nothing.
 fn canonical(alloc: Global, text: &[u8]) -> Option<Octets> {

@@ -2,11 +2,14 @@
 ghost use Rattle.std.specs.Prelude.{IfOk};
 ghost use Rattle.gx_schema.specs.WellFormed.{IsWellFormed};
 
-use gx_script::*;
 use gx_schema::{FileDef, FileDefs, LinkDef, LinkDefs, Schema};
+use gx_script::{
+    Change, Changes, Command, Cond, Conds, Find, LineWhy, NoCommand, Of, OrderBy, ScriptLines,
+    allowed, read_command,
+};
 use gx_values::{Field, Fields, Kind, Name};
 use std::alloc::{AllocError, Global};
-use std::test::*;
+use std::test::Fail;
 
 fn int(name: &'static [u8]) -> Field {
     Field {

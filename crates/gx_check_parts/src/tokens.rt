@@ -1,6 +1,10 @@
 // Worked tokens, numbers, quoted texts, lines and words.
-use gx_tokens::*;
-use std::test::*;
+use gx_tokens::{
+    Fault, ReadError, Token, Unread, Why, line_of, natural_number, next_token, push_quoted,
+    quoted_value, read_close, read_comma, read_comma_or_close, read_equals, read_number, read_open,
+    read_word, signed_number, split_quoted, unexpected, unread,
+};
+use std::test::Fail;
 
 #[test]
 fn finds_tokens(rt: HostRuntime) -> Result<(), Fail> {

@@ -5,15 +5,18 @@ ghost use Rattle.gx_values.specs.declared.values.Value.TheVariants as value;
 ghost use Rattle.gx_mapping.specs.Rule.{IsOf};
 ghost use Rattle.gx_schema.specs.Rules.{IsSchema};
 
-use gx_types::*;
 use gx_actual::actual;
 use gx_equation::{Equation, read_equation};
 use gx_mapping::Mapping;
 use gx_schema::{Schema, read_schema};
 use gx_stack::Node;
+use gx_types::{
+    AnyMapping, Built, TypeWhy, Typing, Unbuilt, build, heads_built, root_pages, smallest_device,
+    typed,
+};
 use gx_values::{Field, Fields, Form, Kind, Name, NoMemory, Rec, Value, Values};
 use std::alloc::Global;
-use std::test::*;
+use std::test::Fail;
 
 // The leaves of an equation under a schema, each a line: the number of its definition, its kind, the kind of its first key
 // field and the width of its key.

@@ -1,3 +1,4 @@
+// Values: their order, their keys and their copies.
 ghost use Rattle.std.specs.Prelude.{◌≡◌};
 
 use gx_values::{
