@@ -76,6 +76,9 @@ pub record IsStep {S : Type 0} (working kept : S → List LeafMap) (whole kept_w
   pub carried : (p : Playing) → whole old.leaves → kept_whole old.leaves → StandsFor working kept old p → OnOk result (IsCarried old.schema (nodes_of old) p c out now new.inside new.commits (working new.leaves) (kept new.leaves))
   pub unsaid : OnErr result (now ≡ out)
   pub inside : OnOk result (new.inside ≡ inside_after old.inside c)
+  pub inside_stays : OnErr result (new.inside ≡ old.inside)
+  pub commits_stay : OnErr result (new.commits ≡ old.commits)
+  pub kept_stays : is_fault result ≡ false → OnErr result (kept new.leaves ≡ kept old.leaves)
   pub whole_stays : OnOk result (whole old.leaves → kept_whole old.leaves → whole new.leaves)
   pub kept_whole_stays : OnOk result (whole old.leaves → kept_whole old.leaves → kept_whole new.leaves)
   pub schema : new.schema ≡ old.schema

@@ -92,11 +92,11 @@ impl<B: Leaves + Drop> Engine<B> {
     /// Carries out a command of the schema, where the transaction rule lets it stand, and appends its
     /// answer, which is that of the abstract database; the leaves stand for what comes after it.
     ///
-    /// `Now` gives this call up and is kept: `out` is as before, the transaction is given up, and each
-    /// later call answers `Stopped` with it and does nothing. `Now(Fault)`: the count of faults rose; with
-    /// any other answer it stays. `Now(Full)`: the pages may be too few for the entries of the states before
-    /// and after. `Now(Damaged)`: the leaves stood for no state, which is said of block 0 where the stored
-    /// form of each is whole. `Now(NoMemory)`: there was no memory.
+    /// `Now` gives this call up and is kept: `out` is as before, and each later call answers `Stopped` with
+    /// it and does nothing. Where it isn't `Now(Fault)`, the state of the last commit stays. `Now(Fault)`: the
+    /// count of faults rose; with any other answer it stays. `Now(Full)`: the pages may be too few for the
+    /// entries of the states before and after. `Now(Damaged)`: the leaves stood for no state, which is said
+    /// of block 0 where the stored form of each is whole. `Now(NoMemory)`: there was no memory.
     pub fn step(
         &mut self,
         alloc: Global,
@@ -116,6 +116,11 @@ impl<B: Leaves + Drop> Engine<B> {
         ensures full { (p : Playing) → B.whole (leaves_of self.old) → B.kept_whole (leaves_of self.old) → StandsFor B.working B.kept self.old p → result ≡ Err (Now Stop.Full) → IsShortFor (B.limit (leaves_of self.old)) (nodes_of self.old) (B.working (leaves_of self.old)) (schema_of self.old) p command.now }
         ensures block { (n : ℕ) → result ≡ Err (Now (Stop.Damaged n)) → B.whole (leaves_of self.old) → n ≡ 0 }
         ensures damaged { (block : ℕ) (p : Playing) → result ≡ Err (Now (Stop.Damaged block)) → B.whole (leaves_of self.old) → B.kept_whole (leaves_of self.old) → StandsFor B.working B.kept self.old p → ⊥ }
+
+        // What stays where it is given up.
+        ensures inside_stays { OnErr result (is_open self.new ≡ is_open self.old) }
+        ensures commits_stay { OnErr result (commits_of self.new ≡ commits_of self.old) }
+        ensures kept_stays { is_fault_now result ≡ false → OnErr result (B.kept (leaves_of self.new) ≡ B.kept (leaves_of self.old)) }
 
         // What stays.
         ensures inside { OnOk result (is_open self.new ≡ inside_after (is_open self.old) command.now) }

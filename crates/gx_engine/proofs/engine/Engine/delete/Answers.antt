@@ -19,6 +19,9 @@ returns g c =
           (c.in_ok-done.ensures.deleted _ whole (internal_at e.schema e.built.files c.args.file c.file_def-def.result.now (tree_of c.file_node-node.result.now) (g.B.Leaves.working e.leaves) _ c.file_def-def.ensures c.file_node-node.ensures.tree (stands.working_is.each c.args.file c.requires.due.of_schema.0))) c.edit_answer.ensures c.in_ok-append.ensures.ok;
       unsaid = search rules;
       inside = search rules;
+      inside_stays = search rules;
+      commits_stay = search rules;
+      kept_stays = search rules;
       whole_stays = search rules;
       kept_whole_stays = search rules;
       schema = search rules;

@@ -20,6 +20,9 @@ returns g c =
           (c.in_ok-append.ensures.ok ∙ ap (λ (text : List ℕ). c.args.out.now ++ text) c.as_slice.ensures);
       unsaid = search rules;
       inside = search rules;
+      inside_stays = search rules;
+      commits_stay = search rules;
+      kept_stays = search rules;
       whole_stays = search rules;
       kept_whole_stays = search rules;
       schema = search rules;
