@@ -1,5 +1,6 @@
 #!/bin/sh
-# Measures the program beside sqlite3: try.sh [ROUNDS]. It takes the program that ./genesis at the top builds, and has it built where it is missing or old.
+# Measures the program beside sqlite3: try.sh [ROUNDS]. It takes the proved program, and has it
+# built where it is missing or old.
 
 bench=$(cd -- "$(dirname -- "$0")" && pwd) || exit
 root=$(dirname -- "$bench")
@@ -9,5 +10,5 @@ trap 'rm -rf "$folder"' EXIT
 trap 'exit 130' HUP INT TERM
 
 python3 -B "$bench/scripts.py" "$folder" || exit
-"$root/genesis" try "$folder/schema" "$folder/equation" </dev/null || exit
+"$root/genesis" --prove || exit
 python3 -B "$bench/try.py" "$root/crates/genesis/out/genesis" "$folder" "${1:-5}"
