@@ -34,8 +34,8 @@ pub fn select_leaf<B: Leaves>(
     ensures front { Extends out.old out.new }
     ensures reads { Reads B.View leaves.old leaves.new }
     ensures ends { Ends B.View
-        (B.whole leaves.old × HasLeafSet form.now (map_at (B.working leaves.old) leaf)) leaves.old
-        leaves.new result }
+        (B.whole leaves.old × HasLeafSet form.now (map_at (B.working leaves.old) leaf))
+        leaves.old leaves.new result }
     ensures block { (n : ℕ) → IsErrOf result (Stop.Damaged n) → B.whole leaves.old → n ≡ 0 }
     ensures not_full { ¬ IsErrOf result Stop.Full }
 {
