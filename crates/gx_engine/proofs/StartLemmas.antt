@@ -27,6 +27,7 @@ use Rattle.gx_types.specs.declared.built.Built.{Built}
 use Rattle.gx_types.specs.Any.{any_rule}
 use Rattle.gx_types.specs.Nodes.{tree_at}
 use Rattle.gx_model.specs.States.{Link, IsRowOf, empty_state}
+use Rattle.gx_ports.specs.declared.leaves.TheConstants.{MAX_KEY_LEN}
 use Rattle.gx_engine.specs.Internal.{rec_of, records_of, IsInternal, AreInternal, IsStorable, AreStorable}
 use Rattle.gx_engine.specs.Steps.{AreFor}
 
@@ -52,7 +53,7 @@ pub fields_short : (before fs : List Field) → AreFields before fs → AreShort
 fields_short before [] are = tt
 fields_short before (f ∷ fs) are = (kind_short (length before == 0) f.kind are.0.kind, fields_short (before ++ f ∷ []) fs are.1)
 
-pub key_is : (first : Bool) (k : Kind) → IsKind first k → IsKeyKind k × (width_of k ≤ 400)
+pub key_is : (first : Bool) (k : Kind) → IsKind first k → IsKeyKind k × (width_of k ≤ MAX_KEY_LEN)
 key_is first kind.Int is = (tt, omega arith)
 key_is first (kind.Text most) is = (tt, omega (arith, is.1))
 key_is first (kind.Bytes most) is = absurd is
@@ -61,7 +62,7 @@ fields_plain : (before fs : List Field) → AreFields before fs → AreKeyFields
 fields_plain before [] are = tt
 fields_plain before (f ∷ fs) are = ((key_is (length before == 0) f.kind are.0.kind).0, fields_plain (before ++ f ∷ []) fs are.1)
 
-first_stored : (fs : List Field) → AreFields [] fs → 0 < length fs → IsKeyKind (get_or fs 0 no_field).kind × (width_of (get_or fs 0 no_field).kind ≤ 400) × AreKeyFields (drop 1 fs) × AreShort (drop 1 fs)
+first_stored : (fs : List Field) → AreFields [] fs → 0 < length fs → IsKeyKind (get_or fs 0 no_field).kind × (width_of (get_or fs 0 no_field).kind ≤ MAX_KEY_LEN) × AreKeyFields (drop 1 fs) × AreShort (drop 1 fs)
 first_stored [] are some = absurd (omega arith)
 first_stored (f ∷ fs) are some = let key = key_is true f.kind are.0.kind in (key.0, key.1, fields_plain (f ∷ []) fs are.1, fields_short (f ∷ []) fs are.1)
 

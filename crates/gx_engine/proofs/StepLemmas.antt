@@ -1,6 +1,6 @@
 -- What the commands on one file do to the states that leaves stand for, and what they answer.
-use Rattle.std.proofs.Common.{◌≡◌, ℕ, zero, suc, ◌+◌, ◌<◌, ◌≤◌, List, [], ◌∷◌, length, get_or, set, cond, Bool, true, false, Option, Some, None, refl, sym, ap, subst, ◌∙◌, arith, inl, inr}
-use Rattle.std.specs.Prelude.{filter, is_some, not, ◌&&◌, ◌++◌, unwrap_or, codes, if◌then◌else◌}
+use Rattle.std.proofs.Common.{◌≡◌, ℕ, zero, suc, ◌+◌, ◌<◌, ◌≤◌, List, [], ◌∷◌, length, get_or, set, cond, Bool, true, false, Option, Some, None, Result, Ok, Err, refl, sym, ap, subst, ◌∙◌, arith, inl, inr}
+use Rattle.std.specs.Prelude.{filter, is_some, not, ◌&&◌, ◌++◌, unwrap_or, codes, if◌then◌else◌, IsErrAnd}
 use Rattle.std.specs.FinMap as fin
 use Rattle.std.proofs.lemmas.Bool.{cases_eq}
 use Rattle.std.proofs.lemmas.List.Sums.{sum_by-cons}
@@ -17,6 +17,11 @@ use Rattle.gx_script.specs.declared.command.OrderBy.{OrderBy}
 use Rattle.gx_script.specs.Commands.{IsOfOf, place_reason}
 use Rattle.gx_script.specs.declared.command.LineWhy.TheVariants as why
 use Rattle.gx_ports.specs.LeafMaps.{LeafMap, Limits, IsCrowdedBy}
+use Rattle.gx_ports.specs.declared.view.View.{Ghosts}
+use Rattle.gx_ports.specs.declared.stop.Stop.{Stop}
+use Rattle.gx_ports.specs.declared.stop.Stop.TheVariants as stop
+use Rattle.gx_ports.specs.Stops.{is_outside, HasStopCause}
+use Rattle.gx_ports.specs.Calls.{Ends}
 use Rattle.gx_values.specs.declared.records.Rec.{Rec}
 use Rattle.gx_mapping.specs.Rule.{In}
 use Rattle.gx_stack.specs.declared.node.Node.{Node}
@@ -31,7 +36,9 @@ use Rattle.gx_model.specs.Commands.{Refusal, key_exists, no_record, linked, chan
 use Rattle.gx_script.specs.declared.command.Change.{Change}
 use Rattle.gx_engine.proofs.FileLemmas.{inserted_new}
 use Rattle.gx_model.specs.Play.{Playing, IsAnswered, seen_state, is_inside, working_after, with_working, next_of}
-use Rattle.gx_engine.specs.Internal.{rec_of, records_of, IsInternal, AreInternal, Stands, IsEdited, IsEditedWhere, entries_from, IsCarried}
+use Rattle.gx_engine.specs.declared.engine.Engine.{Engine}
+use Rattle.gx_engine.specs.Steps.{schema_of, nodes_of, leaves_of, IsSound}
+use Rattle.gx_engine.specs.Internal.{rec_of, records_of, IsInternal, HasFile, AreInternal, Stands, IsEdited, IsEditedWhere, entries_from, IsCarried}
 
 -- ---- one file among all
 
@@ -330,3 +337,21 @@ find_carried schema nodes inside commits old new kept now p q file out said text
       answered = found_answer schema (seen_state p) q.of (IsListText (file_at schema q.file) (file_in (seen_state p) q.file) (is_chosen (seen_state p) q) q.order) text no (found_by_conds (seen_state p) q (file_at schema q.file) (file_in (seen_state p) q.file) text no at);
       stands = stands_still schema nodes inside commits old new kept now p (next_state schema (seen_state p) (command.Find q)) stands same kept_same (found_next schema (seen_state p) q.of no);
     }
+
+-- ---- how a command on one file ends
+
+-- where the engine is sound, the leaves of the file's tree hold a file
+pub sound_file : {S : Type 0} (g : Ghosts S) (e : Engine S) (i : ℕ) (file : FileDef) (t : Tree AnyMapping) → i < length (schema_of e).files → file ≡ file_at (schema_of e) i → t ≡ tree_at (nodes_of e) i → IsSound g e → g.whole (leaves_of e) × HasFile file t (g.working (leaves_of e))
+sound_file g e i file t lt is tree sound =
+    (sound.1.whole_is, (file_in (seen_state sound.0) i, internal_at (schema_of e) (nodes_of e) i file t (g.working (leaves_of e)) _ is tree (sound.1.stands.working_is.each i lt)))
+
+-- what stops a call on the file stops the command
+pub file_cause : {S T U : Type 0} (g : Ghosts S) (e : Engine S) (new : S) (i : ℕ) (file : FileDef) (t : Tree AnyMapping) (why : Stop) (result : Result U Stop) → i < length (schema_of e).files → file ≡ file_at (schema_of e) i → t ≡ tree_at (nodes_of e) i
+    → Ends {T = T} g (g.whole (leaves_of e) × HasFile file t (g.working (leaves_of e))) (leaves_of e) new (Err why) → IsErrAnd result (λ s. s ≡ why) → HasStopCause (g.faults (leaves_of e)) (g.faults new) (IsSound g e) result
+file_cause g e new i file t why (Ok x) lt is tree ends err = absurd err
+file_cause {S} {T} {U} g e new i file t why (Err s) lt is tree ends err = record {
+  later = ends.later;
+  fault = λ f. let same : s ≡ stop.Fault = cc in ends.fault (ap Err (sym err ∙ same));
+  counted = λ c. ends.counted (ap is_outside (sym err) ∙ c);
+  damaged = λ block f sound. let same : s ≡ stop.Damaged block = cc in ends.damaged block (ap Err (sym err ∙ same)) (sound_file g e i file t lt is tree sound);
+}

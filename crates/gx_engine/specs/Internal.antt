@@ -8,6 +8,7 @@ use Rattle.gx_schema.specs.declared.schema.Schema.{Schema}
 use Rattle.gx_schema.specs.Lookups.{file_at, key_kind, data_fields}
 use Rattle.gx_actual.specs.Bodies.{AreShort}
 use Rattle.gx_ports.specs.LeafMaps.{LeafMap, map_at}
+use Rattle.gx_ports.specs.declared.leaves.TheConstants.{MAX_KEY_LEN}
 use Rattle.gx_script.specs.declared.command.Command.{Command}
 use Rattle.gx_mapping.specs.Rule.{In}
 use Rattle.gx_stack.specs.declared.node.Node.{Node}
@@ -34,6 +35,10 @@ pub record IsInternal (file : FileDef) (t : Tree AnyMapping) (maps : List LeafMa
   pub fit : IsFileOf file f
   pub held : IsHeld any_rule t (records_of f) maps
 
+-- the tree's leaves hold some valid file
+abbrev pub HasFile : FileDef → Tree AnyMapping → List LeafMap → Type 0
+HasFile file t maps = (f : File) × IsInternal file t maps f
+
 -- the same for all files of a schema without links
 pub record AreInternal (schema : Schema) (nodes : List (Node AnyMapping)) (maps : List LeafMap) (s : State) : Type 0 where
   pub files_many : length s.files ≡ length schema.files
@@ -51,7 +56,7 @@ pub record Stands (schema : Schema) (nodes : List (Node AnyMapping)) (inside : B
 pub record IsStorable (file : FileDef) : Type 0 where
   pub keyed : 0 < length file.fields
   pub key : IsKeyKind (key_kind file)
-  pub key_small : width_of (key_kind file) ≤ 400
+  pub key_small : width_of (key_kind file) ≤ MAX_KEY_LEN
   pub others : AreKeyFields (data_fields file)
   pub short : AreShort (data_fields file)
 

@@ -1,14 +1,17 @@
 -- What one command does to an engine, over any leaves.
-use Rattle.std.specs.Prelude.{◌≡◌, ℕ, ◌+◌, ◌≤◌, List, length, Bool, false, Option, Some, None, Result, Ok, Err, OnOk, OnErr}
-use Rattle.gx_device.specs.Content.{Content, Silent}
+use Rattle.std.specs.Prelude.{◌≡◌, ℕ, ◌+◌, ◌≤◌, List, length, slice_get, Bool, true, false, Option, Some, None, Result, Ok, Err, OnOk, OnErr}
+use Rattle.gx_device.specs.Content.{Silent}
 use Rattle.gx_device.specs.Faults.{Rose}
 use Rattle.gx_schema.specs.declared.schema.Schema.{Schema}
 use Rattle.gx_script.specs.declared.command.Command.{Command}
+use Rattle.gx_script.specs.declared.command.Command.TheVariants as command
 use Rattle.gx_script.specs.Commands.{inside_after, place_reason, IsOfSchema}
-use Rattle.gx_ports.specs.Stops.{is_outside, is_fault}
+use Rattle.gx_ports.specs.Stops.{is_outside, is_fault, HasStopCause}
 use Rattle.gx_ports.specs.declared.stop.Stop.{Stop}
 use Rattle.gx_ports.specs.declared.stop.Stop.TheVariants as stop
-use Rattle.gx_ports.specs.LeafMaps.{LeafMap, Limits, entry_count, IsCrowdedBy}
+use Rattle.gx_ports.specs.declared.view.View.{Ghosts}
+use Rattle.gx_ports.specs.LeafMaps.{entry_count, IsCrowdedBy}
+use Rattle.gx_ports.specs.Calls.{Keeps, Talks}
 use Rattle.gx_stack.specs.declared.node.Node.{Node}
 use Rattle.gx_types.specs.declared.any.AnyMapping.{AnyMapping}
 use Rattle.gx_types.specs.declared.built.Built.{Built}
@@ -54,8 +57,8 @@ pub record AreFor (schema : Schema) (built : Built) (leaves : ℕ) : Type 0 wher
   pub few : leaves ≤ 255
 
 -- its schema's files can be stored as they are built
-abbrev pub IsReady : {S : Type 0} → (S → List LeafMap) → Engine S → Type 0
-IsReady working e = AreFor (schema_of e) (built_of e) (length (working (leaves_of e)))
+abbrev pub IsReady : {S : Type 0} → Ghosts S → Engine S → Type 0
+IsReady g e = AreFor (schema_of e) (built_of e) (length (g.working (leaves_of e)))
 
 -- the command is of the schema, and may stand where the engine is
 pub record IsDue {S : Type 0} (e : Engine S) (c : Command) : Type 0 where
@@ -63,41 +66,86 @@ pub record IsDue {S : Type 0} (e : Engine S) (c : Command) : Type 0 where
   pub allowed : place_reason (is_open e) c ≡ None
 
 -- the engine's leaves stand for a moment of the play
-abbrev pub StandsFor : {S : Type 0} → (S → List LeafMap) → (S → List LeafMap) → Engine S → Playing → Type 0
-StandsFor working kept e p = Stands (schema_of e) (nodes_of e) (is_open e) (commits_of e) (working (leaves_of e)) (kept (leaves_of e)) p
+abbrev pub StandsFor : {S : Type 0} → Ghosts S → Engine S → Playing → Type 0
+StandsFor g e p = Stands (schema_of e) (nodes_of e) (is_open e) (commits_of e) (g.working (leaves_of e)) (g.kept (leaves_of e)) p
+
+-- so they do, and they are whole
+pub record IsAt {S : Type 0} (g : Ghosts S) (p : Playing) (e : Engine S) : Type 0 where
+  pub stands : StandsFor g e p
+  pub whole_is : g.whole (leaves_of e)
+  pub kept_whole_is : g.kept_whole (leaves_of e)
+
+-- the engine's leaves are whole and stand for some moment
+abbrev pub IsSound : {S : Type 0} → Ghosts S → Engine S → Type 0
+IsSound g e = (p : Playing) × IsAt g p e
 
 -- the pages may not be enough for the entries that there are and those of what comes after the command
-abbrev pub IsShortFor : Option Limits → List (Node AnyMapping) → List LeafMap → Schema → Playing → Command → Type 0
-IsShortFor limit nodes maps schema p c = IsCrowdedBy limit (entry_count maps + entries_from nodes (seen_state (next_of schema p c)).files)
+abbrev pub IsShortFor : {S : Type 0} → Ghosts S → Engine S → Playing → Command → Type 0
+IsShortFor g e p c = IsCrowdedBy (g.limit (leaves_of e)) (entry_count (g.working (leaves_of e)) + entries_from (nodes_of e) (seen_state (next_of (schema_of e) p c)).files)
 
 -- ---- one command
 
-pub record IsStep {S : Type 0} (working kept : S → List LeafMap) (whole kept_whole : S → Type 0) (limit : S → Option Limits) (faults : S → ℕ) (content : S → Content) (old new : Engine S) (c : Command) (out now : List ℕ) (result : Result (Unit {0}) Stop) : Type 0 where
-  pub carried : (p : Playing) → whole old.leaves → kept_whole old.leaves → StandsFor working kept old p → OnOk result (IsCarried old.schema (nodes_of old) p c out now new.inside new.commits (working new.leaves) (kept new.leaves))
+-- the command was carried out: its answer was appended, and the engine stands for what comes after it
+abbrev pub CarriesOut : {S : Type 0} → Ghosts S → Playing → Command → Engine S → Engine S → List ℕ → List ℕ → Type 0
+CarriesOut g p c old new out now = IsCarried (schema_of old) (nodes_of old) p c out now (is_open new) (commits_of new) (g.working (leaves_of new)) (g.kept (leaves_of new))
+
+-- after a file was reorganized, each of its leaves is fresh
+abbrev pub AreFresh : {S : Type 0} → Ghosts S → Command → Engine S → Type 0
+AreFresh g (command.ReorganizeFile file) e = (leaf : ℕ) → slice_get (built_of e).owners leaf ≡ Some file → g.fresh (leaves_of e) leaf
+AreFresh g _ e = Unit {0}
+
+abbrev pub is_commit : Command → Bool
+is_commit command.Commit = true
+is_commit _ = false
+
+-- whether the command may select entries
+abbrev pub selects : Command → Bool
+selects command.Begin = false
+selects command.Commit = false
+selects command.Abort = false
+selects command.Nothing = false
+selects _ = true
+
+-- what a command keeps of the engine and of its leaves
+pub record KeepsEngine {S E : Type 0} (g : Ghosts S) (old new : Engine S) (c : Command) (result : Result (Unit {0}) E) : Type 0 where
+  pub schema : schema_of new ≡ schema_of old
+  pub built : built_of new ≡ built_of old
+  pub inside : OnOk result (is_open new ≡ inside_after (is_open old) c)
+  pub inside_stays : OnErr result (is_open new ≡ is_open old)
+  pub commits_stay : OnErr result (commits_of new ≡ commits_of old)
+  pub leaves : length (g.working (leaves_of new)) ≡ length (g.working (leaves_of old))
+  pub limit : g.limit (leaves_of new) ≡ g.limit (leaves_of old)
+  pub head : g.head (leaves_of new) ≡ g.head (leaves_of old)
+  pub silent : Silent (g.content (leaves_of old)) (g.content (leaves_of new))
+  pub whole : OnOk result (g.whole (leaves_of old) → g.kept_whole (leaves_of old) → g.whole (leaves_of new))
+  pub kept_whole : OnOk result (g.whole (leaves_of old) → g.kept_whole (leaves_of old) → g.kept_whole (leaves_of new))
+  pub keeps : is_commit c ≡ false → Keeps g (leaves_of old) (leaves_of new)
+  pub work : selects c ≡ false → g.work (leaves_of new) ≡ g.work (leaves_of old)
+
+pub record IsStep {S : Type 0} (g : Ghosts S) (old new : Engine S) (c : Command) (out now : List ℕ) (result : Result (Unit {0}) Stop) : Type 0 where
+  pub carried : (p : Playing) → IsAt g p old → OnOk result (CarriesOut g p c old new out now)
+  pub full : (p : Playing) → IsAt g p old → result ≡ Err stop.Full → IsShortFor g old p c
+  pub fresh : g.whole (leaves_of old) → OnOk result (AreFresh g c new)
   pub unsaid : OnErr result (now ≡ out)
-  pub inside : OnOk result (new.inside ≡ inside_after old.inside c)
-  pub inside_stays : OnErr result (new.inside ≡ old.inside)
-  pub commits_stay : OnErr result (new.commits ≡ old.commits)
-  pub kept_stays : is_fault result ≡ false → OnErr result (kept new.leaves ≡ kept old.leaves)
-  pub whole_stays : OnOk result (whole old.leaves → kept_whole old.leaves → whole new.leaves)
-  pub kept_whole_stays : OnOk result (whole old.leaves → kept_whole old.leaves → kept_whole new.leaves)
-  pub schema : new.schema ≡ old.schema
-  pub built : new.built ≡ old.built
-  pub stopped : new.stopped ≡ old.stopped
-  pub many : length (working new.leaves) ≡ length (working old.leaves)
-  pub limit_stays : limit new.leaves ≡ limit old.leaves
-  pub silent : Silent (content old.leaves) (content new.leaves)
-  pub counted : is_fault result ≡ false → faults new.leaves ≡ faults old.leaves
-  pub later : faults old.leaves ≤ faults new.leaves
-  pub fault : result ≡ Err stop.Fault → Rose (faults old.leaves) (faults new.leaves)
-  pub full : (p : Playing) → whole old.leaves → kept_whole old.leaves → StandsFor working kept old p → result ≡ Err stop.Full → IsShortFor (limit old.leaves) (nodes_of old) (working old.leaves) old.schema p c
-  pub block : (n : ℕ) → result ≡ Err (stop.Damaged n) → whole old.leaves → n ≡ 0
-  pub damaged : (block : ℕ) (p : Playing) → result ≡ Err (stop.Damaged block) → whole old.leaves → kept_whole old.leaves → StandsFor working kept old p → ⊥
+  pub stopped : stop_of new ≡ stop_of old
+  pub rest : KeepsEngine g old new c result
+  pub kept : is_fault result ≡ false → OnErr result (Keeps g (leaves_of old) (leaves_of new))
+  pub cause : HasStopCause (g.faults (leaves_of old)) (g.faults (leaves_of new)) (IsSound g old) result
+  pub block : (n : ℕ) → result ≡ Err (stop.Damaged n) → g.whole (leaves_of old) → n ≡ 0
 
 -- whether the step answers that the outside failed in it
 abbrev pub is_fault_now : Result (Unit {0}) StepStop → Bool
 is_fault_now (Err (Now why)) = is_outside why
 is_fault_now _ = false
+
+-- How a step ends: the count of faults never falls, `Now(Fault)` comes only where it rose, and with any other answer it
+-- stays. Damage is found only where the leaves stood for no moment, of block 0 where each is whole.
+pub record HasStepCause {S : Type 0} (g : Ghosts S) (old new : Engine S) (result : Result (Unit {0}) StepStop) : Type 0 where
+  pub later : g.faults (leaves_of old) ≤ g.faults (leaves_of new)
+  pub fault : result ≡ Err (Now stop.Fault) → Rose (g.faults (leaves_of old)) (g.faults (leaves_of new))
+  pub counted : is_fault_now result ≡ false → g.faults (leaves_of new) ≡ g.faults (leaves_of old)
+  pub damaged : (block : ℕ) → result ≡ Err (Now (stop.Damaged block)) → ¬ IsSound g old
+  pub block : (n : ℕ) → result ≡ Err (Now (stop.Damaged n)) → g.whole (leaves_of old) → n ≡ 0
 
 -- the first stop is kept, and after it nothing happens
 abbrev pub IsServed : Option Stop → Option Stop → Result (Unit {0}) StepStop → Type 0
@@ -106,15 +154,11 @@ IsServed None kept (Ok x) = kept ≡ None
 IsServed None kept (Err (Now s)) = kept ≡ Some s
 IsServed None kept (Err (Stopped s)) = ⊥
 
--- the engine has the same state: its leaves' maps, and what it keeps beside them
-pub record IsSame {S : Type 0} (working kept : S → List LeafMap) (whole kept_whole : S → Type 0) (limit : S → Option Limits) (old new : Engine S) : Type 0 where
-  pub working_is : working (leaves_of new) ≡ working (leaves_of old)
-  pub kept_is : kept (leaves_of new) ≡ kept (leaves_of old)
-  pub whole_stays : whole (leaves_of old) → whole (leaves_of new)
-  pub kept_whole_stays : kept_whole (leaves_of old) → kept_whole (leaves_of new)
-  pub limit_is : limit (leaves_of new) ≡ limit (leaves_of old)
-  pub schema_is : schema_of new ≡ schema_of old
-  pub built_is : built_of new ≡ built_of old
-  pub inside_is : is_open new ≡ is_open old
-  pub commits_is : commits_of new ≡ commits_of old
-  pub stop_is : stop_of new ≡ stop_of old
+-- what `hear` and `say` keep: the engine has the same state
+pub record IsSame {S : Type 0} (g : Ghosts S) (old new : Engine S) : Type 0 where
+  pub talks : Talks g (leaves_of old) (leaves_of new)
+  pub schema : schema_of new ≡ schema_of old
+  pub built : built_of new ≡ built_of old
+  pub inside : is_open new ≡ is_open old
+  pub commits : commits_of new ≡ commits_of old
+  pub stopped : stop_of new ≡ stop_of old

@@ -1,15 +1,13 @@
 // The engine: one command after the other on leaves.
 ghost use Rattle.std.specs.Prelude.{◌≡◌, ◌∷◌, ◌≤◌, ◌<◌, ◌++◌, ◌+◌, List, ℕ, Option, Some, None, Ok, Err, false, length, take, IfOk, OnOk, OnErr, IsErrOf, IsSome, IsTrue, codes, if◌then◌else◌};
 ghost use Rattle.std.specs.Fmt.{decimal};
-ghost use Rattle.gx_device.specs.Content.{Silent, Hears, Listens, Says, Speaks};
-ghost use Rattle.gx_device.specs.Faults.{Rose, HasCause};
 ghost use Rattle.gx_values.specs.Values.{Fits, AreFit};
 ghost use Rattle.gx_schema.specs.Lookups.{file_at, key_kind, data_fields};
-ghost use Rattle.gx_script.specs.Commands.{inside_after};
 ghost use Rattle.gx_model.specs.States.{State, file_in};
 ghost use Rattle.gx_model.specs.Play.{Playing, start_at, next_count};
 ghost use Rattle.gx_schema.specs.declared.schema.Schema.{Schema as TheSchema};
 ghost use Rattle.gx_ports.specs.LeafMaps.{LeafMap};
+ghost use Rattle.gx_ports.specs.Calls.{Keeps, Hearing, Saying};
 ghost use Rattle.gx_stack.specs.Seen.{tree_of};
 ghost use Rattle.gx_types.specs.Nodes.{tree_at, AreNodes};
 ghost use Rattle.gx_engine.specs.Internal.{IsTreeFor};
@@ -48,22 +46,23 @@ pub struct Engine<B: Leaves + Drop> {
 
 impl<B: Leaves + Drop> Engine<B> {
     ghost use Rattle.gx_script.specs.declared.command.Command.TheVariants as command;
-    ghost use Rattle.gx_engine.specs.Internal.{AreInternal, IsCarried};
-    ghost use Rattle.gx_engine.specs.Steps.{schema_of, built_of, nodes_of, leaves_of, is_open, AreFor, IsShortFor, commits_of, stop_of, IsReady, IsDue, StandsFor, IsStep, IsServed, IsSame, is_fault_now};
+    ghost use Rattle.gx_engine.specs.Internal.{AreInternal};
+    ghost use Rattle.gx_engine.specs.Steps.{schema_of, built_of, nodes_of, leaves_of, is_open, commits_of, stop_of, is_fault_now, AreFor, IsReady, IsDue, StandsFor, IsAt, IsShortFor, CarriesOut, AreFresh, KeepsEngine, HasStepCause, IsStep, IsServed, IsSame};
     ghost use Rattle.gx_engine.specs.declared.engine.StepStop.TheVariants.{Now, Stopped};
 
     /// An engine over leaves, which hold the records of each file of the schema as it is built. No
     /// transaction is open, and no stop is kept.
     pub fn start(schema: Schema, built: Built, leaves: B) -> Engine<B>
         requires { AreFor schema built (length (B.working leaves)) }
-        ensures ready { IsReady B.working result }
+        ensures ready { IsReady B.View result }
         ensures schema { schema_of result ≡ schema }
         ensures built { built_of result ≡ built }
         ensures leaves { leaves_of result ≡ leaves }
         ensures inside { is_open result ≡ false }
         ensures commits { commits_of result ≡ 0 }
         ensures stop { stop_of result ≡ None }
-        ensures stands { (s : State) → AreInternal schema built.files (B.working leaves) s → B.kept leaves ≡ B.working leaves → StandsFor B.working B.kept result (start_at s) }
+        ensures stands { (s : State) → AreInternal schema built.files (B.working leaves) s →
+            B.kept leaves ≡ B.working leaves → StandsFor B.View result (start_at s) }
     {
         Engine {
             schema,
@@ -97,41 +96,31 @@ impl<B: Leaves + Drop> Engine<B> {
     /// count of faults rose; with any other answer it stays. `Now(Full)`: the pages may be too few for the
     /// entries of the states before and after. `Now(Damaged)`: the leaves stood for no state, which is said
     /// of block 0 where the stored form of each is whole. `Now(NoMemory)`: there was no memory.
+    ///
+    /// After `ReorganizeFile` each leaf of the file is fresh. `Begin`, `Commit`, `Abort` and a line without a
+    /// command take no step. Each command but `Commit` leaves what was last committed as it is.
     pub fn step(
         &mut self,
         alloc: Global,
         command: &Command,
         out: &mut Octets,
     ) -> Result<(), StepStop>
-        requires ready { IsReady B.working self.old }
+        requires ready { IsReady B.View self.old }
         requires due { IsDue self.old command.now }
-        ensures carried { (p : Playing) → B.whole (leaves_of self.old) → B.kept_whole (leaves_of self.old) → StandsFor B.working B.kept self.old p → OnOk result (IsCarried (schema_of self.old) (nodes_of self.old) p command.now out.old out.new (is_open self.new) (commits_of self.new) (B.working (leaves_of self.new)) (B.kept (leaves_of self.new))) }
+        ensures carried { (p : Playing) → IsAt B.View p self.old →
+            OnOk result (CarriesOut B.View p command.now self.old self.new out.old out.new) }
+        ensures full { (p : Playing) → IsAt B.View p self.old → result ≡ Err (Now Stop.Full) →
+            IsShortFor B.View self.old p command.now }
+        ensures fresh { B.whole (leaves_of self.old) →
+            OnOk result (AreFresh B.View command.now self.new) }
         ensures unsaid { OnErr result (out.new ≡ out.old) }
         ensures served { IsServed (stop_of self.old) (stop_of self.new) result }
         ensures still { IsSome (stop_of self.old) → self.new ≡ self.old }
-
-        // The causes of a stop.
-        ensures fault { result ≡ Err (Now Stop.Fault) → Rose (B.faults (leaves_of self.old)) (B.faults (leaves_of self.new)) }
-        ensures counted { is_fault_now result ≡ false → B.faults (leaves_of self.new) ≡ B.faults (leaves_of self.old) }
-        ensures full { (p : Playing) → B.whole (leaves_of self.old) → B.kept_whole (leaves_of self.old) → StandsFor B.working B.kept self.old p → result ≡ Err (Now Stop.Full) → IsShortFor (B.limit (leaves_of self.old)) (nodes_of self.old) (B.working (leaves_of self.old)) (schema_of self.old) p command.now }
-        ensures block { (n : ℕ) → result ≡ Err (Now (Stop.Damaged n)) → B.whole (leaves_of self.old) → n ≡ 0 }
-        ensures damaged { (block : ℕ) (p : Playing) → result ≡ Err (Now (Stop.Damaged block)) → B.whole (leaves_of self.old) → B.kept_whole (leaves_of self.old) → StandsFor B.working B.kept self.old p → ⊥ }
-
-        // What stays where it is given up.
-        ensures inside_stays { OnErr result (is_open self.new ≡ is_open self.old) }
-        ensures commits_stay { OnErr result (commits_of self.new ≡ commits_of self.old) }
-        ensures kept_stays { is_fault_now result ≡ false → OnErr result (B.kept (leaves_of self.new) ≡ B.kept (leaves_of self.old)) }
-
-        // What stays.
-        ensures inside { OnOk result (is_open self.new ≡ inside_after (is_open self.old) command.now) }
-        ensures whole { OnOk result (B.whole (leaves_of self.old) → B.kept_whole (leaves_of self.old) → B.whole (leaves_of self.new)) }
-        ensures kept_whole { OnOk result (B.whole (leaves_of self.old) → B.kept_whole (leaves_of self.old) → B.kept_whole (leaves_of self.new)) }
-        ensures schema { schema_of self.new ≡ schema_of self.old }
-        ensures built { built_of self.new ≡ built_of self.old }
-        ensures ready { IsReady B.working self.new }
-        ensures limit { B.limit (leaves_of self.new) ≡ B.limit (leaves_of self.old) }
-        ensures silent { Silent (B.content (leaves_of self.old)) (B.content (leaves_of self.new)) }
-        ensures later { B.faults (leaves_of self.old) ≤ B.faults (leaves_of self.new) }
+        ensures rest { KeepsEngine B.View self.old self.new command.now result }
+        ensures kept { is_fault_now result ≡ false →
+            OnErr result (Keeps B.View (leaves_of self.old) (leaves_of self.new)) }
+        ensures cause { HasStepCause B.View self.old self.new result }
+        ensures ready { IsReady B.View self.new }
     {
         if let Some(stop) = self.stopped {
             return Err(StepStop::Stopped(stop));
@@ -147,14 +136,16 @@ impl<B: Leaves + Drop> Engine<B> {
 
     /// The leaves stand for one state at most. It does nothing.
     pub fn leaves_tell_the_state(&self)
-        requires { IsReady B.working self.now }
-        ensures { (maps : List LeafMap) (s t : State) → AreInternal (schema_of self.now) (nodes_of self.now) maps s → AreInternal (schema_of self.now) (nodes_of self.now) maps t → s ≡ t }
+        requires { IsReady B.View self.now }
+        ensures { (maps : List LeafMap) (s t : State) →
+            AreInternal (schema_of self.now) (nodes_of self.now) maps s →
+            AreInternal (schema_of self.now) (nodes_of self.now) maps t → s ≡ t }
     {}
 
     fn carry_out(&mut self, alloc: Global, command: &Command, out: &mut Octets) -> Result<(), Stop>
-        requires ready { IsReady B.working self.old }
+        requires ready { IsReady B.View self.old }
         requires due { IsDue self.old command.now }
-        ensures { IsStep B.working B.kept B.whole B.kept_whole B.limit B.faults B.content self.old self.new command.now out.old out.new result }
+        ensures { IsStep B.View self.old self.new command.now out.old out.new result }
     {
         match command {
             Command::Begin => self.begin(out),
@@ -177,18 +168,18 @@ impl<B: Leaves + Drop> Engine<B> {
 
     // A line without a command says nothing.
     fn pass(&mut self, out: &mut Octets) -> Result<(), Stop>
-        requires ready { IsReady B.working self.old }
+        requires ready { IsReady B.View self.old }
         requires due { IsDue self.old command.Nothing }
-        ensures { IsStep B.working B.kept B.whole B.kept_whole B.limit B.faults B.content self.old self.new command.Nothing out.old out.new result }
+        ensures { IsStep B.View self.old self.new command.Nothing out.old out.new result }
     {
         let _out = out;
         Ok(())
     }
 
     fn begin(&mut self, out: &mut Octets) -> Result<(), Stop>
-        requires ready { IsReady B.working self.old }
+        requires ready { IsReady B.View self.old }
         requires due { IsDue self.old command.Begin }
-        ensures { IsStep B.working B.kept B.whole B.kept_whole B.limit B.faults B.content self.old self.new command.Begin out.old out.new result }
+        ensures { IsStep B.View self.old self.new command.Begin out.old out.new result }
     {
         append(out, b"begun\n")?;
         self.inside = true;
@@ -198,9 +189,9 @@ impl<B: Leaves + Drop> Engine<B> {
     // The answer is there before the commit, and is taken back where the commit fails: so no want of
     // memory comes after it.
     fn commit(&mut self, alloc: Global, out: &mut Octets) -> Result<(), Stop>
-        requires ready { IsReady B.working self.old }
+        requires ready { IsReady B.View self.old }
         requires due { IsDue self.old command.Commit }
-        ensures { IsStep B.working B.kept B.whole B.kept_whole B.limit B.faults B.content self.old self.new command.Commit out.old out.new result }
+        ensures { IsStep B.View self.old self.new command.Commit out.old out.new result }
     {
         let commits = self.commits.saturating_add(1);
         let line = commit_line(alloc, commits)?;
@@ -220,9 +211,9 @@ impl<B: Leaves + Drop> Engine<B> {
     }
 
     fn abort(&mut self, out: &mut Octets) -> Result<(), Stop>
-        requires ready { IsReady B.working self.old }
+        requires ready { IsReady B.View self.old }
         requires due { IsDue self.old command.Abort }
-        ensures { IsStep B.working B.kept B.whole B.kept_whole B.limit B.faults B.content self.old self.new command.Abort out.old out.new result }
+        ensures { IsStep B.View self.old self.new command.Abort out.old out.new result }
     {
         append(out, b"dropped\n")?;
         self.leaves.abort();
@@ -237,9 +228,10 @@ impl<B: Leaves + Drop> Engine<B> {
         values: &Values,
         out: &mut Octets,
     ) -> Result<(), Stop>
-        requires ready { IsReady B.working self.old }
+        requires ready { IsReady B.View self.old }
         requires due { IsDue self.old (command.Insert file values.now) }
-        ensures { IsStep B.working B.kept B.whole B.kept_whole B.limit B.faults B.content self.old self.new (command.Insert file values.now) out.old out.new result }
+        ensures { IsStep B.View self.old self.new (command.Insert file values.now) out.old out.new
+            result }
     {
         let def = file_def(&self.schema, file);
         let node = file_node(&self.built, file);
@@ -257,9 +249,10 @@ impl<B: Leaves + Drop> Engine<B> {
         changes: &Changes,
         out: &mut Octets,
     ) -> Result<(), Stop>
-        requires ready { IsReady B.working self.old }
+        requires ready { IsReady B.View self.old }
         requires due { IsDue self.old (command.Update file key.now changes.now) }
-        ensures { IsStep B.working B.kept B.whole B.kept_whole B.limit B.faults B.content self.old self.new (command.Update file key.now changes.now) out.old out.new result }
+        ensures { IsStep B.View self.old self.new (command.Update file key.now changes.now) out.old
+            out.new result }
     {
         let def = file_def(&self.schema, file);
         let node = file_node(&self.built, file);
@@ -275,9 +268,10 @@ impl<B: Leaves + Drop> Engine<B> {
         key: &Value,
         out: &mut Octets,
     ) -> Result<(), Stop>
-        requires ready { IsReady B.working self.old }
+        requires ready { IsReady B.View self.old }
         requires due { IsDue self.old (command.Delete file key.now) }
-        ensures { IsStep B.working B.kept B.whole B.kept_whole B.limit B.faults B.content self.old self.new (command.Delete file key.now) out.old out.new result }
+        ensures { IsStep B.View self.old self.new (command.Delete file key.now) out.old out.new
+            result }
     {
         let def = file_def(&self.schema, file);
         let node = file_node(&self.built, file);
@@ -287,9 +281,10 @@ impl<B: Leaves + Drop> Engine<B> {
     }
 
     fn get(&mut self, alloc: Global, file: u16, key: &Value, out: &mut Octets) -> Result<(), Stop>
-        requires ready { IsReady B.working self.old }
+        requires ready { IsReady B.View self.old }
         requires due { IsDue self.old (command.Get file key.now) }
-        ensures { IsStep B.working B.kept B.whole B.kept_whole B.limit B.faults B.content self.old self.new (command.Get file key.now) out.old out.new result }
+        ensures { IsStep B.View self.old self.new (command.Get file key.now) out.old out.new
+            result }
     {
         let def = file_def(&self.schema, file);
         let node = file_node(&self.built, file);
@@ -303,9 +298,9 @@ impl<B: Leaves + Drop> Engine<B> {
     }
 
     fn find(&mut self, alloc: Global, find: &Find, out: &mut Octets) -> Result<(), Stop>
-        requires ready { IsReady B.working self.old }
+        requires ready { IsReady B.View self.old }
         requires due { IsDue self.old (command.Find find.now) }
-        ensures { IsStep B.working B.kept B.whole B.kept_whole B.limit B.faults B.content self.old self.new (command.Find find.now) out.old out.new result }
+        ensures { IsStep B.View self.old self.new (command.Find find.now) out.old out.new result }
     {
         let def = file_def(&self.schema, find.file);
         let node = file_node(&self.built, find.file);
@@ -315,9 +310,10 @@ impl<B: Leaves + Drop> Engine<B> {
     }
 
     fn reorganize(&mut self, alloc: Global, file: u16, out: &mut Octets) -> Result<(), Stop>
-        requires ready { IsReady B.working self.old }
+        requires ready { IsReady B.View self.old }
         requires due { IsDue self.old (command.ReorganizeFile file) }
-        ensures { IsStep B.working B.kept B.whole B.kept_whole B.limit B.faults B.content self.old self.new (command.ReorganizeFile file) out.old out.new result }
+        ensures { IsStep B.View self.old self.new (command.ReorganizeFile file) out.old out.new
+            result }
     {
         reorganize_file(alloc, &self.built.owners, file, &mut self.leaves)?;
         append(out, b"ok\n")?;
@@ -327,27 +323,16 @@ impl<B: Leaves + Drop> Engine<B> {
     /// Hears the script, as a device does.
     pub fn hear(&mut self, into: &mut [u8]) -> Result<usize, Failed>
         requires { 0 < length into.old }
-        ensures bound { IfOk result (λ n. n ≤ length into.new) }
-        ensures heard { IsTrue B.tells → IfOk result (λ n. Hears n into.new (B.content (leaves_of self.old)) (B.content (leaves_of self.new))) }
-        ensures not_heard { OnErr result ((B.content (leaves_of self.new)).script ≡ (B.content (leaves_of self.old)).script) }
-        ensures rest { Listens (B.content (leaves_of self.old)) (B.content (leaves_of self.new)) }
-        ensures cause { HasCause (B.faults (leaves_of self.old)) (B.faults (leaves_of self.new)) result }
-        ensures counted { OnOk result (B.faults (leaves_of self.new) ≡ B.faults (leaves_of self.old)) }
-        ensures same { IsSame B.working B.kept B.whole B.kept_whole B.limit self.old self.new }
+        ensures hears { Hearing B.View (leaves_of self.old) (leaves_of self.new) into.new result }
+        ensures same { IsSame B.View self.old self.new }
     {
         self.leaves.hear(into)
     }
 
     /// Says the first bytes of a piece, as a device does.
     pub fn say(&mut self, from: &[u8]) -> Result<usize, Failed>
-        ensures bound { IfOk result (λ n. n ≤ length from.now) }
-        ensures said { IsTrue B.tells → IfOk result (λ n. Says n from.now (B.content (leaves_of self.old)) (B.content (leaves_of self.new))) }
-        ensures not_said { OnErr result ((B.content (leaves_of self.new)).now.said ≡ (B.content (leaves_of self.old)).now.said) }
-        ensures rest { Speaks (B.content (leaves_of self.old)) (B.content (leaves_of self.new)) }
-        ensures cause { HasCause (B.faults (leaves_of self.old)) (B.faults (leaves_of self.new)) result }
-        ensures counted { IfOk result (λ n. 0 < n → B.faults (leaves_of self.new) ≡ B.faults (leaves_of self.old)) }
-        ensures none_taken { result ≡ Ok 0 → 0 < length from.now → Rose (B.faults (leaves_of self.old)) (B.faults (leaves_of self.new)) }
-        ensures same { IsSame B.working B.kept B.whole B.kept_whole B.limit self.old self.new }
+        ensures says { Saying B.View (leaves_of self.old) (leaves_of self.new) from.now result }
+        ensures same { IsSame B.View self.old self.new }
     {
         self.leaves.say(from)
     }
@@ -377,7 +362,8 @@ fn file_def(schema: &Schema, file: u16) -> &FileDef
 fn file_node(built: &Built, file: u16) -> &Node<AnyMapping>
     requires { file < length built.now.files }
     ensures tree { tree_of result.now ≡ tree_at built.now.files file }
-    ensures fit { (schema : TheSchema) (leaves : ℕ) → AreNodes schema built.now.files leaves → IsTreeFor (file_at schema file) (tree_of result.now) leaves }
+    ensures fit { (schema : TheSchema) (leaves : ℕ) → AreNodes schema built.now.files leaves →
+        IsTreeFor (file_at schema file) (tree_of result.now) leaves }
 {
     &built.files.0[usize::from(file)]
 }

@@ -1,15 +1,13 @@
 // Records of a whole file, as `find` lists them.
-ghost use Rattle.std.specs.Prelude.{◌≡◌, ◌<◌, ◌≤◌, ◌↔◌, ◌++◌, [], ℕ, false, length, filter, IfOk, OnOk, IsErrOf};
+ghost use Rattle.std.specs.Prelude.{◌≡◌, ◌++◌, [], ℕ, length, filter, IfOk, OnOk, IsErrOf};
 ghost use Rattle.std.specs.List.Sorted.{IsPermutation};
 ghost use Rattle.std.specs.FinMap as fin;
-ghost use Rattle.gx_device.specs.Content.{Silent};
-ghost use Rattle.gx_device.specs.Faults.{Rose};
-ghost use Rattle.gx_ports.specs.Stops.{is_fault};
+ghost use Rattle.gx_ports.specs.Calls.{Reads, Ends};
 ghost use Rattle.gx_stack.specs.Seen.{tree_of};
 ghost use Rattle.gx_model.specs.States.{File as FileMap};
 ghost use Rattle.gx_model.specs.Found.{meets_conds};
 ghost use Rattle.gx_model.specs.Commands.{IsListText};
-ghost use Rattle.gx_engine.specs.Internal.{IsInternal, IsStorable, IsTreeFor};
+ghost use Rattle.gx_engine.specs.Internal.{IsInternal, HasFile, IsStorable, IsTreeFor};
 ghost use Rattle.gx_engine.specs.Entries.{IsPlaceOf, rows_at};
 
 use crate::places::{Place, places_of};
@@ -35,17 +33,13 @@ pub(crate) fn found_text<B: Leaves>(
 ) -> Result<Octets, Stop>
     requires tree { IsTreeFor file.now (tree_of node.now) (length (B.working leaves.old)) }
     requires storable { IsStorable file.now }
-    ensures listed { (f : FileMap) → B.whole leaves.old → IsInternal file.now (tree_of node.now) (B.working leaves.old) f → IfOk result (IsListText file.now f (meets_conds find.now.conds) find.now.order) }
-    ensures working { B.working leaves.new ≡ B.working leaves.old }
-    ensures kept { B.kept leaves.new ≡ B.kept leaves.old }
-    ensures whole { OnOk result (B.whole leaves.old → B.whole leaves.new) }
-    ensures kept_whole { B.kept_whole leaves.old ↔ B.kept_whole leaves.new }
-    ensures limit { B.limit leaves.new ≡ B.limit leaves.old }
-    ensures silent { Silent (B.content leaves.old) (B.content leaves.new) }
-    ensures counted { is_fault result ≡ false → B.faults leaves.new ≡ B.faults leaves.old }
-    ensures later { B.faults leaves.old ≤ B.faults leaves.new }
-    ensures fault { IsErrOf result Stop.Fault → Rose (B.faults leaves.old) (B.faults leaves.new) }
-    ensures damaged { (block : ℕ) (f : FileMap) → IsErrOf result (Stop.Damaged block) → B.whole leaves.old → IsInternal file.now (tree_of node.now) (B.working leaves.old) f → ⊥ }
+    ensures listed { (f : FileMap) → B.whole leaves.old →
+        IsInternal file.now (tree_of node.now) (B.working leaves.old) f →
+        IfOk result (IsListText file.now f (meets_conds find.now.conds) find.now.order) }
+    ensures reads { Reads B.View leaves.old leaves.new }
+    ensures ends { Ends B.View
+        (B.whole leaves.old × HasFile file.now (tree_of node.now) (B.working leaves.old))
+        leaves.old leaves.new result }
     ensures block { (n : ℕ) → IsErrOf result (Stop.Damaged n) → B.whole leaves.old → n ≡ 0 }
     ensures not_full { ¬ IsErrOf result Stop.Full }
 {
@@ -64,17 +58,13 @@ fn chosen_rows<B: Leaves>(
 ) -> Result<Vec<Row>, Stop>
     requires tree { IsTreeFor file.now (tree_of node.now) (length (B.working leaves.old)) }
     requires storable { IsStorable file.now }
-    ensures rows { (f : FileMap) → B.whole leaves.old → IsInternal file.now (tree_of node.now) (B.working leaves.old) f → IfOk result (λ rows. IsPermutation (filter (meets_conds conds.now) (fin.entries f)) rows.items) }
-    ensures working { B.working leaves.new ≡ B.working leaves.old }
-    ensures kept { B.kept leaves.new ≡ B.kept leaves.old }
-    ensures whole { OnOk result (B.whole leaves.old → B.whole leaves.new) }
-    ensures kept_whole { B.kept_whole leaves.old ↔ B.kept_whole leaves.new }
-    ensures limit { B.limit leaves.new ≡ B.limit leaves.old }
-    ensures silent { Silent (B.content leaves.old) (B.content leaves.new) }
-    ensures counted { is_fault result ≡ false → B.faults leaves.new ≡ B.faults leaves.old }
-    ensures later { B.faults leaves.old ≤ B.faults leaves.new }
-    ensures fault { IsErrOf result Stop.Fault → Rose (B.faults leaves.old) (B.faults leaves.new) }
-    ensures damaged { (block : ℕ) (f : FileMap) → IsErrOf result (Stop.Damaged block) → B.whole leaves.old → IsInternal file.now (tree_of node.now) (B.working leaves.old) f → ⊥ }
+    ensures rows { (f : FileMap) → B.whole leaves.old →
+        IsInternal file.now (tree_of node.now) (B.working leaves.old) f → IfOk result
+        (λ rows. IsPermutation (filter (meets_conds conds.now) (fin.entries f)) rows.items) }
+    ensures reads { Reads B.View leaves.old leaves.new }
+    ensures ends { Ends B.View
+        (B.whole leaves.old × HasFile file.now (tree_of node.now) (B.working leaves.old))
+        leaves.old leaves.new result }
     ensures block { (n : ℕ) → IsErrOf result (Stop.Damaged n) → B.whole leaves.old → n ≡ 0 }
     ensures not_full { ¬ IsErrOf result Stop.Full }
 {
@@ -99,17 +89,15 @@ fn add_rows<B: Leaves>(
     requires place { IsPlaceOf (tree_of node.now) place }
     requires tree { IsTreeFor file.now (tree_of node.now) (length (B.working leaves.old)) }
     requires storable { IsStorable file.now }
-    ensures rows { (f : FileMap) → B.whole leaves.old → IsInternal file.now (tree_of node.now) (B.working leaves.old) f → OnOk result (rows.new.items ≡ rows.old.items ++ filter (meets_conds conds.now) (rows_at (tree_of node.now) place.leaf f)) }
-    ensures working { B.working leaves.new ≡ B.working leaves.old }
-    ensures kept { B.kept leaves.new ≡ B.kept leaves.old }
-    ensures whole { OnOk result (B.whole leaves.old → B.whole leaves.new) }
-    ensures kept_whole { B.kept_whole leaves.old ↔ B.kept_whole leaves.new }
-    ensures limit { B.limit leaves.new ≡ B.limit leaves.old }
-    ensures silent { Silent (B.content leaves.old) (B.content leaves.new) }
-    ensures counted { is_fault result ≡ false → B.faults leaves.new ≡ B.faults leaves.old }
-    ensures later { B.faults leaves.old ≤ B.faults leaves.new }
-    ensures fault { IsErrOf result Stop.Fault → Rose (B.faults leaves.old) (B.faults leaves.new) }
-    ensures damaged { (block : ℕ) (f : FileMap) → IsErrOf result (Stop.Damaged block) → B.whole leaves.old → IsInternal file.now (tree_of node.now) (B.working leaves.old) f → ⊥ }
+    ensures rows { (f : FileMap) → B.whole leaves.old →
+        IsInternal file.now (tree_of node.now) (B.working leaves.old) f → OnOk result
+        (rows.new.items
+        ≡ rows.old.items ++ filter (meets_conds conds.now)
+        (rows_at (tree_of node.now) place.leaf f)) }
+    ensures reads { Reads B.View leaves.old leaves.new }
+    ensures ends { Ends B.View
+        (B.whole leaves.old × HasFile file.now (tree_of node.now) (B.working leaves.old))
+        leaves.old leaves.new result }
     ensures block { (n : ℕ) → IsErrOf result (Stop.Damaged n) → B.whole leaves.old → n ≡ 0 }
     ensures not_full { ¬ IsErrOf result Stop.Full }
 {

@@ -43,7 +43,9 @@ fn add_places(
     requires valid { IsValid any_rule (tree_of node.now) }
     requires few { layers ≤ field_widths (tree_form any_rule (tree_of node.now)).fields + 1 }
     requires plain { layers ≡ 0 → AreKeyFields (tree_form any_rule (tree_of node.now)).fields }
-    ensures { OnOk result ((added : List ThePlace) × (places.new.items ≡ places.old.items ++ added) × ArePlaces layers (tree_of node.now) added) }
+    ensures { OnOk result
+        ((added : List ThePlace) × (places.new.items ≡ places.old.items ++ added)
+        × ArePlaces layers (tree_of node.now) added) }
 {
     match node {
         Node::Leaf(node) => {

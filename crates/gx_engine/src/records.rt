@@ -1,10 +1,8 @@
 // Records of a file: each is looked up and changed in the file's node.
-ghost use Rattle.std.specs.Prelude.{◌≡◌, ◌<◌, ◌≤◌, ◌↔◌, ◌∷◌, [], ◌+◌, ℕ, List, length, IfOk, OnOk, IfSome, IsErrOf, Option, false, not, is_some};
+ghost use Rattle.std.specs.Prelude.{◌≡◌, ◌<◌, ◌≤◌, ◌∷◌, ◌+◌, ℕ, List, length, slice_get, IfOk, OnOk, IfSome, IsErrOf, Option, Some, not, is_some};
 ghost use Rattle.std.specs.Option.{option_map};
 ghost use Rattle.std.specs.FinMap as fin;
 ghost use Rattle.std.specs.List.{AllByRecursion};
-ghost use Rattle.gx_device.specs.Content.{Silent};
-ghost use Rattle.gx_device.specs.Faults.{Rose};
 ghost use Rattle.gx_values.specs.Values.{Fits, AreFit, AreSized};
 ghost use Rattle.gx_values.specs.Keys.{bytes_of};
 ghost use Rattle.gx_values.specs.declared.values.Value.{Value as TheValue};
@@ -12,7 +10,8 @@ ghost use Rattle.gx_values.specs.declared.records.Rec.{Rec as Record};
 ghost use Rattle.gx_schema.specs.Lookups.{key_kind, data_fields};
 ghost use Rattle.gx_script.specs.Commands.{IsChangeOf};
 ghost use Rattle.gx_ports.specs.LeafMaps.{entry_count, IsCrowded, IsCrowdedBy};
-ghost use Rattle.gx_ports.specs.Stops.{HasStopCause, is_fault};
+ghost use Rattle.gx_ports.specs.Calls.{Keeps, Reads, Ends};
+ghost use Rattle.gx_ports.specs.declared.leaves.TheConstants.{MAX_KEY_LEN};
 ghost use Rattle.gx_values.specs.declared.records.Form.{Form as TheForm};
 ghost use Rattle.gx_mapping.specs.Rule.{In, IsOf};
 ghost use Rattle.gx_stack.specs.Tree.{entries_of};
@@ -21,7 +20,7 @@ ghost use Rattle.gx_types.specs.Any.{any_rule};
 ghost use Rattle.gx_types.specs.Dues.{file_form};
 ghost use Rattle.gx_model.specs.States.{File as FileMap};
 ghost use Rattle.gx_model.specs.Commands.{changed, updated};
-ghost use Rattle.gx_engine.specs.Internal.{rec_of, records_of, IsInternal, IsStorable, IsTreeFor, IsEditedWhere};
+ghost use Rattle.gx_engine.specs.Internal.{rec_of, IsInternal, HasFile, IsStorable, IsTreeFor, IsEditedWhere};
 ghost use Rattle.gx_engine.specs.Records.{record_at, list_of_one};
 
 use gx_ports::{Leaves, Stop};
@@ -45,7 +44,7 @@ pub(crate) fn data_fields(file: &FileDef) -> &[Field]
 
 // The span of one key.
 fn key_span(key: &Value) -> Span
-    requires { length (bytes_of key.now) ≤ 400 }
+    requires { length (bytes_of key.now) ≤ MAX_KEY_LEN }
     ensures lo { result.lo ≡ bytes_of key.now }
     ensures hi { result.hi ≡ bytes_of key.now }
 {
@@ -66,18 +65,14 @@ pub(crate) fn find_record<B: Leaves>(
     requires tree { IsTreeFor file.now (tree_of node.now) (length (B.working leaves.old)) }
     requires storable { IsStorable file.now }
     requires key { Fits (key_kind file.now) key.now }
-    ensures found { (f : FileMap) → B.whole leaves.old → IsInternal file.now (tree_of node.now) (B.working leaves.old) f → IfOk result (λ found. found ≡ record_at f key.now) }
+    ensures found { (f : FileMap) → B.whole leaves.old →
+        IsInternal file.now (tree_of node.now) (B.working leaves.old) f →
+        IfOk result (λ found. found ≡ record_at f key.now) }
     ensures fits { IfOk result (λ found. IfSome found (IsOf (file_form file.now))) }
-    ensures working { B.working leaves.new ≡ B.working leaves.old }
-    ensures kept { B.kept leaves.new ≡ B.kept leaves.old }
-    ensures whole { OnOk result (B.whole leaves.old → B.whole leaves.new) }
-    ensures kept_whole { B.kept_whole leaves.old ↔ B.kept_whole leaves.new }
-    ensures limit { B.limit leaves.new ≡ B.limit leaves.old }
-    ensures silent { Silent (B.content leaves.old) (B.content leaves.new) }
-    ensures counted { is_fault result ≡ false → B.faults leaves.new ≡ B.faults leaves.old }
-    ensures later { B.faults leaves.old ≤ B.faults leaves.new }
-    ensures fault { IsErrOf result Stop.Fault → Rose (B.faults leaves.old) (B.faults leaves.new) }
-    ensures damaged { (block : ℕ) (f : FileMap) → IsErrOf result (Stop.Damaged block) → B.whole leaves.old → IsInternal file.now (tree_of node.now) (B.working leaves.old) f → ⊥ }
+    ensures reads { Reads B.View leaves.old leaves.new }
+    ensures ends { Ends B.View
+        (B.whole leaves.old × HasFile file.now (tree_of node.now) (B.working leaves.old))
+        leaves.old leaves.new result }
     ensures block { (n : ℕ) → IsErrOf result (Stop.Damaged n) → B.whole leaves.old → n ≡ 0 }
     ensures not_full { ¬ IsErrOf result Stop.Full }
 {
@@ -89,7 +84,8 @@ pub(crate) fn find_record<B: Leaves>(
 
 fn last_record(found: Recs) -> Option<Rec>
     ensures last { (one : Option Record) → found ≡ list_of_one one → result ≡ one }
-    ensures fits { (form : TheForm) → ((r : Record) → In r found → IsOf form r) → IfSome result (IsOf form) }
+    ensures fits { (form : TheForm) → ((r : Record) → In r found → IsOf form r) →
+        IfSome result (IsOf form) }
 {
     let mut found = found.0;
     found.pop()
@@ -97,7 +93,8 @@ fn last_record(found: Recs) -> Option<Rec>
 
 // The record of a key and other values.
 fn new_record(alloc: Global, key: &Value, values: &[Value]) -> Result<Rec, NoMemory>
-    ensures { AreSized (key.now ∷ values.now) → IfOk result (λ made. made ≡ rec_of (key.now, values.now)) }
+    ensures { AreSized (key.now ∷ values.now) →
+        IfOk result (λ made. made ≡ rec_of (key.now, values.now)) }
 {
     let mut keys = Vec::with_capacity(alloc, 1)?;
     keys.push(key.copy(alloc)?)?;
@@ -124,19 +121,22 @@ pub(crate) fn insert_record<B: Leaves>(
     requires storable { IsStorable file.now }
     requires key { Fits (key_kind file.now) key.now }
     requires values { AreFit (data_fields file.now) values.now }
-    ensures inserted { (f : FileMap) → B.whole leaves.old → IsInternal file.now (tree_of node.now) (B.working leaves.old) f → IfOk result (λ done. IsEditedWhere file.now (tree_of node.now) (B.working leaves.old) (B.working leaves.new) f (not (is_some (fin.get f key.now))) (fin.insert f key.now values.now) done) }
-    ensures leaves { length (B.working leaves.new) ≡ length (B.working leaves.old) }
-    ensures kept { B.kept leaves.new ≡ B.kept leaves.old }
-    ensures whole { OnOk result (B.whole leaves.old → B.whole leaves.new) }
-    ensures kept_whole { B.kept_whole leaves.old ↔ B.kept_whole leaves.new }
-    ensures limit { B.limit leaves.new ≡ B.limit leaves.old }
-    ensures silent { Silent (B.content leaves.old) (B.content leaves.new) }
-    ensures counted { is_fault result ≡ false → B.faults leaves.new ≡ B.faults leaves.old }
-    ensures later { B.faults leaves.old ≤ B.faults leaves.new }
-    ensures fault { IsErrOf result Stop.Fault → Rose (B.faults leaves.old) (B.faults leaves.new) }
-    ensures damaged { (block : ℕ) (f : FileMap) → IsErrOf result (Stop.Damaged block) → B.whole leaves.old → IsInternal file.now (tree_of node.now) (B.working leaves.old) f → ⊥ }
+    ensures inserted { (f : FileMap) → B.whole leaves.old →
+        IsInternal file.now (tree_of node.now) (B.working leaves.old) f → IfOk result
+        (λ done. IsEditedWhere file.now (tree_of node.now)
+        (B.working leaves.old) (B.working leaves.new) f (not (is_some (fin.get f key.now)))
+        (fin.insert f key.now values.now) done) }
+    ensures keeps { Keeps B.View leaves.old leaves.new }
+    ensures ends { Ends B.View
+        (B.whole leaves.old × HasFile file.now (tree_of node.now) (B.working leaves.old))
+        leaves.old leaves.new result }
     ensures block { (n : ℕ) → IsErrOf result (Stop.Damaged n) → B.whole leaves.old → n ≡ 0 }
-    ensures full { (f : FileMap) → B.whole leaves.old → IsInternal file.now (tree_of node.now) (B.working leaves.old) f → IsErrOf result Stop.Full → (fin.get f key.now ≡ Option.None) × IsCrowdedBy (B.limit leaves.old) (entry_count (B.working leaves.old) + length (entries_of any_rule (tree_of node.now) (rec_of (key.now, values.now)))) }
+    ensures full { (f : FileMap) → B.whole leaves.old →
+        IsInternal file.now (tree_of node.now) (B.working leaves.old) f → IsErrOf result Stop.Full →
+        (fin.get f key.now ≡ Option.None)
+        × IsCrowdedBy (B.limit leaves.old)
+        (entry_count (B.working leaves.old)
+        + length (entries_of any_rule (tree_of node.now) (rec_of (key.now, values.now)))) }
 {
     if find_record(alloc, file, node, key, leaves)?.is_some() {
         return Ok(false);
@@ -157,19 +157,17 @@ pub(crate) fn delete_record<B: Leaves>(
     requires tree { IsTreeFor file.now (tree_of node.now) (length (B.working leaves.old)) }
     requires storable { IsStorable file.now }
     requires key { Fits (key_kind file.now) key.now }
-    ensures deleted { (f : FileMap) → B.whole leaves.old → IsInternal file.now (tree_of node.now) (B.working leaves.old) f → IfOk result (λ done. IsEditedWhere file.now (tree_of node.now) (B.working leaves.old) (B.working leaves.new) f (is_some (fin.get f key.now)) (fin.remove f key.now) done) }
-    ensures leaves { length (B.working leaves.new) ≡ length (B.working leaves.old) }
-    ensures kept { B.kept leaves.new ≡ B.kept leaves.old }
-    ensures whole { OnOk result (B.whole leaves.old → B.whole leaves.new) }
-    ensures kept_whole { B.kept_whole leaves.old ↔ B.kept_whole leaves.new }
-    ensures limit { B.limit leaves.new ≡ B.limit leaves.old }
-    ensures silent { Silent (B.content leaves.old) (B.content leaves.new) }
-    ensures counted { is_fault result ≡ false → B.faults leaves.new ≡ B.faults leaves.old }
-    ensures later { B.faults leaves.old ≤ B.faults leaves.new }
-    ensures fault { IsErrOf result Stop.Fault → Rose (B.faults leaves.old) (B.faults leaves.new) }
-    ensures damaged { (block : ℕ) (f : FileMap) → IsErrOf result (Stop.Damaged block) → B.whole leaves.old → IsInternal file.now (tree_of node.now) (B.working leaves.old) f → ⊥ }
+    ensures deleted { (f : FileMap) → B.whole leaves.old →
+        IsInternal file.now (tree_of node.now) (B.working leaves.old) f → IfOk result
+        (λ done. IsEditedWhere file.now (tree_of node.now)
+        (B.working leaves.old) (B.working leaves.new) f (is_some (fin.get f key.now)) (fin.remove f key.now) done) }
+    ensures keeps { Keeps B.View leaves.old leaves.new }
+    ensures ends { Ends B.View
+        (B.whole leaves.old × HasFile file.now (tree_of node.now) (B.working leaves.old))
+        leaves.old leaves.new result }
     ensures block { (n : ℕ) → IsErrOf result (Stop.Damaged n) → B.whole leaves.old → n ≡ 0 }
-    ensures full { B.whole leaves.old → IsErrOf result Stop.Full → IsCrowded (B.limit leaves.old) (B.working leaves.old) }
+    ensures full { B.whole leaves.old → IsErrOf result Stop.Full →
+        IsCrowded (B.limit leaves.old) (B.working leaves.old) }
 {
     let Some(old) = find_record(alloc, file, node, key, leaves)? else {
         return Ok(false);
@@ -191,19 +189,22 @@ pub(crate) fn update_record<B: Leaves>(
     requires storable { IsStorable file.now }
     requires key { Fits (key_kind file.now) key.now }
     requires changes { AllByRecursion (IsChangeOf file.now) changes.now }
-    ensures updated { (f : FileMap) → B.whole leaves.old → IsInternal file.now (tree_of node.now) (B.working leaves.old) f → IfOk result (λ done. IsEditedWhere file.now (tree_of node.now) (B.working leaves.old) (B.working leaves.new) f (is_some (fin.get f key.now)) (updated f key.now changes.now) done) }
-    ensures leaves { length (B.working leaves.new) ≡ length (B.working leaves.old) }
-    ensures kept { B.kept leaves.new ≡ B.kept leaves.old }
-    ensures whole { OnOk result (B.whole leaves.old → B.whole leaves.new) }
-    ensures kept_whole { B.kept_whole leaves.old ↔ B.kept_whole leaves.new }
-    ensures limit { B.limit leaves.new ≡ B.limit leaves.old }
-    ensures silent { Silent (B.content leaves.old) (B.content leaves.new) }
-    ensures counted { is_fault result ≡ false → B.faults leaves.new ≡ B.faults leaves.old }
-    ensures later { B.faults leaves.old ≤ B.faults leaves.new }
-    ensures fault { IsErrOf result Stop.Fault → Rose (B.faults leaves.old) (B.faults leaves.new) }
-    ensures damaged { (block : ℕ) (f : FileMap) → IsErrOf result (Stop.Damaged block) → B.whole leaves.old → IsInternal file.now (tree_of node.now) (B.working leaves.old) f → ⊥ }
+    ensures updated { (f : FileMap) → B.whole leaves.old →
+        IsInternal file.now (tree_of node.now) (B.working leaves.old) f → IfOk result
+        (λ done. IsEditedWhere file.now (tree_of node.now)
+        (B.working leaves.old) (B.working leaves.new) f (is_some (fin.get f key.now)) (updated f key.now changes.now)
+        done) }
+    ensures keeps { Keeps B.View leaves.old leaves.new }
+    ensures ends { Ends B.View
+        (B.whole leaves.old × HasFile file.now (tree_of node.now) (B.working leaves.old))
+        leaves.old leaves.new result }
     ensures block { (n : ℕ) → IsErrOf result (Stop.Damaged n) → B.whole leaves.old → n ≡ 0 }
-    ensures full { (f : FileMap) → B.whole leaves.old → IsInternal file.now (tree_of node.now) (B.working leaves.old) f → IsErrOf result Stop.Full → (values : List TheValue) × (fin.get f key.now ≡ Option.Some values) × IsCrowdedBy (B.limit leaves.old) (entry_count (B.working leaves.old) + length (entries_of any_rule (tree_of node.now) (rec_of (key.now, changed values changes.now)))) }
+    ensures full { (f : FileMap) → B.whole leaves.old →
+        IsInternal file.now (tree_of node.now) (B.working leaves.old) f → IsErrOf result Stop.Full →
+        (values : List TheValue) × (fin.get f key.now ≡ Option.Some values)
+        × IsCrowdedBy (B.limit leaves.old)
+        (entry_count (B.working leaves.old)
+        + length (entries_of any_rule (tree_of node.now) (rec_of (key.now, changed values changes.now)))) }
 {
     let Some(old) = find_record(alloc, file, node, key, leaves)? else {
         return Ok(false);
@@ -253,7 +254,7 @@ fn changed_values(
     Ok(Values(values))
 }
 
-/// Lays the entries of each leaf of the file out anew.
+/// Lays the entries of each leaf of the file out anew. The records stay.
 pub(crate) fn reorganize_file<B: Leaves>(
     alloc: Global,
     owners: &Owners,
@@ -262,15 +263,14 @@ pub(crate) fn reorganize_file<B: Leaves>(
 ) -> Result<(), Stop>
     requires owned { length owners.now ≡ length (B.working leaves.old) }
     requires few { length owners.now ≤ 255 }
-    ensures working { B.whole leaves.old → OnOk result (B.working leaves.new ≡ B.working leaves.old) }
-    ensures leaves { length (B.working leaves.new) ≡ length (B.working leaves.old) }
-    ensures kept { B.kept leaves.new ≡ B.kept leaves.old }
-    ensures whole { OnOk result (B.whole leaves.old → B.whole leaves.new) }
-    ensures kept_whole { B.kept_whole leaves.old ↔ B.kept_whole leaves.new }
-    ensures limit { B.limit leaves.new ≡ B.limit leaves.old }
-    ensures silent { Silent (B.content leaves.old) (B.content leaves.new) }
-    ensures cause { HasStopCause (B.faults leaves.old) (B.faults leaves.new) (B.whole leaves.old) result }
-    ensures full { B.whole leaves.old → IsErrOf result Stop.Full → IsCrowded (B.limit leaves.old) (B.working leaves.old) }
+    ensures working { B.whole leaves.old →
+        OnOk result (B.working leaves.new ≡ B.working leaves.old) }
+    ensures fresh { B.whole leaves.old → OnOk result
+        ((leaf : ℕ) → slice_get owners.now leaf ≡ Some file → B.fresh leaves.new leaf) }
+    ensures keeps { Keeps B.View leaves.old leaves.new }
+    ensures ends { Ends B.View (B.whole leaves.old) leaves.old leaves.new result }
+    ensures full { B.whole leaves.old → IsErrOf result Stop.Full →
+        IsCrowded (B.limit leaves.old) (B.working leaves.old) }
 {
     for leaf in 0..owners.0.len() {
         if owners.0[leaf] == file {

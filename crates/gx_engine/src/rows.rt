@@ -37,7 +37,9 @@ impl Model for Row {
 pub(crate) fn sort_rows(rows: &mut Vec<Row>, order: OrderBy) -> Result<(), AllocError>
     ensures those { IsPermutation rows.old.items rows.new.items }
     ensures in_order { OnOk result (IsSortedBy (λ a b. is_lt (row_cmp order a b)) rows.new.items) }
-    ensures listed { (f : File) (test : TheRow → Bool) → IsPermutation (filter test (fin.entries f)) rows.old.items → OnOk result (IsListed f test order rows.new.items) }
+    ensures listed { (f : File) (test : TheRow → Bool) →
+        IsPermutation (filter test (fin.entries f)) rows.old.items →
+        OnOk result (IsListed f test order rows.new.items) }
 {
     rows.sort_by(|a, b| compare_rows(order, a, b))?;
     Ok(())

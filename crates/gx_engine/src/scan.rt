@@ -41,7 +41,10 @@ pub(crate) fn add_chosen_rows(
     rows: &mut Vec<Row>,
 ) -> Result<bool, NoMemory>
     requires { IsStorable file.now }
-    ensures { (rs : List TheRow) → AllByRecursion (IsRowOf file.now) rs → entries.now ≡ map (λ r. entry_of (entry_of_row lengths r)) rs → IfOk result (λ all. (all ≡ true) × (rows.new.items ≡ rows.old.items ++ filter (meets_conds conds.now) rs)) }
+    ensures { (rs : List TheRow) → AllByRecursion (IsRowOf file.now) rs →
+        entries.now ≡ map (λ r. entry_of (entry_of_row lengths r)) rs → IfOk result
+        (λ all. (all ≡ true)
+        × (rows.new.items ≡ rows.old.items ++ filter (meets_conds conds.now) rs)) }
 {
     for index in 0..entries.len() {
         let entry = entries.entry(index);
@@ -64,7 +67,8 @@ pub(crate) fn add_chosen_rows(
 
 // The bytes of the values in a body. `None`: the body is too short for the lengths before them.
 fn behind_lengths(body: &[u8], lengths: u32) -> Option<&[u8]>
-    ensures { (r : Record) → body.now ≡ leaf_body (wrapped (suc lengths) r).fields → IsSomeAnd result (λ values. values.now ≡ body_of r.fields) }
+    ensures { (r : Record) → body.now ≡ leaf_body (wrapped (suc lengths) r).fields →
+        IsSomeAnd result (λ values. values.now ≡ body_of r.fields) }
 {
     let (_, values) = body.split_at_checked(2 * lengths as usize)?;
     Some(values)
@@ -73,7 +77,8 @@ fn behind_lengths(body: &[u8], lengths: u32) -> Option<&[u8]>
 // The record of an entry, if it is one.
 fn read_row(alloc: Global, file: &FileDef, key: &[u8], body: &[u8]) -> Result<Option<Row>, NoMemory>
     requires { IsStorable file.now }
-    ensures { (r : TheRow) → IsRowOf file.now r → key.now ≡ bytes_of r.0 → body.now ≡ body_of r.1 → IfOk result (λ found. found ≡ Some r) }
+    ensures { (r : TheRow) → IsRowOf file.now r → key.now ≡ bytes_of r.0 → body.now ≡ body_of r.1 →
+        IfOk result (λ found. found ≡ Some r) }
 {
     let kind = file.fields.0[0].kind;
     let Some(key) = read_value_key(alloc, kind, key)? else {
@@ -88,7 +93,8 @@ fn read_row(alloc: Global, file: &FileDef, key: &[u8], body: &[u8]) -> Result<Op
 // Whether the record of an entry meets every condition. `None`: the entry is that of no record.
 fn meets_all(file: &FileDef, conds: &[Cond], key: &[u8], body: &[u8]) -> Option<bool>
     requires { IsStorable file.now }
-    ensures { (r : TheRow) → IsRowOf file.now r → key.now ≡ bytes_of r.0 → body.now ≡ body_of r.1 → result ≡ Some (meets_conds conds.now r) }
+    ensures { (r : TheRow) → IsRowOf file.now r → key.now ≡ bytes_of r.0 → body.now ≡ body_of r.1 →
+        result ≡ Some (meets_conds conds.now r) }
 {
     for cond in conds {
         let value = field_value(file, cond.field, key, body)?;
@@ -143,7 +149,8 @@ fn field_value<'a>(
     body: &'a [u8],
 ) -> Option<ValueRef<'a>>
     requires { IsStorable file.now }
-    ensures { (r : TheRow) → IsRowOf file.now r → key.now ≡ bytes_of r.0 → body.now ≡ body_of r.1 → IsSomeAnd result (λ v. value_of v ≡ value_at r field) }
+    ensures { (r : TheRow) → IsRowOf file.now r → key.now ≡ bytes_of r.0 → body.now ≡ body_of r.1 →
+        IsSomeAnd result (λ v. value_of v ≡ value_at r field) }
 {
     if field == 0 {
         return key_value(file.fields.0[0].kind, key);
@@ -154,7 +161,8 @@ fn field_value<'a>(
 // The value that has these key bytes.
 fn key_value(kind: Kind, key: &[u8]) -> Option<ValueRef<'_>>
     requires { IsKeyKind kind }
-    ensures { (v : FieldValue) → Fits kind v → key.now ≡ bytes_of v → IsSomeAnd result (λ r. value_of r ≡ v) }
+    ensures { (v : FieldValue) → Fits kind v → key.now ≡ bytes_of v →
+        IsSomeAnd result (λ r. value_of r ≡ v) }
 {
     match kind {
         Kind::Int => Some(ValueRef::Int(key_int(key)?)),
@@ -182,7 +190,8 @@ fn unrank(rank: u64) -> i64
 
 // All but the 0 at the end.
 fn key_text(key: &[u8]) -> Option<&[u8]>
-    ensures { (text : List ℕ) → key.now ≡ bytes_of (value.Text text) → IsSomeAnd result (λ r. r.now ≡ text) }
+    ensures { (text : List ℕ) → key.now ≡ bytes_of (value.Text text) →
+        IsSomeAnd result (λ r. r.now ≡ text) }
 {
     let (_, text) = key.split_last()?;
     Some(text)
@@ -191,7 +200,8 @@ fn key_text(key: &[u8]) -> Option<&[u8]>
 // The value of one of these fields in a body, counted from 0, and 0 where there are fewer.
 fn data_value<'a>(fields: &[Field], index: usize, body: &'a [u8]) -> Option<ValueRef<'a>>
     requires { AreShort fields.now }
-    ensures { (vs : List FieldValue) → AreFit fields.now vs → body.now ≡ body_of vs → IsSomeAnd result (λ v. value_of v ≡ slice_index_or vs index (value.Int (pos 0))) }
+    ensures { (vs : List FieldValue) → AreFit fields.now vs → body.now ≡ body_of vs →
+        IsSomeAnd result (λ v. value_of v ≡ slice_index_or vs index (value.Int (pos 0))) }
 {
     let mut rest = body;
     for (at, field) in fields.iter().enumerate() {
@@ -207,7 +217,8 @@ fn data_value<'a>(fields: &[Field], index: usize, body: &'a [u8]) -> Option<Valu
 // The value of this kind that stands at the front of a body, and what follows.
 fn split_value(kind: Kind, rest: &[u8]) -> Option<(ValueRef<'_>, &[u8])>
     requires { IsShort kind }
-    ensures { (v : FieldValue) (more : List ℕ) → Fits kind v → rest.now ≡ field_bytes v ++ more → IsSomeAnd result (λ s. (value_of s.0 ≡ v) × (s.1.now ≡ more)) }
+    ensures { (v : FieldValue) (more : List ℕ) → Fits kind v → rest.now ≡ field_bytes v ++ more →
+        IsSomeAnd result (λ s. (value_of s.0 ≡ v) × (s.1.now ≡ more)) }
 {
     match kind {
         Kind::Int => {

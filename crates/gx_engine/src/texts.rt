@@ -19,7 +19,8 @@ pub(crate) fn record_line(
     key: &Value,
     values: &[Value],
 ) -> Result<Octets, NoMemory>
-    ensures { Fits (key_kind file.now) key.now → AreFit (data_fields file.now) values.now → IfOk result (λ line. line ≡ row_text file.now (key.now, values.now)) }
+    ensures { Fits (key_kind file.now) key.now → AreFit (data_fields file.now) values.now →
+        IfOk result (λ line. line ≡ row_text file.now (key.now, values.now)) }
 {
     let mut line = Vec::new(alloc);
     push_record(alloc, &mut line, file, key, values)?;
@@ -48,7 +49,8 @@ fn push_record(
     key: &Value,
     values: &[Value],
 ) -> Result<(), NoMemory>
-    ensures { IsSized key.now → AreSized values.now → OnOk result (text.new.items ≡ text.old.items ++ row_text file.now (key.now, values.now)) }
+    ensures { IsSized key.now → AreSized values.now →
+        OnOk result (text.new.items ≡ text.old.items ++ row_text file.now (key.now, values.now)) }
 {
     text.extend_from_slice(file.name.as_slice())?;
     push_value(alloc, text, key)?;
@@ -58,7 +60,8 @@ fn push_record(
 }
 
 fn push_values(alloc: Global, text: &mut Vec<u8>, values: &[Value]) -> Result<(), NoMemory>
-    ensures { AreSized values.now → OnOk result (text.new.items ≡ text.old.items ++ flat_map (λ v. codes " " ++ value_text v) values.now) }
+    ensures { AreSized values.now → OnOk result
+        (text.new.items ≡ text.old.items ++ flat_map (λ v. codes " " ++ value_text v) values.now) }
 {
     let mut rest = values;
     while let [value, after @ ..] = rest {
@@ -69,7 +72,8 @@ fn push_values(alloc: Global, text: &mut Vec<u8>, values: &[Value]) -> Result<()
 }
 
 fn push_value(alloc: Global, text: &mut Vec<u8>, value: &Value) -> Result<(), NoMemory>
-    ensures { IsSized value.now → OnOk result (text.new.items ≡ text.old.items ++ (codes " " ++ value_text value.now)) }
+    ensures { IsSized value.now →
+        OnOk result (text.new.items ≡ text.old.items ++ (codes " " ++ value_text value.now)) }
 {
     text.extend_from_slice(b" ")?;
     match value {

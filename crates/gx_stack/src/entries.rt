@@ -1,11 +1,10 @@
 // Entries of leaves: those that come from a record, and the changes from those of one to those of another.
 ghost use Rattle.std.specs.Prelude.{◌≡◌, ◌<◌, ◌≤◌, ◌+◌, length, Option, Some, None, true, false, IsTrue, IfOk, OnOk, IsErrOf, get_or, ◌↔◌};
 ghost use Rattle.gx_ports.specs.LeafMaps.{entry_count, map_at, IsCrowdedBy};
-ghost use Rattle.gx_ports.specs.Stops.{HasStopCause};
+ghost use Rattle.gx_ports.specs.Calls.{Keeps, Ends};
 ghost use Rattle.gx_mapping.specs.Rule.{In, IsOf};
 ghost use Rattle.gx_stack.specs.Tree.{IsLeafForm, entry_in, leaf_body};
 ghost use Rattle.gx_stack.specs.Internal.{IsPlace, IsAt, SomeAt, NoneAt, AreSmall, IsRemoved, IsPut, SameBut};
-ghost use Rattle.gx_stack.specs.Calls.{Stays};
 
 use gx_ports::{Leaves, Stop};
 use gx_values::{Form, NoMemory, Octets, Rec, Value, key_bytes};
@@ -92,13 +91,15 @@ pub fn remove_others<B: Leaves>(
     come: &[LeafEntry],
 ) -> Result<(), Stop>
     requires small { AreSmall (length (B.working leaves.old)) gone.now }
-    ensures done { B.whole leaves.old → OnOk result (B.whole leaves.new × IsRemoved gone.now come.now (B.working leaves.old) (B.working leaves.new)) }
-    ensures fewer { B.whole leaves.old → OnOk result (entry_count (B.working leaves.new) ≤ entry_count (B.working leaves.old)) }
-    ensures others { B.whole leaves.old → ¬ IsErrOf result Stop.Fault → SameBut gone.now (B.working leaves.old) (B.working leaves.new) }
-    ensures leaves { length (B.working leaves.new) ≡ length (B.working leaves.old) }
+    ensures done { B.whole leaves.old →
+        OnOk result (IsRemoved gone.now come.now (B.working leaves.old) (B.working leaves.new)) }
+    ensures fewer { B.whole leaves.old →
+        OnOk result (entry_count (B.working leaves.new) ≤ entry_count (B.working leaves.old)) }
+    ensures others { B.whole leaves.old → ¬ IsErrOf result Stop.Fault →
+        SameBut gone.now (B.working leaves.old) (B.working leaves.new) }
+    ensures keeps { Keeps B.View leaves.old leaves.new }
     ensures work { B.work leaves.new ≡ B.work leaves.old }
-    ensures stays { Stays B.kept B.kept_whole B.limit B.head B.content B.calm leaves.old leaves.new }
-    ensures cause { HasStopCause (B.faults leaves.old) (B.faults leaves.new) (B.whole leaves.old) result }
+    ensures ends { Ends B.View (B.whole leaves.old) leaves.old leaves.new result }
     ensures not_full { ¬ IsErrOf result Stop.Full }
 {
     for i in 0..gone.len() {
@@ -118,13 +119,18 @@ pub fn put_new<B: Leaves>(
     come: &[LeafEntry],
 ) -> Result<(), Stop>
     requires small { AreSmall (length (B.working leaves.old)) come.now }
-    ensures done { B.whole leaves.old → OnOk result (B.whole leaves.new × IsPut gone.now come.now (B.working leaves.old) (B.working leaves.new)) }
-    ensures others { B.whole leaves.old → ¬ IsErrOf result Stop.Fault → SameBut come.now (B.working leaves.old) (B.working leaves.new) }
-    ensures leaves { length (B.working leaves.new) ≡ length (B.working leaves.old) }
+    ensures done { B.whole leaves.old →
+        OnOk result (IsPut gone.now come.now (B.working leaves.old) (B.working leaves.new)) }
+    ensures count { B.whole leaves.old → OnOk result
+        (entry_count (B.working leaves.new)
+        ≤ entry_count (B.working leaves.old) + length come.now) }
+    ensures others { B.whole leaves.old → ¬ IsErrOf result Stop.Fault →
+        SameBut come.now (B.working leaves.old) (B.working leaves.new) }
+    ensures keeps { Keeps B.View leaves.old leaves.new }
     ensures work { B.work leaves.new ≡ B.work leaves.old }
-    ensures stays { Stays B.kept B.kept_whole B.limit B.head B.content B.calm leaves.old leaves.new }
-    ensures cause { HasStopCause (B.faults leaves.old) (B.faults leaves.new) (B.whole leaves.old) result }
-    ensures full { B.whole leaves.old → IsErrOf result Stop.Full → IsCrowdedBy (B.limit leaves.old) (entry_count (B.working leaves.old) + length come.now) }
+    ensures ends { Ends B.View (B.whole leaves.old) leaves.old leaves.new result }
+    ensures full { B.whole leaves.old → IsErrOf result Stop.Full →
+        IsCrowdedBy (B.limit leaves.old) (entry_count (B.working leaves.old) + length come.now) }
 {
     for i in 0..come.len() {
         let entry = &come[i];

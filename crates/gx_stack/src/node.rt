@@ -2,15 +2,13 @@
 ghost use Rattle.std.specs.Prelude.{◌≡◌, ◌<◌, ◌≤◌, ◌+◌, ◌++◌, ◌↔◌, List, ℕ, false, length, not, ◌&&◌, OnOk, IsErrOf, IfOk};
 ghost use Rattle.std.specs.Option.{option_map};
 ghost use Rattle.gx_ports.specs.LeafMaps.{LeafMap, map_at, entry_count, Extends, IsCrowdedBy};
-ghost use Rattle.gx_ports.specs.Stops.{HasStopCause, is_fault};
-ghost use Rattle.gx_device.specs.Faults.{Rose};
+ghost use Rattle.gx_ports.specs.Calls.{Keeps, Reads, Ends};
 ghost use Rattle.gx_values.specs.declared.records.Rec.{Rec as Record};
 ghost use Rattle.gx_mapping.specs.Rule.{In, IsOf};
 ghost use Rattle.gx_stack.specs.Tree.{leaves_of, tree_form, entries_of, IsValid};
 ghost use Rattle.gx_stack.specs.Seen.{tree_of};
-ghost use Rattle.gx_stack.specs.Internal.{IsSet, IsInternal, IsUnion, IsChange, IfThere, changed, entries_if};
+ghost use Rattle.gx_stack.specs.Internal.{IsSet, IsInternal, IsUnion, IsChange, IfThere, HasSet, changed, entries_if};
 ghost use Rattle.gx_stack.specs.Selected.{IsKeySpan, IsFound};
-ghost use Rattle.gx_stack.specs.Calls.{Stays};
 
 use crate::entries::{LeafEntry, leaf_entry, put_new, remove_others};
 use crate::gather::{add_parts, gather_parts};
@@ -54,20 +52,26 @@ impl<M: Mapping> Node<M> {
     /// the union of the leaf entries that come from the records. It does nothing.
     pub fn internal_is_union(&self)
         requires { IsValid M.rule (tree_of self.now) }
-        ensures { (R : List Record) (maps : List LeafMap) → IsInternal M.rule (tree_of self.now) R maps ↔ IsUnion M.rule (tree_of self.now) R maps }
+        ensures { (R : List Record) (maps : List LeafMap) →
+            IsInternal M.rule (tree_of self.now) R maps ↔ IsUnion M.rule (tree_of self.now) R maps }
     {}
 
     /// What the leaves hold tells the records: they hold one set of records at most. It does nothing.
     pub fn internal_tells_records(&self)
         requires { IsValid M.rule (tree_of self.now) }
-        ensures { (R S : List Record) (maps : List LeafMap) (r : Record) → IsSet (tree_form M.rule (tree_of self.now)) R → IsSet (tree_form M.rule (tree_of self.now)) S → IsInternal M.rule (tree_of self.now) R maps → IsInternal M.rule (tree_of self.now) S maps → In r R → In r S }
+        ensures { (R S : List Record) (maps : List LeafMap) (r : Record) →
+            IsSet (tree_form M.rule (tree_of self.now)) R →
+            IsSet (tree_form M.rule (tree_of self.now)) S →
+            IsInternal M.rule (tree_of self.now) R maps →
+            IsInternal M.rule (tree_of self.now) S maps → In r R → In r S }
     {}
 
     // Appends the leaf entries that come from one record.
     fn entries(&self, alloc: Global, rec: &Rec, out: &mut Vec<LeafEntry>) -> Result<(), NoMemory>
         requires valid { IsValid M.rule (tree_of self.now) }
         requires of_form { IsOf (tree_form M.rule (tree_of self.now)) rec.now }
-        ensures { OnOk result (out.new.items ≡ out.old.items ++ entries_of M.rule (tree_of self.now) rec.now) }
+        ensures { OnOk result
+            (out.new.items ≡ out.old.items ++ entries_of M.rule (tree_of self.now) rec.now) }
     {
         match self {
             Node::Leaf(node) => {
@@ -88,8 +92,11 @@ impl<M: Mapping> Node<M> {
     // The leaf entries that come from an optional record.
     fn entries_if(&self, alloc: Global, rec: Option<&Rec>) -> Result<Vec<LeafEntry>, NoMemory>
         requires valid { IsValid M.rule (tree_of self.now) }
-        requires of_form { IfThere (option_map (λ r. r.now) rec) (IsOf (tree_form M.rule (tree_of self.now))) }
-        ensures { IfOk result (λ es. es.items ≡ entries_if M.rule (tree_of self.now) (option_map (λ r. r.now) rec.entry)) }
+        requires of_form { IfThere (option_map (λ r. r.now) rec)
+            (IsOf (tree_form M.rule (tree_of self.now))) }
+        ensures { IfOk result
+            (λ es. es.items
+            ≡ entries_if M.rule (tree_of self.now) (option_map (λ r. r.now) rec.entry)) }
     {
         let mut entries = Vec::new(alloc);
         if let Some(rec) = rec {
@@ -112,21 +119,36 @@ impl<M: Mapping> Node<M> {
         new: Option<&Rec>,
     ) -> Result<(), Stop>
         requires valid { IsValid M.rule (tree_of self.now) }
-        requires below { (n : ℕ) → In n (leaves_of (tree_of self.now)) → n < length (B.working leaves.old) }
-        requires old_fits { IfThere (option_map (λ r. r.now) old) (IsOf (tree_form M.rule (tree_of self.now))) }
-        requires new_fits { IfThere (option_map (λ r. r.now) new) (IsOf (tree_form M.rule (tree_of self.now))) }
+        requires below { (n : ℕ) → In n (leaves_of (tree_of self.now)) →
+            n < length (B.working leaves.old) }
+        requires old_fits { IfThere (option_map (λ r. r.now) old)
+            (IsOf (tree_form M.rule (tree_of self.now))) }
+        requires new_fits { IfThere (option_map (λ r. r.now) new)
+            (IsOf (tree_form M.rule (tree_of self.now))) }
 
         // The leaves hold the records with the one changed, and all other leaves stay.
-        ensures internal { (R : List Record) → B.whole leaves.old → IsSet (tree_form M.rule (tree_of self.now)) R → IsChange R (option_map (λ r. r.now) old.entry) (option_map (λ r. r.now) new.entry) → IsInternal M.rule (tree_of self.now) R (B.working leaves.old) → OnOk result (IsInternal M.rule (tree_of self.now) (changed R (option_map (λ r. r.now) old.entry) (option_map (λ r. r.now) new.entry)) (B.working leaves.new)) }
-        ensures others { (n : ℕ) → B.whole leaves.old → ¬ IsErrOf result Stop.Fault → ¬ In n (leaves_of (tree_of self.now)) → map_at (B.working leaves.new) n ≡ map_at (B.working leaves.old) n }
-        ensures leaves { length (B.working leaves.new) ≡ length (B.working leaves.old) }
-        ensures whole { OnOk result (B.whole leaves.old → B.whole leaves.new) }
-        ensures work { B.work leaves.new ≡ B.work leaves.old }
-        ensures stays { Stays B.kept B.kept_whole B.limit B.head B.content B.calm leaves.old leaves.new }
+        ensures internal { (R : List Record) → B.whole leaves.old →
+            IsSet (tree_form M.rule (tree_of self.now)) R →
+            IsChange R (option_map (λ r. r.now) old.entry) (option_map (λ r. r.now) new.entry) →
+            IsInternal M.rule (tree_of self.now) R (B.working leaves.old) → OnOk result
+            (IsInternal M.rule (tree_of self.now)
+            (changed R (option_map (λ r. r.now) old.entry) (option_map (λ r. r.now) new.entry))
+            (B.working leaves.new)) }
+        ensures others { (n : ℕ) → B.whole leaves.old → ¬ IsErrOf result Stop.Fault →
+            ¬ In n (leaves_of (tree_of self.now)) →
+            map_at (B.working leaves.new) n ≡ map_at (B.working leaves.old) n }
+        ensures count { B.whole leaves.old → OnOk result
+            (entry_count (B.working leaves.new)
+            ≤ entry_count (B.working leaves.old)
+            + length (entries_if M.rule (tree_of self.now) (option_map (λ r. r.now) new.entry))) }
 
-        // The causes of a stop.
-        ensures cause { HasStopCause (B.faults leaves.old) (B.faults leaves.new) (B.whole leaves.old) result }
-        ensures full { B.whole leaves.old → IsErrOf result Stop.Full → IsCrowdedBy (B.limit leaves.old) (entry_count (B.working leaves.old) + length (entries_if M.rule (tree_of self.now) (option_map (λ r. r.now) new.entry))) }
+        ensures keeps { Keeps B.View leaves.old leaves.new }
+        ensures work { B.work leaves.new ≡ B.work leaves.old }
+        ensures ends { Ends B.View (B.whole leaves.old) leaves.old leaves.new result }
+        ensures full { B.whole leaves.old → IsErrOf result Stop.Full →
+            IsCrowdedBy (B.limit leaves.old)
+            (entry_count (B.working leaves.old)
+            + length (entries_if M.rule (tree_of self.now) (option_map (λ r. r.now) new.entry))) }
     {
         let gone = self.entries_if(alloc, old)?;
         let come = self.entries_if(alloc, new)?;
@@ -147,21 +169,19 @@ impl<M: Mapping> Node<M> {
         out: &mut Recs,
     ) -> Result<(), Stop>
         requires valid { IsValid M.rule (tree_of self.now) }
-        requires below { (n : ℕ) → In n (leaves_of (tree_of self.now)) → n < length (B.working leaves.old) }
+        requires below { (n : ℕ) → In n (leaves_of (tree_of self.now)) →
+            n < length (B.working leaves.old) }
         requires span { IsKeySpan (tree_form M.rule (tree_of self.now)) span.now }
-        ensures found { OnOk result (IsFound M.rule (tree_of self.now) (B.whole leaves.old) (B.working leaves.old) span.now (B.work leaves.old) (B.work leaves.new) out.old out.new) }
+        ensures found { OnOk result
+            (IsFound M.rule (tree_of self.now) (B.whole leaves.old) (B.working leaves.old) span.now
+            (B.work leaves.old) (B.work leaves.new) out.old out.new) }
 
-        // What stays.
         ensures front { Extends out.old out.new }
-        ensures working { B.working leaves.new ≡ B.working leaves.old }
-        ensures whole { OnOk result (B.whole leaves.old → B.whole leaves.new) }
-        ensures stays { Stays B.kept B.kept_whole B.limit B.head B.content B.calm leaves.old leaves.new }
 
-        // The causes of a stop.
-        ensures counted { is_fault result ≡ false → B.faults leaves.new ≡ B.faults leaves.old }
-        ensures later { B.faults leaves.old ≤ B.faults leaves.new }
-        ensures fault { IsErrOf result Stop.Fault → Rose (B.faults leaves.old) (B.faults leaves.new) }
-        ensures damaged { (block : ℕ) (R : List Record) → IsErrOf result (Stop.Damaged block) → B.whole leaves.old → IsSet (tree_form M.rule (tree_of self.now)) R → IsInternal M.rule (tree_of self.now) R (B.working leaves.old) → ⊥ }
+        ensures reads { Reads B.View leaves.old leaves.new }
+        ensures ends { Ends B.View
+            (B.whole leaves.old × HasSet M.rule (tree_of self.now) (B.working leaves.old))
+            leaves.old leaves.new result }
         ensures block { (n : ℕ) → IsErrOf result (Stop.Damaged n) → B.whole leaves.old → n ≡ 0 }
         ensures not_full { ¬ IsErrOf result Stop.Full }
     {
@@ -186,7 +206,8 @@ impl<M: Mapping> Node<M> {
 // Whether a child may have parts that records inside the span are gathered from.
 fn is_searched<M: Mapping>(mapping: &M, child: u16, span: &Span) -> bool
     requires { child < (M.rule mapping.now).kids }
-    ensures { result ≡ ((M.rule mapping.now).holds_rest child && not ((M.rule mapping.now).skips child span.now)) }
+    ensures { result
+        ≡ ((M.rule mapping.now).holds_rest child && not ((M.rule mapping.now).skips child span.now)) }
 {
     mapping.holds_rest(child) && !mapping.skips(child, span)
 }

@@ -1,15 +1,13 @@
 // Records read back from the entries of a leaf.
 ghost use Rattle.std.specs.Prelude.{◌≡◌, ◌≢◌, ◌<◌, ◌≤◌, ℕ, List, false, length, OnOk, IsErrOf, IfOk};
-ghost use Rattle.gx_device.specs.Faults.{Rose};
-ghost use Rattle.gx_ports.specs.Stops.{is_fault};
+ghost use Rattle.gx_ports.specs.Calls.{Reads, Ends};
 ghost use Rattle.gx_values.specs.declared.records.Rec.{Rec as Record};
 ghost use Rattle.gx_ports.specs.LeafMaps.{map_at, Extends};
 ghost use Rattle.gx_ports.specs.declared.leaves.Entry.{Entry as LeafPair};
 ghost use Rattle.gx_mapping.specs.Rule.{In, IsOf};
 ghost use Rattle.gx_stack.specs.Tree.{IsLeafForm};
-ghost use Rattle.gx_stack.specs.Internal.{IsSet, IsLeafMap};
+ghost use Rattle.gx_stack.specs.Internal.{HasLeafSet};
 ghost use Rattle.gx_stack.specs.Read.{leaf_most, IsDataOf, IsRecordOf, AreRecords, IsLeafFound, entry_of_rec};
-ghost use Rattle.gx_stack.specs.Calls.{Stays};
 
 use crate::recs::Recs;
 use gx_ports::{Entries, Leaves, Stop};
@@ -30,15 +28,14 @@ pub fn select_leaf<B: Leaves>(
 ) -> Result<(), Stop>
     requires leaf { leaf < length (B.working leaves.old) }
     requires form { IsLeafForm form.now }
-    ensures found { OnOk result (IsLeafFound form.now (B.whole leaves.old) (map_at (B.working leaves.old) leaf) span.now (B.work leaves.old) (B.work leaves.new) out.old out.new) }
+    ensures found { OnOk result
+        (IsLeafFound form.now (B.whole leaves.old) (map_at (B.working leaves.old) leaf) span.now
+        (B.work leaves.old) (B.work leaves.new) out.old out.new) }
     ensures front { Extends out.old out.new }
-    ensures working { B.working leaves.new ≡ B.working leaves.old }
-    ensures whole { OnOk result (B.whole leaves.old → B.whole leaves.new) }
-    ensures stays { Stays B.kept B.kept_whole B.limit B.head B.content B.calm leaves.old leaves.new }
-    ensures counted { is_fault result ≡ false → B.faults leaves.new ≡ B.faults leaves.old }
-    ensures later { B.faults leaves.old ≤ B.faults leaves.new }
-    ensures fault { IsErrOf result Stop.Fault → Rose (B.faults leaves.old) (B.faults leaves.new) }
-    ensures damaged { (block : ℕ) (R : List Record) → IsErrOf result (Stop.Damaged block) → B.whole leaves.old → IsSet form.now R → IsLeafMap (map_at (B.working leaves.old) leaf) R → ⊥ }
+    ensures reads { Reads B.View leaves.old leaves.new }
+    ensures ends { Ends B.View
+        (B.whole leaves.old × HasLeafSet form.now (map_at (B.working leaves.old) leaf))
+        leaves.old leaves.new result }
     ensures block { (n : ℕ) → IsErrOf result (Stop.Damaged n) → B.whole leaves.old → n ≡ 0 }
     ensures not_full { ¬ IsErrOf result Stop.Full }
 {
@@ -52,7 +49,8 @@ fn read_records(alloc: Global, form: &Form, entries: &Entries, out: &mut Recs) -
     requires form { IsLeafForm form.now }
     ensures read { OnOk result (AreRecords form.now entries.now out.old out.new) }
     ensures front { Extends out.old out.new }
-    ensures damaged { (block : ℕ) → IsErrOf result (Stop.Damaged block) → (e : LeafPair) × In e entries.now × ((r : Record) → IsOf form.now r → entry_of_rec r ≢ e) }
+    ensures damaged { (block : ℕ) → IsErrOf result (Stop.Damaged block) →
+        (e : LeafPair) × In e entries.now × ((r : Record) → IsOf form.now r → entry_of_rec r ≢ e) }
     ensures block { (n : ℕ) → IsErrOf result (Stop.Damaged n) → n ≡ 0 }
     ensures not_full { ¬ IsErrOf result Stop.Full }
     ensures not_fault { ¬ IsErrOf result Stop.Fault }

@@ -1,5 +1,8 @@
-use Rattle.std.proofs.Common.{rules, ◌∙◌, List, get_or, refl, sym, subst, arith}
+use Rattle.std.proofs.Common.{rules, ◌≡◌, ◌∙◌, List, Err, get_or, refl, sym, ap, subst, arith}
+use Rattle.std.proofs.lemmas.Result.{err_from_is_err_and}
+use Rattle.gx_ports.specs.declared.stop.Stop.TheVariants as stop
 use Rattle.gx_ports.specs.LeafMaps.{LeafMap}
+use Rattle.gx_ports.proofs.CallLemmas.{reads_itself, reads_joined}
 use Rattle.gx_stack.specs.Seen.{tree_of}
 use Rattle.gx_stack.proofs.Lists.{in_read}
 use Rattle.gx_types.specs.Any.{any_rule}
@@ -14,12 +17,8 @@ use Rattle.gx_engine.proofs.listing.chosen_rows.Goals as goal
 pub loop-place-init : goal.loop-place-init
 loop-place-init g c = record {
   rows = λ f whole is. none_chosen (tree_of c.args.node.now) (meets_conds c.args.conds.now) f c.new-rows.result.items c.new-rows.ensures.items;
-  working = refl;
-  kept = refl;
+  reads = reads_itself g.B.View c.args.leaves.now;
   whole = λ h. h;
-  kept_whole = (λ h. h, λ h. h);
-  limit = refl;
-  silent = search rules;
   counted = refl;
 }
 
@@ -36,7 +35,7 @@ add_rows-requires-clause-place g c =
 
 pub loop-place-preserved : goal.loop-place-preserved
 loop-place-preserved g c =
-    let b = g.B.Leaves in
+    let b = g.B.View in
     let t = tree_of c.args.node.now in
     let ps = c.deref-place-items.result.now in
     let i = c.loop-place.place-index in
@@ -47,15 +46,27 @@ loop-place-preserved g c =
     record {
       rows = λ f whole is.
           place_chosen t (meets_conds c.args.conds.now) f ps i p c.loop-place.rows.items c.add_rows.new.rows.items (subst IsOnce (sym are.leaves) (leaves_once any_rule t c.requires.tree.valid)) c.loop-place-test.true (get_or_any ps i _ p c.loop-place-test.true)
-          (inv.rows f whole is) (e.rows f (inv.whole whole) (subst (λ (maps : List LeafMap). IsInternal c.args.file.now t maps f) (sym inv.working) is));
-      working = e.working ∙ inv.working;
-      kept = e.kept ∙ inv.kept;
-      whole = λ h. e.whole (inv.whole h);
-      kept_whole = (λ h. e.kept_whole.0 (inv.kept_whole.0 h), λ h. inv.kept_whole.1 (e.kept_whole.1 h));
-      limit = e.limit ∙ inv.limit;
-      silent = search rules;
-      counted = e.counted refl ∙ inv.counted;
+          (inv.rows f whole is) (e.rows f (inv.whole whole) (subst (λ (maps : List LeafMap). IsInternal c.args.file.now t maps f) (sym inv.reads.working) is));
+      reads = reads_joined b inv.reads e.reads;
+      whole = λ h. e.ends.whole (inv.whole h);
+      counted = e.ends.counted refl ∙ inv.counted;
     }
+
+pub returns-in_err-add_rows-clause-ends : goal.returns-in_err-add_rows-clause-ends
+returns-in_err-add_rows-clause-ends g c = record {
+  whole = search rules;
+  later = search rules;
+  fault = search rules;
+  counted = search rules;
+  damaged = λ block e sound.
+      let inv = c.loop-place.invariant in
+      let p = err_from_is_err_and c.from_residual-in_err-add_rows.result c.from_residual-in_err-add_rows.ensures.1 in
+      let both = sym p.1 ∙ e in
+      let why : p.0 ≡ stop.Damaged block = cc in
+      let f = sound.1.0 in
+      c.in_err-add_rows.ensures.ends.damaged block (ap Err (sym p.2 ∙ why))
+      (inv.whole sound.0, (f, subst (λ (maps : List LeafMap). IsInternal c.args.file.now (tree_of c.args.node.now) maps f) (sym inv.reads.working) sound.1.1));
+}
 
 pub returns-clause-rows : goal.returns-clause-rows
 returns-clause-rows g c = λ f whole is.
@@ -63,4 +74,4 @@ returns-clause-rows g c = λ f whole is.
     let ps = c.deref-place-items.result.now in
     let are = subst (ArePlaces 0 t) (sym c.deref-place-items.ensures.value) c.in_ok-places.ensures in
     all_chosen t (meets_conds c.args.conds.now) f ps c.loop-place.place-index c.loop-place.rows.items (omega (arith, c.loop-place-test.false))
-    (leaf_there c.args.file.now t _ (g.B.Leaves.working c.args.leaves.now) f c.requires.storable c.requires.tree is.fit ps are) (c.loop-place.invariant.rows f whole is)
+    (leaf_there c.args.file.now t _ (g.B.View.working c.args.leaves.now) f c.requires.storable c.requires.tree is.fit ps are) (c.loop-place.invariant.rows f whole is)

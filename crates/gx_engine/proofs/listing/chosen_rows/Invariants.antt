@@ -1,7 +1,6 @@
-use Rattle.std.proofs.Common.{◌≡◌, ◌≤◌, take}
-use Rattle.std.specs.Prelude.{◌↔◌}
+use Rattle.std.proofs.Common.{◌≡◌, take}
 use Rattle.std.specs.List.Sorted.{IsPermutation}
-use Rattle.gx_device.specs.Content.{Silent}
+use Rattle.gx_ports.specs.Calls.{Reads}
 use Rattle.gx_stack.specs.Seen.{tree_of}
 use Rattle.gx_model.specs.States.{File}
 use Rattle.gx_model.specs.Found.{meets_conds}
@@ -10,13 +9,9 @@ use Rattle.gx_engine.proofs.ListingLemmas.{chosen_of}
 use Rattle.gx_engine.proofs.listing.chosen_rows.Given as goal
 
 abbrev pub invariant-loop-place : goal.invariant-loop-place
-invariant-loop-place g l = let b = g.B.Leaves in record {
+invariant-loop-place g l = let b = g.B.View in record {
   rows : (f : File) → b.whole l.fn.leaves → IsInternal l.file (tree_of l.node) (b.working l.fn.leaves) f → IsPermutation (chosen_of (tree_of l.node) (meets_conds l.conds) f (take l.place-index l.place-items)) l.rows.items;
-  working : b.working l.leaves ≡ b.working l.fn.leaves;
-  kept : b.kept l.leaves ≡ b.kept l.fn.leaves;
+  reads : Reads b l.fn.leaves l.leaves;
   whole : b.whole l.fn.leaves → b.whole l.leaves;
-  kept_whole : b.kept_whole l.fn.leaves ↔ b.kept_whole l.leaves;
-  limit : b.limit l.leaves ≡ b.limit l.fn.leaves;
-  silent : Silent (b.content l.fn.leaves) (b.content l.leaves);
   counted : b.faults l.leaves ≡ b.faults l.fn.leaves;
 }

@@ -1,15 +1,12 @@
-use Rattle.std.proofs.Common.{◌≡◌, ◌≤◌, length}
-use Rattle.std.specs.Prelude.{◌↔◌}
-use Rattle.gx_device.specs.Content.{Silent}
+use Rattle.std.proofs.Common.{◌≡◌, ◌<◌, ℕ}
+use Rattle.std.specs.Prelude.{slice_get, Some}
+use Rattle.gx_ports.specs.Calls.{Keeps}
 use Rattle.gx_engine.proofs.records.reorganize_file.Given as goal
 
 abbrev pub invariant-loop-leaf : goal.invariant-loop-leaf
-invariant-loop-leaf g l = record {
-  working : g.B.Leaves.whole l.fn.leaves → g.B.Leaves.whole l.leaves × (g.B.Leaves.working l.leaves ≡ g.B.Leaves.working l.fn.leaves);
-  many : length (g.B.Leaves.working l.leaves) ≡ length (g.B.Leaves.working l.fn.leaves);
-  kept : g.B.Leaves.kept l.leaves ≡ g.B.Leaves.kept l.fn.leaves;
-  kept_whole : g.B.Leaves.kept_whole l.fn.leaves ↔ g.B.Leaves.kept_whole l.leaves;
-  limit : g.B.Leaves.limit l.leaves ≡ g.B.Leaves.limit l.fn.leaves;
-  silent : Silent (g.B.Leaves.content l.fn.leaves) (g.B.Leaves.content l.leaves);
-  counted : g.B.Leaves.faults l.leaves ≡ g.B.Leaves.faults l.fn.leaves;
+invariant-loop-leaf g l = let b = g.B.View in record {
+  working : b.whole l.fn.leaves → b.whole l.leaves × (b.working l.leaves ≡ b.working l.fn.leaves);
+  fresh : b.whole l.fn.leaves → (n : ℕ) → n < l.leaf → slice_get l.owners n ≡ Some l.file → b.fresh l.leaves n;
+  keeps : Keeps b l.fn.leaves l.leaves;
+  counted : b.faults l.leaves ≡ b.faults l.fn.leaves;
 }
