@@ -11,6 +11,7 @@ use gx_ports::{Entries, Leaves, PlainLeaves};
 use gx_schema::{Schema, read_schema};
 use gx_script::{allowed, read_command};
 use gx_types::{Built, build, heads_built};
+use gx_typing::typed;
 use gx_values::{KeyBuf, Octets, Span};
 use std::alloc::Global;
 use std::process::Abort;
@@ -31,7 +32,8 @@ fn built(
     let equation = read_equation(alloc, equation)?;
     assert!(rt; schema.links.as_slice().is_empty());
     assert!(rt; heads_built(&equation));
-    let built = build(alloc, &schema, &equation)?;
+    let typing = typed(alloc, &schema, &equation)?;
+    let built = build(alloc, &schema, &equation, typing)?;
     Ok((schema, built))
 }
 

@@ -4,16 +4,16 @@ ghost use Rattle.gx_values.specs.declared.values.Kind.TheVariants as kind;
 ghost use Rattle.gx_values.specs.declared.values.Value.TheVariants as value;
 ghost use Rattle.gx_mapping.specs.Rule.{IsOf};
 ghost use Rattle.gx_schema.specs.Rules.{IsSchema};
+ghost use Rattle.gx_equation.specs.Printing.{AreWritten};
+ghost use Rattle.gx_equation.specs.Seen.{definitions_of};
 
 use gx_actual::actual;
 use gx_equation::{Equation, read_equation};
 use gx_mapping::Mapping;
 use gx_schema::{Schema, read_schema};
 use gx_stack::Node;
-use gx_types::{
-    AnyMapping, Built, TypeWhy, Typing, Unbuilt, build, heads_built, root_pages, smallest_device,
-    typed,
-};
+use gx_types::{AnyMapping, Built, build, heads_built};
+use gx_typing::{TypeWhy, Typing, Untyped, root_pages, smallest_device, typed};
 use gx_values::{Field, Fields, Form, Kind, Name, NoMemory, Rec, Value, Values};
 use std::alloc::Global;
 use std::test::Fail;
@@ -29,22 +29,23 @@ fn leaves(alloc: Global, typing: &Typing) -> Result<String, Fail> {
     Ok(text)
 }
 
-fn read_texts(alloc: Global, schema: &[u8], equation: &[u8]) -> Result<(Schema, Equation), Unbuilt>
-    ensures { IfOk result (λ texts. IsSchema texts.0) }
+fn read_texts(alloc: Global, schema: &[u8], equation: &[u8]) -> Result<(Schema, Equation), Untyped>
+    ensures schema { IfOk result (λ texts. IsSchema texts.0) }
+    ensures equation { IfOk result (λ texts. AreWritten (definitions_of texts.1.definitions)) }
 {
     if schema.len() >= 4_294_967_295 || equation.len() >= 4_294_967_295 {
-        return Err(Unbuilt::NoMemory);
+        return Err(Untyped::NoMemory);
     }
     let Ok(schema) = read_schema(alloc, schema) else {
-        return Err(Unbuilt::NoMemory);
+        return Err(Untyped::NoMemory);
     };
     let Ok(equation) = read_equation(alloc, equation) else {
-        return Err(Unbuilt::NoMemory);
+        return Err(Untyped::NoMemory);
     };
     Ok((schema, equation))
 }
 
-fn type_texts(alloc: Global, schema: &[u8], equation: &[u8]) -> Result<Typing, Unbuilt>
+fn type_texts(alloc: Global, schema: &[u8], equation: &[u8]) -> Result<Typing, Untyped>
     ensures { IfOk result (λ typing. length typing.specs ≤ 255) }
 {
     let (schema, equation) = read_texts(alloc, schema, equation)?;
@@ -52,12 +53,13 @@ fn type_texts(alloc: Global, schema: &[u8], equation: &[u8]) -> Result<Typing, U
 }
 
 // What is built of the texts, or none where the equation has other heads.
-fn build_texts(alloc: Global, schema: &[u8], equation: &[u8]) -> Result<Option<Built>, Unbuilt> {
+fn build_texts(alloc: Global, schema: &[u8], equation: &[u8]) -> Result<Option<Built>, Untyped> {
     let (schema, equation) = read_texts(alloc, schema, equation)?;
     if !heads_built(&equation) {
         return Ok(None);
     }
-    Ok(Some(build(alloc, &schema, &equation)?))
+    let typing = typed(alloc, &schema, &equation)?;
+    Ok(Some(build(alloc, &schema, &equation, typing)?))
 }
 
 const DEPARTMENTS: &[u8] = b"file dept (dno int, dname text 12)
@@ -498,7 +500,7 @@ fn names_the_first_failing_place(rt: HostRuntime) -> Result<(), Fail> {
     let alloc = rt.alloc();
     for (schema, equation, line, why) in MISTYPED {
         let error = type_texts(alloc, schema, equation).err().ok_or("an error")?;
-        assert_eq!(rt; error, Unbuilt::Mistyped(line, why));
+        assert_eq!(rt; error, Untyped::Mistyped(line, why));
     }
     Ok(())
 }
@@ -526,7 +528,7 @@ fn counts_leaves(rt: HostRuntime) -> Result<(), Fail> {
     let error = type_texts(alloc, schema, many_leaves(alloc, 255)?.as_bytes())
         .err()
         .ok_or("an error")?;
-    assert_eq!(rt; error, Unbuilt::Mistyped(257, TypeWhy::Leaves));
+    assert_eq!(rt; error, Untyped::Mistyped(257, TypeWhy::Leaves));
     Ok(())
 }
 
@@ -575,7 +577,7 @@ fn builds_no_other_heads(rt: HostRuntime) -> Result<(), Fail> {
     let error = build_texts(alloc, schema, b"f = partition(v 10, actual(heap), heap)")
         .err()
         .ok_or("an error")?;
-    assert_eq!(rt; error, Unbuilt::Mistyped(1, TypeWhy::LeafForm));
+    assert_eq!(rt; error, Untyped::Mistyped(1, TypeWhy::LeafForm));
     Ok(())
 }
 

@@ -30,7 +30,7 @@ use Rattle.gx_stack.proofs.Orders.{Ascends, ascends, ascends_unique, rec_total, 
 use Rattle.gx_stack.proofs.Same.{internal_of_members}
 use Rattle.gx_types.specs.declared.any.AnyMapping.{AnyMapping}
 use Rattle.gx_types.specs.Any.{any_rule}
-use Rattle.gx_types.specs.Dues.{file_form}
+use Rattle.gx_typing.specs.Dues.{file_form}
 use Rattle.gx_model.specs.States.{File, Row, IsRowOf, IsFileOf}
 use Rattle.gx_engine.specs.Internal.{rec_of, records_of}
 use Rattle.gx_engine.specs.Records.{record_at, list_of_one}

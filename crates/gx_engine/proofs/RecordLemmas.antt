@@ -23,7 +23,7 @@ use Rattle.gx_stack.specs.Tree.{Tree, leaves_of, entries_of, IsValid}
 use Rattle.gx_stack.specs.Internal.{changed as changed_records, IsInternal as IsHeld}
 use Rattle.gx_types.specs.declared.any.AnyMapping.{AnyMapping}
 use Rattle.gx_types.specs.Any.{any_rule}
-use Rattle.gx_types.specs.Dues.{file_form}
+use Rattle.gx_typing.specs.Dues.{file_form}
 use Rattle.gx_schema.specs.declared.schema.Schema.{Schema}
 use Rattle.gx_schema.specs.Lookups.{file_at}
 use Rattle.std.specs.Option.{option_to_list}

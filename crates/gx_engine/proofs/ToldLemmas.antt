@@ -15,7 +15,7 @@ use Rattle.gx_stack.specs.Internal.{IsSet}
 use Rattle.gx_stack.proofs.Told.{internal_told}
 use Rattle.gx_types.specs.declared.any.AnyMapping.{AnyMapping}
 use Rattle.gx_types.specs.Any.{any_rule, any_laws}
-use Rattle.gx_types.specs.Dues.{file_form}
+use Rattle.gx_typing.specs.Dues.{file_form}
 use Rattle.gx_types.specs.Nodes.{tree_at, AreNodes}
 use Rattle.gx_model.specs.States.{File, State, file_in}
 use Rattle.gx_engine.specs.Internal.{rec_of, records_of, IsInternal, AreInternal, AreStorable}

@@ -17,7 +17,7 @@ use Rattle.gx_stack.specs.Seen.{tree_of}
 use Rattle.gx_stack.specs.Internal.{IsInternal as IsHeld}
 use Rattle.gx_types.specs.declared.any.AnyMapping.{AnyMapping}
 use Rattle.gx_types.specs.Any.{any_rule}
-use Rattle.gx_types.specs.Dues.{file_form}
+use Rattle.gx_typing.specs.Dues.{file_form}
 use Rattle.gx_types.specs.Nodes.{tree_at}
 use Rattle.gx_model.specs.States.{File, State, Row, file_in, IsFileOf}
 use Rattle.gx_model.specs.Play.{Playing, seen_state, is_inside, next_of, IsAnswered}

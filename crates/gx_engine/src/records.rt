@@ -17,7 +17,7 @@ ghost use Rattle.gx_mapping.specs.Rule.{In, IsOf};
 ghost use Rattle.gx_stack.specs.Tree.{entries_of};
 ghost use Rattle.gx_stack.specs.Seen.{tree_of};
 ghost use Rattle.gx_types.specs.Any.{any_rule};
-ghost use Rattle.gx_types.specs.Dues.{file_form};
+ghost use Rattle.gx_typing.specs.Dues.{file_form};
 ghost use Rattle.gx_model.specs.States.{File as FileMap};
 ghost use Rattle.gx_model.specs.Commands.{changed, updated};
 ghost use Rattle.gx_engine.specs.Internal.{rec_of, IsInternal, HasFile, IsStorable, IsTreeFor, IsEditedWhere};
@@ -27,7 +27,8 @@ use gx_ports::{Leaves, Stop};
 use gx_schema::FileDef;
 use gx_script::Change;
 use gx_stack::{Node, Recs};
-use gx_types::{AnyMapping, Owners};
+use gx_types::AnyMapping;
+use gx_typing::Owners;
 use gx_values::{Field, NoMemory, Rec, Span, Value, Values, value_key};
 use std::alloc::Global;
 

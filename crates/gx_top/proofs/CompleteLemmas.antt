@@ -20,10 +20,10 @@ use Rattle.gx_schema.proofs.SchemaLaws.{schema_again, one_schema}
 use Rattle.gx_equation.specs.Grammar.{Means}
 use Rattle.gx_equation.specs.Trees.{DefinitionTree}
 use Rattle.gx_equation.proofs.Again.{meaning_again, one_meaning}
-use Rattle.gx_types.specs.declared.typing.Typing.{Typing}
-use Rattle.gx_types.specs.Typed.{IsTyped, leaves, typing_with}
-use Rattle.gx_types.specs.Typing.{Mistake}
-use Rattle.gx_types.proofs.TypedLaws.{again as typed_again}
+use Rattle.gx_typing.specs.declared.typing.Typing.{Typing}
+use Rattle.gx_typing.specs.Typed.{IsTyped, leaves, typing_with}
+use Rattle.gx_typing.specs.Typing.{Mistake}
+use Rattle.gx_typing.proofs.TypedLaws.{again as typed_again}
 use Rattle.gx_top.specs.declared.prepare.Prepared.TheVariants as prepared
 use Rattle.gx_top.specs.declared.summary.Summary.{Summary}
 use Rattle.gx_top.specs.declared.words.Action.{Action}

@@ -15,11 +15,11 @@ use Rattle.gx_equation.specs.Trees.{DefinitionTree}
 use Rattle.gx_model.specs.States.{empty_state}
 use Rattle.gx_model.specs.Play.{End, good, stopped, end_text, start_at}
 use Rattle.gx_model.proofs.PlayLemmas.{played_once}
-use Rattle.gx_types.specs.declared.typing.Typing.{Typing}
-use Rattle.gx_types.specs.Typed.{leaves, typing_with}
-use Rattle.gx_types.specs.Typing.{Mistake}
-use Rattle.gx_types.specs.Whole.{typing_of}
-use Rattle.gx_types.proofs.TypedLaws.{again as typed_again}
+use Rattle.gx_typing.specs.declared.typing.Typing.{Typing}
+use Rattle.gx_typing.specs.Typed.{leaves, typing_with}
+use Rattle.gx_typing.specs.Typing.{Mistake}
+use Rattle.gx_typing.specs.Whole.{typing_of}
+use Rattle.gx_typing.proofs.TypedLaws.{again as typed_again}
 use Rattle.gx_top.specs.declared.ending.Ending.{Ending}
 use Rattle.gx_top.specs.declared.ending.Ending.TheVariants as ending
 use Rattle.gx_top.specs.declared.words.Action.{Action}

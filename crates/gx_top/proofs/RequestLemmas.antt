@@ -5,8 +5,8 @@ use Rattle.std.proofs.lemmas.List.{length-map}
 use Rattle.gx_device.specs.Content.{Texts}
 use Rattle.gx_schema.specs.declared.schema.Schema.{Schema}
 use Rattle.gx_equation.specs.Trees.{DefinitionTree}
-use Rattle.gx_types.specs.declared.typing.Typing.{Typing}
-use Rattle.gx_types.specs.Typed.{leaves, spec_of}
+use Rattle.gx_typing.specs.declared.typing.Typing.{Typing}
+use Rattle.gx_typing.specs.Typed.{leaves, spec_of}
 use Rattle.gx_top.specs.declared.ending.Ending.{Ending}
 use Rattle.gx_top.specs.declared.ending.Ending.TheVariants as ending
 use Rattle.gx_top.specs.declared.prepare.Prepared.{Prepared}

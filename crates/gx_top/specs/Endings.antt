@@ -4,7 +4,7 @@ use Rattle.std.specs.Fmt.{decimal}
 use Rattle.gx_device.specs.Faults.{Rose}
 use Rattle.gx_tokens.specs.Whys.{word_of as why_word}
 use Rattle.gx_script.specs.LineWhys.{word_of as line_word}
-use Rattle.gx_types.specs.Reasons.{words_of as type_words}
+use Rattle.gx_typing.specs.Reasons.{words_of as type_words}
 use Rattle.gx_top.specs.declared.ending.Ending.{Ending}
 use Rattle.gx_top.specs.declared.ending.Ending.TheVariants as ending
 use Rattle.gx_top.specs.declared.status.Status.{Status}

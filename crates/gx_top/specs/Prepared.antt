@@ -7,8 +7,8 @@ use Rattle.gx_schema.specs.WellFormed.{IsWellFormed}
 use Rattle.gx_equation.specs.Trees.{DefinitionTree}
 use Rattle.gx_engine.specs.Steps.{AreFor}
 use Rattle.gx_types.specs.Build.{AreTreesOfFiles}
-use Rattle.gx_types.specs.declared.typing.Typing.{Typing}
-use Rattle.gx_types.specs.Whole.{typing_of}
+use Rattle.gx_typing.specs.declared.typing.Typing.{Typing}
+use Rattle.gx_typing.specs.Whole.{typing_of}
 use Rattle.gx_top.specs.declared.ending.Ending.{Ending}
 use Rattle.gx_top.specs.declared.ending.Ending.TheVariants as ending
 use Rattle.gx_top.specs.declared.prepare.Prepared.{Prepared}

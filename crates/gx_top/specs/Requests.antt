@@ -11,9 +11,9 @@ use Rattle.gx_schema.specs.Reading.{schema_of}
 use Rattle.gx_equation.specs.Definitions.{equation_at, with_lines}
 use Rattle.gx_equation.specs.Grammar.{Means}
 use Rattle.gx_equation.specs.Trees.{DefinitionTree}
-use Rattle.gx_types.specs.declared.typing.Typing.{Typing}
-use Rattle.gx_types.specs.Typed.{IsTyped, leaves, typing_with}
-use Rattle.gx_types.specs.Whole.{typing_of}
+use Rattle.gx_typing.specs.declared.typing.Typing.{Typing}
+use Rattle.gx_typing.specs.Typed.{IsTyped, leaves, typing_with}
+use Rattle.gx_typing.specs.Whole.{typing_of}
 use Rattle.gx_top.specs.declared.ending.Ending.{Ending}
 use Rattle.gx_top.specs.declared.ending.Ending.TheVariants as ending
 use Rattle.gx_top.specs.declared.prepare.Prepared.{Prepared}

@@ -2,7 +2,7 @@
 use Rattle.std.specs.Prelude.{ℕ, List, ◌++◌, length, codes}
 use Rattle.std.specs.Fmt.{decimal}
 use Rattle.gx_ports.specs.declared.kinds.LeafSpec.{LeafSpec}
-use Rattle.gx_types.specs.Leaves.{root_pages, smallest_device}
+use Rattle.gx_typing.specs.Leaves.{root_pages, smallest_device}
 use Rattle.gx_top.specs.declared.summary.Summary.{Summary}
 
 -- how many leaves there are, how many pages they have from the start on, and the blocks of the smallest device for them

@@ -14,7 +14,7 @@ use Rattle.gx_top.specs.declared.play.PlayEnd.TheVariants as play_end
 use Rattle.gx_top.specs.declared.status.Status.TheVariants as status
 use Rattle.gx_top.specs.Endings.{line_of, status_of, memory_line}
 use Rattle.gx_equation.specs.Trees.{DefinitionTree}
-use Rattle.gx_types.specs.declared.typing.Typing.{Typing}
+use Rattle.gx_typing.specs.declared.typing.Typing.{Typing}
 use Rattle.gx_top.specs.declared.words.Action.TheVariants as action
 use Rattle.gx_top.specs.Requests.{IsRefused, IsAccepted, IsRunnable}
 use Rattle.gx_top.specs.Summaries.{summary_of, accepted_line}

@@ -14,7 +14,7 @@ use crate::summary::Summary;
 use gx_device::{Failed, Machine};
 use gx_schema::Why;
 use gx_script::LineWhy;
-use gx_types::TypeWhy;
+use gx_typing::TypeWhy;
 use gx_values::NoMemory;
 use std::alloc::{AllocError, Global};
 

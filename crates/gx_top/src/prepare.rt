@@ -6,10 +6,9 @@ ghost use Rattle.gx_schema.specs.Grammar.{IsSchemaText};
 ghost use Rattle.gx_schema.specs.Rules.{IsSchema};
 ghost use Rattle.gx_schema.specs.WellFormed.{IsWellFormed};
 ghost use Rattle.gx_equation.specs.Grammar.{Means};
+ghost use Rattle.gx_equation.specs.Printing.{AreWritten};
 ghost use Rattle.gx_equation.specs.Seen.{definitions_of};
-ghost use Rattle.gx_types.specs.Build.{heads_built, AreTreesOfFiles};
-ghost use Rattle.gx_types.specs.Nodes.{AreNodes};
-ghost use Rattle.gx_types.specs.Typed.{IsTyped, leaves, typing_with};
+ghost use Rattle.gx_typing.specs.Typed.{IsTyped, leaves, typing_with};
 ghost use Rattle.gx_top.specs.Words.{texts_of};
 ghost use Rattle.gx_top.specs.Built.{is_built};
 ghost use Rattle.gx_top.specs.Prepared.{IsUnread, IsUnreadEquation, IsUntyped, IsPreparedFor, IsUnbuilt, CanPlay};
@@ -24,7 +23,8 @@ use crate::words::{Action, read_words};
 use gx_device::Machine;
 use gx_equation::{Equation, read_equation};
 use gx_schema::{Schema, Unread, read_schema};
-use gx_types::{Built, Typing, Unbuilt, build, typed};
+use gx_types::{Built, build};
+use gx_typing::{Typing, Untyped, typed};
 use std::alloc::Global;
 
 /// What is to be done where the texts are accepted.
@@ -76,6 +76,7 @@ fn check_texts<'a>(alloc: Global, schema: &[u8], equation: &[u8]) -> Result<Chec
     ensures accepted { IfOk result (λ c. AreAccepted schema.now equation.now c.schema (definitions_of c.equation.definitions) c.typing) }
     ensures rules { IfOk result (λ c. IsSchema c.schema) }
     ensures well_formed { IfOk result (λ c. IsWellFormed c.schema) }
+    ensures written { IfOk result (λ c. AreWritten (definitions_of c.equation.definitions)) }
     ensures unaccepted { IfErr result (AreUnchecked schema.now equation.now) }
     ensures no_fault { ¬ IsErrOf result Ending.Fault }
 {
@@ -109,6 +110,7 @@ fn schema_from<'a>(alloc: Global, text: &[u8]) -> Result<Schema, Ending<'a>>
 fn equation_from<'a>(alloc: Global, text: &[u8]) -> Result<Equation, Ending<'a>>
     requires { length text.now ≤ text_limit }
     ensures read { IfOk result (λ e. Means text.now (definitions_of e.definitions, e.lines)) }
+    ensures written { IfOk result (λ e. AreWritten (definitions_of e.definitions)) }
     ensures unread { IfErr result (IsUnreadEquation text.now) }
 {
     match read_equation(alloc, text) {
@@ -130,8 +132,8 @@ fn typing_from<'a>(
 {
     match typed(alloc, schema, equation) {
         Ok(typing) => Ok(typing),
-        Err(Unbuilt::Mistyped(line, why)) => Err(Ending::Type(line, why)),
-        Err(Unbuilt::NoMemory) => Err(Ending::NoMemory),
+        Err(Untyped::Mistyped(line, why)) => Err(Ending::Type(line, why)),
+        Err(Untyped::NoMemory) => Err(Ending::NoMemory),
     }
 }
 
@@ -139,7 +141,9 @@ fn typing_from<'a>(
 fn carried_out<'a>(alloc: Global, action: Action, checked: Checked) -> Result<Prepared, Ending<'a>>
     requires rules { IsSchema checked.schema }
     requires well_formed { IsWellFormed checked.schema }
+    requires written { AreWritten (definitions_of checked.equation.definitions) }
     requires typed { IsTyped checked.schema (definitions_of checked.equation.definitions) }
+    requires leaves { checked.typing ≡ typing_with (leaves checked.schema (definitions_of checked.equation.definitions)) }
     requires few { length checked.typing.specs ≤ 255 }
     ensures prepared { IfOk result (IsPreparedFor action checked.schema (definitions_of checked.equation.definitions) checked.typing) }
     ensures can_play { IfOk result CanPlay }
@@ -151,25 +155,8 @@ fn carried_out<'a>(alloc: Global, action: Action, checked: Checked) -> Result<Pr
             if !is_built(&checked.schema, &checked.equation) {
                 return Err(Ending::NotBuilt);
             }
-            let built = built_from(alloc, &checked.schema, &checked.equation)?;
+            let built = build(alloc, &checked.schema, &checked.equation, checked.typing)?;
             Ok(Prepared::Try(checked.schema, built))
         }
-    }
-}
-
-// The nodes and leaves of an equation that was typed before.
-fn built_from<'a>(alloc: Global, schema: &Schema, equation: &Equation) -> Result<Built, Ending<'a>>
-    requires schema { IsSchema schema.now }
-    requires typed { IsTyped schema.now (definitions_of equation.now.definitions) }
-    requires built { heads_built (definitions_of equation.now.definitions) ≡ true }
-    ensures trees { IfOk result (λ built. AreTreesOfFiles 0 schema.now.files (definitions_of equation.now.definitions) built.files) }
-    ensures nodes { IfOk result (λ built. AreNodes schema.now built.files (length built.specs)) }
-    ensures owned { IfOk result (λ built. length built.owners ≡ length built.specs) }
-    ensures few { IfOk result (λ built. length built.specs ≤ 255) }
-    ensures cause { IfErr result (λ ending. ending ≡ Ending.NoMemory) }
-{
-    match build(alloc, schema, equation) {
-        Ok(built) => Ok(built),
-        Err(_) => Err(Ending::NoMemory),
     }
 }

@@ -2,7 +2,7 @@
 ghost use Rattle.std.specs.Prelude.{◌≡◌, ◌≤◌, length};
 ghost use Rattle.gx_top.specs.Summaries.{summary_of};
 
-use gx_types::{Specs, root_pages, smallest_device};
+use gx_typing::{Specs, root_pages, smallest_device};
 
 /// What leaves an accepted equation has.
 #[derive(Clone, Copy, Debug)]

@@ -1,70 +1,36 @@
 -- The nodes of a typed equation's files are what an engine needs.
-use Rattle.std.proofs.Common.{◌≡◌, ℕ, zero, suc, ◌+◌, ◌<◌, ◌≤◌, Bool, true, List, [], ◌∷◌, ◌++◌, length, map, refl, sym, ap, subst, ◌∙◌, arith, length-append}
-use Rattle.std.specs.Prelude.{◌==◌, slice_index_or}
-use Rattle.gx_values.specs.Keys.{IsKeyKind}
-use Rattle.gx_values.specs.declared.values.Kind.{Kind}
-use Rattle.gx_values.specs.declared.values.Kind.TheVariants as kinds
-use Rattle.gx_values.specs.declared.records.Field.{Field}
+use Rattle.std.proofs.Common.{◌≡◌, ℕ, zero, suc, ◌+◌, ◌<◌, ◌≤◌, true, List, [], ◌∷◌, ◌++◌, length, map, refl, sym, ap, ◌∙◌, arith, length-append}
+use Rattle.std.specs.Prelude.{slice_index_or}
 use Rattle.gx_values.specs.declared.records.Form.{Form}
 use Rattle.gx_mapping.specs.Rule.{In}
 use Rattle.gx_schema.specs.declared.schema.Schema.{Schema}
 use Rattle.gx_schema.specs.declared.schema.FileDef.{FileDef}
 use Rattle.gx_schema.specs.declared.schema.LinkDef.{LinkDef}
 use Rattle.gx_schema.specs.Lookups.{no_file}
-use Rattle.gx_schema.specs.Rules.{IsKind, AreFields, AreFiles, IsSchema}
+use Rattle.gx_schema.specs.Rules.{AreFiles, IsSchema}
 use Rattle.gx_equation.specs.declared.heads.Head.{Head}
 use Rattle.gx_equation.specs.declared.heads.Head.TheVariants as heads
 use Rattle.gx_equation.specs.Trees.{Tree, Trees, node, none, kid, SideTree, file_side, link_side, DefinitionTree}
-use Rattle.gx_actual.specs.Bodies.{IsShortText, AreShortTexts}
 use Rattle.gx_stack.specs.declared.node.Node.{Node}
 use Rattle.gx_stack.specs.Tree.{leaves_of as node_leaves, tree_form, IsValid}
 use Rattle.gx_stack.specs.Seen.{tree_of}
 use Rattle.gx_types.specs.declared.any.AnyMapping.{AnyMapping}
-use Rattle.gx_types.specs.declared.dues.Due.{Due}
-use Rattle.gx_types.specs.declared.dues.Stored.{Stored}
-use Rattle.gx_types.specs.declared.dues.Stored.TheVariants as stored
+use Rattle.gx_typing.specs.declared.dues.Due.{Due}
+use Rattle.gx_typing.specs.declared.dues.Stored.{Stored}
+use Rattle.gx_typing.specs.declared.dues.Stored.TheVariants as stored
 use Rattle.gx_types.specs.Any.{any_rule}
-use Rattle.gx_types.specs.Build.{is_built_side, heads_built, leaf_count, leaf_counts, side_leaf_count, all_leaf_count, IsTreeOfSide, AreTreesOfFiles, IsFileForm, IsReadySide, AreReadyFiles}
-use Rattle.gx_types.specs.Dues.{file_form, file_due, link_due}
-use Rattle.gx_types.specs.Forms.{kid_form}
+use Rattle.gx_types.specs.Build.{is_built_side, heads_built, leaf_count, leaf_counts, side_leaf_count, all_leaf_count, IsTreeOfSide, AreTreesOfFiles, IsReadySide, AreReadyFiles}
+use Rattle.gx_types.specs.FileForms.{IsFileForm}
+use Rattle.gx_types.proofs.MakerLaws.{file_fits}
+use Rattle.std.specs.List.{AllByRecursion}
+use Rattle.gx_equation.specs.Printing.{IsSide, IsDefinition, AreWritten}
+use Rattle.gx_typing.specs.Dues.{file_form, file_due, link_due}
+use Rattle.gx_typing.specs.Forms.{kid_form}
 use Rattle.gx_types.specs.Nodes.{tree_at, AreNodes}
-use Rattle.gx_types.specs.Places.{leaves_at}
-use Rattle.gx_types.specs.Typed.{IsTypedSide, AreTyped, leaf_here, leaves_of, leaves_of_kids, leaves_of_side, leaves_of_all, leaves, IsTyped}
+use Rattle.gx_typing.specs.Places.{leaves_at}
+use Rattle.gx_typing.specs.Typed.{IsTypedSide, AreTyped, leaf_here, leaves_of, leaves_of_kids, leaves_of_side, leaves_of_all, leaves, IsTyped}
 use Rattle.gx_types.proofs.ReadyLaws.{both_built}
 use Rattle.gx_types.proofs.TreeLaws.{leaves_between, valid}
-
--- ---- the forms of files
-
-kind_key : (first : Bool) (k : Kind) → IsKind first k → IsKeyKind k
-kind_key first kinds.Int is = tt
-kind_key first (kinds.Text n) is = tt
-kind_key first (kinds.Bytes n) is = absurd is
-
-kind_short : (first : Bool) (k : Kind) → IsKind first k → IsShortText k
-kind_short first kinds.Int is = tt
-kind_short first (kinds.Text n) is = omega (arith, is.1)
-kind_short first (kinds.Bytes n) is = absurd is
-
-fields_short : (before fs : List Field) → AreFields before fs → AreShortTexts fs
-fields_short before [] are = tt
-fields_short before (f ∷ fs) are = (kind_short (length before == 0) f.kind are.0.kind, fields_short (before ++ f ∷ []) fs are.1)
-
-fields_few : (before fs : List Field) → AreFields before fs → length before ≤ 32 → length before + length fs ≤ 32
-fields_few before [] are few = omega arith
-fields_few before (f ∷ fs) are few =
-    omega (arith, fields_few (before ++ f ∷ []) fs are.1 (omega (arith, are.0.room, length-append before (f ∷ []))), length-append before (f ∷ []))
-
-form_fits : (file : FileDef) (fs : List Field) → file.fields ≡ fs → AreFields [] fs → IsFileForm (file_form file)
-form_fits file [] is are = subst (λ (gs : List Field). IsFileForm (file_form (record { name = file.name; fields = gs }))) (sym is) (record { keys = tt; key_texts = tt; texts = tt; few_keys = omega arith; few_fields = omega arith })
-form_fits file (f ∷ fs) is are =
-    let few : length fs + 1 ≤ 32 = omega (arith, fields_few (f ∷ []) fs are.1 (omega arith)) in
-    subst (λ (gs : List Field). IsFileForm (file_form (record { name = file.name; fields = gs }))) (sym is) (record {
-      keys = (kind_key true f.kind are.0.kind, tt);
-      key_texts = (kind_short true f.kind are.0.kind, tt);
-      texts = fields_short (f ∷ []) fs are.1;
-      few_keys = omega arith;
-      few_fields = omega arith;
-    })
 
 -- ---- definitions for the files alone
 
@@ -79,19 +45,19 @@ no_links files (link ∷ links) (d ∷ ds) n typed built = absurd (no_side (link
     no_side due (file_side t) is b = is
     no_side due (link_side linkset ts) is b = absurd cc
 
-side_ready : (n : ℕ) (form : Form) (side : SideTree) → IsFileForm form → IsTypedSide (stored.File form) side → is_built_side side ≡ true → n + side_leaf_count side ≤ 255 → IsReadySide n form side
-side_ready n form (file_side t) fits typed built few = record { records = fits; typed = typed; built = built; few = few }
-side_ready n form (link_side linkset ts) fits typed built few = absurd typed
+side_ready : (n : ℕ) (form : Form) (side : SideTree) → IsFileForm 16 form → IsSide side → IsTypedSide (stored.File form) side → is_built_side side ≡ true → n + side_leaf_count side ≤ 255 → IsReadySide n form side
+side_ready n form (file_side t) fits term typed built few = record { levels = 16; few_levels = omega arith; term = term; records = fits; typed = typed; built = built; few = few }
+side_ready n form (link_side linkset ts) fits term typed built few = absurd typed
 
-ready_from : (all before files : List FileDef) (links : List LinkDef) (ds : List DefinitionTree) (n : ℕ) → AreFiles before files → AreTyped (map file_due files ++ map (link_due all) links) ds → heads_built ds ≡ true → n + all_leaf_count ds ≤ 255
+ready_from : (all before files : List FileDef) (links : List LinkDef) (ds : List DefinitionTree) (n : ℕ) → AreFiles before files → AllByRecursion IsDefinition ds → AreTyped (map file_due files ++ map (link_due all) links) ds → heads_built ds ≡ true → n + all_leaf_count ds ≤ 255
     → AreReadyFiles n files ds
-ready_from all before [] links ds n are typed built few = no_links all links ds n typed built
-ready_from all before (file ∷ files) links [] n are typed built few = absurd typed
-ready_from all before (file ∷ files) links (d ∷ ds) n are typed built few =
+ready_from all before [] links ds n are terms typed built few = no_links all links ds n typed built
+ready_from all before (file ∷ files) links [] n are terms typed built few = absurd typed
+ready_from all before (file ∷ files) links (d ∷ ds) n are terms typed built few =
     let b = both_built (is_built_side d.side) (heads_built ds) built in
     let total : n + (side_leaf_count d.side + all_leaf_count ds) ≤ 255 = few in (
-      side_ready n (file_form file) d.side (form_fits file file.fields refl are.0.fields) typed.1 b.0 (omega arith),
-      ready_from all (before ++ file ∷ []) files links ds (n + side_leaf_count d.side) are.1 typed.2 b.1 (omega arith),
+      side_ready n (file_form file) d.side (file_fits file file.fields refl are.0.fields) terms.0.side typed.1 b.0 (omega arith),
+      ready_from all (before ++ file ∷ []) files links ds (n + side_leaf_count d.side) are.1 terms.1 typed.2 b.1 (omega arith),
     )
 
 -- ---- how many leaves there are
@@ -130,9 +96,9 @@ all_count owner (due ∷ dues) (d ∷ ds) typed built =
     let b = both_built (is_built_side d.side) (heads_built ds) built in
     omega (arith, length-append (leaves_of_side owner due.stored d.side) (leaves_of_all (suc owner) dues ds), side_count owner due.stored d.side typed.1 b.0, all_count (suc owner) dues ds typed.2 b.1)
 
-pub files_ready : (schema : Schema) (ds : List DefinitionTree) → IsSchema schema → IsTyped schema ds → heads_built ds ≡ true → AreReadyFiles 0 schema.files ds
-files_ready schema ds is typed built =
-    ready_from schema.files [] schema.files schema.links ds 0 is.files typed.definitions built (omega (arith, all_count 0 _ ds typed.definitions built, typed.few))
+pub files_ready : (schema : Schema) (ds : List DefinitionTree) → IsSchema schema → AreWritten ds → IsTyped schema ds → heads_built ds ≡ true → AreReadyFiles 0 schema.files ds
+files_ready schema ds is written typed built =
+    ready_from schema.files [] schema.files schema.links ds 0 is.files written.each typed.definitions built (omega (arith, all_count 0 _ ds typed.definitions built, typed.few))
 
 -- ---- the nodes
 
@@ -184,9 +150,9 @@ as_many_nodes n (file ∷ files) [] xs are = absurd are
 as_many_nodes n (file ∷ files) (d ∷ ds) [] are = absurd are
 as_many_nodes n (file ∷ files) (d ∷ ds) (x ∷ xs) are = ap suc (as_many_nodes (n + side_leaf_count d.side) files ds xs are.1)
 
-pub are_nodes : (schema : Schema) (ds : List DefinitionTree) (xs : List (Node AnyMapping)) (total : ℕ) → IsSchema schema → IsTyped schema ds → heads_built ds ≡ true → AreTreesOfFiles 0 schema.files ds xs → total ≡ length (leaves schema ds) → AreNodes schema xs total
-are_nodes schema ds xs total is typed built are total_is =
-    let ready = files_ready schema ds is typed built in
+pub are_nodes : (schema : Schema) (ds : List DefinitionTree) (xs : List (Node AnyMapping)) (total : ℕ) → IsSchema schema → AreWritten ds → IsTyped schema ds → heads_built ds ≡ true → AreTreesOfFiles 0 schema.files ds xs → total ≡ length (leaves schema ds) → AreNodes schema xs total
+are_nodes schema ds xs total is written typed built are total_is =
+    let ready = files_ready schema ds is written typed built in
     let e : all_leaf_count ds ≡ total = sym (all_count 0 _ ds typed.definitions built) ∙ sym total_is in
     record {
       many = as_many_nodes 0 schema.files ds xs are;

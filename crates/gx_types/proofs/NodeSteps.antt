@@ -10,6 +10,7 @@ use Rattle.gx_values.specs.declared.values.Kind.{Kind}
 use Rattle.gx_values.specs.declared.records.Field.{Field}
 use Rattle.gx_values.specs.declared.records.Form.{Form}
 use Rattle.gx_schema.specs.declared.schema.FileDef.{FileDef}
+use Rattle.gx_equation.specs.declared.heads.Head.{Head}
 use Rattle.gx_equation.specs.declared.heads.Head.TheVariants as heads
 use Rattle.gx_equation.specs.declared.equation.Term.{Term}
 use Rattle.gx_equation.specs.declared.equation.Term.TheVariants as terms
@@ -23,11 +24,17 @@ use Rattle.gx_stack.specs.Tree.{no_kids}
 use Rattle.gx_stack.specs.Seen.{tree_of as node_tree, kids_from as node_kids}
 use Rattle.gx_types.specs.declared.any.AnyMapping.{AnyMapping}
 use Rattle.gx_types.specs.Build.{leaf_count, leaf_counts, IsFirstOf, IsTreeOf, AreTreesOf, AreTreesOfFiles, IsReady, AreReady, AreReadyFiles}
-use Rattle.gx_types.specs.Fields.{kind_in}
-use Rattle.gx_types.proofs.ReadyLaws.{first_ready, others_ready}
+use Rattle.gx_typing.specs.Fields.{kind_in}
+use Rattle.gx_typing.specs.Forms.{kid_form}
+use Rattle.gx_types.proofs.ReadyLaws.{kids_ready, first_ready, others_ready}
 
 pub seen_leaf : (t : Term) (kind : LeafKind) → t ≡ terms.Leaf kind → tree_of t ≡ node (heads.Leaf kind) none
 seen_leaf t kind is = ap tree_of (is ∙ sym (terms.rolls-Leaf kind)) ∙ fold-roll-Term Tree seen_step (Leaf kind)
+
+-- the one child, at a form that is the one of typing
+pub only_ready : (n : ℕ) (form made : Form) (top : Head) (t : Tree) → made ≡ kid_form top form 0 → IsReady n form (node top (kid t none)) → IsReady n made t
+only_ready n form made top t same r =
+    subst (λ (f : Form). IsReady n f t) (sym same) (first_ready n (kid_form top form) 0 t none (kids_ready n form top (kid t none) r))
 
 -- ---- one child of several
 

@@ -1,25 +1,25 @@
 -- A node that a term means is valid, has the term's form, and has leaves with the numbers of the term.
-use Rattle.std.proofs.Common.{◌≡◌, ℕ, suc, ◌+◌, ◌-◌, ◌<◌, ◌≤◌, true, List, [], ◌∷◌, ◌++◌, ◌⊎◌, length, refl, sym, ap, subst, inl, inr, ◌∙◌, arith}
+use Rattle.std.proofs.Common.{◌≡◌, ℕ, zero, suc, ◌+◌, ◌-◌, ◌<◌, ◌≤◌, List, [], ◌∷◌, ◌++◌, ◌⊎◌, refl, sym, ap, subst, inl, inr, ◌∙◌, arith}
 use Rattle.gx_values.specs.Keys.{widths}
 use Rattle.gx_values.specs.declared.values.Kind.{Kind}
 use Rattle.gx_values.specs.declared.records.Field.{Field}
 use Rattle.gx_values.specs.declared.records.Form.{Form}
-use Rattle.gx_mapping.specs.Rule.{In}
-use Rattle.gx_actual.specs.Forms.{actual_form}
-use Rattle.gx_partition.specs.Rules.{bounds_of}
+use Rattle.gx_mapping.specs.Rule.{Rule, In}
 use Rattle.gx_equation.specs.declared.heads.Head.{Head}
 use Rattle.gx_equation.specs.declared.heads.Head.TheVariants as heads
 use Rattle.gx_equation.specs.Trees.{Tree, Trees, node, none, kid}
 use Rattle.gx_stack.specs.Tree.{Tree as NodeTree, Kids as NodeKids, leaf, layer, no_kids, kid as node_kid, leaves_of, kids_leaves, kid_count, tree_form, IsBytesUpTo, IsLeafData as IsNodeData, IsLeafForm, IsValid, AreValid}
 use Rattle.gx_types.specs.declared.any.AnyMapping.{AnyMapping}
-use Rattle.gx_types.specs.declared.any.AnyMapping.TheVariants as any
 use Rattle.gx_types.specs.Any.{any_rule}
-use Rattle.gx_types.specs.Build.{is_built_head, are_built_terms, leaf_count, leaf_counts, IsMappingOf, IsLeafOf, IsTreeOf, AreTreesOf, IsFileForm, IsReady, AreReady}
-use Rattle.gx_types.specs.Forms.{kid_form}
-use Rattle.gx_types.specs.Places.{leaves_at}
-use Rattle.gx_types.specs.Typed.{IsLeafData, IsLeaf, IsMet}
-use Rattle.gx_types.specs.Typing.{count}
-use Rattle.gx_types.proofs.ReadyLaws.{both_built, is_number, kids_ready, first_ready, others_ready}
+use Rattle.gx_types.specs.Build.{leaf_count, leaf_counts, IsMappingOf, IsLeafOf, IsTreeOf, AreTreesOf, IsReady, AreReady}
+use Rattle.gx_types.specs.FileForms.{AreDistinct, IsFileForm}
+use Rattle.gx_equation.specs.Printing.{IsTerm}
+use Rattle.gx_types.proofs.HeadLaws.{rule_form, rule_kid_form, rule_kids}
+use Rattle.gx_typing.specs.Forms.{kid_form}
+use Rattle.gx_typing.specs.Places.{leaves_at}
+use Rattle.gx_typing.specs.Typed.{IsLeafData, IsLeaf, IsMet}
+use Rattle.gx_typing.specs.Typing.{count}
+use Rattle.gx_types.proofs.ReadyLaws.{kids_ready, first_ready, others_ready}
 
 -- ---- leaves
 
@@ -46,8 +46,8 @@ leaf_data [] bytes most is le = tt
 leaf_data (f ∷ []) bytes most is le = subst (λ (k : Kind). IsBytesUpTo k most) (sym is) le
 leaf_data (f ∷ g ∷ fs) bytes most is le = absurd is
 
-leaf_form : (form : Form) → IsFileForm form → IsLeaf form → IsLeafForm form
-leaf_form form fits is = record {
+leaf_form : (levels : ℕ) (form : Form) → IsFileForm levels form → IsLeaf form → IsLeafForm form
+leaf_form levels form fits is = record {
   keys = fits.keys;
   key_small = is.key;
   entry_small = leaf_data form.fields is.bytes (1000 - widths form.keys) is.fields (omega (arith, is.entry));
@@ -84,42 +84,14 @@ mutual
 -- ---- layers
 
 mapping_form : (top : Head) (form : Form) (m : AnyMapping) → IsMappingOf top form m → (any_rule m).form ≡ form
-mapping_form heads.Actual form (any.Actual m) is = is
-mapping_form heads.Actual form (any.Partition m) is = absurd is
-mapping_form (heads.Partition name bounds) form (any.Actual m) is = absurd is
-mapping_form (heads.Partition name bounds) form (any.Partition m) is = is.records
-mapping_form (heads.Leaf kind) form m is = absurd is
-mapping_form (heads.Encode name code) form m is = absurd is
-mapping_form (heads.Segment names) form m is = absurd is
-mapping_form heads.Transpose form m is = absurd is
-mapping_form (heads.Divide size) form m is = absurd is
-mapping_form (heads.Index name) form m is = absurd is
+mapping_form top form m is = ap (λ (r : Rule). r.form) is.1 ∙ rule_form top form
 
-mapping_kid_form : (top : Head) (form : Form) (m : AnyMapping) → IsMappingOf top form m → (c : ℕ) → (any_rule m).kid_form c ≡ kid_form top form c
-mapping_kid_form heads.Actual form (any.Actual m) is c = ap actual_form is
-mapping_kid_form heads.Actual form (any.Partition m) is c = absurd is
-mapping_kid_form (heads.Partition name bounds) form (any.Actual m) is c = absurd is
-mapping_kid_form (heads.Partition name bounds) form (any.Partition m) is c = is.records
-mapping_kid_form (heads.Leaf kind) form m is c = absurd is
-mapping_kid_form (heads.Encode name code) form m is c = absurd is
-mapping_kid_form (heads.Segment names) form m is c = absurd is
-mapping_kid_form heads.Transpose form m is c = absurd is
-mapping_kid_form (heads.Divide size) form m is c = absurd is
-mapping_kid_form (heads.Index name) form m is c = absurd is
+mapping_kid_form : (top : Head) (form : Form) (kids : ℕ) (m : AnyMapping) → IsMappingOf top form m → IsMet top form kids → AreDistinct form.fields → (c : ℕ) → (any_rule m).kid_form c ≡ kid_form top form c
+mapping_kid_form top form kids m is met names c = ap (λ (r : Rule). r.kid_form c) is.1 ∙ rule_kid_form top form kids met names c
 
-mapping_kids : (top : Head) (form : Form) (kids : ℕ) (m : AnyMapping) → IsMappingOf top form m → IsMet top form kids → is_built_head top kids ≡ true → kids ≡ (any_rule m).kids
-mapping_kids heads.Actual form kids (any.Actual m) is met built = is_number kids 1 built
-mapping_kids heads.Actual form kids (any.Partition m) is met built = absurd is
-mapping_kids (heads.Partition name bounds) form kids (any.Actual m) is met built = absurd is
-mapping_kids (heads.Partition name bounds) form kids (any.Partition m) is met built =
-    let e : length (bounds_of m) ≡ length bounds = ap length is.ranges in
-    omega (arith, met.each)
-mapping_kids (heads.Leaf kind) form kids m is met built = absurd is
-mapping_kids (heads.Encode name code) form kids m is met built = absurd is
-mapping_kids (heads.Segment names) form kids m is met built = absurd is
-mapping_kids heads.Transpose form kids m is met built = absurd is
-mapping_kids (heads.Divide size) form kids m is met built = absurd is
-mapping_kids (heads.Index name) form kids m is met built = absurd is
+mapping_kids : (levels : ℕ) (top : Head) (form : Form) (kids : Trees) (m : AnyMapping) → IsMappingOf top form m → IsMet top form (count kids) → IsTerm levels (node top kids) → count kids ≡ (any_rule m).kids
+mapping_kids zero top form kids m is met term = absurd term
+mapping_kids (suc levels) top form kids m is met term = rule_kids top form kids is.0 term.1 met ∙ sym (ap (λ (r : Rule). r.kids) is.1)
 
 as_many : (n : ℕ) (forms : ℕ → Form) (i : ℕ) (ts : Trees) (us : NodeKids AnyMapping) → AreTreesOf n forms i ts us → kid_count us ≡ count ts
 as_many n forms i none no_kids are = refl
@@ -142,15 +114,14 @@ mutual
   pub valid : (n : ℕ) (form : Form) (t : Tree) (u : NodeTree AnyMapping) → IsReady n form t → IsTreeOf n form t u → IsValid any_rule u × (tree_form any_rule u ≡ form)
   valid n form (node top kids) (leaf m f) ready is =
       let at = leaf_at n form top kids m f is in
-      (subst IsLeafForm (sym at.records) (leaf_form form ready.records (at.met ready.typed.0)), at.records)
-  valid n form (node top kids) (layer m ks) ready is =
-      let b = both_built (is_built_head top (count kids)) (are_built_terms kids) ready.built in (
-        (
-          as_many n (kid_form top form) 0 kids ks is.1 ∙ mapping_kids top form (count kids) m is.0 ready.typed.0 b.0,
-          are_valid n (kid_form top form) 0 kids ks (any_rule m).kid_form (λ c. mapping_kid_form top form m is.0 c ∙ ap (kid_form top form) (all_shift c)) (kids_ready n form top kids ready) is.1,
-        ),
-        mapping_form top form m is.0,
-      )
+      (subst IsLeafForm (sym at.records) (leaf_form ready.levels form ready.records (at.met ready.typed.0)), at.records)
+  valid n form (node top kids) (layer m ks) ready is = (
+    (
+      as_many n (kid_form top form) 0 kids ks is.1 ∙ mapping_kids ready.levels top form kids m is.0 ready.typed.0 ready.term,
+      are_valid n (kid_form top form) 0 kids ks (any_rule m).kid_form (λ c. mapping_kid_form top form (count kids) m is.0 ready.typed.0 ready.records.distinct c ∙ ap (kid_form top form) (all_shift c)) (kids_ready n form top kids ready) is.1,
+    ),
+    mapping_form top form m is.0,
+  )
 
   are_valid : (n : ℕ) (forms : ℕ → Form) (i : ℕ) (ts : Trees) (us : NodeKids AnyMapping) (given : ℕ → Form) → ((c : ℕ) → given c ≡ forms (i + c)) → AreReady n forms i ts → AreTreesOf n forms i ts us → AreValid any_rule given us
   are_valid n forms i none no_kids given same ready are = tt

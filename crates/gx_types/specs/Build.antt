@@ -1,30 +1,28 @@
 -- The equations that nodes are built of, and the nodes that they mean.
-use Rattle.std.specs.Prelude.{◌≡◌, ◌≢◌, ℕ, zero, suc, ◌+◌, ◌≤◌, Bool, true, false, ◌&&◌, ◌==◌, List, [], ◌∷◌, length, None}
-use Rattle.gx_values.specs.Keys.{AreKeyFields}
-use Rattle.gx_values.specs.declared.values.Value.{Value}
+use Rattle.std.specs.Prelude.{◌≡◌, ◌≢◌, ℕ, zero, suc, ◌+◌, ◌<◌, ◌≤◌, Bool, true, false, ◌&&◌, ◌==◌, List, [], ◌∷◌, None}
+use Rattle.std.specs.List.{AllByRecursion}
 use Rattle.gx_values.specs.declared.records.Field.{Field}
 use Rattle.gx_values.specs.declared.records.Form.{Form}
 use Rattle.gx_schema.specs.declared.schema.FileDef.{FileDef}
 use Rattle.gx_equation.specs.declared.heads.Head.{Head}
 use Rattle.gx_equation.specs.declared.heads.Head.TheVariants as heads
-use Rattle.gx_equation.specs.Trees.{Tree, Trees, node, none, kid, SideTree, file_side, link_side, DefinitionTree}
-use Rattle.gx_actual.specs.Bodies.{AreShortTexts}
-use Rattle.gx_actual.specs.Rules.{form_of as form_of_actual}
-use Rattle.gx_partition.specs.Rules.{form_of as form_of_partition, at_of, bounds_of}
-use Rattle.gx_partition.specs.declared.layer.Partition.{Partition}
+use Rattle.gx_equation.specs.Printing.{IsTerm}
+use Rattle.gx_equation.specs.Trees.{Tree, Trees, node, none, kid, list_of, SideTree, file_side, link_side, DefinitionTree}
 use Rattle.gx_partition.specs.declared.place.Where.{Where}
 use Rattle.gx_partition.specs.declared.place.Where.TheVariants.{Key, Rest}
 use Rattle.gx_stack.specs.declared.node.Node.{Node}
 use Rattle.gx_stack.specs.Tree.{Tree as NodeTree, Kids as NodeKids, leaf, layer, no_kids, kid as node_kid}
 use Rattle.gx_stack.specs.Seen.{tree_of}
 use Rattle.gx_types.specs.declared.any.AnyMapping.{AnyMapping}
-use Rattle.gx_types.specs.declared.any.AnyMapping.TheVariants as any
-use Rattle.gx_types.specs.Dues.{file_form}
-use Rattle.gx_types.specs.Fields.{kind_in}
-use Rattle.gx_types.specs.Forms.{kid_form}
-use Rattle.gx_types.specs.Places.{leaves_at}
-use Rattle.gx_types.specs.Typed.{IsTypedTerm, AreTypedTerms}
-use Rattle.gx_types.specs.Typing.{count}
+use Rattle.gx_types.specs.Any.{any_rule}
+use Rattle.gx_typing.specs.Dues.{file_form}
+use Rattle.gx_typing.specs.Fields.{kind_in}
+use Rattle.gx_types.specs.FileForms.{IsFileForm}
+use Rattle.gx_typing.specs.Forms.{kid_form}
+use Rattle.gx_types.specs.HeadRules.{head_rule, IsLayer}
+use Rattle.gx_typing.specs.Places.{leaves_at}
+use Rattle.gx_typing.specs.Typed.{IsTypedTerm, AreTypedTerms}
+use Rattle.gx_typing.specs.Typing.{count}
 
 -- ---- the equations
 
@@ -83,17 +81,9 @@ abbrev pub IsPlaceOf : Form → List ℕ → Where → Type 0
 IsPlaceOf form name (Key i) = IsFirstOf form.keys name i
 IsPlaceOf form name (Rest i) = (kind_in form.keys name ≡ None) × IsFirstOf form.fields name i
 
--- the layer has the records of the form, and parts them by the field of the name at these bounds
-pub record IsPartitionOf (name : List ℕ) (bounds : List Value) (form : Form) (m : Partition) : Type 0 where
-  pub records : form_of_partition m ≡ form
-  pub field : IsPlaceOf form name (at_of m)
-  pub ranges : bounds_of m ≡ bounds
-
 -- the mapping is that of the head, for the records of the form
 abbrev pub IsMappingOf : Head → Form → AnyMapping → Type 0
-IsMappingOf heads.Actual form (any.Actual m) = form_of_actual m ≡ form
-IsMappingOf (heads.Partition name bounds) form (any.Partition m) = IsPartitionOf name bounds form m
-IsMappingOf other form m = ⊥
+IsMappingOf top form m = IsLayer top × (any_rule m ≡ head_rule top form)
 
 -- the leaf has the number n, and the records of the form
 abbrev pub IsLeafOf : ℕ → Form → Head → Trees → ℕ → Form → Type 0
@@ -125,23 +115,22 @@ AreTreesOfFiles n files ds xs = ⊥
 
 -- ---- what building asks
 
--- few fields, with short texts, and keys of ints and texts
-pub record IsFileForm (form : Form) : Type 0 where
-  pub keys : AreKeyFields form.keys
-  pub key_texts : AreShortTexts form.keys
-  pub texts : AreShortTexts form.fields
-  pub few_keys : length form.keys ≤ 32
-  pub few_fields : length form.fields ≤ 32
-
--- a typed term of the heads, whose leaves, numbered from n on, are among the first 255
+-- a typed term of the heads, of at most so many levels, whose leaves, numbered from n on, are among the first 255
 pub record IsReady (n : ℕ) (form : Form) (t : Tree) : Type 0 where
-  pub records : IsFileForm form
+  pub levels : ℕ
+  pub few_levels : levels ≤ 16
+  pub term : IsTerm levels t
+  pub records : IsFileForm levels form
   pub typed : IsTypedTerm form t
   pub built : is_built_term t ≡ true
   pub few : n + leaf_count t ≤ 255
 
+-- likewise terms, of which the first is the child with the number i
 pub record AreReady (n : ℕ) (forms : ℕ → Form) (i : ℕ) (ts : Trees) : Type 0 where
-  pub records : (c : ℕ) → IsFileForm (forms c)
+  pub levels : ℕ
+  pub few_levels : levels ≤ 16
+  pub terms : AllByRecursion (IsTerm levels) (list_of ts)
+  pub records : (c : ℕ) → i ≤ c → c < i + count ts → IsFileForm levels (forms c)
   pub typed : AreTypedTerms forms i ts
   pub built : are_built_terms ts ≡ true
   pub few : n + leaf_counts ts ≤ 255

@@ -8,7 +8,7 @@ use Rattle.gx_stack.specs.Tree.{Tree, leaf, leaves_of, tree_form, IsValid}
 use Rattle.gx_stack.specs.Seen.{tree_of}
 use Rattle.gx_types.specs.declared.any.AnyMapping.{AnyMapping}
 use Rattle.gx_types.specs.Any.{any_rule}
-use Rattle.gx_types.specs.Dues.{file_form}
+use Rattle.gx_typing.specs.Dues.{file_form}
 
 -- what stands in the place of a tree that isn't there
 abbrev pub no_tree : Tree AnyMapping

@@ -1,7 +1,7 @@
 // What stores the records of a schema's files.
 use crate::any::AnyMapping;
-use crate::typing::{Owners, Specs};
 use gx_stack::Node;
+use gx_typing::{Owners, Specs};
 use std::marker::Model;
 
 /// Nodes, seen as a list.

@@ -1,27 +1,28 @@
 // Nodes of terms and of files.
 ghost use Rattle.std.specs.Prelude.{◌≡◌, ◌<◌, ◌≤◌, ◌+◌, ℕ, length, map, None, OnOk, IfOk, IfSome, IfNone};
 ghost use Rattle.gx_actual.specs.Bodies.{field_widths, AreShortTexts};
-ghost use Rattle.gx_values.specs.Values.{IsSized, AreSized};
+ghost use Rattle.gx_partition.specs.Bounds.{IsPartition};
 ghost use Rattle.gx_values.specs.declared.values.Kind.{Kind as KindOf};
 ghost use Rattle.gx_equation.specs.declared.heads.Head.TheVariants as heads;
 ghost use Rattle.gx_equation.specs.Seen.{tree_of, trees_of, side_of, definitions_of};
 ghost use Rattle.gx_equation.specs.Trees.{kids_from};
 ghost use Rattle.gx_stack.specs.Seen.{tree_of as node_tree, kids_from as node_kids};
 ghost use Rattle.gx_stack.specs.Tree.{leaf, layer, kid, no_kids};
-ghost use Rattle.gx_types.specs.Build.{leaf_count, leaf_counts, side_leaf_count, IsFirstOf, IsPlaceOf, IsMappingOf, IsTreeOf, AreTreesOf, IsTreeOfSide, AreTreesOfFiles, IsFileForm, IsReady, AreReady, IsReadySide, AreReadyFiles};
-ghost use Rattle.gx_types.specs.Dues.{file_form};
-ghost use Rattle.gx_types.specs.Fields.{kind_in};
-ghost use Rattle.gx_types.specs.Typed.{IsField, IsPartitioned};
+ghost use Rattle.gx_types.specs.Build.{leaf_count, leaf_counts, side_leaf_count, IsFirstOf, IsPlaceOf, IsMappingOf, IsTreeOf, AreTreesOf, IsTreeOfSide, AreTreesOfFiles, IsReady, AreReady, IsReadySide, AreReadyFiles};
+ghost use Rattle.gx_typing.specs.Dues.{file_form};
+ghost use Rattle.gx_typing.specs.Fields.{kind_in};
+ghost use Rattle.gx_types.specs.HeadRules.{place_in};
+ghost use Rattle.gx_typing.specs.Typed.{IsField};
 
 use crate::any::AnyMapping;
-use crate::dues::file_form;
 use gx_actual::actual;
 use gx_equation::{Definition, Side, Term};
 use gx_mapping::Mapping;
 use gx_partition::{Where, partition};
 use gx_schema::FileDef;
 use gx_stack::{LayerNode, LeafNode, Node};
-use gx_values::{Field, Form, Name, NoMemory, Value, Values};
+use gx_typing::file_form;
+use gx_values::{Field, Form, Name, NoMemory, Values};
 use std::alloc::Global;
 
 // ---- nodes
@@ -76,7 +77,7 @@ fn actual_of(alloc: Global, form: &Form) -> Result<AnyMapping, NoMemory>
 
 // The number of the first field of the name.
 fn position(fields: &[Field], name: &[u8]) -> Option<u16>
-    requires { length fields.now ≤ 32 }
+    requires { length fields.now ≤ 65535 }
     ensures some { IfSome result (IsFirstOf fields.now name.now) }
     ensures none { IfNone result (kind_in fields.now name.now ≡ None) }
 {
@@ -90,7 +91,8 @@ fn position(fields: &[Field], name: &[u8]) -> Option<u16>
 
 // The place of the first field of the name, keys before data.
 fn place_of(form: &Form, name: &[u8]) -> Where
-    requires fits { IsFileForm form.now }
+    requires few_keys { length form.now.keys ≤ 65535 }
+    requires few_fields { length form.now.fields ≤ 65535 }
     requires named { (kind : KindOf) × IsField form.now name.now kind }
     ensures { IsPlaceOf form.now name.now result }
 {
@@ -103,26 +105,6 @@ fn place_of(form: &Form, name: &[u8]) -> Where
     }
 }
 
-// An int has 64 bits, which is known of each one that is read. It does nothing else.
-fn is_sized(value: &Value)
-    ensures { IsSized value.now }
-{
-    if let Value::Int(n) = value {
-        let _read = *n;
-    }
-}
-
-// The ints among the values have 64 bits. It does nothing else.
-fn are_sized(values: &[Value])
-    ensures { AreSized values.now }
-{
-    let mut rest = values;
-    while let [value, after @ ..] = rest {
-        is_sized(value);
-        rest = after;
-    }
-}
-
 // The mapping of `partition` by the field of the name, for the records of the form.
 fn partition_of(
     alloc: Global,
@@ -130,13 +112,13 @@ fn partition_of(
     name: &Name,
     bounds: &Values,
 ) -> Result<AnyMapping, NoMemory>
-    requires fits { IsFileForm form.now }
-    requires met { (kids : ℕ) × IsPartitioned name.now bounds.now form.now kids }
-    requires few { length bounds.now ≤ 255 }
+    requires few_keys { length form.now.keys ≤ 65535 }
+    requires few_fields { length form.now.fields ≤ 65535 }
+    requires named { (kind : KindOf) × IsField form.now name.now kind }
+    requires can { IsPartition form.now (place_in form.now name.now) bounds.now }
     ensures { IfOk result (IsMappingOf (heads.Partition name.now bounds.now) form.now) }
 {
     let at = place_of(form, name.as_slice());
-    are_sized(&bounds.0);
     Ok(AnyMapping::Partition(partition(alloc, form, at, bounds)?))
 }
 

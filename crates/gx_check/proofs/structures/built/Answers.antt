@@ -1,7 +1,5 @@
-use Rattle.std.proofs.Common.{rules, ◌≡◌, true, ℕ, length, sym, ap, ◌∙◌}
+use Rattle.std.proofs.Common.{rules, ◌≡◌, true, ℕ, length, ap}
 use Rattle.std.specs.Prelude.{◌&&◌, ◌==◌}
-use Rattle.std.proofs.lemmas.List.{length-map}
-use Rattle.gx_types.specs.declared.typing.Typing.{Typing}
 use Rattle.gx_engine.proofs.StartLemmas.{are_storable}
 use Rattle.gx_check.proofs.structures.built.Goals as goal
 
@@ -11,10 +9,6 @@ returns-clause-stored g c =
     record {
       storable = are_storable c.in_ok-schema.schema true c.in_ok-schema.ensures.valid (ap (λ (n : ℕ). (n == 0) && true) none);
       nodes = c.in_ok-built.ensures.nodes;
-      owned =
-          ap (λ (t : Typing). length t.owners) c.in_ok-built.ensures.leaves
-          ∙ length-map _ _
-          ∙ sym (length-map _ _)
-          ∙ sym (ap (λ (t : Typing). length t.specs) c.in_ok-built.ensures.leaves);
+      owned = c.in_ok-built.ensures.owned;
       few = c.in_ok-built.ensures.few;
     }

@@ -1,4 +1,4 @@
-use Rattle.std.proofs.Common.{◌≡◌, ◌<◌, ◌+◌, List, length, map, sym, ap, subst, arith}
+use Rattle.std.proofs.Common.{◌≡◌, ◌<◌, ◌+◌, suc, List, length, map, sym, ap, subst, ◌∙◌, arith}
 use Rattle.gx_equation.specs.declared.heads.Head.TheVariants as heads
 use Rattle.gx_equation.specs.Seen.{tree_of, trees_of}
 use Rattle.gx_equation.specs.Trees.{Tree, node, kids_from}
@@ -6,20 +6,59 @@ use Rattle.gx_stack.specs.declared.node.Node.{Node}
 use Rattle.gx_stack.specs.Tree.{Tree as NodeTree}
 use Rattle.gx_stack.specs.Seen.{tree_of as node_tree, kids_from as node_kids}
 use Rattle.gx_types.specs.declared.any.AnyMapping.{AnyMapping}
-use Rattle.gx_types.specs.Build.{leaf_count, leaf_counts, IsTreeOf, AreTreesOf, IsReady}
-use Rattle.gx_types.proofs.NodeSteps.{child_ready, behind_ready, behind_count, behind_trees, all_trees}
-use Rattle.gx_types.proofs.ReadyLaws.{bodies_small, few_bounds}
-use Rattle.gx_types.proofs.SeenAs.{seen_actual, seen_partition}
-use Rattle.gx_types.proofs.TermSize.{one_smaller}
+use Rattle.gx_types.specs.Build.{leaf_count, leaf_counts, IsTreeOf, AreTreesOf, IsReady, AreReady}
+use Rattle.gx_typing.specs.Forms.{kid_form}
+use Rattle.gx_types.proofs.ReadyLaws.{kids_ready}
+use Rattle.gx_mapping.specs.Rule.{Rule}
+use Rattle.gx_equation.specs.declared.equation.Term.{Term}
+use Rattle.gx_types.proofs.NodeSteps.{only_ready, child_ready, behind_ready, behind_count, behind_trees, all_trees}
+use Rattle.gx_types.proofs.MakerLaws.{limited_short, ready_can, ready_keys}
+use Rattle.gx_typing.proofs.SeenAs.{seen_actual, seen_partition}
+use Rattle.gx_typing.proofs.TermSize.{tree_size, trees_size, one_smaller}
 use Rattle.gx_types.proofs.nodes.+nodes.Goals as goal
+
+pub node_of-actual_of-requires-clause-texts : goal.node_of-actual_of-requires-clause-texts
+node_of-actual_of-requires-clause-texts t c = limited_short c.args.form.now.fields c.requires.records.texts
 
 pub node_of-actual_of-requires-clause-narrow : goal.node_of-actual_of-requires-clause-narrow
 node_of-actual_of-requires-clause-narrow t c =
-    bodies_small c.args.next.now c.args.form.now _ (subst (IsReady c.args.next.now c.args.form.now) (seen_actual c.args.term.now c.in-Actual.kid c.in-Actual.is) c.requires)
+    (ready_can c.args.next.now c.args.form.now heads.Actual _ (subst (IsReady c.args.next.now c.args.form.now) (seen_actual c.args.term.now c.in-Actual.kid c.in-Actual.is) c.requires)).narrow
 
-pub node_of-partition_of-requires-clause-few : goal.node_of-partition_of-requires-clause-few
-node_of-partition_of-requires-clause-few t c =
-    few_bounds c.args.next.now c.args.form.now c.in-Partition.name c.in-Partition.bounds _ (subst (IsReady c.args.next.now c.args.form.now) (seen_partition c.args.term.now c.in-Partition.name c.in-Partition.bounds c.in-Partition.kids c.in-Partition.is) c.requires)
+pub node_of-node_of-requires : goal.node_of-node_of-requires
+node_of-node_of-requires t c =
+    let seen = seen_actual c.args.term.now c.in-Actual.kid c.in-Actual.is in
+    let same : c.deref.result.now ≡ c.in-Actual.kid.value = c.deref.ensures in
+    let size : tree_size (tree_of c.args.term.now) ≡ suc (suc (tree_size (tree_of c.in-Actual.kid.value) + 0)) = ap tree_size seen in
+    let below : tree_size (tree_of c.deref.result.now) ≡ tree_size (tree_of c.in-Actual.kid.value) = ap (λ (x : Term). tree_size (tree_of x)) same in
+    let form : c.kid_form.result.now ≡ kid_form heads.Actual c.args.form.now 0 = c.kid_form.ensures ∙ ap (λ (r : Rule). r.kid_form 0) c.in_ok-mapping-in-Actual.ensures.1 in (
+      omega (arith, size, below, c.decreases),
+      subst (λ (x : Term). IsReady c.args.next.now c.kid_form.result.now (tree_of x)) (sym same)
+          (only_ready c.args.next.now c.args.form.now c.kid_form.result.now heads.Actual (tree_of c.in-Actual.kid.value) form (subst (IsReady c.args.next.now c.args.form.now) seen c.requires)),
+    )
+
+pub node_of-partition_of-requires-clause-few_keys : goal.node_of-partition_of-requires-clause-few_keys
+node_of-partition_of-requires-clause-few_keys t c = ready_keys c.args.next.now c.args.form.now _ c.requires
+
+pub node_of-partition_of-requires-clause-named : goal.node_of-partition_of-requires-clause-named
+node_of-partition_of-requires-clause-named t c =
+    let r = subst (IsReady c.args.next.now c.args.form.now) (seen_partition c.args.term.now c.in-Partition.name c.in-Partition.bounds c.in-Partition.kids c.in-Partition.is) c.requires in
+    (r.typed.0.kind, r.typed.0.field)
+
+pub node_of-same_nodes-requires : goal.node_of-same_nodes-requires
+node_of-same_nodes-requires t c =
+    let seen = seen_partition c.args.term.now c.in-Partition.name c.in-Partition.bounds c.in-Partition.kids c.in-Partition.is in
+    let top = heads.Partition c.in-Partition.name c.in-Partition.bounds in
+    let same = c.deref-in-Partition.ensures.value in
+    let size : tree_size (tree_of c.args.term.now) ≡ suc (trees_size (kids_from (trees_of c.in-Partition.kids.items))) = ap tree_size seen in
+    let below : trees_size (kids_from (trees_of c.deref-in-Partition.result.now)) ≡ trees_size (kids_from (trees_of c.in-Partition.kids.items)) = ap (λ ks. trees_size (kids_from (trees_of ks))) same in (
+      omega (arith, size, below),
+      subst (λ ks. AreReady c.args.next.now (λ _. c.args.form.now) 0 (kids_from (trees_of ks))) (sym same)
+          (kids_ready c.args.next.now c.args.form.now top (kids_from (trees_of c.in-Partition.kids.items)) (subst (IsReady c.args.next.now c.args.form.now) seen c.requires)),
+    )
+
+pub node_of-partition_of-requires-clause-can : goal.node_of-partition_of-requires-clause-can
+node_of-partition_of-requires-clause-can t c =
+    ready_can c.args.next.now c.args.form.now (heads.Partition c.in-Partition.name c.in-Partition.bounds) _ (subst (IsReady c.args.next.now c.args.form.now) (seen_partition c.args.term.now c.in-Partition.name c.in-Partition.bounds c.in-Partition.kids c.in-Partition.is) c.requires)
 
 pub node_of-returns-in_ok-nodes-in-Partition-clause-tree : goal.node_of-returns-in_ok-nodes-in-Partition-clause-tree
 node_of-returns-in_ok-nodes-in-Partition-clause-tree t c =

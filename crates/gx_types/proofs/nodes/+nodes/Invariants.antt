@@ -5,7 +5,7 @@ use Rattle.gx_stack.specs.declared.node.Node.{Node}
 use Rattle.gx_stack.specs.Seen.{tree_of as node_tree, kids_from as node_kids}
 use Rattle.gx_types.specs.declared.any.AnyMapping.{AnyMapping}
 use Rattle.gx_types.specs.Build.{leaf_counts, AreTreesOf, AreReady}
-use Rattle.gx_types.proofs.TermSize.{tree_size, trees_size}
+use Rattle.gx_typing.proofs.TermSize.{tree_size, trees_size}
 use Rattle.gx_types.proofs.nodes.+nodes.Given as goal
 
 abbrev pub decreases-node_of : goal.decreases-node_of

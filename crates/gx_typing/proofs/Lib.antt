@@ -1,0 +1,10 @@
+pub mod Missing
+pub mod NarrowLaws
+pub mod Onward
+pub mod PlaceLaws
+pub mod RowLaws
+pub mod SchemaLaws
+pub mod SeenAs
+pub mod TermSize
+pub mod TypedLaws
+pub mod TypingSteps

@@ -1,0 +1,17 @@
+//! Typing: which equations can be carried out under a schema, and which leaves they have.
+#![tactic(auto)]
+
+mod dues;
+mod fields;
+mod forms;
+mod reasons;
+mod rows;
+mod sides;
+mod terms;
+mod typing;
+mod whole;
+
+pub use dues::file_form;
+pub use reasons::{TypeWhy, Untyped};
+pub use typing::{Owners, Specs, Typing, root_pages, smallest_device};
+pub use whole::typed;

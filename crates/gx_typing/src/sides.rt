@@ -1,0 +1,119 @@
+// Typing of sides.
+ghost use Rattle.std.specs.Prelude.{◌≡◌, IfOk};
+ghost use Rattle.gx_equation.specs.Seen.{side_of};
+ghost use Rattle.gx_typing.specs.Forms.{array_form, ring_form, inverted_form};
+ghost use Rattle.gx_typing.specs.Narrow.{narrow};
+ghost use Rattle.gx_typing.specs.Sides.{link_typed, side_typed};
+ghost use Rattle.gx_typing.specs.Typing.{Answers};
+
+use crate::dues::Stored;
+use crate::fields::key_width;
+use crate::forms::make_field;
+use crate::reasons::{TypeWhy, Untyped};
+use crate::terms::{behind, both_typed, here, term_typed};
+use crate::typing::Typing;
+use gx_equation::Side;
+use gx_values::{Fields, Form, Kind};
+use std::alloc::{AllocError, Global};
+
+/// The most members of an owner in a link.
+const MOST_MEMBERS: u16 = 500;
+
+// The form of the child of `array`: an owner, and the keys of its members.
+fn array_form(alloc: Global, owner: Kind, member: Kind) -> Result<Form, AllocError>
+    ensures { IfOk result (λ made. narrow made ≡ narrow (array_form owner member)) }
+{
+    let members = Kind::Bytes(key_width(member).saturating_mul(MOST_MEMBERS));
+    Ok(Form {
+        keys: Fields(vec![in alloc; make_field(b"owner", owner)]?),
+        fields: Fields(vec![in alloc; make_field(b"members", members)]?),
+    })
+}
+
+// The forms of the children of `ring`: an owner and its first member, and a member and the next one.
+fn ring_forms(alloc: Global, owner: Kind, member: Kind) -> Result<(Form, Form), AllocError>
+    ensures { IfOk result (λ made. (narrow made.0 ≡ narrow (ring_form owner member 0)) × (narrow made.1 ≡ narrow (ring_form owner member 1))) }
+{
+    let next = Kind::Bytes(key_width(owner).max(key_width(member)));
+    let firsts = Form {
+        keys: Fields(vec![in alloc; make_field(b"owner", owner)]?),
+        fields: Fields(vec![in alloc; make_field(b"first", member)]?),
+    };
+    let nexts = Form {
+        keys: Fields(vec![in alloc; make_field(b"member", member)]?),
+        fields: Fields(vec![in alloc;
+            make_field(b"last", Kind::Int),
+            make_field(b"next", next),
+            make_field(b"owner", owner),
+        ]?),
+    };
+    Ok((firsts, nexts))
+}
+
+// The forms of the children of `inverted`: an owner with a member, and a member and its owner.
+fn inverted_forms(alloc: Global, owner: Kind, member: Kind) -> Result<(Form, Form), AllocError>
+    ensures { IfOk result (λ made. (narrow made.0 ≡ narrow (inverted_form owner member 0)) × (narrow made.1 ≡ narrow (inverted_form owner member 1))) }
+{
+    let pairs = Form {
+        keys: Fields(vec![in alloc; make_field(b"owner", owner), make_field(b"member", member)]?),
+        fields: Fields(Vec::new(alloc)),
+    };
+    let owners = Form {
+        keys: Fields(vec![in alloc; make_field(b"member", member)]?),
+        fields: Fields(vec![in alloc; make_field(b"owner", owner)]?),
+    };
+    Ok((pairs, owners))
+}
+
+// A side where that of a link is due, by the kinds of the keys of its owner file and of its member file.
+fn link_typed<'a>(
+    alloc: Global,
+    number: u16,
+    kinds: (Kind, Kind),
+    side: &Side,
+    lines: &'a [u32],
+    typing: &mut Typing,
+) -> Result<&'a [u32], Untyped>
+    ensures { Answers (λ r. (r.now, typing.new)) result (link_typed number kinds.0 kinds.1 (side_of side.now) lines.now typing.old) }
+{
+    let (owner, member) = kinds;
+    match side {
+        Side::File(_) => Err(Untyped::Mistyped(here(lines), TypeWhy::Linkset)),
+        Side::Array(members) => {
+            let form = array_form(alloc, owner, member)?;
+            term_typed(alloc, number, &form, members, behind(lines), typing)
+        }
+        Side::Ring(firsts, nexts) => {
+            let forms = ring_forms(alloc, owner, member)?;
+            both_typed(alloc, number, &forms, firsts, nexts, behind(lines), typing)
+        }
+        Side::Inverted(pairs, owners) => {
+            let forms = inverted_forms(alloc, owner, member)?;
+            both_typed(alloc, number, &forms, pairs, owners, behind(lines), typing)
+        }
+    }
+}
+
+/// The side of the definition with the number, for what is due: its leaves stand behind those before it, and the result is the
+/// lines that are left. `Mistyped` and `NoMemory` come as for a term; `Linkset` comes first where a file has the side of a
+/// link, or a link has none.
+pub fn side_typed<'a>(
+    alloc: Global,
+    number: u16,
+    stored: &Stored,
+    side: &Side,
+    lines: &'a [u32],
+    typing: &mut Typing,
+) -> Result<&'a [u32], Untyped>
+    ensures { Answers (λ r. (r.now, typing.new)) result (side_typed number stored.now (side_of side.now) lines.now typing.old) }
+{
+    match stored {
+        Stored::File(form) => match side {
+            Side::File(term) => term_typed(alloc, number, form, term, lines, typing),
+            _ => Err(Untyped::Mistyped(here(lines), TypeWhy::Linkset)),
+        },
+        Stored::Link(owner, member) => {
+            link_typed(alloc, number, (*owner, *member), side, lines, typing)
+        }
+    }
+}
