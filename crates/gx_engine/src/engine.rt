@@ -14,9 +14,9 @@ ghost use Rattle.gx_engine.specs.Internal.{IsTreeFor};
 
 use crate::listing::found_text;
 use crate::records::{delete_record, find_record, insert_record, reorganize_file, update_record};
-use crate::texts::{commit_line, record_line};
 use gx_device::Failed;
 use gx_ports::{Leaves, Stop};
+use gx_rows::{commit_line, record_line};
 use gx_schema::{FileDef, Schema};
 use gx_script::{Changes, Command, Find};
 use gx_stack::Node;

@@ -5,8 +5,6 @@ mod engine;
 mod listing;
 mod places;
 mod records;
-mod rows;
 mod scan;
-mod texts;
 
 pub use engine::{Engine, StepStop};

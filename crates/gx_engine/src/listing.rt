@@ -12,10 +12,9 @@ ghost use Rattle.gx_engine.specs.Entries.{IsPlaceOf, rows_at};
 
 use crate::places::{Place, places_of};
 use crate::records::NO_BLOCK;
-use crate::rows::{Row, sort_rows};
 use crate::scan::add_chosen_rows;
-use crate::texts::records_text;
 use gx_ports::{Entries, Leaves, Stop};
+use gx_rows::{Row, records_text, sort_rows};
 use gx_schema::FileDef;
 use gx_script::{Cond, Find};
 use gx_stack::Node;

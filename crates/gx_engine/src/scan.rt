@@ -19,9 +19,9 @@ ghost use Rattle.gx_engine.specs.Entries.{entry_of_row, wrapped};
 ghost use Rattle.gx_engine.specs.Scan.{value_of};
 
 use crate::records::data_fields;
-use crate::rows::Row;
 use gx_actual::read_body;
 use gx_ports::Entries;
+use gx_rows::Row;
 use gx_schema::FileDef;
 use gx_script::Cond;
 use gx_values::{Field, Kind, NoMemory, Op, Value, read_value_key};

@@ -7,12 +7,13 @@ use Rattle.gx_script.specs.declared.command.Command.TheVariants as command
 use Rattle.gx_script.specs.declared.command.LineWhy.{LineWhy}
 use Rattle.gx_script.specs.declared.command.OrderBy.{OrderBy}
 use Rattle.gx_script.specs.Commands.{place_reason}
+use Rattle.gx_script.specs.Lines.{script_lines}
 use Rattle.gx_script.proofs.ReadingLaws.{one_reading}
 use Rattle.gx_schema.specs.declared.schema.FileDef.{FileDef}
-use Rattle.gx_model.specs.States.{State, File, Row}
+use Rattle.gx_model.specs.States.{State, File, Row, empty_state}
 use Rattle.gx_model.specs.Texts.{rows_text}
 use Rattle.gx_model.specs.Commands.{Refusal, refusal_of, IsListText, IsReply, IsAnswerOr, IsAnswer}
-use Rattle.gx_model.specs.Play.{Playing, End, is_inside, next_of, seen_state, IsAnswered, IsStopped, IsPlacedLine, IsPlayedLine, IsPlayed}
+use Rattle.gx_model.specs.Play.{Playing, End, is_inside, next_of, seen_state, IsAnswered, IsStopped, IsPlacedLine, IsPlayedLine, IsPlayed, IsPlayText, start_at, end_text}
 use Rattle.gx_model.proofs.ListedLemmas.{listed_once}
 
 both : {A : Type 0} {x a b : A} → a ≡ x → b ≡ x → a ≡ b
@@ -92,3 +93,8 @@ played_once schema last p (line ∷ lines) stop a b final other end close x y =
     line_once schema p (last + 1) final other end close (λ q more. IsPlayed schema (last + 1) q lines stop more final end) (λ q more. IsPlayed schema (last + 1) q lines stop more other close)
     (λ q t u v w. played_once schema (last + 1) q lines stop t u final other end close v w) y.0 a b
     (subst (λ (r : Result Command LineWhy). IsPlayedLine r schema p (last + 1) (λ q more. IsPlayed schema (last + 1) q lines stop more final end) a final end) read x.2) y.2
+
+pub one_text : (schema : Schema) (script a b : List ℕ) → IsPlayText schema script a → IsPlayText schema script b → a ≡ b
+one_text schema script a b p q =
+    let same = played_once schema 0 (start_at (empty_state schema)) (script_lines script).lines (script_lines script).stop p.answers q.answers p.final q.final p.end q.end p.played q.played in
+    p.is ∙ (λ i. same.0 i ++ end_text (same.2 i)) ∙ sym q.is

@@ -3,5 +3,3 @@ pub mod Found
 pub mod Texts
 pub mod Commands
 pub mod Play
-pub mod Codes
-pub mod Plain

@@ -1,16 +1,7 @@
-//! The abstract database: states, what commands answer and change, and the play of a script. Most of
-//! it is definitions, in `specs/`, that the contracts of the engine and of the program cite; beside
-//! them stands a plain, slow program that plays a script and says exactly what they give.
+//! The abstract database: states, what commands answer and change, and the play of a script. It is
+//! definitions, in `specs/`, that the contracts of the engine and of the program cite, and laws of them.
 #![tactic(auto)]
 
-mod changes;
-mod links;
-mod listing;
-mod plain;
-mod refusals;
-mod replies;
-mod rows;
-mod state;
-mod texts;
+mod laws;
 
-pub use plain::play;
+pub use laws::one_play_text;

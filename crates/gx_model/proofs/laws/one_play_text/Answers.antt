@@ -1,0 +1,5 @@
+use Rattle.gx_model.proofs.PlayLemmas.{one_text}
+use Rattle.gx_model.proofs.laws.one_play_text.Goals as goal
+
+pub returns : goal.returns
+returns c script text other is also = one_text c.args.schema.now script text other is also

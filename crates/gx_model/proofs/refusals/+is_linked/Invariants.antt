@@ -1,5 +1,0 @@
-use Rattle.std.proofs.Common.{length}
-use Rattle.gx_model.proofs.refusals.+is_linked.Given as goal
-
-abbrev pub decreases-is_linked : goal.decreases-is_linked
-decreases-is_linked l = length l.defs.now

@@ -1,5 +1,0 @@
-use Rattle.gx_model.proofs.MapLemmas.{empty_view}
-use Rattle.gx_model.proofs.rows.PlainFile.new.Goals as goal
-
-pub returns : goal.returns
-returns c = empty_view _ c.new.ensures.items

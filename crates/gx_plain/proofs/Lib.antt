@@ -1,0 +1,4 @@
+pub mod MapLemmas
+pub mod ChangeLemmas
+pub mod CommandLemmas
+pub mod LineLemmas

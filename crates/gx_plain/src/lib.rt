@@ -1,0 +1,14 @@
+//! A plain, slow program that plays a script on the abstract database, and says exactly what its
+//! definitions give. The tests compare the engine with it.
+#![tactic(auto)]
+
+mod changes;
+mod files;
+mod links;
+mod listing;
+mod plain;
+mod refusals;
+mod replies;
+mod state;
+
+pub use plain::play;
