@@ -68,6 +68,6 @@ actual_laws form short = record {
   keys_lead = λ c lt rest. ([], sym (append-nil form.keys));
   key_leads = λ r p is there rest. ([], ap (λ (x : Part). x.rec.key) (the_one p (actual_part r) there) ∙ sym (append-nil r.key));
   skipped = λ r p span is there skips. cc;
-  carried = λ name c r lt carries is. cc;
+  carried = λ name c lt carries. cc;
   indexed = λ name c is. cc;
 }
