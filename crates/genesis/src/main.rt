@@ -4,6 +4,7 @@
 ghost use Rattle.std.specs.Prelude.{◌≡◌};
 ghost use Rattle.genesis.specs.Codes.{code};
 
+mod drive;
 mod files;
 mod machine;
 

@@ -1,5 +1,5 @@
 use crate::machine::HostMachine;
-use gx_device::{Device, FetchStop, Machine};
+use gx_device::{AttachStop, Device, FetchStop, Machine};
 use std::test::Fail;
 use std::{env, fs, process};
 
@@ -28,5 +28,40 @@ fn the_machine_is_the_host(rt: HostRuntime) -> Result<(), Fail> {
     assert_eq!(rt; machine.say(b"said\n"), Ok(5));
     let mut piece = [0u8; 8];
     assert!(rt; machine.hear(&mut piece).is_ok());
+    Ok(())
+}
+
+// A device is made once, keeps what was written, and is attached by one machine at a time.
+#[test]
+fn a_device_is_a_file(rt: HostRuntime) -> Result<(), Fail> {
+    let alloc = rt.alloc();
+    let file = format!(in alloc; "genesis-device-{}", process::id(rt.process()))?;
+    let path = env::temp_dir(&rt)?.join(alloc, &file)?;
+    let name = path.to_str().unwrap_or("");
+    let mut block = [7u8; 4096];
+    {
+        let mut machine = HostMachine::new(&rt);
+        assert_eq!(rt; machine.attach(alloc, name, None), Err(AttachStop::Missing));
+        assert_eq!(rt; machine.blocks(), 0);
+        assert_eq!(rt; machine.attach(alloc, name, Some(3)), Ok(()));
+        assert_eq!(rt; machine.blocks(), 3);
+        if machine.blocks() > 2 {
+            assert!(rt; machine.write_block(2, &block).is_ok());
+        }
+        assert!(rt; machine.sync().is_ok());
+        let mut other = HostMachine::new(&rt);
+        assert_eq!(rt; other.attach(alloc, name, Some(3)), Err(AttachStop::Exists));
+        assert_eq!(rt; other.attach(alloc, name, None), Err(AttachStop::Fault));
+    }
+    let mut machine = HostMachine::new(&rt);
+    assert_eq!(rt; machine.attach(alloc, name, None), Ok(()));
+    if machine.blocks() > 2 {
+        assert!(rt; machine.read_block(0, &mut block).is_ok());
+        assert_eq!(rt; block[0], 0);
+        assert!(rt; machine.read_block(2, &mut block).is_ok());
+        assert_eq!(rt; block[4095], 7);
+    }
+    fs::remove_file(&rt, name)?;
+    assert_eq!(rt; machine.attach(alloc, "/", None), Err(AttachStop::Missing));
     Ok(())
 }
