@@ -12,21 +12,22 @@ use Rattle.gx_script.specs.declared.command.LineWhy.TheVariants as why
 use Rattle.gx_script.specs.Commands.{place_reason}
 use Rattle.gx_script.specs.Lines.{Lines, Parts, with_line, no_lines, with_byte, parts_of, without_cr, last_line, up_to_limit, lines_within, longest_line, longest_script, script_lines, stopped as stopped_lines}
 use Rattle.gx_script.specs.Reading.{IsReading}
-use Rattle.gx_ports.specs.LeafMaps.{LeafMap, Limits, IsCrowdedBy}
+use Rattle.gx_ports.specs.LeafMaps.{Limits, IsCrowdedBy}
+use Rattle.gx_ports.specs.declared.view.View.{Ghosts}
 use Rattle.gx_ports.specs.declared.stop.Stop.{Stop}
 use Rattle.gx_model.specs.Play.{Playing, End, stopped, end_at, is_inside, next_of, IsAnswered, IsPlayed, IsPlacedLine}
 use Rattle.gx_engine.specs.declared.engine.Engine.{Engine}
-use Rattle.gx_engine.specs.Steps.{schema_of, leaves_of, is_open, IsDue}
+use Rattle.gx_engine.specs.Steps.{schema_of, leaves_of, is_open, IsDue, IsAt}
 use Rattle.gx_ports.specs.declared.stop.Stop.TheVariants as stop
 use Rattle.gx_top.specs.declared.play.LineEnd.{LineEnd}
 use Rattle.gx_top.specs.declared.play.LineEnd.TheVariants as line_end
 use Rattle.gx_top.specs.declared.play.PlayEnd.{PlayEnd}
 use Rattle.gx_top.specs.declared.play.PlayEnd.TheVariants as play_end
-use Rattle.gx_top.specs.Plays.{IsAt, IsLinePlayed, IsLineCut, IsCommandCut, HasPlayCause, IsBadLine, IsPlayedUp, IsPlayedPart, IsPlayedTo, IsLineEnd, IsSoFar}
+use Rattle.gx_top.specs.Plays.{IsLinePlayed, IsLineCut, IsCommandCut, HasPlayCause, IsBadLine, IsPlayedUp, IsPlayedPart, IsPlayedTo, IsLineEnd, IsSoFar}
 
 -- no line was played yet
-pub at_start : {S : Type 0} (working kept : S → List LeafMap) (whole kept_whole : S → Type 0) (content : S → Content) (start : Playing) (all : Lines) (e : Engine S) → IsAt working kept whole kept_whole start e → IsSoFar working kept whole kept_whole content start all all 0 e e
-at_start working kept whole kept_whole content start all e at = record {
+pub at_start : {S : Type 0} (g : Ghosts S) (start : Playing) (all : Lines) (e : Engine S) → IsAt g start e → IsSoFar g start all all 0 e e
+at_start g start all e at = record {
   now = start;
   answers = [];
   at = at;
@@ -48,11 +49,11 @@ line_on schema number p line lines stop command answer more final end read place
 )
 
 -- one more line was played
-pub after_line : {S : Type 0} (working kept : S → List LeafMap) (whole kept_whole : S → Type 0) (content : S → Content) (tells : Bool) (start : Playing) (all before left : Lines) (number : ℕ) (line : List ℕ) (old e new : Engine S) → schema_of e ≡ schema_of old → before ≡ with_line line left → IsTrue tells → (so : IsSoFar working kept whole kept_whole content start all before number old e) → IsLinePlayed working kept whole kept_whole content tells so.now line e new → IsSoFar working kept whole kept_whole content start all left (number + 1) old new
-after_line working kept whole kept_whole content tells start all before left number line old e new schema_is before_is told so played = record {
+pub after_line : {S : Type 0} (g : Ghosts S) (start : Playing) (all before left : Lines) (number : ℕ) (line : List ℕ) (old e new : Engine S) → schema_of e ≡ schema_of old → before ≡ with_line line left → IsTrue g.tells → (so : IsSoFar g start all before number old e) → IsLinePlayed g so.now line e new → IsSoFar g start all left (number + 1) old new
+after_line g start all before left number line old e new schema_is before_is told so played = record {
   now = next_of (schema_of old) so.now played.command;
   answers = so.answers ++ played.played.answer;
-  at = subst (λ s. IsAt working kept whole kept_whole (next_of s so.now played.command) new) schema_is played.played.at;
+  at = subst (λ s. IsAt g (next_of s so.now played.command) new) schema_is played.played.at;
   said = played.played.said told ∙ ap (λ t. t ++ played.played.answer) so.said ∙ append_assoc _ so.answers played.played.answer;
   done = so.done ++ line ∷ [];
   many = length-append so.done (line ∷ []) ∙ ap (λ n. n + 1) so.many;
@@ -68,27 +69,27 @@ after_line working kept whole kept_whole content tells start all before left num
 }
 
 -- the play ends, and nothing more was said
-ended : {S : Type 0} (working kept : S → List LeafMap) (whole kept_whole : S → Type 0) (content : S → Content) (start : Playing) (all left : Lines) (number : ℕ) (old e : Engine S) (now : Content) (end : End) → (so : IsSoFar working kept whole kept_whole content start all left number old e) → now.now.said ≡ (content (leaves_of e)).now.said → IsPlayed (schema_of old) number so.now left.lines left.stop [] so.now end → IsPlayedUp (schema_of old) start all (content (leaves_of old)) now end
-ended working kept whole kept_whole content start all left number old e now end so unsaid played = record {
+ended : {S : Type 0} (g : Ghosts S) (start : Playing) (all left : Lines) (number : ℕ) (old e : Engine S) (now : Content) (end : End) → (so : IsSoFar g start all left number old e) → now.now.said ≡ (g.content (leaves_of e)).now.said → IsPlayed (schema_of old) number so.now left.lines left.stop [] so.now end → IsPlayedUp (schema_of old) start all (g.content (leaves_of old)) now end
+ended g start all left number old e now end so unsaid played = record {
   text = so.answers ++ [];
   final = so.now;
   played =
       subst (λ s. IsPlayed (schema_of old) 0 start all.lines s (so.answers ++ []) so.now end) (sym so.stop_is)
       (subst (λ ls. IsPlayed (schema_of old) 0 start ls left.stop (so.answers ++ []) so.now end) (sym so.lines_are) (so.goes_on left.lines left.stop [] so.now end played));
-  said = unsaid ∙ so.said ∙ ap (λ t. (content (leaves_of old)).now.said ++ t) (sym (append-nil so.answers));
+  said = unsaid ∙ so.said ∙ ap (λ t. (g.content (leaves_of old)).now.said ++ t) (sym (append-nil so.answers));
 }
 
 -- at its end, where no transaction is open or one is
-pub at_end : {S : Type 0} (working kept : S → List LeafMap) (whole kept_whole : S → Type 0) (content : S → Content) (start : Playing) (all left : Lines) (number : ℕ) (old e : Engine S) (at : Bool) → IsSoFar working kept whole kept_whole content start all left number old e → left ≡ no_lines → is_open e ≡ at → IsPlayedUp (schema_of old) start all (content (leaves_of old)) (content (leaves_of e)) (end_at number at)
-at_end working kept whole kept_whole content start all left number old e at so left_is open_is =
-    ended working kept whole kept_whole content start all left number old e (content (leaves_of e)) (end_at number at) so refl
+pub at_end : {S : Type 0} (g : Ghosts S) (start : Playing) (all left : Lines) (number : ℕ) (old e : Engine S) (at : Bool) → IsSoFar g start all left number old e → left ≡ no_lines → is_open e ≡ at → IsPlayedUp (schema_of old) start all (g.content (leaves_of old)) (g.content (leaves_of e)) (end_at number at)
+at_end g start all left number old e at so left_is open_is =
+    ended g start all left number old e (g.content (leaves_of e)) (end_at number at) so refl
     (subst (λ ls. IsPlayed (schema_of old) number so.now ls.lines ls.stop [] so.now (end_at number at)) (sym left_is)
     (refl, refl, ap (end_at number) (sym open_is ∙ so.at.stands.inside_same)))
 
 -- where the line behind can't be had
-pub at_stop : {S : Type 0} (working kept : S → List LeafMap) (whole kept_whole : S → Type 0) (content : S → Content) (start : Playing) (all left : Lines) (number n : ℕ) (reason : LineWhy) (old e : Engine S) → IsSoFar working kept whole kept_whole content start all left number old e → n ≡ number + 1 → left ≡ stopped_lines reason → IsPlayedUp (schema_of old) start all (content (leaves_of old)) (content (leaves_of e)) (stopped n reason)
-at_stop working kept whole kept_whole content start all left number n reason old e so n_is left_is =
-    ended working kept whole kept_whole content start all left number old e (content (leaves_of e)) (stopped n reason) so refl
+pub at_stop : {S : Type 0} (g : Ghosts S) (start : Playing) (all left : Lines) (number n : ℕ) (reason : LineWhy) (old e : Engine S) → IsSoFar g start all left number old e → n ≡ number + 1 → left ≡ stopped_lines reason → IsPlayedUp (schema_of old) start all (g.content (leaves_of old)) (g.content (leaves_of e)) (stopped n reason)
+at_stop g start all left number n reason old e so n_is left_is =
+    ended g start all left number old e (g.content (leaves_of e)) (stopped n reason) so refl
     (subst (λ ls. IsPlayed (schema_of old) number so.now ls.lines ls.stop [] so.now (stopped n reason)) (sym left_is)
     (record { none = refl; final_is = refl; end_is = ap (λ k. stopped k reason) n_is }))
 
@@ -102,9 +103,9 @@ bad_on schema number p line lines stop reason (inr bad) = (
       (record { none = refl; final_is = refl; end_is = refl }),
 )
 
-pub at_bad_line : {S : Type 0} (working kept : S → List LeafMap) (whole kept_whole : S → Type 0) (content : S → Content) (start : Playing) (all before left : Lines) (number : ℕ) (line : List ℕ) (reason : LineWhy) (old e : Engine S) (now : Content) → schema_of e ≡ schema_of old → before ≡ with_line line left → IsSoFar working kept whole kept_whole content start all before number old e → now.now.said ≡ (content (leaves_of e)).now.said → IsBadLine (schema_of e) (is_open e) line reason → IsPlayedUp (schema_of old) start all (content (leaves_of old)) now (stopped (number + 1) reason)
-at_bad_line working kept whole kept_whole content start all before left number line reason old e now schema_is before_is so unsaid bad =
-    ended working kept whole kept_whole content start all before number old e now (stopped (number + 1) reason) so unsaid
+pub at_bad_line : {S : Type 0} (g : Ghosts S) (start : Playing) (all before left : Lines) (number : ℕ) (line : List ℕ) (reason : LineWhy) (old e : Engine S) (now : Content) → schema_of e ≡ schema_of old → before ≡ with_line line left → IsSoFar g start all before number old e → now.now.said ≡ (g.content (leaves_of e)).now.said → IsBadLine (schema_of e) (is_open e) line reason → IsPlayedUp (schema_of old) start all (g.content (leaves_of old)) now (stopped (number + 1) reason)
+at_bad_line g start all before left number line reason old e now schema_is before_is so unsaid bad =
+    ended g start all before number old e now (stopped (number + 1) reason) so unsaid
     (subst (λ ls. IsPlayed (schema_of old) number so.now ls.lines ls.stop [] so.now (stopped (number + 1) reason)) (sym before_is)
     (bad_on (schema_of old) number so.now line left.lines left.stop reason
     (subst (λ s. IsBadLine s (is_inside so.now) line reason) schema_is (subst (λ i. IsBadLine (schema_of e) i line reason) so.at.stands.inside_same bad))))
@@ -112,9 +113,9 @@ at_bad_line working kept whole kept_whole content start all before left number l
 -- ---- a line that is given up
 
 -- the answers of the lines before it
-part_before : {S : Type 0} (working kept : S → List LeafMap) (whole kept_whole : S → Type 0) (content : S → Content) (start : Playing) (all before : Lines) (number : ℕ) (old e : Engine S) (now : Content) (why : Stop) → IsSoFar working kept whole kept_whole content start all before number old e → now.now.said ≡ (content (leaves_of e)).now.said → IsPlayedPart (schema_of old) start all (content (leaves_of old)) now why
-part_before working kept whole kept_whole content start all before number old e now why so unsaid =
-    let said : now.now.said ≡ (content (leaves_of old)).now.said ++ (so.answers ++ []) = unsaid ∙ so.said ∙ ap (λ t. (content (leaves_of old)).now.said ++ t) (sym (append-nil so.answers)) in
+part_before : {S : Type 0} (g : Ghosts S) (start : Playing) (all before : Lines) (number : ℕ) (old e : Engine S) (now : Content) (why : Stop) → IsSoFar g start all before number old e → now.now.said ≡ (g.content (leaves_of e)).now.said → IsPlayedPart (schema_of old) start all (g.content (leaves_of old)) now why
+part_before g start all before number old e now why so unsaid =
+    let said : now.now.said ≡ (g.content (leaves_of old)).now.said ++ (so.answers ++ []) = unsaid ∙ so.said ∙ ap (λ t. (g.content (leaves_of old)).now.said ++ t) (sym (append-nil so.answers)) in
     record {
       count = length so.done;
       text = so.answers ++ [];
@@ -124,13 +125,13 @@ part_before working kept whole kept_whole content start all before number old e 
           subst (λ ls. IsPlayed (schema_of old) 0 start ls None (so.answers ++ []) so.now (end_at number (is_inside so.now)))
           (append-nil so.done ∙ sym (take-append_seam so.done before.lines) ∙ ap (λ ls. take (length so.done) ls) (sym so.lines_are))
           (so.goes_on [] None [] so.now (end_at number (is_inside so.now)) (refl, refl, refl));
-      front = (length (so.answers ++ []), said ∙ ap (λ t. (content (leaves_of old)).now.said ++ t) (sym (take_all (length (so.answers ++ [])) (so.answers ++ []) (omega arith))));
+      front = (length (so.answers ++ []), said ∙ ap (λ t. (g.content (leaves_of old)).now.said ++ t) (sym (take_all (length (so.answers ++ [])) (so.answers ++ []) (omega arith))));
       whole = λ _. said;
     }
 
 -- the same, and a front of its own
-part_within : {S : Type 0} (working kept : S → List LeafMap) (whole kept_whole : S → Type 0) (content : S → Content) (start : Playing) (all before left : Lines) (number : ℕ) (line : List ℕ) (command : Command) (answer : List ℕ) (n : ℕ) (old e : Engine S) (now : Content) → before ≡ with_line line left → (so : IsSoFar working kept whole kept_whole content start all before number old e) → IsReading (schema_of old) line (Ok command) → place_reason (is_inside so.now) command ≡ None → IsAnswered (schema_of old) so.now command answer → now.now.said ≡ (content (leaves_of e)).now.said ++ take n answer → IsPlayedPart (schema_of old) start all (content (leaves_of old)) now stop.Fault
-part_within working kept whole kept_whole content start all before left number line command answer n old e now before_is so read placed answered said = record {
+part_within : {S : Type 0} (g : Ghosts S) (start : Playing) (all before left : Lines) (number : ℕ) (line : List ℕ) (command : Command) (answer : List ℕ) (n : ℕ) (old e : Engine S) (now : Content) → before ≡ with_line line left → (so : IsSoFar g start all before number old e) → IsReading (schema_of old) line (Ok command) → place_reason (is_inside so.now) command ≡ None → IsAnswered (schema_of old) so.now command answer → now.now.said ≡ (g.content (leaves_of e)).now.said ++ take n answer → IsPlayedPart (schema_of old) start all (g.content (leaves_of old)) now stop.Fault
+part_within g start all before left number line command answer n old e now before_is so read placed answered said = record {
   count = length (so.done ++ line ∷ []);
   text = so.answers ++ (answer ++ []);
   final = after;
@@ -154,26 +155,26 @@ part_within working kept whole kept_whole content start all before left number l
         sym (take-append_seam (so.done ++ line ∷ []) left.lines)
         ∙ ap (λ ls. take (length (so.done ++ line ∷ [])) ls) (append_assoc so.done (line ∷ []) left.lines ∙ sym (so.lines_are ∙ ap (λ (ls : Lines). so.done ++ ls.lines) before_is))
 
-    said_front : now.now.said ≡ (content (leaves_of old)).now.said ++ take (length so.answers + n) (so.answers ++ (answer ++ []))
+    said_front : now.now.said ≡ (g.content (leaves_of old)).now.said ++ take (length so.answers + n) (so.answers ++ (answer ++ []))
     said_front =
-        said ∙ ap (λ t. t ++ take n answer) so.said ∙ append_assoc (content (leaves_of old)).now.said so.answers (take n answer)
-        ∙ ap (λ t. (content (leaves_of old)).now.said ++ t) (ap (λ t. so.answers ++ take n t) (sym (append-nil answer)) ∙ sym (take-append-add so.answers (answer ++ []) n))
+        said ∙ ap (λ t. t ++ take n answer) so.said ∙ append_assoc (g.content (leaves_of old)).now.said so.answers (take n answer)
+        ∙ ap (λ t. (g.content (leaves_of old)).now.said ++ t) (ap (λ t. so.answers ++ take n t) (sym (append-nil answer)) ∙ sym (take-append-add so.answers (answer ++ []) n))
 
 -- after a fault a front of its answer may have been said
-pub at_fault : {S : Type 0} (working kept : S → List LeafMap) (whole kept_whole : S → Type 0) (content : S → Content) (start : Playing) (all before left : Lines) (number : ℕ) (line : List ℕ) (old e : Engine S) (now : Content) → schema_of e ≡ schema_of old → before ≡ with_line line left → (so : IsSoFar working kept whole kept_whole content start all before number old e) → IsLineCut (schema_of e) so.now line (content (leaves_of e)) now → IsPlayedPart (schema_of old) start all (content (leaves_of old)) now stop.Fault
-at_fault working kept whole kept_whole content start all before left number line old e now schema_is before_is so (inl unsaid) = part_before working kept whole kept_whole content start all before number old e now stop.Fault so unsaid
-at_fault working kept whole kept_whole content start all before left number line old e now schema_is before_is so (inr (command, read, placed, inl unsaid)) = part_before working kept whole kept_whole content start all before number old e now stop.Fault so unsaid
-at_fault working kept whole kept_whole content start all before left number line old e now schema_is before_is so (inr (command, read, placed, inr (answer, answered, (n, said)))) =
-    part_within working kept whole kept_whole content start all before left number line command answer n old e now before_is so
+pub at_fault : {S : Type 0} (g : Ghosts S) (start : Playing) (all before left : Lines) (number : ℕ) (line : List ℕ) (old e : Engine S) (now : Content) → schema_of e ≡ schema_of old → before ≡ with_line line left → (so : IsSoFar g start all before number old e) → IsLineCut (schema_of e) so.now line (g.content (leaves_of e)) now → IsPlayedPart (schema_of old) start all (g.content (leaves_of old)) now stop.Fault
+at_fault g start all before left number line old e now schema_is before_is so (inl unsaid) = part_before g start all before number old e now stop.Fault so unsaid
+at_fault g start all before left number line old e now schema_is before_is so (inr (command, read, placed, inl unsaid)) = part_before g start all before number old e now stop.Fault so unsaid
+at_fault g start all before left number line old e now schema_is before_is so (inr (command, read, placed, inr (answer, answered, (n, said)))) =
+    part_within g start all before left number line command answer n old e now before_is so
     (subst (λ s. IsReading s line (Ok command)) schema_is read) placed
     (subst (λ s. IsAnswered s so.now command answer) schema_is answered) said
 
 -- the same of every stop
-pub at_cut : {S : Type 0} (working kept : S → List LeafMap) (whole kept_whole : S → Type 0) (content : S → Content) (start : Playing) (all before left : Lines) (number : ℕ) (line : List ℕ) (why : Stop) (old e : Engine S) (now : Content) → schema_of e ≡ schema_of old → before ≡ with_line line left → (so : IsSoFar working kept whole kept_whole content start all before number old e) → (why ≢ stop.Fault → now.now.said ≡ (content (leaves_of e)).now.said) → IsLineCut (schema_of e) so.now line (content (leaves_of e)) now → IsPlayedPart (schema_of old) start all (content (leaves_of old)) now why
-at_cut working kept whole kept_whole content start all before left number line stop.Fault old e now schema_is before_is so unsaid cut = at_fault working kept whole kept_whole content start all before left number line old e now schema_is before_is so cut
-at_cut working kept whole kept_whole content start all before left number line stop.Full old e now schema_is before_is so unsaid cut = part_before working kept whole kept_whole content start all before number old e now stop.Full so (unsaid (λ f. cc))
-at_cut working kept whole kept_whole content start all before left number line stop.NoMemory old e now schema_is before_is so unsaid cut = part_before working kept whole kept_whole content start all before number old e now stop.NoMemory so (unsaid (λ f. cc))
-at_cut working kept whole kept_whole content start all before left number line (stop.Damaged block) old e now schema_is before_is so unsaid cut = part_before working kept whole kept_whole content start all before number old e now (stop.Damaged block) so (unsaid (λ f. cc))
+pub at_cut : {S : Type 0} (g : Ghosts S) (start : Playing) (all before left : Lines) (number : ℕ) (line : List ℕ) (why : Stop) (old e : Engine S) (now : Content) → schema_of e ≡ schema_of old → before ≡ with_line line left → (so : IsSoFar g start all before number old e) → (why ≢ stop.Fault → now.now.said ≡ (g.content (leaves_of e)).now.said) → IsLineCut (schema_of e) so.now line (g.content (leaves_of e)) now → IsPlayedPart (schema_of old) start all (g.content (leaves_of old)) now why
+at_cut g start all before left number line stop.Fault old e now schema_is before_is so unsaid cut = at_fault g start all before left number line old e now schema_is before_is so cut
+at_cut g start all before left number line stop.Full old e now schema_is before_is so unsaid cut = part_before g start all before number old e now stop.Full so (unsaid (λ f. cc))
+at_cut g start all before left number line stop.NoMemory old e now schema_is before_is so unsaid cut = part_before g start all before number old e now stop.NoMemory so (unsaid (λ f. cc))
+at_cut g start all before left number line (stop.Damaged block) old e now schema_is before_is so unsaid cut = part_before g start all before number old e now (stop.Damaged block) so (unsaid (λ f. cc))
 
 -- the cut of the command that the line means
 pub line_cut : {S : Type 0} (e : Engine S) (p : Playing) (line : List ℕ) (command : Command) (old new : Content) (out : Result (Unit {0}) LineEnd) → is_open e ≡ is_inside p → IsReading (schema_of e) line (Ok command) → IsDue e command → IsCommandCut (schema_of e) p command old new → OnErr out (IsLineCut (schema_of e) p line old new)
@@ -240,11 +241,11 @@ few_lines script = omega (arith, limit_few (parts_of (take 16777216 script)).end
     taken = subst (λ n. n ≤ 16777216) (sym (length-take 16777216 script)) (omega arith)
 
 -- the same for the end that is answered
-pub at_line_end : {S : Type 0} (working kept : S → List LeafMap) (whole kept_whole : S → Type 0) (content : S → Content) (start : Playing) (all left : Lines) (number : ℕ) (end : PlayEnd) (result : Result (Unit {0}) PlayEnd) (old e : Engine S) → IsSoFar working kept whole kept_whole content start all left number old e → result ≡ Err end → IsLineEnd left number end → IsPlayedTo (schema_of old) start all (content (leaves_of old)) (content (leaves_of e)) result
-at_line_end working kept whole kept_whole content start all left number (play_end.Line n reason) result old e so result_is is =
-    subst (λ r. IsPlayedTo (schema_of old) start all (content (leaves_of old)) (content (leaves_of e)) r) (sym result_is)
-    (at_stop working kept whole kept_whole content start all left number n reason old e so is.0 is.1)
-at_line_end working kept whole kept_whole content start all left number (play_end.Stop stop) result old e so result_is is = absurd is
+pub at_line_end : {S : Type 0} (g : Ghosts S) (start : Playing) (all left : Lines) (number : ℕ) (end : PlayEnd) (result : Result (Unit {0}) PlayEnd) (old e : Engine S) → IsSoFar g start all left number old e → result ≡ Err end → IsLineEnd left number end → IsPlayedTo (schema_of old) start all (g.content (leaves_of old)) (g.content (leaves_of e)) result
+at_line_end g start all left number (play_end.Line n reason) result old e so result_is is =
+    subst (λ r. IsPlayedTo (schema_of old) start all (g.content (leaves_of old)) (g.content (leaves_of e)) r) (sym result_is)
+    (at_stop g start all left number n reason old e so is.0 is.1)
+at_line_end g start all left number (play_end.Stop stop) result old e so result_is is = absurd is
 
 -- an error that is passed on as it is
 pub is_err : (r : Result (Unit {0}) PlayEnd) (end : PlayEnd) → IsErrAnd r (λ e. e ≡ end) → r ≡ Err end

@@ -1,8 +1,7 @@
 -- A piece that is said part by part.
 use Rattle.std.proofs.Common.{◌≡◌, ℕ, zero, suc, ◌+◌, ◌-◌, List, [], ◌∷◌, ◌++◌, length, take, drop, sym, ap, ◌∙◌, arith, append_assoc}
 use Rattle.std.proofs.lemmas.List.{drop-drop, take_all, length-drop}
-use Rattle.std.specs.Prelude.{Option}
-use Rattle.gx_ports.specs.LeafMaps.{LeafMap, Limits}
+use Rattle.gx_ports.specs.declared.view.View.{Ghosts}
 use Rattle.gx_engine.specs.declared.engine.Engine.{Engine}
 use Rattle.gx_engine.specs.Steps.{IsSame}
 
@@ -20,16 +19,21 @@ pub rest_more : (piece rest : List ℕ) (done n : ℕ) → rest ≡ drop done pi
 rest_more piece rest done n is = take_all (length rest - n) (drop n rest) (omega (arith, length-drop n rest)) ∙ ap (drop n) is ∙ drop-drop n done piece
 
 -- what stays the same twice stays the same
-pub same_again : {S : Type 0} (working kept : S → List LeafMap) (whole kept_whole : S → Type 0) (limit : S → Option Limits) (a b c : Engine S) → IsSame working kept whole kept_whole limit a b → IsSame working kept whole kept_whole limit b c → IsSame working kept whole kept_whole limit a c
-same_again working kept whole kept_whole limit a b c p q = record {
-  working_is = q.working_is ∙ p.working_is;
-  kept_is = q.kept_is ∙ p.kept_is;
-  whole_stays = λ w. q.whole_stays (p.whole_stays w);
-  kept_whole_stays = λ w. q.kept_whole_stays (p.kept_whole_stays w);
-  limit_is = q.limit_is ∙ p.limit_is;
-  schema_is = q.schema_is ∙ p.schema_is;
-  built_is = q.built_is ∙ p.built_is;
-  inside_is = q.inside_is ∙ p.inside_is;
-  commits_is = q.commits_is ∙ p.commits_is;
-  stop_is = q.stop_is ∙ p.stop_is;
+pub same_again : {S : Type 0} (g : Ghosts S) (a b c : Engine S) → IsSame g a b → IsSame g b c → IsSame g a c
+same_again g a b c p q = record {
+  talks = record {
+    working = q.talks.working ∙ p.talks.working;
+    whole = λ h. q.talks.whole (p.talks.whole h);
+    kept = q.talks.kept ∙ p.talks.kept;
+    kept_whole = (λ h. q.talks.kept_whole.0 (p.talks.kept_whole.0 h), λ h. p.talks.kept_whole.1 (q.talks.kept_whole.1 h));
+    work = q.talks.work ∙ p.talks.work;
+    limit = q.talks.limit ∙ p.talks.limit;
+    head = q.talks.head ∙ p.talks.head;
+    calm = λ s h. q.talks.calm s (p.talks.calm s h);
+  };
+  schema = q.schema ∙ p.schema;
+  built = q.built ∙ p.built;
+  inside = q.inside ∙ p.inside;
+  commits = q.commits ∙ p.commits;
+  stopped = q.stopped ∙ p.stopped;
 }

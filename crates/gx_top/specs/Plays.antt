@@ -8,13 +8,14 @@ use Rattle.gx_script.specs.declared.command.LineWhy.{LineWhy}
 use Rattle.gx_script.specs.Commands.{place_reason}
 use Rattle.gx_script.specs.Lines.{Lines, stopped as stopped_lines}
 use Rattle.gx_script.specs.Reading.{IsReading}
-use Rattle.gx_ports.specs.LeafMaps.{LeafMap, Limits, IsCrowdedBy}
+use Rattle.gx_ports.specs.LeafMaps.{Limits, IsCrowdedBy}
+use Rattle.gx_ports.specs.declared.view.View.{Ghosts}
 use Rattle.gx_ports.specs.Stops.{is_outside}
 use Rattle.gx_ports.specs.declared.stop.Stop.{Stop}
 use Rattle.gx_ports.specs.declared.stop.Stop.TheVariants as stop
 use Rattle.gx_model.specs.Play.{Playing, End, good, stopped, is_inside, next_of, IsAnswered, IsPlayed}
 use Rattle.gx_engine.specs.declared.engine.Engine.{Engine}
-use Rattle.gx_engine.specs.Steps.{StandsFor, schema_of, leaves_of}
+use Rattle.gx_engine.specs.Steps.{IsAt, schema_of, leaves_of}
 use Rattle.gx_top.specs.declared.play.LineEnd.{LineEnd}
 use Rattle.gx_top.specs.declared.play.LineEnd.TheVariants as line_end
 use Rattle.gx_top.specs.declared.play.PlayEnd.{PlayEnd}
@@ -24,25 +25,19 @@ use Rattle.gx_top.specs.declared.play.PlayEnd.TheVariants as play_end
 abbrev pub IsBadLine : Schema → Bool → List ℕ → LineWhy → Type 0
 IsBadLine schema inside line why = IsReading schema line (Err why) ⊎ ((command : Command) × IsReading schema line (Ok command) × (place_reason inside command ≡ Some why))
 
--- the engine stands for a moment of the play, and its leaves are whole
-pub record IsAt {S : Type 0} (working kept : S → List LeafMap) (whole kept_whole : S → Type 0) (p : Playing) (e : Engine S) : Type 0 where
-  pub stands : StandsFor working kept e p
-  pub whole_is : whole (leaves_of e)
-  pub kept_whole_is : kept_whole (leaves_of e)
-
 -- a command was carried out and its answer said, and the engine stands for what comes after it
-pub record IsCommandPlayed {S : Type 0} (working kept : S → List LeafMap) (whole kept_whole : S → Type 0) (content : S → Content) (tells : Bool) (p : Playing) (command : Command) (old new : Engine S) : Type 0 where
+pub record IsCommandPlayed {S : Type 0} (g : Ghosts S) (p : Playing) (command : Command) (old new : Engine S) : Type 0 where
   pub answer : List ℕ
   pub answered : IsAnswered (schema_of old) p command answer
-  pub at : IsAt working kept whole kept_whole (next_of (schema_of old) p command) new
-  pub said : IsTrue tells → (content (leaves_of new)).now.said ≡ (content (leaves_of old)).now.said ++ answer
+  pub at : IsAt g (next_of (schema_of old) p command) new
+  pub said : IsTrue g.tells → (g.content (leaves_of new)).now.said ≡ (g.content (leaves_of old)).now.said ++ answer
 
 -- the same of the command that a line means, which may stand there
-pub record IsLinePlayed {S : Type 0} (working kept : S → List LeafMap) (whole kept_whole : S → Type 0) (content : S → Content) (tells : Bool) (p : Playing) (line : List ℕ) (old new : Engine S) : Type 0 where
+pub record IsLinePlayed {S : Type 0} (g : Ghosts S) (p : Playing) (line : List ℕ) (old new : Engine S) : Type 0 where
   pub command : Command
   pub read : IsReading (schema_of old) line (Ok command)
   pub placed : place_reason (is_inside p) command ≡ None
-  pub played : IsCommandPlayed working kept whole kept_whole content tells p command old new
+  pub played : IsCommandPlayed g p command old new
 
 -- A command was given up: nothing was said, or a front of its answer.
 abbrev pub IsCommandCut : Schema → Playing → Command → Content → Content → Type 0
@@ -98,11 +93,11 @@ IsPlayedTo schema p lines old new (Err (play_end.Stop why)) = IsPlayedPart schem
 
 -- Where the play of all lines stands when so many were played, and these are left: whatever lines come behind the
 -- played ones, their play goes on from here.
-pub record IsSoFar {S : Type 0} (working kept : S → List LeafMap) (whole kept_whole : S → Type 0) (content : S → Content) (start : Playing) (all left : Lines) (number : ℕ) (old new : Engine S) : Type 0 where
+pub record IsSoFar {S : Type 0} (g : Ghosts S) (start : Playing) (all left : Lines) (number : ℕ) (old new : Engine S) : Type 0 where
   pub now : Playing
   pub answers : List ℕ
-  pub at : IsAt working kept whole kept_whole now new
-  pub said : (content (leaves_of new)).now.said ≡ (content (leaves_of old)).now.said ++ answers
+  pub at : IsAt g now new
+  pub said : (g.content (leaves_of new)).now.said ≡ (g.content (leaves_of old)).now.said ++ answers
   pub done : List (List ℕ)
   pub many : length done ≡ number
   pub lines_are : all.lines ≡ done ++ left.lines

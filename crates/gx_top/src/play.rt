@@ -2,11 +2,11 @@
 ghost use Rattle.std.specs.Prelude.{◌≡◌, ◌≢◌, ◌^◌, ◌<◌, ◌≤◌, ◌+◌, ◌++◌, List, ℕ, Option, None, Ok, Err, false, length, take, IsTrue, IfOk, IfErr, IfSome, OnOk, OnErr, ◌-◌, option_map};
 ghost use Rattle.gx_schema.specs.WellFormed.{IsWellFormed};
 ghost use Rattle.gx_ports.specs.Stops.{is_fault};
-ghost use Rattle.gx_engine.specs.Steps.{IsReady, IsDue, schema_of, is_open, stop_of, leaves_of};
+ghost use Rattle.gx_engine.specs.Steps.{IsReady, IsAt, IsDue, schema_of, is_open, stop_of, leaves_of};
 ghost use Rattle.gx_model.specs.Play.{Playing};
 ghost use Rattle.gx_script.specs.Lines.{script_lines, IsNext};
 ghost use Rattle.gx_script.specs.Reading.{IsReading};
-ghost use Rattle.gx_top.specs.Plays.{IsAt, IsLinePlayed, IsCommandPlayed, IsLineCut, IsCommandCut, HasPlayCause, IsBadLine, IsPlayedTo, IsLineEnd, is_line_fault, is_play_fault};
+ghost use Rattle.gx_top.specs.Plays.{IsLinePlayed, IsCommandPlayed, IsLineCut, IsCommandCut, HasPlayCause, IsBadLine, IsPlayedTo, IsLineEnd, is_line_fault, is_play_fault};
 ghost use Rattle.gx_top.specs.Say.{OnlySays};
 
 use crate::say::answer_all;
@@ -64,20 +64,30 @@ fn play_line<B: Leaves + Drop>(
     line: &[u8],
     engine: &mut Engine<B>,
 ) -> Result<(), LineEnd>
-    requires ready { IsReady B.working engine.old }
+    requires ready { IsReady B.View engine.old }
     requires well_formed { IsWellFormed (schema_of engine.old) }
     requires going { stop_of engine.old ≡ None }
-    ensures played { (p : Playing) → IsAt B.working B.kept B.whole B.kept_whole p engine.old → OnOk result (IsLinePlayed B.working B.kept B.whole B.kept_whole B.content B.tells p line.now engine.old engine.new) }
-    ensures bad { (why : LineWhy) → result ≡ Err (LineEnd.Bad why) → IsBadLine (schema_of engine.old) (is_open engine.old) line.now why }
-    ensures unsaid { IsTrue B.tells → (end : LineEnd) → result ≡ Err end → end ≢ LineEnd.Stop Stop.Fault → (B.content (leaves_of engine.new)).now.said ≡ (B.content (leaves_of engine.old)).now.said }
-    ensures cut { IsTrue B.tells → (p : Playing) → IsAt B.working B.kept B.whole B.kept_whole p engine.old → OnErr result (IsLineCut (schema_of engine.old) p line.now (B.content (leaves_of engine.old)) (B.content (leaves_of engine.new))) }
-    ensures cause { (p : Playing) → IsAt B.working B.kept B.whole B.kept_whole p engine.old → (stop : Stop) → result ≡ Err (LineEnd.Stop stop) → HasPlayCause (B.limit (leaves_of engine.old)) (B.faults (leaves_of engine.old)) (B.faults (leaves_of engine.new)) stop }
+    ensures played { (p : Playing) → IsAt B.View p engine.old →
+        OnOk result (IsLinePlayed B.View p line.now engine.old engine.new) }
+    ensures bad { (why : LineWhy) → result ≡ Err (LineEnd.Bad why) →
+        IsBadLine (schema_of engine.old) (is_open engine.old) line.now why }
+    ensures unsaid { IsTrue B.tells → (end : LineEnd) → result ≡ Err end →
+        end ≢ LineEnd.Stop Stop.Fault →
+        (B.content (leaves_of engine.new)).now.said ≡ (B.content (leaves_of engine.old)).now.said }
+    ensures cut { IsTrue B.tells → (p : Playing) → IsAt B.View p engine.old → OnErr result
+        (IsLineCut (schema_of engine.old) p line.now (B.content (leaves_of engine.old))
+        (B.content (leaves_of engine.new))) }
+    ensures cause { (p : Playing) → IsAt B.View p engine.old → (stop : Stop) →
+        result ≡ Err (LineEnd.Stop stop) →
+        HasPlayCause (B.limit (leaves_of engine.old)) (B.faults (leaves_of engine.old))
+        (B.faults (leaves_of engine.new)) stop }
     ensures schema { schema_of engine.new ≡ schema_of engine.old }
-    ensures ready { IsReady B.working engine.new }
+    ensures ready { IsReady B.View engine.new }
     ensures going { OnOk result (stop_of engine.new ≡ None) }
     ensures limit { B.limit (leaves_of engine.new) ≡ B.limit (leaves_of engine.old) }
     ensures rest { OnlySays (B.content (leaves_of engine.old)) (B.content (leaves_of engine.new)) }
-    ensures counted { is_line_fault result ≡ false → B.faults (leaves_of engine.new) ≡ B.faults (leaves_of engine.old) }
+    ensures counted { is_line_fault result ≡ false →
+        B.faults (leaves_of engine.new) ≡ B.faults (leaves_of engine.old) }
     ensures later { B.faults (leaves_of engine.old) ≤ B.faults (leaves_of engine.new) }
 {
     let command = placed_command(alloc, line, engine)?;
@@ -94,7 +104,8 @@ fn placed_command<B: Leaves + Drop>(
     requires { IsWellFormed (schema_of engine.now) }
     ensures read { IfOk result (λ command. IsReading (schema_of engine.now) line.now (Ok command)) }
     ensures due { IfOk result (IsDue engine.now) }
-    ensures bad { (why : LineWhy) → result ≡ Err (LineEnd.Bad why) → IsBadLine (schema_of engine.now) (is_open engine.now) line.now why }
+    ensures bad { (why : LineWhy) → result ≡ Err (LineEnd.Bad why) →
+        IsBadLine (schema_of engine.now) (is_open engine.now) line.now why }
     ensures unread { (stop : Stop) → result ≡ Err (LineEnd.Stop stop) → stop ≡ Stop.NoMemory }
 {
     let command = read_command(alloc, engine.schema(), line)?;
@@ -110,19 +121,26 @@ fn carry_out<B: Leaves + Drop>(
     command: &Command,
     engine: &mut Engine<B>,
 ) -> Result<(), Stop>
-    requires ready { IsReady B.working engine.old }
+    requires ready { IsReady B.View engine.old }
     requires due { IsDue engine.old command.now }
     requires going { stop_of engine.old ≡ None }
-    ensures answered { (p : Playing) → IsAt B.working B.kept B.whole B.kept_whole p engine.old → OnOk result (IsCommandPlayed B.working B.kept B.whole B.kept_whole B.content B.tells p command.now engine.old engine.new) }
-    ensures unsaid { IsTrue B.tells → (stop : Stop) → result ≡ Err stop → stop ≢ Stop.Fault → (B.content (leaves_of engine.new)).now.said ≡ (B.content (leaves_of engine.old)).now.said }
-    ensures cut { IsTrue B.tells → (p : Playing) → IsAt B.working B.kept B.whole B.kept_whole p engine.old → OnErr result (IsCommandCut (schema_of engine.old) p command.now (B.content (leaves_of engine.old)) (B.content (leaves_of engine.new))) }
-    ensures cause { (p : Playing) → IsAt B.working B.kept B.whole B.kept_whole p engine.old → (stop : Stop) → result ≡ Err stop → HasPlayCause (B.limit (leaves_of engine.old)) (B.faults (leaves_of engine.old)) (B.faults (leaves_of engine.new)) stop }
+    ensures answered { (p : Playing) → IsAt B.View p engine.old →
+        OnOk result (IsCommandPlayed B.View p command.now engine.old engine.new) }
+    ensures unsaid { IsTrue B.tells → (stop : Stop) → result ≡ Err stop → stop ≢ Stop.Fault →
+        (B.content (leaves_of engine.new)).now.said ≡ (B.content (leaves_of engine.old)).now.said }
+    ensures cut { IsTrue B.tells → (p : Playing) → IsAt B.View p engine.old → OnErr result
+        (IsCommandCut (schema_of engine.old) p command.now (B.content (leaves_of engine.old))
+        (B.content (leaves_of engine.new))) }
+    ensures cause { (p : Playing) → IsAt B.View p engine.old → (stop : Stop) → result ≡ Err stop →
+        HasPlayCause (B.limit (leaves_of engine.old)) (B.faults (leaves_of engine.old))
+        (B.faults (leaves_of engine.new)) stop }
     ensures schema { schema_of engine.new ≡ schema_of engine.old }
-    ensures ready { IsReady B.working engine.new }
+    ensures ready { IsReady B.View engine.new }
     ensures going { OnOk result (stop_of engine.new ≡ None) }
     ensures limit { B.limit (leaves_of engine.new) ≡ B.limit (leaves_of engine.old) }
     ensures rest { OnlySays (B.content (leaves_of engine.old)) (B.content (leaves_of engine.new)) }
-    ensures counted { is_fault result ≡ false → B.faults (leaves_of engine.new) ≡ B.faults (leaves_of engine.old) }
+    ensures counted { is_fault result ≡ false →
+        B.faults (leaves_of engine.new) ≡ B.faults (leaves_of engine.old) }
     ensures later { B.faults (leaves_of engine.old) ≤ B.faults (leaves_of engine.new) }
 {
     let mut answer = Octets(Vec::new(alloc));
@@ -153,13 +171,19 @@ pub fn play<B: Leaves + Drop>(
     script: &[u8],
     engine: &mut Engine<B>,
 ) -> Result<(), PlayEnd>
-    requires ready { IsReady B.working engine.old }
+    requires ready { IsReady B.View engine.old }
     requires well_formed { IsWellFormed (schema_of engine.old) }
     requires going { stop_of engine.old ≡ None }
-    ensures played { IsTrue B.tells → (p : Playing) → IsAt B.working B.kept B.whole B.kept_whole p engine.old → IsPlayedTo (schema_of engine.old) p (script_lines script.now) (B.content (leaves_of engine.old)) (B.content (leaves_of engine.new)) result }
-    ensures cause { (p : Playing) → IsAt B.working B.kept B.whole B.kept_whole p engine.old → (stop : Stop) → result ≡ Err (PlayEnd.Stop stop) → HasPlayCause (B.limit (leaves_of engine.old)) (B.faults (leaves_of engine.old)) (B.faults (leaves_of engine.new)) stop }
+    ensures played { IsTrue B.tells → (p : Playing) → IsAt B.View p engine.old →
+        IsPlayedTo (schema_of engine.old) p (script_lines script.now)
+        (B.content (leaves_of engine.old)) (B.content (leaves_of engine.new)) result }
+    ensures cause { (p : Playing) → IsAt B.View p engine.old → (stop : Stop) →
+        result ≡ Err (PlayEnd.Stop stop) →
+        HasPlayCause (B.limit (leaves_of engine.old)) (B.faults (leaves_of engine.old))
+        (B.faults (leaves_of engine.new)) stop }
     ensures rest { OnlySays (B.content (leaves_of engine.old)) (B.content (leaves_of engine.new)) }
-    ensures counted { is_play_fault result ≡ false → B.faults (leaves_of engine.new) ≡ B.faults (leaves_of engine.old) }
+    ensures counted { is_play_fault result ≡ false →
+        B.faults (leaves_of engine.new) ≡ B.faults (leaves_of engine.old) }
     ensures later { B.faults (leaves_of engine.old) ≤ B.faults (leaves_of engine.new) }
 {
     let mut lines = ScriptLines::new(script);
@@ -181,8 +205,10 @@ pub fn play<B: Leaves + Drop>(
 // The line behind the line of this number.
 fn next_line<'a>(lines: &mut ScriptLines<'a>, number: u32) -> Result<Option<&'a [u8]>, PlayEnd>
     requires { number < 2 ^ 32 - 1 }
-    ensures next { IfOk result (λ line. IsNext lines.old lines.new (Ok (option_map (λ bytes. bytes.now) line))) }
-    ensures shorter { IfOk result (λ line. IfSome line (λ _. length lines.new.lines < length lines.old.lines)) }
+    ensures next { IfOk result
+        (λ line. IsNext lines.old lines.new (Ok (option_map (λ bytes. bytes.now) line))) }
+    ensures shorter { IfOk result
+        (λ line. IfSome line (λ _. length lines.new.lines < length lines.old.lines)) }
     ensures none { IfErr result (IsLineEnd lines.old number) }
 {
     match lines.next_line() {

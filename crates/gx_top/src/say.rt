@@ -9,7 +9,8 @@ use gx_ports::Leaves;
 /// Says the whole piece on a device: where only a part is taken, the rest is offered next. After
 /// `Failed` a front of the piece was said.
 pub fn say_all<D: Device>(device: &mut D, piece: &[u8]) -> Result<(), Failed>
-    ensures { SaysAll D.tells (D.content device.old) (D.content device.new) (D.faults device.old) (D.faults device.new) piece.now result }
+    ensures { SaysAll D.tells (D.content device.old) (D.content device.new) (D.faults device.old)
+        (D.faults device.new) piece.now result }
 {
     let mut rest = piece;
     while !rest.is_empty() {
@@ -24,8 +25,10 @@ pub fn say_all<D: Device>(device: &mut D, piece: &[u8]) -> Result<(), Failed>
 
 /// Says the whole piece through an engine, as on a device.
 pub fn answer_all<B: Leaves + Drop>(engine: &mut Engine<B>, piece: &[u8]) -> Result<(), Failed>
-    ensures says { SaysAll B.tells (B.content (leaves_of engine.old)) (B.content (leaves_of engine.new)) (B.faults (leaves_of engine.old)) (B.faults (leaves_of engine.new)) piece.now result }
-    ensures same { IsSame B.working B.kept B.whole B.kept_whole B.limit engine.old engine.new }
+    ensures says { SaysAll B.tells (B.content (leaves_of engine.old))
+        (B.content (leaves_of engine.new)) (B.faults (leaves_of engine.old))
+        (B.faults (leaves_of engine.new)) piece.now result }
+    ensures same { IsSame B.View engine.old engine.new }
 {
     let mut rest = piece;
     while !rest.is_empty() {

@@ -13,7 +13,7 @@ loop-line-init g c = record {
   schema = refl;
   going = c.requires.going;
   few = omega (arith, subst (λ ls. length ls.lines ≤ 16777217) (sym c.new-lines.ensures.lines) (few_lines c.args.script.now));
-  so_far = λ told p at. subst (λ ls. IsSoFar g.B.Leaves.working g.B.Leaves.kept g.B.Leaves.whole g.B.Leaves.kept_whole g.B.Leaves.content p (script_lines c.args.script.now) ls 0 c.args.engine.now c.args.engine.now) (sym c.new-lines.ensures.lines) (at_start _ _ _ _ _ p _ c.args.engine.now at);
+  so_far = λ told p at. subst (λ ls. IsSoFar g.B.View p (script_lines c.args.script.now) ls 0 c.args.engine.now c.args.engine.now) (sym c.new-lines.ensures.lines) (at_start _ p _ c.args.engine.now at);
   stands = λ p at. (p, at);
   limit = refl;
   rest = record { script = refl; aside = refl };
@@ -29,7 +29,7 @@ loop-line-preserved g c = record {
   few = search rules;
   so_far = λ told p at.
       let so = c.loop-line.invariant.so_far told p at in
-      after_line _ _ _ _ _ _ p _ c.loop-line.lines c.next_line.new.lines c.loop-line.number c.in-Some.line.now _ c.loop-line.engine _ c.loop-line.invariant.schema (search rules) told so (c.in-Ok.ensures.played so.now so.at);
+      after_line _ p _ c.loop-line.lines c.next_line.new.lines c.loop-line.number c.in-Some.line.now _ c.loop-line.engine _ c.loop-line.invariant.schema (search rules) told so (c.in-Ok.ensures.played so.now so.at);
   stands = λ p at.
       let now = c.loop-line.invariant.stands p at in
       (_, (c.in-Ok.ensures.played now.0 now.1).played.at);
@@ -42,8 +42,8 @@ loop-line-preserved g c = record {
 pub returns-in-Err-Stop-clause-played : goal.returns-in-Err-Stop-clause-played
 returns-in-Err-Stop-clause-played g c = λ told p at.
     let so = c.loop-line.invariant.so_far told p at in
-    subst (λ s. IsPlayedPart (schema_of c.args.engine.now) p (script_lines c.args.script.now) (g.B.Leaves.content (leaves_of c.args.engine.now)) (g.B.Leaves.content (leaves_of c.play_line.new.engine)) s) (sym c.in-Err-Stop.stop-is)
-    (at_cut _ _ _ _ _ p _ c.loop-line.lines c.next_line.new.lines c.loop-line.number c.in-Some.line.now c.in-Err-Stop.stop _ c.loop-line.engine _ c.loop-line.invariant.schema (search rules) so
+    subst (λ s. IsPlayedPart (schema_of c.args.engine.now) p (script_lines c.args.script.now) (g.B.View.content (leaves_of c.args.engine.now)) (g.B.View.content (leaves_of c.play_line.new.engine)) s) (sym c.in-Err-Stop.stop-is)
+    (at_cut _ p _ c.loop-line.lines c.next_line.new.lines c.loop-line.number c.in-Some.line.now c.in-Err-Stop.stop _ c.loop-line.engine _ c.loop-line.invariant.schema (search rules) so
     (λ other. c.in-Err-Stop.ensures.unsaid told c.in-Err-Stop.field-0 refl (stop_other c.in-Err-Stop.field-0 c.in-Err-Stop.stop c.in-Err-Stop.field-0-is other))
     (c.in-Err-Stop.ensures.cut told so.now so.at))
 
@@ -56,16 +56,16 @@ returns-in-Err-Stop-clause-cause g c = λ p at s e.
 
 -- src/play.rt:144:28
 pub returns-in_err-line-clause-played : goal.returns-in_err-line-clause-played
-returns-in_err-line-clause-played g c = λ told p at. at_line_end _ _ _ _ _ p _ c.loop-line.lines c.loop-line.number c.in_err-line.field-0.0 c.from_residual.result _ _ (c.loop-line.invariant.so_far told p at) (is_err _ _ c.from_residual.ensures.1) c.in_err-line.ensures.none
+returns-in_err-line-clause-played g c = λ told p at. at_line_end _ p _ c.loop-line.lines c.loop-line.number c.in_err-line.field-0.0 c.from_residual.result _ _ (c.loop-line.invariant.so_far told p at) (is_err _ _ c.from_residual.ensures.1) c.in_err-line.ensures.none
 
 -- src/play.rt:148:39
 pub returns-in-Err-Bad-clause-played : goal.returns-in-Err-Bad-clause-played
-returns-in-Err-Bad-clause-played g c = λ told p at. at_bad_line _ _ _ _ _ p _ c.loop-line.lines c.next_line.new.lines c.loop-line.number c.in-Some.line.now _ _ _ _ c.loop-line.invariant.schema (search rules) (c.loop-line.invariant.so_far told p at) (c.in-Err-Bad.ensures.unsaid told c.in-Err-Bad.field-0 refl (not_fault c.in-Err-Bad.field-0 c.in-Err-Bad.why c.in-Err-Bad.field-0-is)) (subst (λ w. IsBadLine (schema_of c.loop-line.engine) (is_open c.loop-line.engine) c.in-Some.line.now w) (sym c.in-Err-Bad.why-is) (c.in-Err-Bad.ensures.bad c.in-Err-Bad.why (ap Err c.in-Err-Bad.field-0-is)))
+returns-in-Err-Bad-clause-played g c = λ told p at. at_bad_line _ p _ c.loop-line.lines c.next_line.new.lines c.loop-line.number c.in-Some.line.now _ _ _ _ c.loop-line.invariant.schema (search rules) (c.loop-line.invariant.so_far told p at) (c.in-Err-Bad.ensures.unsaid told c.in-Err-Bad.field-0 refl (not_fault c.in-Err-Bad.field-0 c.in-Err-Bad.why c.in-Err-Bad.field-0-is)) (subst (λ w. IsBadLine (schema_of c.loop-line.engine) (is_open c.loop-line.engine) c.in-Some.line.now w) (sym c.in-Err-Bad.why-is) (c.in-Err-Bad.ensures.bad c.in-Err-Bad.why (ap Err c.in-Err-Bad.field-0-is)))
 
 -- src/play.rt:153:9
 pub returns-then-inside-clause-played : goal.returns-then-inside-clause-played
-returns-then-inside-clause-played g c = λ told p at. at_end _ _ _ _ _ p _ c.loop-line.lines c.loop-line.number _ c.loop-line.engine true (c.loop-line.invariant.so_far told p at) (search rules) (search rules)
+returns-then-inside-clause-played g c = λ told p at. at_end _ p _ c.loop-line.lines c.loop-line.number _ c.loop-line.engine true (c.loop-line.invariant.so_far told p at) (search rules) (search rules)
 
 -- src/play.rt:130:1
 pub returns-clause-played : goal.returns-clause-played
-returns-clause-played g c = λ told p at. at_end _ _ _ _ _ p _ c.loop-line.lines c.loop-line.number _ c.loop-line.engine false (c.loop-line.invariant.so_far told p at) (search rules) (search rules)
+returns-clause-played g c = λ told p at. at_end _ p _ c.loop-line.lines c.loop-line.number _ c.loop-line.engine false (c.loop-line.invariant.so_far told p at) (search rules) (search rules)

@@ -5,14 +5,14 @@ use Rattle.gx_top.proofs.say.answer_all.Given as goal
 
 abbrev pub invariant-loop-rest : goal.invariant-loop-rest
 invariant-loop-rest g l =
-    let content = g.B.Leaves.content in
-    let faults = g.B.Leaves.faults in
+    let content = g.B.View.content in
+    let faults = g.B.View.faults in
     record {
-      part : (taken : ℕ) × (l.rest ≡ drop taken l.piece) × (IsTrue g.B.Leaves.tells → (content (leaves_of l.engine)).now.said ≡ (content (leaves_of l.fn.engine)).now.said ++ take taken l.piece);
+      part : (taken : ℕ) × (l.rest ≡ drop taken l.piece) × (IsTrue g.B.View.tells → (content (leaves_of l.engine)).now.said ≡ (content (leaves_of l.fn.engine)).now.said ++ take taken l.piece);
       script : (content (leaves_of l.engine)).script ≡ (content (leaves_of l.fn.engine)).script;
       aside : (content (leaves_of l.engine)).aside ≡ (content (leaves_of l.fn.engine)).aside;
       counted : faults (leaves_of l.engine) ≡ faults (leaves_of l.fn.engine);
-      same : IsSame g.B.Leaves.working g.B.Leaves.kept g.B.Leaves.whole g.B.Leaves.kept_whole g.B.Leaves.limit l.fn.engine l.engine;
+      same : IsSame g.B.View l.fn.engine l.engine;
     }
 
 abbrev pub decreases-loop-rest : goal.decreases-loop-rest

@@ -1,0 +1,38 @@
+-- Pages and their owners.
+use Rattle.std.specs.Prelude.{◌≡◌, ◌≢◌, ℕ, ◌<◌, ◌≤◌, List, length, slice_set, slice_get, Some}
+
+-- for each page the number of its owner, 0 where it is free, and its bytes
+pub record Sheets : Type 0 where
+  pub owners : List ℕ
+  pub bytes : List (List ℕ)
+
+-- what no call of pages changes
+pub record Ground : Type 0 where
+  -- how many pages there are, and how many of them are the table of the owners
+  pub size : ℕ
+  pub tables : ℕ
+  -- the blocks of the device
+  pub blocks : ℕ
+  -- those that tell which database it is
+  pub head : List (List ℕ)
+
+-- a page past the table
+pub record IsPast (ground : Ground) (page : ℕ) : Type 0 where
+  pub past : ground.tables ≤ page
+  pub below : page < ground.size
+
+-- a page has another owner, and all else is as it was
+pub record IsOwnedAnew (page owner : ℕ) (ground : Ground) (old new : Sheets) : Type 0 where
+  pub owners : new.owners ≡ slice_set old.owners page owner
+  -- the table has changed with them
+  pub bytes : (other : ℕ) → ground.tables ≤ other → slice_get new.bytes other ≡ slice_get old.bytes other
+
+-- a free page past the table has been given to the owner
+pub record IsClaimed (page owner : ℕ) (ground : Ground) (old new : Sheets) : Type 0 where
+  pub past : IsPast ground page
+  pub was_free : slice_get old.owners page ≡ Some 0
+  pub owned : IsOwnedAnew page owner ground old new
+
+-- no page past the table is free
+abbrev pub HasNone : Ground → Sheets → Type 0
+HasNone ground sheets = (page : ℕ) → IsPast ground page → slice_get sheets.owners page ≢ Some 0
