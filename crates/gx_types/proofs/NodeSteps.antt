@@ -10,7 +10,6 @@ use Rattle.gx_values.specs.declared.values.Kind.{Kind}
 use Rattle.gx_values.specs.declared.records.Field.{Field}
 use Rattle.gx_values.specs.declared.records.Form.{Form}
 use Rattle.gx_schema.specs.declared.schema.FileDef.{FileDef}
-use Rattle.gx_equation.specs.declared.heads.Head.{Head}
 use Rattle.gx_equation.specs.declared.heads.Head.TheVariants as heads
 use Rattle.gx_equation.specs.declared.equation.Term.{Term}
 use Rattle.gx_equation.specs.declared.equation.Term.TheVariants as terms
@@ -23,18 +22,17 @@ use Rattle.gx_stack.specs.declared.node.Node.{Node}
 use Rattle.gx_stack.specs.Tree.{no_kids}
 use Rattle.gx_stack.specs.Seen.{tree_of as node_tree, kids_from as node_kids}
 use Rattle.gx_types.specs.declared.any.AnyMapping.{AnyMapping}
-use Rattle.gx_types.specs.Build.{leaf_count, leaf_counts, IsFirstOf, IsTreeOf, AreTreesOf, AreTreesOfFiles, IsReady, AreReady, AreReadyFiles}
+use Rattle.gx_types.specs.Build.{kids_of, leaf_count, leaf_counts, IsFirstOf, IsTreeOf, AreTreesOf, AreTreesOfFiles, IsReady, AreReady, AreReadyFiles}
 use Rattle.gx_typing.specs.Fields.{kind_in}
-use Rattle.gx_typing.specs.Forms.{kid_form}
-use Rattle.gx_types.proofs.ReadyLaws.{kids_ready, first_ready, others_ready}
+use Rattle.gx_types.proofs.ReadyLaws.{first_ready, others_ready}
+use Rattle.gx_typing.proofs.TermSize.{tree_size, trees_size}
 
 pub seen_leaf : (t : Term) (kind : LeafKind) → t ≡ terms.Leaf kind → tree_of t ≡ node (heads.Leaf kind) none
 seen_leaf t kind is = ap tree_of (is ∙ sym (terms.rolls-Leaf kind)) ∙ fold-roll-Term Tree seen_step (Leaf kind)
 
--- the one child, at a form that is the one of typing
-pub only_ready : (n : ℕ) (form made : Form) (top : Head) (t : Tree) → made ≡ kid_form top form 0 → IsReady n form (node top (kid t none)) → IsReady n made t
-only_ready n form made top t same r =
-    subst (λ (f : Form). IsReady n f t) (sym same) (first_ready n (kid_form top form) 0 t none (kids_ready n form top (kid t none) r))
+-- the children are smaller
+pub kids_below : (t : Tree) → trees_size (kids_of t) < tree_size t
+kids_below (node top kids) = omega arith
 
 -- ---- one child of several
 
@@ -43,40 +41,40 @@ kids_at ts i t lt read =
     ap (λ (us : List Term). kids_from (trees_of us)) (drop_more ts i t lt)
     ∙ ap (λ (x : Term). kid (tree_of x) (kids_from (trees_of (drop (i + 1) ts)))) (sym read)
 
-module _ (n : ℕ) (form : Form) (ts : List Term) (i : ℕ) (t : Term) (lt : i < length ts) (read : t ≡ get_or ts i t) where
-  pub child_ready : AreReady n (λ _. form) i (kids_from (trees_of (drop i ts))) → IsReady n form (tree_of t)
+module _ (n : ℕ) (forms : ℕ → Form) (ts : List Term) (i : ℕ) (t : Term) (lt : i < length ts) (read : t ≡ get_or ts i t) where
+  pub child_ready : AreReady n forms i (kids_from (trees_of (drop i ts))) → IsReady n (forms i) (tree_of t)
   child_ready r =
-      first_ready n (λ _. form) i (tree_of t) (kids_from (trees_of (drop (i + 1) ts))) (subst (AreReady n (λ _. form) i) (kids_at ts i t lt read) r)
+      first_ready n forms i (tree_of t) (kids_from (trees_of (drop (i + 1) ts))) (subst (AreReady n forms i) (kids_at ts i t lt read) r)
 
-  pub behind_ready : (next : ℕ) → next ≡ n + leaf_count (tree_of t) → AreReady n (λ _. form) i (kids_from (trees_of (drop i ts))) → AreReady next (λ _. form) (i + 1) (kids_from (trees_of (drop (i + 1) ts)))
+  pub behind_ready : (next : ℕ) → next ≡ n + leaf_count (tree_of t) → AreReady n forms i (kids_from (trees_of (drop i ts))) → AreReady next forms (i + 1) (kids_from (trees_of (drop (i + 1) ts)))
   behind_ready next is r =
-      let more = others_ready n (λ _. form) i (tree_of t) (kids_from (trees_of (drop (i + 1) ts))) (subst (AreReady n (λ _. form) i) (kids_at ts i t lt read) r) in
-      let more' = subst (λ (m : ℕ). AreReady m (λ _. form) (suc i) (kids_from (trees_of (drop (i + 1) ts)))) (sym is) more in
-      subst (λ (j : ℕ). AreReady next (λ _. form) j (kids_from (trees_of (drop (i + 1) ts)))) (sym (add-one i)) more'
+      let more = others_ready n forms i (tree_of t) (kids_from (trees_of (drop (i + 1) ts))) (subst (AreReady n forms i) (kids_at ts i t lt read) r) in
+      let more' = subst (λ (m : ℕ). AreReady m forms (suc i) (kids_from (trees_of (drop (i + 1) ts)))) (sym is) more in
+      subst (λ (j : ℕ). AreReady next forms j (kids_from (trees_of (drop (i + 1) ts)))) (sym (add-one i)) more'
 
   pub behind_count : (next total : ℕ) → next ≡ n + leaf_count (tree_of t) → n + leaf_counts (kids_from (trees_of (drop i ts))) ≡ total → next + leaf_counts (kids_from (trees_of (drop (i + 1) ts))) ≡ total
   behind_count next total is so_far =
       let e : leaf_counts (kids_from (trees_of (drop i ts))) ≡ leaf_count (tree_of t) + leaf_counts (kids_from (trees_of (drop (i + 1) ts))) = ap leaf_counts (kids_at ts i t lt read) in
       omega arith
 
-  pub behind_trees : (next : ℕ) (Goal : List (Node AnyMapping) → Type 0) (nodes pushed : List (Node AnyMapping)) (x : Node AnyMapping) → next ≡ n + leaf_count (tree_of t) → pushed ≡ nodes ++ x ∷ [] → IsTreeOf n form (tree_of t) (node_tree x)
-      → ((more : List (Node AnyMapping)) → AreTreesOf n (λ _. form) i (kids_from (trees_of (drop i ts))) (node_kids (map node_tree more)) → Goal (nodes ++ more))
-      → (more : List (Node AnyMapping)) → AreTreesOf next (λ _. form) (i + 1) (kids_from (trees_of (drop (i + 1) ts))) (node_kids (map node_tree more)) → Goal (pushed ++ more)
+  pub behind_trees : (next : ℕ) (Goal : List (Node AnyMapping) → Type 0) (nodes pushed : List (Node AnyMapping)) (x : Node AnyMapping) → next ≡ n + leaf_count (tree_of t) → pushed ≡ nodes ++ x ∷ [] → IsTreeOf n (forms i) (tree_of t) (node_tree x)
+      → ((more : List (Node AnyMapping)) → AreTreesOf n forms i (kids_from (trees_of (drop i ts))) (node_kids (map node_tree more)) → Goal (nodes ++ more))
+      → (more : List (Node AnyMapping)) → AreTreesOf next forms (i + 1) (kids_from (trees_of (drop (i + 1) ts))) (node_kids (map node_tree more)) → Goal (pushed ++ more)
   behind_trees next Goal nodes pushed x is push tree so_far more h =
       let rest = kids_from (trees_of (drop (i + 1) ts)) in
-      let h' = subst (λ (m : ℕ). AreTreesOf m (λ _. form) (i + 1) rest (node_kids (map node_tree more))) is h in
-      let h'' = subst (λ (j : ℕ). AreTreesOf (n + leaf_count (tree_of t)) (λ _. form) j rest (node_kids (map node_tree more))) (add-one i) h' in
-      let all = so_far (x ∷ more) (subst (λ (us : Trees). AreTreesOf n (λ _. form) i us (node_kids (map node_tree (x ∷ more)))) (sym (kids_at ts i t lt read)) (tree, h'')) in
+      let h' = subst (λ (m : ℕ). AreTreesOf m forms (i + 1) rest (node_kids (map node_tree more))) is h in
+      let h'' = subst (λ (j : ℕ). AreTreesOf (n + leaf_count (tree_of t)) forms j rest (node_kids (map node_tree more))) (add-one i) h' in
+      let all = so_far (x ∷ more) (subst (λ (us : Trees). AreTreesOf n forms i us (node_kids (map node_tree (x ∷ more)))) (sym (kids_at ts i t lt read)) (tree, h'')) in
       subst Goal (sym (ap (λ (ys : List (Node AnyMapping)). ys ++ more) push ∙ append_assoc nodes (x ∷ []) more)) all
 
 -- behind the last child
-pub all_trees : (n next : ℕ) (form : Form) (ts : List Term) (i : ℕ) (nodes : List (Node AnyMapping)) → length ts ≤ i
-    → ((more : List (Node AnyMapping)) → AreTreesOf next (λ _. form) i (kids_from (trees_of (drop i ts))) (node_kids (map node_tree more)) → AreTreesOf n (λ _. form) 0 (kids_from (trees_of ts)) (node_kids (map node_tree (nodes ++ more))))
-    → AreTreesOf n (λ _. form) 0 (kids_from (trees_of ts)) (node_kids (map node_tree nodes))
-all_trees n next form ts i nodes end so_far =
+pub all_trees : (n next : ℕ) (forms : ℕ → Form) (ts : List Term) (i : ℕ) (nodes : List (Node AnyMapping)) → length ts ≤ i
+    → ((more : List (Node AnyMapping)) → AreTreesOf next forms i (kids_from (trees_of (drop i ts))) (node_kids (map node_tree more)) → AreTreesOf n forms 0 (kids_from (trees_of ts)) (node_kids (map node_tree (nodes ++ more))))
+    → AreTreesOf n forms 0 (kids_from (trees_of ts)) (node_kids (map node_tree nodes))
+all_trees n next forms ts i nodes end so_far =
     let last : drop i ts ≡ [] = drop_past i ts end in
-    subst (λ (ys : List (Node AnyMapping)). AreTreesOf n (λ _. form) 0 (kids_from (trees_of ts)) (node_kids (map node_tree ys))) (append-nil nodes)
-    (so_far [] (subst (λ (us : List Term). AreTreesOf next (λ _. form) i (kids_from (trees_of us)) no_kids) (sym last) tt))
+    subst (λ (ys : List (Node AnyMapping)). AreTreesOf n forms 0 (kids_from (trees_of ts)) (node_kids (map node_tree ys))) (append-nil nodes)
+    (so_far [] (subst (λ (us : List Term). AreTreesOf next forms i (kids_from (trees_of us)) no_kids) (sym last) tt))
   where
     drop_past : (i : ℕ) (ts : List Term) → length ts ≤ i → drop i ts ≡ []
     drop_past zero [] le = refl

@@ -7,11 +7,11 @@ use Rattle.gx_values.specs.declared.records.Form.{Form}
 use Rattle.gx_mapping.specs.Rule.{Rule, In}
 use Rattle.gx_equation.specs.declared.heads.Head.{Head}
 use Rattle.gx_equation.specs.declared.heads.Head.TheVariants as heads
-use Rattle.gx_equation.specs.Trees.{Tree, Trees, node, none, kid}
+use Rattle.gx_equation.specs.Trees.{Tree, Trees, head_of, node, none, kid}
 use Rattle.gx_stack.specs.Tree.{Tree as NodeTree, Kids as NodeKids, leaf, layer, no_kids, kid as node_kid, leaves_of, kids_leaves, kid_count, tree_form, IsBytesUpTo, IsLeafData as IsNodeData, IsLeafForm, IsValid, AreValid}
 use Rattle.gx_types.specs.declared.any.AnyMapping.{AnyMapping}
 use Rattle.gx_types.specs.Any.{any_rule}
-use Rattle.gx_types.specs.Build.{leaf_count, leaf_counts, IsMappingOf, IsLeafOf, IsTreeOf, AreTreesOf, IsReady, AreReady}
+use Rattle.gx_types.specs.Build.{leaf_count, leaf_counts, IsMappingOf, kids_of, IsLeafOf, IsTreeOf, AreTreesOf, IsReady, AreReady}
 use Rattle.gx_types.specs.FileForms.{AreDistinct, IsFileForm}
 use Rattle.gx_equation.specs.Printing.{IsTerm}
 use Rattle.gx_types.proofs.HeadLaws.{rule_form, rule_kid_form, rule_kids}
@@ -19,6 +19,7 @@ use Rattle.gx_typing.specs.Forms.{kid_form}
 use Rattle.gx_typing.specs.Places.{leaves_at}
 use Rattle.gx_typing.specs.Typed.{IsLeafData, IsLeaf, IsMet}
 use Rattle.gx_typing.specs.Typing.{count}
+use Rattle.gx_types.proofs.MakerLaws.{some_leaves}
 use Rattle.gx_types.proofs.ReadyLaws.{kids_ready, first_ready, others_ready}
 
 -- ---- leaves
@@ -92,6 +93,21 @@ mapping_kid_form top form kids m is met names c = ap (λ (r : Rule). r.kid_form 
 mapping_kids : (levels : ℕ) (top : Head) (form : Form) (kids : Trees) (m : AnyMapping) → IsMappingOf top form m → IsMet top form (count kids) → IsTerm levels (node top kids) → count kids ≡ (any_rule m).kids
 mapping_kids zero top form kids m is met term = absurd term
 mapping_kids (suc levels) top form kids m is met term = rule_kids top form kids is.0 term.1 met ∙ sym (ap (λ (r : Rule). r.kids) is.1)
+
+-- the forms of the children
+kid_forms : (n : ℕ) (form : Form) (top : Head) (kids : Trees) (m : AnyMapping) → IsReady n form (node top kids) → IsMappingOf top form m → (any_rule m).kid_form ≡ kid_form top form
+kid_forms n form top kids m ready is = λ i c. mapping_kid_form top form (count kids) m is ready.typed.0 ready.records.distinct c i
+
+pub layer_ready : (n : ℕ) (form : Form) (t : Tree) (m : AnyMapping) → IsReady n form t → IsMappingOf (head_of t) form m → AreReady n (any_rule m).kid_form 0 (kids_of t)
+layer_ready n form (node top kids) m ready is = subst (λ (forms : ℕ → Form). AreReady n forms 0 kids) (sym (kid_forms n form top kids m ready is)) (kids_ready n form top kids ready)
+
+pub layer_kids : (n : ℕ) (form : Form) (t : Tree) (m : AnyMapping) → IsReady n form t → IsMappingOf (head_of t) form m → count (kids_of t) ≡ (any_rule m).kids
+layer_kids n form (node top kids) m ready is = mapping_kids ready.levels top form kids m is ready.typed.0 ready.term
+
+pub layer_few : (n : ℕ) (form : Form) (t : Tree) → IsReady n form t → count (kids_of t) ≤ 255
+layer_few n form (node top kids) ready =
+    let below = kids_ready n form top kids ready in
+    omega (arith, some_leaves below.levels form kids below.terms, below.few)
 
 as_many : (n : ℕ) (forms : ℕ → Form) (i : ℕ) (ts : Trees) (us : NodeKids AnyMapping) → AreTreesOf n forms i ts us → kid_count us ≡ count ts
 as_many n forms i none no_kids are = refl

@@ -81,6 +81,9 @@ abbrev pub IsPlaceOf : Form → List ℕ → Where → Type 0
 IsPlaceOf form name (Key i) = IsFirstOf form.keys name i
 IsPlaceOf form name (Rest i) = (kind_in form.keys name ≡ None) × IsFirstOf form.fields name i
 
+abbrev pub kids_of : Tree → Trees
+kids_of (node top kids) = kids
+
 -- the mapping is that of the head, for the records of the form
 abbrev pub IsMappingOf : Head → Form → AnyMapping → Type 0
 IsMappingOf top form m = IsLayer top × (any_rule m ≡ head_rule top form)

@@ -1,17 +1,18 @@
 // Nodes of terms and of files.
-ghost use Rattle.std.specs.Prelude.{◌≡◌, ◌<◌, ◌≤◌, ◌+◌, ℕ, length, map, None, OnOk, IfOk, IfSome, IfNone};
+ghost use Rattle.std.specs.Prelude.{◌≡◌, ◌≢◌, ◌<◌, ◌≤◌, ◌+◌, ℕ, length, map, None, OnOk, IfOk, IfSome, IfNone};
 ghost use Rattle.gx_actual.specs.Bodies.{field_widths, AreShortTexts};
 ghost use Rattle.gx_partition.specs.Bounds.{IsPartition};
 ghost use Rattle.gx_values.specs.declared.values.Kind.{Kind as KindOf};
 ghost use Rattle.gx_equation.specs.declared.heads.Head.TheVariants as heads;
 ghost use Rattle.gx_equation.specs.Seen.{tree_of, trees_of, side_of, definitions_of};
-ghost use Rattle.gx_equation.specs.Trees.{kids_from};
+ghost use Rattle.gx_equation.specs.Trees.{arity, head_of, kids_from, Two_kids};
 ghost use Rattle.gx_stack.specs.Seen.{tree_of as node_tree, kids_from as node_kids};
-ghost use Rattle.gx_stack.specs.Tree.{leaf, layer, kid, no_kids};
-ghost use Rattle.gx_types.specs.Build.{leaf_count, leaf_counts, side_leaf_count, IsFirstOf, IsPlaceOf, IsMappingOf, IsTreeOf, AreTreesOf, IsTreeOfSide, AreTreesOfFiles, IsReady, AreReady, IsReadySide, AreReadyFiles};
+ghost use Rattle.gx_stack.specs.Tree.{leaf, layer};
+ghost use Rattle.gx_types.specs.Any.{any_rule};
+ghost use Rattle.gx_types.specs.Build.{leaf_count, leaf_counts, side_leaf_count, IsFirstOf, IsPlaceOf, IsMappingOf, kids_of, IsTreeOf, AreTreesOf, IsTreeOfSide, AreTreesOfFiles, IsReady, AreReady, IsReadySide, AreReadyFiles};
 ghost use Rattle.gx_typing.specs.Dues.{file_form};
 ghost use Rattle.gx_typing.specs.Fields.{kind_in};
-ghost use Rattle.gx_types.specs.HeadRules.{place_in};
+ghost use Rattle.gx_types.specs.HeadRules.{place_in, IsLayer};
 ghost use Rattle.gx_typing.specs.Typed.{IsField};
 
 use crate::any::AnyMapping;
@@ -24,6 +25,7 @@ use gx_stack::{LayerNode, LeafNode, Node};
 use gx_typing::file_form;
 use gx_values::{Field, Form, Name, NoMemory, Values};
 use std::alloc::Global;
+use std::slice::from_ref;
 
 // ---- nodes
 
@@ -37,19 +39,6 @@ fn layer_node(mapping: AnyMapping, kids: Vec<Node<AnyMapping>>) -> Node<AnyMappi
     ensures { node_tree result ≡ layer mapping (node_kids (map node_tree kids.items)) }
 {
     Node::Layer(LayerNode { mapping, kids })
-}
-
-// A mapping over one child.
-fn over_one(
-    alloc: Global,
-    mapping: AnyMapping,
-    child: Node<AnyMapping>,
-) -> Result<Node<AnyMapping>, NoMemory>
-    ensures { IfOk result (λ node. node_tree node ≡ layer mapping (kid (node_tree child) no_kids)) }
-{
-    let mut kids = Vec::with_capacity(alloc, 1)?;
-    kids.push(child)?;
-    Ok(layer_node(mapping, kids))
 }
 
 // The leaf with the next number.
@@ -122,23 +111,51 @@ fn partition_of(
     Ok(AnyMapping::Partition(partition(alloc, form, at, bounds)?))
 }
 
+// The mapping of the head of a term, for the records of the form.
+fn mapping_of(alloc: Global, form: &Form, term: &Term) -> Result<AnyMapping, NoMemory>
+    requires ready { (next : ℕ) × IsReady next form.now (tree_of term.now) }
+    requires layer { IsLayer (head_of (tree_of term.now)) }
+    ensures { IfOk result (IsMappingOf (head_of (tree_of term.now)) form.now) }
+{
+    match term {
+        Term::Actual(_) => actual_of(alloc, form),
+        Term::Partition(name, bounds, _) => partition_of(alloc, form, name, bounds),
+        _ => unreachable!(),
+    }
+}
+
 // ---- terms
 
-// Terms as children that have the records of one form.
+// The children of a term that has a list of them, or one.
+fn children(term: &Term) -> &[Term]
+    requires layer { IsLayer (head_of (tree_of term.now)) }
+    requires list { arity (head_of (tree_of term.now)) ≢ Two_kids }
+    ensures { kids_from (trees_of result.now) ≡ kids_of (tree_of term.now) }
+{
+    match term {
+        Term::Actual(kid) | Term::Encode(_, _, kid) | Term::Divide(_, kid) => from_ref(kid),
+        Term::Transpose(kids) | Term::Partition(_, _, kids) => kids,
+        _ => unreachable!(),
+    }
+}
+
+// The children of a mapping, each for the records of its form.
 #[cycle(nodes)]
-fn same_nodes(
+fn kid_nodes(
     alloc: Global,
-    form: &Form,
+    mapping: &AnyMapping,
     kids: &[Term],
     next: &mut u32,
 ) -> Result<Vec<Node<AnyMapping>>, NoMemory>
-    requires { AreReady next.old (λ _. form.now) 0 (kids_from (trees_of kids.now)) }
-    ensures trees { IfOk result (λ nodes. AreTreesOf next.old (λ _. form.now) 0 (kids_from (trees_of kids.now)) (node_kids (map node_tree nodes.items))) }
+    requires ready { AreReady next.old (any_rule mapping.now).kid_form 0 (kids_from (trees_of kids.now)) }
+    requires each { length kids.now ≡ (any_rule mapping.now).kids }
+    requires few { length kids.now ≤ 255 }
+    ensures trees { IfOk result (λ nodes. AreTreesOf next.old (any_rule mapping.now).kid_form 0 (kids_from (trees_of kids.now)) (node_kids (map node_tree nodes.items))) }
     ensures next { OnOk result (next.new ≡ next.old + leaf_counts (kids_from (trees_of kids.now))) }
 {
     let mut nodes = Vec::with_capacity(alloc, kids.len())?;
-    for kid in kids {
-        nodes.push(node_of(alloc, form, kid, next)?)?;
+    for (i, kid) in kids.iter().enumerate() {
+        nodes.push(node_of(alloc, mapping.kid_form(i as u16), kid, next)?)?;
     }
     Ok(nodes)
 }
@@ -158,21 +175,13 @@ pub fn node_of(
 {
     match term {
         Term::Leaf(_) => next_leaf(alloc, form, next),
-        Term::Actual(kid) => {
-            let mapping = actual_of(alloc, form)?;
-            let child = node_of(alloc, mapping.kid_form(0), kid, next)?;
-            over_one(alloc, mapping, child)
-        }
-        Term::Partition(name, bounds, kids) => {
-            let mapping = partition_of(alloc, form, name, bounds)?;
-            let nodes = same_nodes(alloc, form, kids, next)?;
+        _ => {
+            let mapping = mapping_of(alloc, form, term)?;
+            let nodes = kid_nodes(alloc, &mapping, children(term), next)?;
             Ok(layer_node(mapping, nodes))
         }
-        _ => unreachable!(),
     }
 }
-
-// ---- files
 
 // The node of a file by the side of its definition.
 fn node_of_file(

@@ -4,6 +4,7 @@ use Rattle.gx_equation.specs.Trees.{kids_from}
 use Rattle.gx_stack.specs.declared.node.Node.{Node}
 use Rattle.gx_stack.specs.Seen.{tree_of as node_tree, kids_from as node_kids}
 use Rattle.gx_types.specs.declared.any.AnyMapping.{AnyMapping}
+use Rattle.gx_types.specs.Any.{any_rule}
 use Rattle.gx_types.specs.Build.{leaf_counts, AreTreesOf, AreReady}
 use Rattle.gx_typing.proofs.TermSize.{tree_size, trees_size}
 use Rattle.gx_types.proofs.nodes.+nodes.Given as goal
@@ -11,12 +12,12 @@ use Rattle.gx_types.proofs.nodes.+nodes.Given as goal
 abbrev pub decreases-node_of : goal.decreases-node_of
 decreases-node_of l = tree_size (tree_of l.term.now)
 
-abbrev pub decreases-same_nodes : goal.decreases-same_nodes
-decreases-same_nodes l = trees_size (kids_from (trees_of l.kids.now))
+abbrev pub decreases-kid_nodes : goal.decreases-kid_nodes
+decreases-kid_nodes l = trees_size (kids_from (trees_of l.kids.now))
 
-abbrev pub invariant-same_nodes-loop-kid : goal.invariant-same_nodes-loop-kid
-invariant-same_nodes-loop-kid l = record {
-  ready : AreReady l.next (λ _. l.form) l.kid-index (kids_from (trees_of (drop l.kid-index l.kids)));
-  count : l.next + leaf_counts (kids_from (trees_of (drop l.kid-index l.kids))) ≡ l.fn.next + leaf_counts (kids_from (trees_of l.kids));
-  trees : (more : List (Node AnyMapping)) → AreTreesOf l.next (λ _. l.form) l.kid-index (kids_from (trees_of (drop l.kid-index l.kids))) (node_kids (map node_tree more)) → AreTreesOf l.fn.next (λ _. l.form) 0 (kids_from (trees_of l.kids)) (node_kids (map node_tree (l.nodes.items ++ more)));
+abbrev pub invariant-kid_nodes-loop-i : goal.invariant-kid_nodes-loop-i
+invariant-kid_nodes-loop-i l = record {
+  ready : AreReady l.next (any_rule l.mapping).kid_form l.i (kids_from (trees_of (drop l.i l.kids)));
+  count : l.next + leaf_counts (kids_from (trees_of (drop l.i l.kids))) ≡ l.fn.next + leaf_counts (kids_from (trees_of l.kids));
+  trees : (more : List (Node AnyMapping)) → AreTreesOf l.next (any_rule l.mapping).kid_form l.i (kids_from (trees_of (drop l.i l.kids))) (node_kids (map node_tree more)) → AreTreesOf l.fn.next (any_rule l.mapping).kid_form 0 (kids_from (trees_of l.kids)) (node_kids (map node_tree (l.nodes.items ++ more)));
 }
