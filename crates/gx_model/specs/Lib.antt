@@ -3,3 +3,4 @@ pub mod Found
 pub mod Texts
 pub mod Commands
 pub mod Play
+pub mod Runs

@@ -1,90 +1,76 @@
 -- The loop over the lines of a script.
-use Rattle.std.proofs.Common.{◌≡◌, ℕ, ◌+◌, ◌≤◌, List, [], ◌∷◌, ◌++◌, length, take, Bool, true, false, Result, Ok, Err, Option, None, refl, sym, ap, subst, ◌∙◌, arith, inl, inr}
+use Rattle.std.proofs.Common.{◌≡◌, ℕ, ◌+◌, ◌≤◌, List, [], ◌∷◌, ◌++◌, length, take, Bool, true, false, Result, Ok, Err, Option, Some, None, refl, sym, ap, subst, ◌∙◌, arith}
 use Rattle.std.specs.Prelude.{nat_lt, ◌==◌, if◌then◌else◌, is_some, IfOk}
-use Rattle.std.proofs.lemmas.List.{append-nil, append_assoc, length-take}
+use Rattle.std.proofs.lemmas.List.{append-nil, append_assoc, length-append, length-take}
 use Rattle.gx_schema.specs.declared.schema.Schema.{Schema}
-use Rattle.gx_script.specs.declared.command.Command.{Command}
 use Rattle.gx_script.specs.declared.command.LineWhy.{LineWhy}
 use Rattle.gx_script.specs.declared.command.LineWhy.TheVariants as why
-use Rattle.gx_script.specs.Commands.{place_reason}
 use Rattle.gx_script.specs.Lines.{Lines, Parts, with_line, no_lines, with_byte, parts_of, without_cr, last_line, up_to_limit, lines_within, longest_line, longest_script, script_lines, stopped as stopped_lines}
-use Rattle.gx_script.specs.Reading.{IsReading}
 use Rattle.gx_model.specs.States.{empty_state}
-use Rattle.gx_model.specs.Play.{Playing, End, stopped, end_at, end_text, is_inside, next_of, start_at, IsAnswered, IsPlayed, IsPlacedLine, IsPlay, IsPlayText}
-use Rattle.gx_plain.specs.Plain.{IsMoment, IsLineDone, IsBadLine, IsPlayedOut, IsSoFar, end_of}
+use Rattle.gx_model.specs.Play.{Playing, End, stopped, end_at, end_text, is_inside, start_at}
+use Rattle.gx_model.specs.Runs.{Step, Runs, IsBadLine, IsEnd, AreFirstLines, IsPlayTextFrom}
+use Rattle.gx_model.proofs.RunLemmas.{run_on, one_text_from}
+use Rattle.gx_plain.specs.Plain.{IsMoment, IsLineDone, IsPlayedOut, IsSoFar, end_of}
 use Rattle.gx_plain.specs.declared.plain.Moment.{Moment}
 use Rattle.gx_plain.specs.declared.plain.PlayEnd.{PlayEnd}
 use Rattle.gx_plain.specs.declared.plain.PlayEnd.TheVariants as play_end
-use Rattle.gx_model.proofs.PlayLemmas.{one_text}
 
 -- no line was played yet
 pub at_start : (schema : Schema) (script said : List ℕ) (m : Moment) (left : Lines) → said ≡ [] → left ≡ script_lines script → IsMoment m (start_at (empty_state schema)) → IsSoFar schema script said m left 0
 at_start schema script said m left none all at = record {
+  ran = [];
+  many = refl;
+  lines_are = ap (λ (ls : Lines). ls.lines) (sym all);
+  stop_is = ap (λ (ls : Lines). ls.stop) (sym all);
   now = start_at (empty_state schema);
+  runs = (none, refl);
   at = at;
-  goes_on = λ more final end played.
-      subst (λ t. IsPlay schema script (t ++ more) final end) (sym none)
-      (subst (λ ls. IsPlayed schema 0 (start_at (empty_state schema)) ls.lines ls.stop more final end) all played);
 }
-
--- a line that means a command which may stand there, and the play of those behind it
-line_on : (schema : Schema) (number : ℕ) (p : Playing) (line : List ℕ) (lines : List (List ℕ)) (stop : Option LineWhy) (command : Command) (answer more : List ℕ) (final : Playing) (end : End) → IsReading schema line (Ok command) → place_reason (is_inside p) command ≡ None → IsAnswered schema p command answer
-    → IsPlayed schema (number + 1) (next_of schema p command) lines stop more final end → IsPlayed schema number p (line ∷ lines) stop (answer ++ more) final end
-line_on schema number p line lines stop command answer more final end read placed answered rest = (
-  Ok command,
-  read,
-  subst (λ r. IsPlacedLine r schema p (number + 1) command (λ q text. IsPlayed schema (number + 1) q lines stop text final end) (answer ++ more) final end) (sym placed)
-      (record { answer = answer; more = more; is = refl; answered = answered; rest = rest }),
-)
 
 -- one more line was played
 pub after_line : (schema : Schema) (script said now_said answer line : List ℕ) (m new : Moment) (before left : Lines) (number : ℕ) → before ≡ with_line line left → (so : IsSoFar schema script said m before number) → IsLineDone schema so.now line answer new → now_said ≡ said ++ answer → IsSoFar schema script now_said new left (number + 1)
 after_line schema script said now_said answer line m new before left number before_is so played said_is = record {
-  now = next_of schema so.now played.command;
+  ran = so.ran ++ line ∷ [];
+  many = length-append so.ran (line ∷ []) ∙ ap (λ n. n + 1) so.many;
+  lines_are = so.lines_are ∙ ap (λ (ls : Lines). so.ran ++ ls.lines) before_is ∙ sym (append_assoc so.ran (line ∷ []) left.lines);
+  stop_is = so.stop_is ∙ ap (λ (ls : Lines). ls.stop) before_is;
+  now = played.next;
+  runs = subst (λ t. Runs schema (start_at (empty_state schema)) (so.ran ++ line ∷ []) t played.next) (ap (λ t. said ++ t) (append-nil answer) ∙ sym said_is)
+      (run_on schema (start_at (empty_state schema)) so.now played.next so.ran (line ∷ []) said (answer ++ []) so.runs (answer, [], played.next, played.step, (refl, refl), refl));
   at = played.at;
-  goes_on = λ more final end rest.
-      subst (λ t. IsPlay schema script t final end) (sym (ap (λ t. t ++ more) said_is ∙ append_assoc said answer more))
-      (so.goes_on (answer ++ more) final end
-      (subst (λ ls. IsPlayed schema number so.now ls.lines ls.stop (answer ++ more) final end) (sym before_is)
-      (line_on schema number so.now line left.lines left.stop played.command answer more final end played.read played.placed played.answered rest)));
 }
 
 -- the play ends, and nothing more was said
-ended : (schema : Schema) (script said : List ℕ) (m : Moment) (left : Lines) (number : ℕ) (end : End) (last : PlayEnd) → (so : IsSoFar schema script said m left number) → end_of last ≡ end → IsPlayed schema number so.now left.lines left.stop [] so.now end → IsPlayedOut schema script (said, last)
-ended schema script said m left number end last so last_is played = (
+ended : (schema : Schema) (script said : List ℕ) (m : Moment) (left : Lines) (number : ℕ) (next : Result (Option (List ℕ)) LineWhy) (last : PlayEnd) → (so : IsSoFar schema script said m left number) → AreFirstLines (script_lines script) so.ran next → IsEnd schema so.now number next (end_of last) → IsPlayedOut schema script (said, last)
+ended schema script said m left number next last so first ends = (
   so.now,
-  subst (λ e. IsPlay schema script said so.now e) (sym last_is) (subst (λ t. IsPlay schema script t so.now end) (append-nil said) (so.goes_on [] so.now end played)),
+  record { ran = so.ran; next = next; first = first; runs = so.runs; ends = subst (λ n. IsEnd schema so.now n next (end_of last)) (sym so.many) ends },
+)
+
+-- no more lines are left
+all_ran : (schema : Schema) (script said : List ℕ) (m : Moment) (left : Lines) (number : ℕ) (stop : Option LineWhy) → left ≡ record { lines = []; stop = stop } → (so : IsSoFar schema script said m left number) → ((script_lines script).lines ≡ so.ran) × ((script_lines script).stop ≡ stop)
+all_ran schema script said m left number stop left_is so = (
+  so.lines_are ∙ ap (λ (ls : Lines). so.ran ++ ls.lines) left_is ∙ append-nil so.ran,
+  so.stop_is ∙ ap (λ (ls : Lines). ls.stop) left_is,
 )
 
 -- at its end, where no transaction is open or one is
 pub at_end : (schema : Schema) (script said : List ℕ) (m : Moment) (left : Lines) (number : ℕ) (last : PlayEnd) → left ≡ no_lines → IsSoFar schema script said m left number → end_of last ≡ end_at number (is_some m.working) → IsPlayedOut schema script (said, last)
 at_end schema script said m left number last left_is so last_is =
-    ended schema script said m left number (end_at number (is_some m.working)) last so last_is
-    (subst (λ ls. IsPlayed schema number so.now ls.lines ls.stop [] so.now (end_at number (is_some m.working))) (sym left_is)
-    (let at = so.at in (refl, refl, ap (λ w. end_at number (is_some w)) at.working)))
+    ended schema script said m left number (Ok None) last so (all_ran schema script said m left number None left_is so)
+    (let at = so.at in last_is ∙ ap (λ w. end_at number (is_some w)) at.working)
 
 -- where the line behind can't be had
 pub at_stop : (schema : Schema) (script said : List ℕ) (m : Moment) (left : Lines) (number : ℕ) (reason : LineWhy) → left ≡ stopped_lines reason → IsSoFar schema script said m left number → IsPlayedOut schema script (said, play_end.Stopped (number + 1) reason)
 at_stop schema script said m left number reason left_is so =
-    ended schema script said m left number (stopped (number + 1) reason) (play_end.Stopped (number + 1) reason) so refl
-    (subst (λ ls. IsPlayed schema number so.now ls.lines ls.stop [] so.now (stopped (number + 1) reason)) (sym left_is)
-    (record { none = refl; final_is = refl; end_is = refl }))
+    ended schema script said m left number (Err reason) (play_end.Stopped (number + 1) reason) so (all_ran schema script said m left number (Some reason) left_is so) refl
 
--- at a line that means no command, or one that may not stand there
-bad_on : (schema : Schema) (number : ℕ) (p : Playing) (line : List ℕ) (lines : List (List ℕ)) (stop : Option LineWhy) (reason : LineWhy) → IsBadLine schema (is_inside p) line reason → IsPlayed schema number p (line ∷ lines) stop [] p (stopped (number + 1) reason)
-bad_on schema number p line lines stop reason (inl read) = (Err reason, read, record { none = refl; final_is = refl; end_is = refl })
-bad_on schema number p line lines stop reason (inr bad) = (
-  Ok bad.0,
-  bad.1,
-  subst (λ r. IsPlacedLine r schema p (number + 1) bad.0 (λ q text. IsPlayed schema (number + 1) q lines stop text p (stopped (number + 1) reason)) [] p (stopped (number + 1) reason)) (sym bad.2)
-      (record { none = refl; final_is = refl; end_is = refl }),
-)
-
+-- at a bad line
 pub at_bad_line : (schema : Schema) (script said line : List ℕ) (m : Moment) (before left : Lines) (number : ℕ) (reason : LineWhy) → before ≡ with_line line left → IsSoFar schema script said m before number → IsBadLine schema (is_some m.working) line reason → IsPlayedOut schema script (said, play_end.Stopped (number + 1) reason)
 at_bad_line schema script said line m before left number reason before_is so bad =
-    ended schema script said m before number (stopped (number + 1) reason) (play_end.Stopped (number + 1) reason) so refl
-    (subst (λ ls. IsPlayed schema number so.now ls.lines ls.stop [] so.now (stopped (number + 1) reason)) (sym before_is)
-    (bad_on schema number so.now line left.lines left.stop reason (let at = so.at in subst (λ w. IsBadLine schema (is_some w) line reason) at.working bad)))
+    ended schema script said m before number (Ok (Some line)) (play_end.Stopped (number + 1) reason) so
+    (left.lines, so.lines_are ∙ ap (λ (ls : Lines). so.ran ++ ls.lines) before_is)
+    (reason, let at = so.at in subst (λ w. IsBadLine schema (is_some w) line reason) at.working bad, refl)
 
 -- ---- how many lines there are
 
@@ -122,10 +108,10 @@ few_lines script = omega (arith, limit_few (parts_of (take 16777216 script)).end
 
 -- ---- the whole text
 
-pub play_text : {E : Type 0} (r : Result (List ℕ) E) (schema : Schema) (script said : List ℕ) (last : PlayEnd) → IsPlayedOut schema script (said, last) → IfOk r (λ text. text ≡ said ++ end_text (end_of last)) → IfOk r (IsPlayText schema script)
+pub play_text : {E : Type 0} (r : Result (List ℕ) E) (schema : Schema) (script said : List ℕ) (last : PlayEnd) → IsPlayedOut schema script (said, last) → IfOk r (λ text. text ≡ said ++ end_text (end_of last)) → IfOk r (IsPlayTextFrom schema (start_at (empty_state schema)) script)
 play_text (Err e) schema script said last out is = tt
 play_text (Ok text) schema script said last out is = record { answers = said; final = out.0; end = end_of last; played = out.1; is = is }
 
-pub only_text : {E : Type 0} (r : Result (List ℕ) E) (schema : Schema) (script text : List ℕ) → IfOk r (IsPlayText schema script) → IsPlayText schema script text → IfOk r (λ given. given ≡ text)
+pub only_text : {E : Type 0} (r : Result (List ℕ) E) (schema : Schema) (script text : List ℕ) → IfOk r (IsPlayTextFrom schema (start_at (empty_state schema)) script) → IsPlayTextFrom schema (start_at (empty_state schema)) script text → IfOk r (λ given. given ≡ text)
 only_text (Err e) schema script text h p = tt
-only_text (Ok given) schema script text h p = one_text schema script given text h p
+only_text (Ok given) schema script text h p = one_text_from schema (start_at (empty_state schema)) script given text h p

@@ -1,5 +1,5 @@
 -- What contracts say of the plain program.
-use Rattle.std.specs.Prelude.{◌≡◌, ℕ, ◌<◌, ◌⊎◌, List, ◌++◌, length, Bool, Option, None, Some, Ok, Err}
+use Rattle.std.specs.Prelude.{◌≡◌, ℕ, ◌<◌, List, ◌++◌, length, Option, None, Some}
 use Rattle.std.specs.List.{AllByRecursion}
 use Rattle.std.specs.Option.{option_map}
 use Rattle.gx_values.specs.Values.{IsSized}
@@ -8,12 +8,11 @@ use Rattle.gx_script.specs.declared.command.Change.{Change}
 use Rattle.gx_script.specs.declared.command.Command.{Command}
 use Rattle.gx_script.specs.declared.command.LineWhy.{LineWhy}
 use Rattle.gx_script.specs.declared.command.Of.{Of}
-use Rattle.gx_script.specs.Commands.{place_reason}
-use Rattle.gx_script.specs.Lines.{Lines}
-use Rattle.gx_script.specs.Reading.{IsReading}
-use Rattle.gx_model.specs.States.{State}
+use Rattle.gx_script.specs.Lines.{Lines, script_lines}
+use Rattle.gx_model.specs.States.{State, empty_state}
 use Rattle.gx_model.specs.Commands.{refusal_of, refusal_text}
-use Rattle.gx_model.specs.Play.{Playing, End, good, stopped, is_inside, next_of, IsAnswered, IsPlayed, IsPlay}
+use Rattle.gx_model.specs.Play.{Playing, End, good, stopped, start_at}
+use Rattle.gx_model.specs.Runs.{Step, Runs, IsPlayFrom}
 use Rattle.gx_plain.specs.declared.plain.Moment.{Moment}
 use Rattle.gx_plain.specs.declared.plain.PlayEnd.{PlayEnd}
 use Rattle.gx_plain.specs.declared.plain.PlayEnd.TheVariants as play_end
@@ -55,17 +54,11 @@ pub record IsOf (schema : Schema) (m : Moment) : Type 0 where
   pub kept : HasParts schema m.kept
   pub working : IfParts schema m.working
 
--- the text is the answer of a line that means a command, which may stand there; and the moment is that after it
+-- the line is a step of the play, the text is its answer, and the moment is that after it
 pub record IsLineDone (schema : Schema) (p : Playing) (line text : List ℕ) (m : Moment) : Type 0 where
-  pub command : Command
-  pub read : IsReading schema line (Ok command)
-  pub placed : place_reason (is_inside p) command ≡ None
-  pub answered : IsAnswered schema p command text
-  pub at : IsMoment m (next_of schema p command)
-
--- the line means no command, or one that may not stand there
-abbrev pub IsBadLine : Schema → Bool → List ℕ → LineWhy → Type 0
-IsBadLine schema inside line why = IsReading schema line (Err why) ⊎ ((command : Command) × IsReading schema line (Ok command) × (place_reason inside command ≡ Some why))
+  pub next : Playing
+  pub step : Step schema p line text next
+  pub at : IsMoment m next
 
 -- ---- scripts
 
@@ -73,12 +66,16 @@ abbrev pub end_of : PlayEnd → End
 end_of play_end.Good = good
 end_of (play_end.Stopped number why) = stopped number why
 
--- the answers of the script's play and its end, whatever its last states are
+-- the answers of the script's play on the empty state and its end, whatever its last states are
 abbrev pub IsPlayedOut : Schema → List ℕ → List ℕ × PlayEnd → Type 0
-IsPlayedOut schema script x = (final : Playing) × IsPlay schema script x.0 final (end_of x.1)
+IsPlayedOut schema script x = (final : Playing) × IsPlayFrom schema (start_at (empty_state schema)) (script_lines script) x.0 final (end_of x.1)
 
--- where the play of a script stands when so many lines were played, and these are left
+-- so many first lines of the script ran, and these are left
 pub record IsSoFar (schema : Schema) (script said : List ℕ) (m : Moment) (left : Lines) (number : ℕ) : Type 0 where
+  pub ran : List (List ℕ)
+  pub many : length ran ≡ number
+  pub lines_are : (script_lines script).lines ≡ ran ++ left.lines
+  pub stop_is : (script_lines script).stop ≡ left.stop
   pub now : Playing
+  pub runs : Runs schema (start_at (empty_state schema)) ran said now
   pub at : IsMoment m now
-  pub goes_on : (more : List ℕ) (final : Playing) (end : End) → IsPlayed schema number now left.lines left.stop more final end → IsPlay schema script (said ++ more) final end

@@ -4,11 +4,12 @@ ghost use Rattle.gx_schema.specs.WellFormed.{IsWellFormed};
 ghost use Rattle.gx_script.specs.declared.command.LineWhy.{LineWhy};
 ghost use Rattle.gx_script.specs.declared.command.NoCommand.TheVariants.{Bad};
 ghost use Rattle.gx_script.specs.Commands.{IsOfSchema, place_reason};
-ghost use Rattle.gx_script.specs.Reading.{IsReading};
+ghost use Rattle.gx_script.specs.Grammar.{IsLineOf};
 ghost use Rattle.gx_model.specs.Commands.{IsAnswer, next_state};
-ghost use Rattle.gx_model.specs.Play.{Playing, IsAnswered, IsPlayText, end_at, end_text, next_of, seen_state, start_at, with_working};
+ghost use Rattle.gx_model.specs.Play.{Playing, IsAnswered, end_at, end_text, next_of, seen_state, start_at, with_working};
+ghost use Rattle.gx_model.specs.Runs.{IsBadLine, IsPlayTextFrom};
 ghost use Rattle.gx_model.specs.States.{empty_state};
-ghost use Rattle.gx_plain.specs.Plain.{IsMoment, IsOf, IsLineDone, IsBadLine, IsPlayedOut, end_of};
+ghost use Rattle.gx_plain.specs.Plain.{IsMoment, IsOf, IsLineDone, IsPlayedOut, end_of};
 
 use crate::changes::carry_out;
 use crate::replies::answer;
@@ -26,9 +27,9 @@ use std::alloc::Global;
 /// programs with.
 pub fn play(alloc: Global, schema: &Schema, script: &[u8]) -> Result<Octets, NoMemory>
     requires { IsWellFormed schema.now }
-    ensures played { IfOk result (IsPlayText schema.now script.now) }
+    ensures played { IfOk result (IsPlayTextFrom schema.now (start_at (empty_state schema.now)) script.now) }
     // There is one such text.
-    ensures only { (text : List ℕ) → IsPlayText schema.now script.now text → IfOk result (λ given. given ≡ text) }
+    ensures only { (text : List ℕ) → IsPlayTextFrom schema.now (start_at (empty_state schema.now)) script.now text → IfOk result (λ given. given ≡ text) }
 {
     let (said, end) = play_lines(alloc, schema, script)?;
     with_end(alloc, said, end)
@@ -136,7 +137,7 @@ fn placed_command(
     line: &[u8],
 ) -> Result<Command, NoCommand>
     requires { IsWellFormed schema.now }
-    ensures read { IfOk result (λ command. IsReading schema.now line.now (Ok command)) }
+    ensures means { IfOk result (IsLineOf schema.now line.now) }
     ensures placed { IfOk result (λ command. place_reason inside command ≡ None) }
     ensures of_schema { IfOk result (IsOfSchema schema.now) }
     ensures bad { (why : LineWhy) → result ≡ Err (Bad why) → IsBadLine schema.now inside line.now why }
