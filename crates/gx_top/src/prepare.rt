@@ -155,8 +155,13 @@ fn carried_out<'a>(alloc: Global, action: Action, checked: Checked) -> Result<Pr
             if !is_built(&checked.schema, &checked.equation) {
                 return Err(Ending::NotBuilt);
             }
-            let built = build(alloc, &checked.schema, &checked.equation, checked.typing)?;
-            Ok(Prepared::Try(checked.schema, built))
+            let Checked {
+                schema,
+                equation,
+                typing,
+            } = checked;
+            let built = build(alloc, &schema, &equation, typing)?;
+            Ok(Prepared::Try(schema, built))
         }
     }
 }
