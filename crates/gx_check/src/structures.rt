@@ -2,7 +2,7 @@
 ghost use Rattle.std.specs.Prelude.{◌≡◌, length, IfOk};
 ghost use Rattle.gx_schema.specs.WellFormed.{IsWellFormed};
 ghost use Rattle.gx_ports.specs.Plain.{working_of};
-ghost use Rattle.gx_engine.specs.Steps.{AreFor, IsReady, schema_of};
+ghost use Rattle.gx_engine.specs.Steps.{AreFor, IsReady, schema_of, built_of, leaves_of};
 
 use gx_device::MemoryMachine;
 use gx_engine::Engine;
@@ -43,7 +43,8 @@ fn started(
     schema: &[u8],
     equation: &[u8],
 ) -> Result<Engine<PlainLeaves<MemoryMachine>>, Fail>
-    ensures ready { IfOk result (λ engine. IsReady working_of engine) }
+    ensures ready { IfOk result
+        (λ engine. AreFor (schema_of engine) (built_of engine) (length (working_of (leaves_of engine)))) }
     ensures well_formed { IfOk result (λ engine. IsWellFormed (schema_of engine)) }
 {
     let (schema, built) = built(rt, alloc, schema, equation)?;
@@ -62,9 +63,9 @@ fn carry_out<B: Leaves + Drop>(
     engine: &mut Engine<B>,
     answers: &mut Octets,
 ) -> Result<(), Fail>
-    requires ready { IsReady B.working engine.old }
+    requires ready { IsReady B.View engine.old }
     requires well_formed { IsWellFormed (schema_of engine.old) }
-    ensures ready { IsReady B.working engine.new }
+    ensures ready { IsReady B.View engine.new }
     ensures schema { schema_of engine.new ≡ schema_of engine.old }
 {
     let command = read_command(alloc, engine.schema(), line)?;
@@ -79,7 +80,7 @@ fn played<B: Leaves + Drop>(
     script: &str,
     engine: &mut Engine<B>,
 ) -> Result<Octets, Fail>
-    requires ready { IsReady B.working engine.old }
+    requires ready { IsReady B.View engine.old }
     requires well_formed { IsWellFormed (schema_of engine.old) }
 {
     let mut answers = Octets(Vec::new(alloc));

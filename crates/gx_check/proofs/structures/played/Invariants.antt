@@ -4,6 +4,6 @@ use Rattle.gx_check.proofs.structures.played.Given as goal
 
 abbrev pub invariant-loop-line : goal.invariant-loop-line
 invariant-loop-line g l = record {
-  ready : IsReady g.B.Leaves.working l.engine;
+  ready : IsReady g.B.View l.engine;
   schema : schema_of l.engine ≡ schema_of l.fn.engine;
 }
