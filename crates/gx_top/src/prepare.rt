@@ -149,17 +149,17 @@ fn carried_out<'a>(alloc: Global, action: Action, checked: Checked) -> Result<Pr
     ensures can_play { IfOk result CanPlay }
     ensures unbuilt { IfErr result (IsUnbuilt action checked.schema (definitions_of checked.equation.definitions)) }
 {
+    let Checked {
+        schema,
+        equation,
+        typing,
+    } = checked;
     match action {
-        Action::Check => Ok(Prepared::Check(summarize(&checked.typing.specs))),
+        Action::Check => Ok(Prepared::Check(summarize(&typing.specs))),
         Action::Try => {
-            if !is_built(&checked.schema, &checked.equation) {
+            if !is_built(&schema, &equation) {
                 return Err(Ending::NotBuilt);
             }
-            let Checked {
-                schema,
-                equation,
-                typing,
-            } = checked;
             let built = build(alloc, &schema, &equation, typing)?;
             Ok(Prepared::Try(schema, built))
         }
