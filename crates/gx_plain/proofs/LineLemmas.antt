@@ -7,8 +7,8 @@ use Rattle.gx_script.specs.declared.command.LineWhy.{LineWhy}
 use Rattle.gx_script.specs.declared.command.LineWhy.TheVariants as why
 use Rattle.gx_script.specs.Lines.{Lines, Parts, with_line, no_lines, with_byte, parts_of, without_cr, last_line, up_to_limit, lines_within, longest_line, longest_script, script_lines, stopped as stopped_lines}
 use Rattle.gx_model.specs.States.{empty_state}
-use Rattle.gx_model.specs.Play.{Playing, End, stopped, end_at, end_text, is_inside, start_at}
-use Rattle.gx_model.specs.Runs.{Step, Runs, IsBadLine, IsEnd, AreFirstLines, IsPlayTextFrom}
+use Rattle.gx_model.specs.Play.{end_at, end_text, start_at}
+use Rattle.gx_model.specs.Runs.{Runs, IsBadLine, IsEnd, AreFirstLines, IsPlayTextFrom}
 use Rattle.gx_model.proofs.RunLemmas.{run_on, one_text_from}
 use Rattle.gx_plain.specs.Plain.{IsMoment, IsLineDone, IsPlayedOut, IsSoFar, end_of}
 use Rattle.gx_plain.specs.declared.plain.Moment.{Moment}

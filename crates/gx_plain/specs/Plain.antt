@@ -6,7 +6,6 @@ use Rattle.gx_values.specs.Values.{IsSized}
 use Rattle.gx_schema.specs.declared.schema.Schema.{Schema}
 use Rattle.gx_script.specs.declared.command.Change.{Change}
 use Rattle.gx_script.specs.declared.command.Command.{Command}
-use Rattle.gx_script.specs.declared.command.LineWhy.{LineWhy}
 use Rattle.gx_script.specs.declared.command.Of.{Of}
 use Rattle.gx_script.specs.Lines.{Lines, script_lines}
 use Rattle.gx_model.specs.States.{State, empty_state}

@@ -1,6 +1,5 @@
 // What a command changes.
 ghost use Rattle.std.specs.Prelude.{◌≡◌, ◌-◌, ◌<◌, length, slice_set, OnOk, IfOk};
-ghost use Rattle.std.specs.List.{AllByRecursion};
 ghost use Rattle.gx_values.specs.Values.{AreSized, IsSized};
 ghost use Rattle.gx_schema.specs.WellFormed.{IsWellFormed};
 ghost use Rattle.gx_script.specs.Commands.{IsOfSchema};
@@ -18,7 +17,7 @@ use gx_values::{NoMemory, Value, Values};
 use std::alloc::Global;
 
 /// Carries a command of the schema out, where it isn't refused.
-pub fn carry_out(
+pub(crate) fn carry_out(
     alloc: Global,
     schema: &Schema,
     state: &mut PlainState,

@@ -1,5 +1,5 @@
 // Files: records in the order of their keys.
-ghost use Rattle.std.specs.Prelude.{◌≡◌, ◌≤◌, filter, length, not, take, IfOk, IfSome, OnOk, OnErr};
+ghost use Rattle.std.specs.Prelude.{◌≡◌, ◌≤◌, filter, length, not, IfOk, IfSome, OnOk, OnErr};
 ghost use Rattle.std.specs.List.{prefix_len};
 ghost use Rattle.std.specs.Option.{option_map};
 ghost use Rattle.std.specs.Ordering.{eq_by_cmp, is_gt};
@@ -13,7 +13,7 @@ use std::marker::Model;
 
 /// A file: its records, each key once, in ascending order.
 #[derive(Debug, Drop)]
-pub struct PlainFile {
+pub(crate) struct PlainFile {
     rows: Vec<Row>,
 }
 
@@ -36,7 +36,7 @@ impl Model for PlainFile {
 
 impl PlainFile {
     /// A file without records.
-    pub fn new(alloc: Global) -> PlainFile
+    pub(crate) fn new(alloc: Global) -> PlainFile
         ensures { result ≡ fin.empty }
     {
         PlainFile {
@@ -45,14 +45,14 @@ impl PlainFile {
     }
 
     /// The records, in the order of their keys.
-    pub fn rows(&self) -> &[Row]
+    pub(crate) fn rows(&self) -> &[Row]
         ensures { result.now ≡ fin.entries self.now }
     {
         &self.rows
     }
 
     /// The values of the record with this key, where there is one.
-    pub fn get(&self, key: &Value) -> Option<&Values>
+    pub(crate) fn get(&self, key: &Value) -> Option<&Values>
         ensures value { option_map (λ values. values.now) result ≡ fin.get self.now key.now }
         ensures sized { IfSome result (λ values. AreSized values.now) }
     {
@@ -60,21 +60,21 @@ impl PlainFile {
     }
 
     /// Gives the record's key its values.
-    pub fn insert(&mut self, row: Row) -> Result<(), NoMemory>
+    pub(crate) fn insert(&mut self, row: Row) -> Result<(), NoMemory>
         ensures { OnOk result (self.new ≡ fin.insert self.old row.0 row.1) }
     {
         put_row(&mut self.rows, row)
     }
 
     /// Takes the record with this key away, if there is one.
-    pub fn remove(&mut self, key: &Value)
+    pub(crate) fn remove(&mut self, key: &Value)
         ensures { self.new ≡ fin.remove self.old key.now }
     {
         remove_row(&mut self.rows, key);
     }
 
     /// An equal file.
-    pub fn copy(&self, alloc: Global) -> Result<PlainFile, NoMemory>
+    pub(crate) fn copy(&self, alloc: Global) -> Result<PlainFile, NoMemory>
         ensures { IfOk result (λ copy. copy ≡ self.now) }
     {
         let rows = copy_rows(alloc, &self.rows)?;

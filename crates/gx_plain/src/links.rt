@@ -1,5 +1,5 @@
 // Pairs of a member and its owner, and links of them in the order of the members.
-ghost use Rattle.std.specs.Prelude.{◌≡◌, ◌≤◌, filter, length, not, take, IfOk, IfSome, OnOk, OnErr};
+ghost use Rattle.std.specs.Prelude.{◌≡◌, ◌≤◌, filter, length, not, IfOk, IfSome, OnOk, OnErr};
 ghost use Rattle.std.specs.List.{prefix_len, list_any};
 ghost use Rattle.std.specs.Option.{option_map};
 ghost use Rattle.std.specs.Ordering.{eq_by_cmp, is_gt};
@@ -13,9 +13,9 @@ use std::marker::Model;
 
 /// The key of a member, and that of its owner.
 #[derive(Debug, Drop)]
-pub struct Pair {
-    pub member: Value,
-    pub owner: Value,
+pub(crate) struct Pair {
+    pub(crate) member: Value,
+    pub(crate) owner: Value,
 }
 
 impl Model for Pair {
@@ -31,7 +31,7 @@ impl Model for Pair {
 
 impl Pair {
     /// An equal pair.
-    pub fn copy(&self, alloc: Global) -> Result<Pair, NoMemory>
+    pub(crate) fn copy(&self, alloc: Global) -> Result<Pair, NoMemory>
         ensures { IfOk result (λ copy. copy ≡ self.now) }
     {
         Ok(Pair {
@@ -43,7 +43,7 @@ impl Pair {
 
 /// A link: its pairs, each member once, in ascending order.
 #[derive(Debug, Drop)]
-pub struct PlainLink {
+pub(crate) struct PlainLink {
     pairs: Vec<Pair>,
 }
 
@@ -66,7 +66,7 @@ impl Model for PlainLink {
 
 impl PlainLink {
     /// A link without pairs.
-    pub fn new(alloc: Global) -> PlainLink
+    pub(crate) fn new(alloc: Global) -> PlainLink
         ensures { result ≡ fin.empty }
     {
         PlainLink {
@@ -75,14 +75,14 @@ impl PlainLink {
     }
 
     /// The pairs, in the order of the members.
-    pub fn pairs(&self) -> &[Pair]
+    pub(crate) fn pairs(&self) -> &[Pair]
         ensures { result.now ≡ fin.entries self.now }
     {
         &self.pairs
     }
 
     /// The owner of a member, where it has one.
-    pub fn get(&self, member: &Value) -> Option<&Value>
+    pub(crate) fn get(&self, member: &Value) -> Option<&Value>
         ensures value { option_map (λ owner. owner.now) result ≡ fin.get self.now member.now }
         ensures sized { IfSome result (λ owner. IsSized owner.now) }
     {
@@ -90,21 +90,21 @@ impl PlainLink {
     }
 
     /// Gives the pair's member its owner.
-    pub fn insert(&mut self, pair: Pair) -> Result<(), NoMemory>
+    pub(crate) fn insert(&mut self, pair: Pair) -> Result<(), NoMemory>
         ensures { OnOk result (self.new ≡ fin.insert self.old pair.0 pair.1) }
     {
         put_pair(&mut self.pairs, pair)
     }
 
     /// Takes the pair of a member away, if there is one.
-    pub fn remove(&mut self, member: &Value)
+    pub(crate) fn remove(&mut self, member: &Value)
         ensures { self.new ≡ fin.remove self.old member.now }
     {
         remove_pair(&mut self.pairs, member);
     }
 
     /// An equal link.
-    pub fn copy(&self, alloc: Global) -> Result<PlainLink, NoMemory>
+    pub(crate) fn copy(&self, alloc: Global) -> Result<PlainLink, NoMemory>
         ensures { IfOk result (λ copy. copy ≡ self.now) }
     {
         let pairs = copy_pairs(alloc, &self.pairs)?;
@@ -112,14 +112,14 @@ impl PlainLink {
     }
 
     /// Whether some member has this owner.
-    pub fn has_owner(&self, owner: &Value) -> bool
+    pub(crate) fn has_owner(&self, owner: &Value) -> bool
         ensures { result ≡ list_any (λ pair. is_same pair.1 owner.now) (fin.entries self.now) }
     {
         self.pairs().iter().any(|pair| is_same(&pair.owner, owner))
     }
 
     /// How many members have this owner.
-    pub fn members(&self, owner: &Value) -> usize
+    pub(crate) fn members(&self, owner: &Value) -> usize
         ensures { result ≡ length (pairs_of self.now owner.now) }
     {
         self.pairs()
@@ -130,7 +130,7 @@ impl PlainLink {
 }
 
 /// Whether two values are one.
-pub fn is_same(a: &Value, b: &Value) -> bool
+pub(crate) fn is_same(a: &Value, b: &Value) -> bool
     ensures { result ≡ is_same a.now b.now }
 {
     compare(a, b).is_eq()

@@ -16,7 +16,7 @@ use std::alloc::Global;
 
 /// The lines of the records of a file that meet the conditions, and are members of the owner where one is given, in an order, and
 /// how many they are.
-pub fn list_text(
+pub(crate) fn list_text(
     alloc: Global,
     state: &PlainState,
     def: &FileDef,

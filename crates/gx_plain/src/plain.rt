@@ -1,5 +1,5 @@
 // The play of a script.
-ghost use Rattle.std.specs.Prelude.{◌≡◌, ◌<◌, ◌^◌, List, ℕ, ◌++◌, length, is_some, IfOk, OnOk, Ok, Err, None};
+ghost use Rattle.std.specs.Prelude.{◌≡◌, ◌<◌, List, ℕ, ◌++◌, is_some, IfOk, OnOk, Ok, Err, None};
 ghost use Rattle.gx_schema.specs.WellFormed.{IsWellFormed};
 ghost use Rattle.gx_script.specs.declared.command.LineWhy.{LineWhy};
 ghost use Rattle.gx_script.specs.declared.command.NoCommand.TheVariants.{Bad};

@@ -1,7 +1,7 @@
 // Why a command is refused.
 ghost use Rattle.std.specs.Prelude.{◌≡◌, ◌<◌, length, Some, None, if◌then◌else◌};
 ghost use Rattle.std.specs.Option.{option_map};
-ghost use Rattle.gx_schema.specs.Lookups.{file_at, link_at};
+ghost use Rattle.gx_schema.specs.Lookups.{link_at};
 ghost use Rattle.gx_schema.specs.WellFormed.{IsWellFormed};
 ghost use Rattle.gx_script.specs.Commands.{IsOfSchema};
 ghost use Rattle.gx_model.specs.Commands.{has_insert_key, has_record, is_end_of, is_linked, lacks_of};
@@ -29,7 +29,11 @@ const TOO_MANY_MEMBERS: &[u8] = b"refused: too many members\n";
 const NO_OWNER: &[u8] = b"refused: no owner\n";
 
 /// The line that says why a command of the schema is refused, where it is: of several reasons the first.
-pub fn refusal(schema: &Schema, state: &PlainState, command: &Command) -> Option<&'static [u8]>
+pub(crate) fn refusal(
+    schema: &Schema,
+    state: &PlainState,
+    command: &Command,
+) -> Option<&'static [u8]>
     requires well_formed { IsWellFormed schema.now }
     requires parts { HasParts schema.now state.now }
     requires of_schema { IsOfSchema schema.now command.now }
@@ -174,7 +178,7 @@ fn is_end_of(def: &LinkDef, link: &PlainLink, file: u16, key: &Value) -> bool
 }
 
 /// The number of a link's owner file.
-pub fn owner_number(schema: &Schema, link: u16) -> u16
+pub(crate) fn owner_number(schema: &Schema, link: u16) -> u16
     requires well_formed { IsWellFormed schema.now }
     requires link { link < length schema.now.links }
     ensures value { result ≡ (link_at schema.now link).owner }
@@ -184,7 +188,7 @@ pub fn owner_number(schema: &Schema, link: u16) -> u16
 }
 
 /// The number of a link's member file.
-pub fn member_number(schema: &Schema, link: u16) -> u16
+pub(crate) fn member_number(schema: &Schema, link: u16) -> u16
     requires well_formed { IsWellFormed schema.now }
     requires link { link < length schema.now.links }
     ensures value { result ≡ (link_at schema.now link).member }

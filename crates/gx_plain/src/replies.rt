@@ -1,7 +1,7 @@
 // What a command that isn't refused answers.
 ghost use Rattle.std.specs.Prelude.{◌≡◌, ◌<◌, length, IfOk};
 ghost use Rattle.gx_values.specs.Values.{IsSized};
-ghost use Rattle.gx_schema.specs.Lookups.{file_at, link_at};
+ghost use Rattle.gx_schema.specs.Lookups.{file_at};
 ghost use Rattle.gx_schema.specs.WellFormed.{IsWellFormed};
 ghost use Rattle.gx_script.specs.Commands.{IsOfSchema};
 ghost use Rattle.gx_script.specs.declared.command.Command.TheVariants as command;
@@ -20,7 +20,7 @@ use gx_values::{NoMemory, Octets, Value};
 use std::alloc::Global;
 
 /// The answer of a command on records or links, of the schema.
-pub fn answer(
+pub(crate) fn answer(
     alloc: Global,
     schema: &Schema,
     state: &PlainState,

@@ -14,7 +14,7 @@ use std::marker::Model;
 
 /// The files and the links of a schema, in its order.
 #[derive(Debug, Drop)]
-pub struct PlainState {
+pub(crate) struct PlainState {
     files: Vec<PlainFile>,
     links: Vec<PlainLink>,
 }
@@ -33,7 +33,7 @@ impl Model for PlainState {
 
 impl PlainState {
     /// The state of a schema without records.
-    pub fn empty(alloc: Global, schema: &Schema) -> Result<PlainState, NoMemory>
+    pub(crate) fn empty(alloc: Global, schema: &Schema) -> Result<PlainState, NoMemory>
         ensures { IfOk result (λ state. state ≡ empty_state schema.now) }
     {
         let files = empty_files(alloc, schema.files.as_slice().len())?;
@@ -42,7 +42,7 @@ impl PlainState {
     }
 
     /// An equal state.
-    pub fn copy(&self, alloc: Global) -> Result<PlainState, NoMemory>
+    pub(crate) fn copy(&self, alloc: Global) -> Result<PlainState, NoMemory>
         ensures { IfOk result (λ copy. copy ≡ self.now) }
     {
         let files = copy_files(alloc, &self.files)?;
@@ -51,7 +51,7 @@ impl PlainState {
     }
 
     /// A file by its number.
-    pub fn file(&self, file: u16) -> &PlainFile
+    pub(crate) fn file(&self, file: u16) -> &PlainFile
         requires { file < length self.now.files }
         ensures { result.now ≡ file_in self.now file }
     {
@@ -59,7 +59,7 @@ impl PlainState {
     }
 
     /// A link by its number.
-    pub fn link(&self, link: u16) -> &PlainLink
+    pub(crate) fn link(&self, link: u16) -> &PlainLink
         requires { link < length self.now.links }
         ensures { result.now ≡ link_in self.now link }
     {
@@ -67,14 +67,14 @@ impl PlainState {
     }
 
     /// All links.
-    pub fn links(&self) -> &[PlainLink]
+    pub(crate) fn links(&self) -> &[PlainLink]
         ensures { result.now ≡ self.now.links }
     {
         &self.links
     }
 
     /// Gives a record's key its values.
-    pub fn insert(&mut self, file: u16, row: Row) -> Result<(), NoMemory>
+    pub(crate) fn insert(&mut self, file: u16, row: Row) -> Result<(), NoMemory>
         requires { file < length self.old.files }
         ensures { OnOk result (self.new ≡ with_file self.old file (fin.insert (file_in self.old file) row.0 row.1)) }
     {
@@ -82,7 +82,7 @@ impl PlainState {
     }
 
     /// Takes a record away, if it is there.
-    pub fn remove(&mut self, file: u16, key: &Value)
+    pub(crate) fn remove(&mut self, file: u16, key: &Value)
         requires { file < length self.old.files }
         ensures { self.new ≡ with_file self.old file (fin.remove (file_in self.old file) key.now) }
     {
@@ -90,7 +90,7 @@ impl PlainState {
     }
 
     /// Gives a member its owner.
-    pub fn connect(&mut self, link: u16, pair: Pair) -> Result<(), NoMemory>
+    pub(crate) fn connect(&mut self, link: u16, pair: Pair) -> Result<(), NoMemory>
         requires { link < length self.old.links }
         ensures { OnOk result (self.new ≡ with_link self.old link (fin.insert (link_in self.old link) pair.0 pair.1)) }
     {
@@ -98,7 +98,7 @@ impl PlainState {
     }
 
     /// Takes a member's owner away, if it has one.
-    pub fn disconnect(&mut self, link: u16, member: &Value)
+    pub(crate) fn disconnect(&mut self, link: u16, member: &Value)
         requires { link < length self.old.links }
         ensures { self.new ≡ with_link self.old link (fin.remove (link_in self.old link) member.now) }
     {

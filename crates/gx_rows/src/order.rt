@@ -14,14 +14,14 @@ use gx_values::{Value, compare};
 use std::alloc::AllocError;
 use std::cmp::Ordering;
 
-/// Sorts rows by an order. `AllocError`: there was no memory for the sort; then they stand in some order.
+/// Sorts rows by an order. `AllocError`: there was no memory for it, and they stand in some order.
 pub fn sort_rows(rows: &mut Vec<Row>, order: OrderBy) -> Result<(), AllocError>
     ensures those { IsPermutation rows.old.items rows.new.items }
     ensures in_order { OnOk result (IsSortedBy (λ a b. is_lt (row_cmp order a b)) rows.new.items) }
     // Records of a file, whose keys differ, are listed in the one way.
-    ensures listed { (f : File) (test : TheRow → Bool) →
-        IsPermutation (filter test (fin.entries f)) rows.old.items →
-        OnOk result (IsListed f test order rows.new.items) }
+    ensures listed { (f : File) (test : TheRow → Bool)
+        → IsPermutation (filter test (fin.entries f)) rows.old.items
+        → OnOk result (IsListed f test order rows.new.items) }
 {
     rows.sort_by(|a, b| compare_rows(order, a, b))?;
     Ok(())
@@ -51,7 +51,7 @@ fn compare_values(field: u16, a: &Row, b: &Row) -> Ordering
     )
 }
 
-/// The value of a field, the key being field 0; `absent`, which is the int 0, where the row has none.
+/// The value of a field, the key being field 0. Where the row has none it is `absent`, the int 0.
 pub fn field_value<'a>(field: u16, row: &'a Row, absent: &'a Value) -> &'a Value
     requires { absent.now ≡ value.Int (pos 0) }
     ensures { result.now ≡ value_at row.now field }

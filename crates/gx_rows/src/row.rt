@@ -2,7 +2,7 @@
 use gx_values::{Value, Values};
 use std::marker::Model;
 
-/// A record: its key and its other values, in the order of the fields. An int among them has 64 bits.
+/// A record: its key and its other values, in the order of the fields. Its ints have 64 bits.
 #[derive(Debug, Drop)]
 pub struct Row {
     /// the value of field 0

@@ -47,7 +47,8 @@ fn push_record(
     key: &Value,
     values: &[Value],
 ) -> Result<(), AllocError>
-    ensures { OnOk result (text.new.items ≡ text.old.items ++ row_text file.now (key.now, values.now)) }
+    ensures { OnOk result
+        (text.new.items ≡ text.old.items ++ row_text file.now (key.now, values.now)) }
 {
     text.extend_from_slice(file.name.as_slice())?;
     push_value(text, key)?;
@@ -56,7 +57,8 @@ fn push_record(
 }
 
 fn push_values(text: &mut Vec<u8>, values: &[Value]) -> Result<(), AllocError>
-    ensures { OnOk result (text.new.items ≡ text.old.items ++ flat_map (λ v. codes " " ++ value_text v) values.now) }
+    ensures { OnOk result
+        (text.new.items ≡ text.old.items ++ flat_map (λ v. codes " " ++ value_text v) values.now) }
 {
     for value in values {
         push_value(text, value)?;
