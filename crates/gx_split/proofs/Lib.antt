@@ -1,0 +1,3 @@
+pub mod GroupSteps
+pub mod SegmentGather
+pub mod TransposeGather
