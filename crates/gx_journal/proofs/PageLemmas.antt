@@ -9,7 +9,7 @@ use Rattle.gx_frames.specs.Pool.{Resident}
 use Rattle.gx_device.specs.Content.{Content}
 use Rattle.gx_layout.specs.Layout.{View, home, head_of, Holds, SameButChanged}
 use Rattle.gx_layout.specs.Calm.{Calm, kept_view}
-use Rattle.gx_journal.specs.Sources.{stored, page_of, SamePages, IsSlot, OnlySlots}
+use Rattle.gx_journal.specs.Sources.{stored, page_of, IsCached, SamePages, IsSlot, OnlySlots}
 use Rattle.gx_journal.specs.State.{blank, pages_told, homes_told, head_told, CalmSince}
 
 listed_pages : (f : ℕ → List ℕ) (P k : ℕ) (d : List ℕ) → k < P → get_or (map f (range_with_len 0 P)) k d ≡ f k
@@ -134,3 +134,27 @@ homes_stored tells P c spilled rs told all = subst (λ (b : Bool). SameButChange
     let under : p < P = omega (arith, lt, length-map-range_with_len f 0 P) in
     get_or-take P (drop (7 + P) c.now.blocks) p [] under ∙ get_or-drop (7 + P) c.now.blocks p []
     ∙ sym (listed_pages f P p [] under ∙ all p ∙ ap (λ (b : Bool). if b then get_or c.now.blocks (7 + p) [] else get_or c.now.blocks (home P p) []) off))
+
+-- a call that leaves all blocks leaves what they tell
+module _ (old new : Content) (blocks : new.now.blocks ≡ old.now.blocks) where
+  pub still_homes : (tells : Bool) (P : ℕ) → homes_told tells P new ≡ homes_told tells P old
+  still_homes tells P = ap (λ (l : List (List ℕ)). if tells then take P (drop (7 + P) l) else blank P) blocks
+
+  pub still_head : (tells : Bool) → head_told tells new ≡ head_told tells old
+  still_head tells = ap (λ (l : List (List ℕ)). if tells then head_of l else []) blocks
+
+  pub still_pages : (tells : Bool) (P : ℕ) (spilled : List Bool) (rs : List Resident) → pages_told tells P new spilled rs ≡ pages_told tells P old spilled rs
+  still_pages tells P spilled rs = ap (λ (l : List (List ℕ)). if tells then map (page_of P l spilled rs) (range_with_len 0 P) else blank P) blocks
+
+  pub still_cached : (P : ℕ) (spilled : List Bool) (rs : List Resident) → IsCached P old.now.blocks spilled rs → IsCached P new.now.blocks spilled rs
+  still_cached P spilled rs cached = subst (λ (l : List (List ℕ)). IsCached P l spilled rs) (sym blocks) cached
+
+  pub still_calm : (tells failed : Bool) (P : ℕ) (start : Content) → new.now.shelf ≡ old.now.shelf → ((v : View) → Calm start v old → Calm start v new) → CalmSince tells failed P start old → CalmSince tells failed P start new
+  still_calm tells failed P start shelf calm is =
+      let v : kept_view P new ≡ kept_view P old = λ i. record { pages = take P (drop (7 + P) (blocks i)); head = head_of (blocks i); said = []; shelf = shelf i } in
+      record {
+        told = is.told;
+        steady = is.steady;
+        count = ap (λ (x : View). length x.pages) v ∙ is.count;
+        calm = subst (λ (x : View). Calm start x new) (sym v) (calm (kept_view P old) is.calm);
+      }

@@ -1,8 +1,8 @@
 // Pages over a device, with the working ones in a few frames.
 ghost use Rattle.std.specs.Prelude.{◌≡◌, ◌<◌, ◌≤◌, ◌+◌, ◌*◌, ◌/◌, ◌-◌, [], false, length, replicate, slice_set, slice_index_or, vec_capacity, IsTrue, IfOk, IfErr, OnOk, OnErr};
-ghost use Rattle.gx_device.specs.Content.{Silent};
-ghost use Rattle.gx_device.specs.Faults.{IsCounted};
-ghost use Rattle.gx_layout.specs.Layout.{home};
+ghost use Rattle.gx_device.specs.Content.{Silent, Hears, Listens, Says, Speaks};
+ghost use Rattle.gx_device.specs.Faults.{Rose, HasCause, IsCounted};
+ghost use Rattle.gx_layout.specs.Layout.{home, pages_of};
 ghost use Rattle.gx_journal.specs.Sources.{IsCached, IsListed};
 
 use crate::access::{read, write};
@@ -30,15 +30,58 @@ pub struct Journal<D: Device> {
     ghost cached: { IsTrue D.tells → IsCached (length spilled.items) (D.content device).now.blocks spilled.items frames.resident },
 }
 
-// So many flags, none of which is set.
-fn no_flags(alloc: Global, count: usize) -> Result<Vec<bool>, NoMemory>
-    ensures { IfOk result (λ flags. flags.items ≡ replicate count false) }
-{
-    Ok(vec![in alloc; false; count]?)
+// All the memory of a journal: its frames, a flag for each page, and a list with room for each page.
+#[derive(Drop)]
+struct Room {
+    frames: Frames,
+    spilled: Vec<bool>,
+    listed: Vec<u32>,
+}
+
+impl Room {
+    fn make(alloc: Global, count: u32, pages: u32) -> Result<Room, NoMemory>
+        requires least { 8 ≤ count }
+        requires most { count ≤ 1024 }
+        ensures frames { IfOk result (λ room. room.frames ≡ record { frames = count; pages = pages; resident = [] }) }
+        ensures spilled { IfOk result (λ room. room.spilled.items ≡ replicate pages false) }
+        ensures listed { IfOk result (λ room. room.listed.items ≡ []) }
+        ensures space { IfOk result (λ room. pages ≤ vec_capacity room.listed) }
+    {
+        Ok(Room {
+            frames: Frames::make(alloc, count, pages)?,
+            spilled: vec![in alloc; false; pages as usize]?,
+            listed: Vec::with_capacity(alloc, pages as usize)?,
+        })
+    }
 }
 
 impl<D: Device> Journal<D> {
-    ghost use Rattle.gx_journal.specs.Journal.{device_of, content_of, size_of, working_of, kept_of, Keeps};
+    ghost use Rattle.gx_journal.specs.Journal.{device_of, content_of, size_of, working_of, kept_of, IsSteady, Keeps};
+
+    // A journal of which nothing is resident. `NoMemory` hands the device back.
+    fn make(alloc: Global, device: D, count: u32) -> Result<Journal<D>, (D, NoMemory)>
+        requires least { 8 ≤ count }
+        requires most { count ≤ 1024 }
+        requires blocks { 7 ≤ D.size device }
+        requires limit { D.size device ≤ 65543 }
+        ensures size { IfOk result (λ j. size_of j ≡ pages_of (D.size device)) }
+        ensures device { IfOk result (λ j. device_of j ≡ device) }
+        ensures steady { IfOk result (λ j. IsSteady j) }
+        ensures working { IfOk result (λ j. working_of j ≡ kept_of j) }
+        ensures back { IfErr result (λ e. e.0 ≡ device) }
+    {
+        let pages = (device.blocks() - 7) / 2;
+        match Room::make(alloc, count, pages) {
+            Ok(room) => Ok(Journal {
+                device,
+                frames: room.frames,
+                spilled: room.spilled,
+                listed: room.listed,
+                failed: false,
+            }),
+            Err(NoMemory) => Err((device, NoMemory)),
+        }
+    }
 
     /// The number of pages.
     pub fn pages(&self) -> u32
@@ -102,6 +145,35 @@ impl<D: Device> Journal<D> {
         ensures device { device_of self.new ≡ device_of self.old }
     {
         forget(&mut self.frames, &mut self.spilled, &mut self.listed);
+    }
+
+    /// Hears the script, as the device does.
+    pub fn hear(&mut self, into: &mut [u8]) -> Result<usize, Failed>
+        requires { 0 < length into.old }
+        ensures bound { IfOk result (λ n. n ≤ length into.new) }
+        ensures heard { IsTrue D.tells → IfOk result (λ n. Hears n into.new (content_of self.old) (content_of self.new)) }
+        ensures not_heard { OnErr result ((content_of self.new).script ≡ (content_of self.old).script) }
+        ensures rest { Listens (content_of self.old) (content_of self.new) }
+        ensures faults { IsCounted (D.faults (device_of self.old)) (D.faults (device_of self.new)) result }
+        ensures working { working_of self.new ≡ working_of self.old }
+        ensures keeps { Keeps self.old self.new }
+    {
+        self.device.hear(into)
+    }
+
+    /// Says the first bytes of a piece, as the device does.
+    pub fn say(&mut self, from: &[u8]) -> Result<usize, Failed>
+        ensures bound { IfOk result (λ n. n ≤ length from.now) }
+        ensures said { IsTrue D.tells → IfOk result (λ n. Says n from.now (content_of self.old) (content_of self.new)) }
+        ensures not_said { OnErr result ((content_of self.new).now.said ≡ (content_of self.old).now.said) }
+        ensures rest { Speaks (content_of self.old) (content_of self.new) }
+        ensures cause { HasCause (D.faults (device_of self.old)) (D.faults (device_of self.new)) result }
+        ensures counted { IfOk result (λ n. 0 < n → D.faults (device_of self.new) ≡ D.faults (device_of self.old)) }
+        ensures none_taken { result ≡ Ok 0 → 0 < length from.now → Rose (D.faults (device_of self.old)) (D.faults (device_of self.new)) }
+        ensures working { working_of self.new ≡ working_of self.old }
+        ensures keeps { Keeps self.old self.new }
+    {
+        self.device.say(from)
     }
 
     /// The device.
