@@ -1,7 +1,7 @@
 -- What the blocks of a device stand for.
 use Rattle.std.specs.Prelude.{◌≡◌, ◌⊎◌, ◌<◌, ◌≤◌, zero, suc, ◌++◌, ◌+◌, ◌-◌, ◌/◌, ◌%◌, ◌&&◌, ◌==◌, if◌then◌else◌, ℕ, Bool, true, false, List, [], ◌∷◌, length, get_or}
 use Rattle.std.specs.Int.{bit_at}
-use Rattle.gx_device.specs.Content.{Shelf, Moment, block_of, is_pending}
+use Rattle.gx_device.specs.Content.{Shelf, Moment, Content, Silent, block_of, is_pending}
 use Rattle.gx_device.specs.Crash.{Image}
 
 -- the number of pages of a device of so many blocks
@@ -147,3 +147,9 @@ flags bitmap (suc n) = flags bitmap n ++ has_bit bitmap n ∷ []
 -- each page below i that the bitmap names has been copied from its slot
 abbrev pub CopiedBelow : ℕ → ℕ → List ℕ → Moment → Moment → Type 0
 CopiedBelow i P bitmap old m = (p : ℕ) → p < i → has_bit bitmap p ≡ true → block_of m (home P p) ≡ block_of old (7 + p)
+
+-- no block changed that isn't free, and nothing was said, heard or attached
+pub record OnlyBlocks (free : ℕ → Type 0) (old new : Content) : Type 0 where
+  pub count : length new.now.blocks ≡ length old.now.blocks
+  pub blocks : (n : ℕ) → (free n → ⊥) → block_of new.now n ≡ block_of old.now n
+  pub silent : Silent old new
