@@ -1,0 +1,6 @@
+pub mod SourceLemmas
+pub mod ListLemmas
+pub mod SlotLemmas
+pub mod ForgetLemmas
+pub mod PageLemmas
+pub mod CleanLemmas

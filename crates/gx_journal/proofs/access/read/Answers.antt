@@ -1,0 +1,27 @@
+use Rattle.std.proofs.Common.{◌≡◌, length, refl, ap}
+use Rattle.gx_frames.specs.Pool.{Pool, to_front, with_residents}
+use Rattle.gx_journal.proofs.SourceLemmas.{page_apart, cached_order}
+use Rattle.gx_journal.proofs.SlotLemmas.{slots_twice, slots_read, front_found}
+use Rattle.gx_journal.proofs.access.read.Goals as goal
+
+pub returns-in-Some-clause-same : goal.returns-in-Some-clause-same
+returns-in-Some-clause-same g c told q =
+    let blocks = (g.D.Device.content c.args.device.now).now.blocks in
+    let rs = c.args.frames.now.resident in
+    let e : c.get.follows.lender-at-none ≡ with_residents c.args.frames.now (to_front c.args.p rs) = c.get.follows.holds-at-none in
+    page_apart (length c.args.spilled.now.items) blocks blocks c.args.spilled.now.items c.args.spilled.now.items rs _ q (front_found c.args.p rs _ (ap (λ (x : Pool). x.resident) e) q) refl
+
+pub returns-in-Some-clause-cached : goal.returns-in-Some-clause-cached
+returns-in-Some-clause-cached g c told =
+    let blocks = (g.D.Device.content c.args.device.now).now.blocks in
+    let rs = c.args.frames.now.resident in
+    let e : c.get.follows.lender-at-none ≡ with_residents c.args.frames.now (to_front c.args.p rs) = c.get.follows.holds-at-none in
+    cached_order (length c.args.spilled.now.items) blocks c.args.spilled.now.items rs _ (front_found c.args.p rs _ (ap (λ (x : Pool). x.resident) e)) (c.requires.cached told)
+
+pub returns-in_err-fetch-clause-slots : goal.returns-in_err-fetch-clause-slots
+returns-in_err-fetch-clause-slots g c =
+    slots_twice _ _ (g.D.Device.content c.make_room.new.device) _ (c.make_room.ensures.slots) (slots_read _ _ _ (c.fetch.ensures.rest))
+
+pub returns-clause-slots : goal.returns-clause-slots
+returns-clause-slots g c =
+    slots_twice _ _ (g.D.Device.content c.make_room.new.device) _ (c.make_room.ensures.slots) (slots_read _ _ _ (c.fetch.ensures.rest))

@@ -1,0 +1,25 @@
+use Rattle.std.proofs.Common.{◌≡◌, ◌≤◌, ◌<◌, ◌-◌, ℕ, length, IsTrue}
+use Rattle.std.specs.Prelude.{vec_capacity}
+use Rattle.gx_frames.specs.Pool.{IsChanged}
+use Rattle.gx_journal.specs.Sources.{page_of, IsCached, SamePages, IsListed, OnlySlots}
+use Rattle.gx_journal.proofs.commit.spill_all.Given as goal
+
+abbrev pub invariant-loop-p : goal.invariant-loop-p
+invariant-loop-p g l =
+    let content = g.D.Device.content in
+    let P = length l.fn.spilled.items in
+    record {
+      size : g.D.Device.size l.device ≡ g.D.Device.size l.fn.device;
+      faults : g.D.Device.faults l.device ≡ g.D.Device.faults l.fn.device;
+      pages : l.frames.pages ≡ l.fn.frames.pages;
+      long : length l.spilled.items ≡ length l.fn.spilled.items;
+      space : vec_capacity l.fn.listed ≤ vec_capacity l.listed;
+      listed : IsListed l.spilled.items l.listed.items;
+      same : IsTrue g.D.Device.tells → SamePages (page_of P (content l.fn.device).now.blocks l.fn.spilled.items l.fn.frames.resident) (page_of P (content l.device).now.blocks l.spilled.items l.frames.resident);
+      cached : IsTrue g.D.Device.tells → IsCached P (content l.device).now.blocks l.spilled.items l.frames.resident;
+      slots : OnlySlots P (content l.fn.device) (content l.device);
+      below : (q : ℕ) → q < l.from → IsChanged l.frames q → ⊥;
+    }
+
+abbrev pub decreases-loop-p : goal.decreases-loop-p
+decreases-loop-p g l = length l.spilled.items - l.from

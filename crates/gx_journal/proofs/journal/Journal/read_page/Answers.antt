@@ -1,0 +1,36 @@
+use Rattle.std.proofs.Common.{◌≡◌, length, refl, ap, sym, subst, ◌∙◌, IsTrue, arith}
+use Rattle.std.proofs.lemmas.Result.{on_ok_weaker}
+use Rattle.gx_journal.specs.State.{CalmSince}
+use Rattle.gx_journal.specs.Sources.{OnlySlots}
+use Rattle.gx_journal.proofs.SlotLemmas.{slots_silent}
+use Rattle.gx_journal.proofs.PageLemmas.{homes_same, head_same, calm_same, pages_same, pages_at}
+use Rattle.gx_journal.proofs.journal.Journal.read_page.Goals as goal
+
+pub returns-clause-keeps : goal.returns-clause-keeps
+returns-clause-keeps g c =
+    let old = c.args.self.now in
+    let tells = g.D.Device.tells in
+    let P = length old.spilled.items in
+    let Q = length c.read.new.spilled.items in
+    let before = g.D.Device.content old.device in
+    let after = g.D.Device.content c.read.new.device in
+    record {
+      kept = homes_same tells P Q before after c.read.ensures.long (λ told. c.read.ensures.slots);
+      head = head_same tells P before after (λ told. c.read.ensures.slots);
+      size = c.read.ensures.long;
+      steady = refl;
+      calm = λ start calm. calm_same tells old.failed old.failed P Q start before after c.read.ensures.long refl (λ told. c.read.ensures.slots) calm;
+    }
+
+pub returns-clause-silent : goal.returns-clause-silent
+returns-clause-silent g c = slots_silent (length c.args.self.now.spilled.items) _ _ c.read.ensures.slots
+
+pub returns-clause-working : goal.returns-clause-working
+returns-clause-working g c =
+    let old = c.args.self.now in
+    pages_same g.D.Device.tells (length old.spilled.items) (length c.read.new.spilled.items) (g.D.Device.content old.device) (g.D.Device.content c.read.new.device) old.spilled.items c.read.new.spilled.items old.frames.resident c.read.new.frames.resident c.read.ensures.long c.read.ensures.same
+
+pub returns-clause-page : goal.returns-clause-page
+returns-clause-page g c told =
+    let old = c.args.self.now in
+    on_ok_weaker c.read.result (λ is. is ∙ sym (pages_at g.D.Device.tells (length old.spilled.items) (g.D.Device.content old.device) old.spilled.items old.frames.resident told c.args.p c.requires.below)) (c.read.ensures.page told)

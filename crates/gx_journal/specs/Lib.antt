@@ -1,0 +1,4 @@
+pub mod Sources
+pub mod State
+pub mod StateLaws
+pub mod Journal

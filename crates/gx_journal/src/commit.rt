@@ -1,0 +1,75 @@
+// The first step of a commit: the changed pages go to their slots.
+ghost use Rattle.std.specs.Prelude.{◌≡◌, ◌<◌, ◌≤◌, ◌+◌, ◌*◌, ℕ, List, length, vec_capacity, IsTrue, OnOk};
+ghost use Rattle.gx_device.specs.Faults.{IsCounted};
+ghost use Rattle.gx_frames.specs.Pool.{IsChanged};
+ghost use Rattle.gx_journal.specs.Sources.{stored, page_of, IsCached, SamePages, IsListed, OnlySlots};
+
+use crate::room::spill;
+use gx_device::{Device, Failed};
+use gx_frames::Frames;
+
+// A changed page goes to its slot, and no longer counts as changed.
+fn spill_one<D: Device>(
+    device: &mut D,
+    frames: &mut Frames,
+    spilled: &mut Vec<bool>,
+    listed: &mut Vec<u32>,
+    p: u32,
+) -> Result<(), Failed>
+    requires below { p < length spilled.old.items }
+    requires changed { IsChanged frames.old p }
+    requires room { 7 + 2 * length spilled.old.items ≤ D.size device.old }
+    requires few { length spilled.old.items ≤ 32768 }
+    requires pages { frames.old.pages ≡ length spilled.old.items }
+    requires listed { IsListed spilled.old.items listed.old.items }
+    requires space { length spilled.old.items ≤ vec_capacity listed.old }
+    requires cached { IsTrue D.tells → IsCached (length spilled.old.items) (D.content device.old).now.blocks spilled.old.items frames.old.resident }
+    ensures clean { OnOk result (¬ IsChanged frames.new p) }
+    ensures still { OnOk result ((q : ℕ) → ¬ IsChanged frames.old q → ¬ IsChanged frames.new q) }
+    ensures pages { frames.new.pages ≡ frames.old.pages }
+    ensures long { length spilled.new.items ≡ length spilled.old.items }
+    ensures same { IsTrue D.tells → SamePages (page_of (length spilled.old.items) (D.content device.old).now.blocks spilled.old.items frames.old.resident) (page_of (length spilled.old.items) (D.content device.new).now.blocks spilled.new.items frames.new.resident) }
+    ensures cached { IsTrue D.tells → IsCached (length spilled.old.items) (D.content device.new).now.blocks spilled.new.items frames.new.resident }
+    ensures slots { OnlySlots (length spilled.old.items) (D.content device.old) (D.content device.new) }
+    ensures listed { IsListed spilled.new.items listed.new.items }
+    ensures space { vec_capacity listed.old ≤ vec_capacity listed.new }
+    ensures size { D.size device.new ≡ D.size device.old }
+    ensures cause { IsCounted (D.faults device.old) (D.faults device.new) result }
+{
+    spill(device, frames, spilled, listed, p)?;
+    frames.clean(p);
+    Ok(())
+}
+
+/// Each changed page goes to its slot: then each page is as it is stored.
+pub(crate) fn spill_all<D: Device>(
+    device: &mut D,
+    frames: &mut Frames,
+    spilled: &mut Vec<bool>,
+    listed: &mut Vec<u32>,
+) -> Result<(), Failed>
+    requires room { 7 + 2 * length spilled.old.items ≤ D.size device.old }
+    requires few { length spilled.old.items ≤ 32768 }
+    requires pages { frames.old.pages ≡ length spilled.old.items }
+    requires listed { IsListed spilled.old.items listed.old.items }
+    requires space { length spilled.old.items ≤ vec_capacity listed.old }
+    requires cached { IsTrue D.tells → IsCached (length spilled.old.items) (D.content device.old).now.blocks spilled.old.items frames.old.resident }
+    ensures none_changed { OnOk result ((q : ℕ) → ¬ IsChanged frames.new q) }
+    ensures stored { IsTrue D.tells → OnOk result ((q : ℕ) → page_of (length spilled.old.items) (D.content device.new).now.blocks spilled.new.items frames.new.resident q ≡ stored (length spilled.old.items) (D.content device.new).now.blocks spilled.new.items q) }
+    ensures pages { frames.new.pages ≡ frames.old.pages }
+    ensures long { length spilled.new.items ≡ length spilled.old.items }
+    ensures same { IsTrue D.tells → SamePages (page_of (length spilled.old.items) (D.content device.old).now.blocks spilled.old.items frames.old.resident) (page_of (length spilled.old.items) (D.content device.new).now.blocks spilled.new.items frames.new.resident) }
+    ensures cached { IsTrue D.tells → IsCached (length spilled.old.items) (D.content device.new).now.blocks spilled.new.items frames.new.resident }
+    ensures slots { OnlySlots (length spilled.old.items) (D.content device.old) (D.content device.new) }
+    ensures listed { IsListed spilled.new.items listed.new.items }
+    ensures space { vec_capacity listed.old ≤ vec_capacity listed.new }
+    ensures size { D.size device.new ≡ D.size device.old }
+    ensures cause { IsCounted (D.faults device.old) (D.faults device.new) result }
+{
+    let mut from = 0;
+    while let Some(p) = frames.next_changed(from) {
+        spill_one(device, frames, spilled, listed, p)?;
+        from = p + 1;
+    }
+    Ok(())
+}

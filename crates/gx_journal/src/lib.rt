@@ -1,0 +1,10 @@
+//! Working pages in a few frames, over a device that keeps the committed ones.
+#![tactic(auto)]
+
+mod access;
+mod commit;
+mod forget;
+mod journal;
+mod room;
+
+pub use journal::Journal;

@@ -1,0 +1,4 @@
+pub mod Layout
+pub mod Calm
+pub mod PhaseLaws
+pub mod CalmLaws

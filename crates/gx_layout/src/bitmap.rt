@@ -1,0 +1,42 @@
+// The bitmap: which pages count in their slots.
+ghost use Rattle.std.specs.Prelude.{◌≡◌, ◌≢◌, ◌<◌, ◌≤◌, ◌+◌, ℕ, IsTrue, true, false, length, get_or, OnOk};
+ghost use Rattle.gx_device.specs.Content.{block_of};
+ghost use Rattle.gx_device.specs.Faults.{IsCounted};
+ghost use Rattle.gx_layout.specs.Layout.{OnlyBlocks, Names, has_bit};
+
+use gx_device::{Device, Failed};
+
+fn set_bit(bits: &mut [u8], p: usize)
+    requires room { length bits.old ≡ 4096 }
+    requires below { p < 32768 }
+    ensures set { has_bit bits.new p ≡ true }
+    ensures others { (q : ℕ) → q ≢ p → has_bit bits.new q ≡ has_bit bits.old q }
+{
+    bits[p / 8] |= 1 << (7 - p % 8);
+}
+
+fn bitmap_of(changed: &[bool]) -> [u8; 4096]
+    requires { length changed.now ≤ 32768 }
+    ensures { Names changed.now result (length changed.now) }
+{
+    let mut bits = [0; 4096];
+    for p in 0..changed.len() {
+        if changed[p] {
+            set_bit(&mut bits, p);
+        }
+    }
+    bits
+}
+
+/// Writes the bitmap of the changed pages.
+pub fn write_bitmap<D: Device>(device: &mut D, changed: &[bool]) -> Result<(), Failed>
+    requires room { 2 < D.size device.old }
+    requires limit { length changed.now ≤ 32768 }
+    ensures written { IsTrue D.tells → OnOk result (Names changed.now (block_of (D.content device.new).now 2) (length changed.now)) }
+    ensures rest { OnlyBlocks (λ n. n ≡ 2) (D.content device.old) (D.content device.new) }
+    ensures size { D.size device.new ≡ D.size device.old }
+    ensures faults { IsCounted (D.faults device.old) (D.faults device.new) result }
+{
+    let bits = bitmap_of(changed);
+    device.write_block(2, &bits)
+}
