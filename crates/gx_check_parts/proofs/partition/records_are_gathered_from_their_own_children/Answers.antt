@@ -1,5 +1,0 @@
-use Rattle.gx_check_parts.proofs.LayerLemmas.{key_layer}
-use Rattle.gx_check_parts.proofs.partition.records_are_gathered_from_their_own_children.Goals as goal
-
-pub partition-requires : goal.partition-requires
-partition-requires g c = key_layer c.in_ok-form.form c.in_ok-vec.field-0.items _ _ c.in_ok-form.ensures.keys c.in_ok-form.ensures.fields c.in_ok-vec.ensures.items

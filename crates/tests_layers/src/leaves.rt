@@ -1,0 +1,164 @@
+// Leaves in memory: what a transaction makes of them.
+use Step::{Abort, Commit, Put, Remove};
+use gx_device::MemoryMachine;
+use gx_ports::{Entries, Leaves, PlainLeaves};
+use gx_values::{KeyBuf, Span};
+use std::alloc::Global;
+use std::test::Fail;
+
+#[derive(Clone, Copy)]
+enum Step {
+    Put(u8, u8),
+    Remove(u8),
+    Commit,
+    Abort,
+}
+
+fn made(alloc: Global, machine: MemoryMachine) -> Result<PlainLeaves<MemoryMachine>, Fail> {
+    Ok(PlainLeaves::make(alloc, machine, 2).map_err(|e| e.1)?)
+}
+
+fn span(lo: &[u8], hi: &[u8]) -> Span {
+    Span {
+        lo: KeyBuf::from_slice(&lo[..lo.len().min(400)]),
+        hi: KeyBuf::from_slice(&hi[..hi.len().min(400)]),
+    }
+}
+
+// Each entry as its key, its body and a blank.
+fn text(alloc: Global, entries: &Entries) -> Result<Vec<u8>, Fail> {
+    let mut text = Vec::new(alloc);
+    for index in 0..entries.len() {
+        let entry = entries.entry(index);
+        text.extend_from_slice(entry.key)?;
+        text.extend_from_slice(entry.body)?;
+        text.push(b' ')?;
+    }
+    Ok(text)
+}
+
+const A: Step = Put(b'a', b'1');
+
+const OTHER_A: Step = Put(b'a', b'2');
+
+const NO_A: Step = Remove(b'a');
+
+const B: Step = Put(b'b', b'3');
+
+const NO_B: Step = Remove(b'b');
+
+const C: Step = Put(b'c', b'4');
+
+// What is done with one leaf, and the entries that it then has.
+const CHANGES: [(&[Step], &str); 14] = [
+    (&[], ""),
+    (&[B, C, A], "a1 b3 c4 "),
+    (&[A, OTHER_A], "a2 "),
+    (&[A, NO_A], ""),
+    (&[B, NO_A], "b3 "),
+    (&[A, Abort], ""),
+    (&[A, Commit, OTHER_A, Abort], "a1 "),
+    (&[A, Commit, NO_A], ""),
+    (&[A, Commit, NO_A, Abort], "a1 "),
+    (&[A, Commit, NO_A, OTHER_A], "a2 "),
+    (&[A, Commit, NO_A, OTHER_A, Abort], "a1 "),
+    (&[A, Commit, NO_A, Commit, Abort], ""),
+    (&[A, Commit, Commit, Abort], "a1 "),
+    (&[A, B, Commit, NO_A, C, Commit, NO_B, Abort], "b3 c4 "),
+];
+
+// Carries out a step on the second of two leaves.
+fn carry_out(
+    alloc: Global,
+    leaves: &mut PlainLeaves<MemoryMachine>,
+    step: Step,
+) -> Result<(), Fail> {
+    if leaves.leaves() != 2 {
+        return Err("two leaves".into());
+    }
+    match step {
+        Put(key, body) => leaves.put(alloc, 1, &[key], &[body])?,
+        Remove(key) => leaves.remove(alloc, 1, &[key])?,
+        Commit => leaves.commit()?,
+        Abort => leaves.abort(),
+    }
+    Ok(())
+}
+
+// The entries of one of two leaves inside a span.
+fn selected(
+    alloc: Global,
+    leaves: &mut PlainLeaves<MemoryMachine>,
+    leaf: u32,
+    (lo, hi): (&str, &str),
+) -> Result<Vec<u8>, Fail> {
+    if leaves.leaves() != 2 || leaf >= 2 {
+        return Err("two leaves".into());
+    }
+    let mut found = Entries::new(alloc);
+    let span = span(lo.as_bytes(), hi.as_bytes());
+    leaves.select(alloc, leaf, &span, &mut found)?;
+    text(alloc, &found)
+}
+
+#[test]
+fn changes_are_kept_or_given_up(rt: HostRuntime) -> Result<(), Fail> {
+    let alloc = rt.alloc();
+    for (steps, after) in CHANGES {
+        let mut leaves = made(alloc, MemoryMachine::new(alloc)?)?;
+        for step in steps {
+            carry_out(alloc, &mut leaves, *step)?;
+        }
+        let other = selected(alloc, &mut leaves, 0, ("", ""))?;
+        assert!(rt; other.is_empty());
+        assert_eq!(rt; leaves.leaves(), 2);
+        leaves.reorganize(alloc, 1)?;
+        let changed = selected(alloc, &mut leaves, 1, ("", ""))?;
+        assert_eq!(rt; changed.as_slice(), after.as_bytes());
+    }
+    Ok(())
+}
+
+// The two ends of a span, and the keys inside.
+const SPANS: [((&str, &str), &str); 9] = [
+    (("", ""), " a ab abc b ba "),
+    (("", "a"), " a ab abc "),
+    (("a", "a"), "a ab abc "),
+    (("a", "ab"), "a ab abc "),
+    (("ab", "a"), "ab abc "),
+    (("abd", "b"), "b ba "),
+    (("b", ""), "b ba "),
+    (("b", "a"), ""),
+    (("c", "c"), ""),
+];
+
+#[test]
+fn spans_select_in_order(rt: HostRuntime) -> Result<(), Fail> {
+    let alloc = rt.alloc();
+    let mut leaves = made(alloc, MemoryMachine::new(alloc)?)?;
+    for key in ["ba", "a", "abc", "", "b", "ab"] {
+        assert_eq!(rt; leaves.leaves(), 2);
+        let key = key.as_bytes();
+        leaves.put(alloc, 0, &key[..key.len().min(3)], b"")?;
+    }
+    for (ends, inside) in SPANS {
+        let found = selected(alloc, &mut leaves, 0, ends)?;
+        assert_eq!(rt; found.as_slice(), inside.as_bytes());
+    }
+    Ok(())
+}
+
+#[test]
+fn a_device_is_kept(rt: HostRuntime) -> Result<(), Fail> {
+    let alloc = rt.alloc();
+    let mut machine = MemoryMachine::new(alloc)?;
+    machine.set_script(alloc, b"heard")?;
+    machine.reserve(alloc, 2, 4)?;
+    let mut leaves = made(alloc, machine)?;
+    let mut into = [0; 8];
+    let heard = leaves.hear(&mut into)?;
+    assert_eq!(rt; &into[..heard], b"heard".as_slice());
+    assert_eq!(rt; leaves.say(b"said"), Ok(4));
+    assert_eq!(rt; leaves.into_device().said(), b"said".as_slice());
+    Ok(())
+}
