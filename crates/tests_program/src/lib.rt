@@ -1,4 +1,5 @@
-//! Tests that cross crates. There is no code here beside them.
+//! Tests of the whole program, and of the crates that it is made of together. There is no code here
+//! beside them.
 #![tactic(auto)]
 
 #[cfg(test)]

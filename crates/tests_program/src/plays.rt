@@ -1,26 +1,48 @@
-// Plays of scripts: the plain program beside texts worked out by hand, and the program beside the plain one.
+// Plays of scripts: the plain program beside texts worked out by hand, and the program beside the
+// plain one.
 use gx_device::MemoryMachine;
 use gx_plain::play;
 use gx_schema::read_schema;
 use gx_top::top;
 use std::alloc::Global;
+use std::process::Abort;
 use std::test::Fail;
 
-const FILES: &[u8] =
-    b"file dept (dno int, dname text 12)\nfile emp (eno int, name text 24, pay int, room text 8)\nfile word (w text 6, n int)\n";
+const FILES: &str = "file dept (dno int, dname text 12)
+file emp (eno int, name text 24, pay int, room text 8)
+file word (w text 6, n int)
+";
 
-// Equations that store the same records in other ways: by kinds of leaves, by parts, and by layers one below the other.
+// Equations that store the same records in other ways: by kinds of leaves, by parts, and by layers
+// one below the other.
 const EQUATIONS: [&str; 4] = [
-    "dept = actual(heap)\nemp = actual(heap)\nword = actual(heap)\n",
-    "dept = actual(bplus)\nemp = actual(hash(8))\nword = actual(isam)\n",
-    "dept = partition(dno 2 5, actual(heap), actual(bplus), actual(isam))\nemp = partition(pay 0 10, actual(heap), actual(hash(2)), actual(heap))\nword = partition(w \"a\" \"b\", actual(heap), actual(heap), actual(heap))\n",
-    "dept = actual(partition(dno 2 5, heap, bplus, isam))\nemp = partition(eno 6, partition(pay 0, actual(heap), actual(heap)), partition(room \"8\", actual(heap), actual(actual(heap))))\nword = actual(actual(heap))\n",
+    "dept = actual(heap)
+emp = actual(heap)
+word = actual(heap)
+",
+    "dept = actual(bplus)
+emp = actual(hash(8))
+word = actual(isam)
+",
+    r#"dept = partition(dno 2 5, actual(heap), actual(bplus), actual(isam))
+emp = partition(pay 0 10, actual(heap), actual(hash(2)), actual(heap))
+word = partition(w "a" "b", actual(heap), actual(heap), actual(heap))
+"#,
+    r#"dept = actual(partition(dno 2 5, heap, bplus, isam))
+emp = partition(eno 6, partition(pay 0, actual(heap), actual(heap)),
+    partition(room "8", actual(heap), actual(actual(heap))))
+word = actual(actual(heap))
+"#,
 ];
 
-const LINKED: &[u8] =
-    b"file dept (dno int, dname text 12)\nfile emp (eno int, name text 24, pay int, room text 8)\nlink works (dept, emp)\nlink boss (emp, emp)\n";
+const LINKED: &str = "file dept (dno int, dname text 12)
+file emp (eno int, name text 24, pay int, room text 8)
+link works (dept, emp)
+link boss (emp, emp)
+";
 
-fn plain(alloc: Global, schema: &[u8], script: &[u8]) -> Result<Vec<u8>, Fail> {
+fn plain(alloc: Global, schema: &str, script: &[u8]) -> Result<Vec<u8>, Fail> {
+    let schema = schema.as_bytes();
     let schema = read_schema(alloc, &schema[..schema.len().min(16380)])?;
     let text = play(alloc, &schema, script)?;
     Ok(text.0)
@@ -28,7 +50,7 @@ fn plain(alloc: Global, schema: &[u8], script: &[u8]) -> Result<Vec<u8>, Fail> {
 
 fn tried(alloc: Global, equation: &str, script: &[u8]) -> Result<MemoryMachine, Fail> {
     let mut machine = MemoryMachine::new(alloc)?;
-    machine.add_text(alloc, "S", FILES)?;
+    machine.add_text(alloc, "S", FILES.as_bytes())?;
     machine.add_text(alloc, "E", equation.as_bytes())?;
     machine.set_script(alloc, script)?;
     machine.reserve(alloc, 1000, 20000)?;
@@ -40,91 +62,459 @@ fn tried(alloc: Global, equation: &str, script: &[u8]) -> Result<MemoryMachine, 
     Ok(machine)
 }
 
+// A script, and what is said of it.
+#[derive(Clone, Copy)]
+struct Case {
+    script: &'static str,
+    said: &'static str,
+}
+
+const PLAIN_CASES: [Case; 10] = [
+    Case {
+        script: "",
+        said: "",
+    },
+    Case {
+        script: "# nothing\n\n \t\nget dept -0\n",
+        said: "none\n",
+    },
+    Case {
+        script: r#"begin
+insert dept 7 "a""b"
+insert dept -3 ""
+get dept 7
+commit
+get dept -3
+find dept
+"#,
+        said: r#"begun
+ok
+ok
+dept 7 "a""b"
+committed 1
+dept -3 ""
+dept -3 ""
+dept 7 "a""b"
+found 2
+"#,
+    },
+    Case {
+        script: r#"begin
+insert dept 1 "a"
+insert dept 1 "b"
+abort
+begin
+insert dept 1 "b"
+commit
+get dept 1
+begin
+commit
+"#,
+        said: r#"begun
+ok
+refused: key exists
+dropped
+begun
+ok
+committed 1
+dept 1 "b"
+begun
+committed 2
+"#,
+    },
+    Case {
+        script: r#"begin
+insert dept 1 "b"
+insert dept 2 "a"
+insert dept 3 "b"
+find dept order dname desc
+find dept order dname
+find dept where dno >= 2 and dname = "b"
+find dept where dno <> 2
+find dept order dno desc
+"#,
+        said: r#"begun
+ok
+ok
+ok
+dept 1 "b"
+dept 3 "b"
+dept 2 "a"
+found 3
+dept 2 "a"
+dept 1 "b"
+dept 3 "b"
+found 3
+dept 3 "b"
+found 1
+dept 1 "b"
+dept 3 "b"
+found 2
+dept 3 "b"
+dept 2 "a"
+dept 1 "b"
+found 3
+stopped at line 9: open transaction
+"#,
+    },
+    Case {
+        script: r#"begin
+insert emp 5 "e" 10 "r"
+update emp 5 room "s" pay -1
+update emp 6 pay 1
+get emp 5
+delete emp 5
+delete emp 5
+get emp 5
+reorganize emp
+reorganize works
+commit
+"#,
+        said: r#"begun
+ok
+ok
+refused: no record
+emp 5 "e" -1 "s"
+ok
+refused: no record
+none
+ok
+ok
+committed 1
+"#,
+    },
+    Case {
+        script: r#"begin
+insert dept 1 "d"
+insert emp 5 "e" 2 ""
+insert emp 9 "f" 1 ""
+connect works 7 5
+connect works 1 5
+connect works 1 5
+connect works 1 9
+members works 1
+members works 1 order pay
+members works 2
+owner works 5
+owner works 6
+delete emp 5
+delete dept 1
+find emp of works 1
+find emp where pay = 2 of works 1
+find emp of works 3
+disconnect works 5
+disconnect works 5
+disconnect works 6
+owner works 5
+delete emp 5
+members works 1
+commit
+"#,
+        said: r#"begun
+ok
+ok
+ok
+refused: no record
+ok
+refused: has owner
+ok
+emp 5 "e" 2 ""
+emp 9 "f" 1 ""
+found 2
+emp 9 "f" 1 ""
+emp 5 "e" 2 ""
+found 2
+refused: no record
+dept 1 "d"
+refused: no record
+refused: linked
+refused: linked
+emp 5 "e" 2 ""
+emp 9 "f" 1 ""
+found 2
+emp 5 "e" 2 ""
+found 1
+refused: no record
+ok
+refused: no owner
+refused: no record
+none
+ok
+emp 9 "f" 1 ""
+found 1
+committed 1
+"#,
+    },
+    Case {
+        script: r#"begin
+insert emp 1 "" 0 ""
+connect boss 1 1
+owner boss 1
+delete emp 1
+disconnect boss 1
+delete emp 1
+commit"#,
+        said: r#"begun
+ok
+ok
+emp 1 "" 0 ""
+refused: linked
+ok
+ok
+committed 1
+"#,
+    },
+    Case {
+        script: r#"begin
+insert dept 1 "a"
+commit
+begin
+delete dept 1
+find dept
+abort
+find dept
+grab dept
+"#,
+        said: r#"begun
+ok
+committed 1
+begun
+ok
+found 0
+dropped
+dept 1 "a"
+found 1
+stopped at line 9: word
+"#,
+    },
+    Case {
+        script: "get dept 1
+commit
+",
+        said: "none
+stopped at line 2: no transaction
+",
+    },
+];
+
 // Commands, refusals and orders on links, and some on records.
 #[test]
 fn plain_plays_are_right(rt: HostRuntime) -> Result<(), Fail> {
     let alloc = rt.alloc();
-    let cases: [(&[u8], &[u8]); 10] = [
-        (b"", b""),
-        (b"# nothing\n\n \t\nget dept -0\n", b"none\n"),
-        (
-            b"begin\ninsert dept 7 \"a\"\"b\"\ninsert dept -3 \"\"\nget dept 7\ncommit\nget dept -3\nfind dept\n",
-            b"begun\nok\nok\ndept 7 \"a\"\"b\"\ncommitted 1\ndept -3 \"\"\ndept -3 \"\"\ndept 7 \"a\"\"b\"\nfound 2\n",
-        ),
-        (
-            b"begin\ninsert dept 1 \"a\"\ninsert dept 1 \"b\"\nabort\nbegin\ninsert dept 1 \"b\"\ncommit\nget dept 1\nbegin\ncommit\n",
-            b"begun\nok\nrefused: key exists\ndropped\nbegun\nok\ncommitted 1\ndept 1 \"b\"\nbegun\ncommitted 2\n",
-        ),
-        (
-            b"begin\ninsert dept 1 \"b\"\ninsert dept 2 \"a\"\ninsert dept 3 \"b\"\nfind dept order dname desc\nfind dept order dname\nfind dept where dno >= 2 and dname = \"b\"\nfind dept where dno <> 2\nfind dept order dno desc\n",
-            b"begun\nok\nok\nok\ndept 1 \"b\"\ndept 3 \"b\"\ndept 2 \"a\"\nfound 3\ndept 2 \"a\"\ndept 1 \"b\"\ndept 3 \"b\"\nfound 3\ndept 3 \"b\"\nfound 1\ndept 1 \"b\"\ndept 3 \"b\"\nfound 2\ndept 3 \"b\"\ndept 2 \"a\"\ndept 1 \"b\"\nfound 3\nstopped at line 9: open transaction\n",
-        ),
-        (
-            b"begin\ninsert emp 5 \"e\" 10 \"r\"\nupdate emp 5 room \"s\" pay -1\nupdate emp 6 pay 1\nget emp 5\ndelete emp 5\ndelete emp 5\nget emp 5\nreorganize emp\nreorganize works\ncommit\n",
-            b"begun\nok\nok\nrefused: no record\nemp 5 \"e\" -1 \"s\"\nok\nrefused: no record\nnone\nok\nok\ncommitted 1\n",
-        ),
-        (
-            b"begin\ninsert dept 1 \"d\"\ninsert emp 5 \"e\" 2 \"\"\ninsert emp 9 \"f\" 1 \"\"\nconnect works 7 5\nconnect works 1 5\nconnect works 1 5\nconnect works 1 9\nmembers works 1\nmembers works 1 order pay\nmembers works 2\nowner works 5\nowner works 6\ndelete emp 5\ndelete dept 1\nfind emp of works 1\nfind emp where pay = 2 of works 1\nfind emp of works 3\ndisconnect works 5\ndisconnect works 5\ndisconnect works 6\nowner works 5\ndelete emp 5\nmembers works 1\ncommit\n",
-            b"begun\nok\nok\nok\nrefused: no record\nok\nrefused: has owner\nok\nemp 5 \"e\" 2 \"\"\nemp 9 \"f\" 1 \"\"\nfound 2\nemp 9 \"f\" 1 \"\"\nemp 5 \"e\" 2 \"\"\nfound 2\nrefused: no record\ndept 1 \"d\"\nrefused: no record\nrefused: linked\nrefused: linked\nemp 5 \"e\" 2 \"\"\nemp 9 \"f\" 1 \"\"\nfound 2\nemp 5 \"e\" 2 \"\"\nfound 1\nrefused: no record\nok\nrefused: no owner\nrefused: no record\nnone\nok\nemp 9 \"f\" 1 \"\"\nfound 1\ncommitted 1\n",
-        ),
-        (
-            b"begin\ninsert emp 1 \"\" 0 \"\"\nconnect boss 1 1\nowner boss 1\ndelete emp 1\ndisconnect boss 1\ndelete emp 1\ncommit",
-            b"begun\nok\nok\nemp 1 \"\" 0 \"\"\nrefused: linked\nok\nok\ncommitted 1\n",
-        ),
-        (
-            b"begin\ninsert dept 1 \"a\"\ncommit\nbegin\ndelete dept 1\nfind dept\nabort\nfind dept\ngrab dept\n",
-            b"begun\nok\ncommitted 1\nbegun\nok\nfound 0\ndropped\ndept 1 \"a\"\nfound 1\nstopped at line 9: word\n",
-        ),
-        (
-            b"get dept 1\ncommit\n",
-            b"none\nstopped at line 2: no transaction\n",
-        ),
-    ];
-    for (script, text) in cases.iter() {
-        assert_eq!(rt; plain(alloc, LINKED, script)?.as_slice(), *text);
+    for case in PLAIN_CASES {
+        let said = plain(alloc, LINKED, case.script.as_bytes())?;
+        assert_eq!(rt; said.as_slice(), case.said.as_bytes(), "{}", case.script);
     }
     Ok(())
 }
 
-// Every command on records, every refusal, every order, and every end, and records that move between parts.
+// Every command on records, every refusal, every order, and every end, and records that move
+// between parts.
+const SCRIPTS: [&str; 28] = [
+    "",
+    "\n\
+# x\n\
+ \t\n\
+get dept -0\n\
+get word \"\"\n\
+find emp\n\
+find word order n desc",
+    "begin\r\n\
+insert dept 7 \"a\"\"b\"\r\n\
+insert dept -3 \"\"\n\
+get dept 7\n\
+commit\n\
+get dept -3\n\
+find dept\n",
+    r#"begin
+insert dept 1 "a"
+insert dept 1 "b"
+abort
+begin
+insert dept 1 "b"
+commit
+get dept 1
+begin
+commit
+"#,
+    r#"begin
+insert dept 1 "b"
+insert dept 2 "a"
+insert dept 3 "b"
+find dept order dname desc
+find dept order dname
+find dept order dno desc
+find dept order dno
+"#,
+    r#"begin
+insert dept 1 "b"
+insert dept 2 "a"
+insert dept 3 "b"
+commit
+find dept where dno >= 2 and dname = "b"
+find dept where dno <> 2
+find dept where dname < "b" and dname > ""
+find dept where dno <= 2 order dname
+find dept where dno < -9223372036854775808
+find dept where dno <= 9223372036854775807 order dno desc
+"#,
+    r#"begin
+insert emp 5 "e" 10 "r"
+update emp 5 room "s" pay -1
+update emp 6 pay 1
+get emp 5
+find emp where pay < 0 and room = "s" and name <> "f"
+delete emp 5
+delete emp 5
+get emp 5
+reorganize emp
+commit
+"#,
+    r#"begin
+insert word "b" 1
+insert word "ab" 1
+insert word "a" 2
+insert word "" 2
+insert word "~ " 1
+find word
+find word order n
+find word order n desc
+find word order w desc
+find word where w > "a"
+find word where w <= "ab" and n = 2
+commit
+"#,
+    r#"begin
+insert emp 9223372036854775807 "max" -9223372036854775808 ""
+insert emp -9223372036854775808 "min" 9223372036854775807 ""
+find emp
+find emp order pay
+update emp 9223372036854775807 name "" pay 0 room "8 bytes!"
+get emp 9223372036854775807
+commit
+"#,
+    r#"begin
+insert dept 1 "a"
+commit
+begin
+delete dept 1
+find dept
+get dept 1
+abort
+find dept
+get dept 1
+"#,
+    r#"begin
+insert dept 1 "a"
+commit
+begin
+update dept 1 dname "b"
+commit
+begin
+update dept 1 dname "c"
+abort
+get dept 1
+begin
+delete dept 1
+commit
+get dept 1
+"#,
+    r#"begin
+insert dept 0007 "x"
+get dept 7
+get dept -7
+delete dept 07
+get dept 7
+commit
+"#,
+    r#"begin
+insert dept 1 "a"
+"#,
+    "begin
+get dept 1
+
+",
+    "begin
+begin
+get dept 1
+",
+    "get dept 1
+commit
+get dept 1
+",
+    "abort\n",
+    "insert dept 1 \"a\"\n",
+    "get dept 1
+reorganize dept
+",
+    "get dept 1
+grab dept
+",
+    "get dept 1
+get dept
+",
+    "get dept 1
+get nothing 1
+",
+    "get dept 1
+members works 1
+",
+    r#"begin
+insert dept 1 "a"
+update dept 1 dno 2
+"#,
+    r#"begin
+insert dept 1 "a"
+insert dept 2 "thirteen byte"
+"#,
+    "get dept 1\nget word \"a\x01\"\n",
+    r#"begin
+insert dept 6 "f"
+insert dept 1 "a"
+insert dept 5 "b"
+insert dept 2 "b"
+insert dept 4 ""
+insert dept 2 "c"
+find dept
+find dept where dno >= 2 and dno < 5
+find dept where dname = "b" order dno desc
+delete dept 5
+get dept 5
+reorganize dept
+find dept order dname
+commit
+"#,
+    r#"begin
+insert emp 7 "g" 0 "8"
+insert emp 5 "e" -1 "s"
+insert emp 6 "f" 10 ""
+insert emp -1 "n" 9 "7"
+find emp order pay
+update emp 5 pay 10
+update emp 7 room "" pay -5
+update emp 6 room "9"
+insert emp 5 "again" 0 ""
+find emp
+find emp where pay >= 0 and pay < 10
+get emp 7
+commit
+begin
+update emp 5 pay -9
+delete emp 6
+find emp
+abort
+find emp where room > "7"
+"#,
+];
+
 #[test]
 fn the_program_says_what_the_plain_one_does(rt: HostRuntime) -> Result<(), Fail> {
     let alloc = rt.alloc();
-    let scripts: [&[u8]; 28] = [
-        b"",
-        b"\n# x\n \t\nget dept -0\nget word \"\"\nfind emp\nfind word order n desc",
-        b"begin\r\ninsert dept 7 \"a\"\"b\"\r\ninsert dept -3 \"\"\nget dept 7\ncommit\nget dept -3\nfind dept\n",
-        b"begin\ninsert dept 1 \"a\"\ninsert dept 1 \"b\"\nabort\nbegin\ninsert dept 1 \"b\"\ncommit\nget dept 1\nbegin\ncommit\n",
-        b"begin\ninsert dept 1 \"b\"\ninsert dept 2 \"a\"\ninsert dept 3 \"b\"\nfind dept order dname desc\nfind dept order dname\nfind dept order dno desc\nfind dept order dno\n",
-        b"begin\ninsert dept 1 \"b\"\ninsert dept 2 \"a\"\ninsert dept 3 \"b\"\ncommit\nfind dept where dno >= 2 and dname = \"b\"\nfind dept where dno <> 2\nfind dept where dname < \"b\" and dname > \"\"\nfind dept where dno <= 2 order dname\nfind dept where dno < -9223372036854775808\nfind dept where dno <= 9223372036854775807 order dno desc\n",
-        b"begin\ninsert emp 5 \"e\" 10 \"r\"\nupdate emp 5 room \"s\" pay -1\nupdate emp 6 pay 1\nget emp 5\nfind emp where pay < 0 and room = \"s\" and name <> \"f\"\ndelete emp 5\ndelete emp 5\nget emp 5\nreorganize emp\ncommit\n",
-        b"begin\ninsert word \"b\" 1\ninsert word \"ab\" 1\ninsert word \"a\" 2\ninsert word \"\" 2\ninsert word \"~ \" 1\nfind word\nfind word order n\nfind word order n desc\nfind word order w desc\nfind word where w > \"a\"\nfind word where w <= \"ab\" and n = 2\ncommit\n",
-        b"begin\ninsert emp 9223372036854775807 \"max\" -9223372036854775808 \"\"\ninsert emp -9223372036854775808 \"min\" 9223372036854775807 \"\"\nfind emp\nfind emp order pay\nupdate emp 9223372036854775807 name \"\" pay 0 room \"8 bytes!\"\nget emp 9223372036854775807\ncommit\n",
-        b"begin\ninsert dept 1 \"a\"\ncommit\nbegin\ndelete dept 1\nfind dept\nget dept 1\nabort\nfind dept\nget dept 1\n",
-        b"begin\ninsert dept 1 \"a\"\ncommit\nbegin\nupdate dept 1 dname \"b\"\ncommit\nbegin\nupdate dept 1 dname \"c\"\nabort\nget dept 1\nbegin\ndelete dept 1\ncommit\nget dept 1\n",
-        b"begin\ninsert dept 0007 \"x\"\nget dept 7\nget dept -7\ndelete dept 07\nget dept 7\ncommit\n",
-        b"begin\ninsert dept 1 \"a\"\n",
-        b"begin\nget dept 1\n\n",
-        b"begin\nbegin\nget dept 1\n",
-        b"get dept 1\ncommit\nget dept 1\n",
-        b"abort\n",
-        b"insert dept 1 \"a\"\n",
-        b"get dept 1\nreorganize dept\n",
-        b"get dept 1\ngrab dept\n",
-        b"get dept 1\nget dept\n",
-        b"get dept 1\nget nothing 1\n",
-        b"get dept 1\nmembers works 1\n",
-        b"begin\ninsert dept 1 \"a\"\nupdate dept 1 dno 2\n",
-        b"begin\ninsert dept 1 \"a\"\ninsert dept 2 \"thirteen byte\"\n",
-        b"get dept 1\nget word \"a\x01\"\n",
-        b"begin\ninsert dept 6 \"f\"\ninsert dept 1 \"a\"\ninsert dept 5 \"b\"\ninsert dept 2 \"b\"\ninsert dept 4 \"\"\ninsert dept 2 \"c\"\nfind dept\nfind dept where dno >= 2 and dno < 5\nfind dept where dname = \"b\" order dno desc\ndelete dept 5\nget dept 5\nreorganize dept\nfind dept order dname\ncommit\n",
-        b"begin\ninsert emp 7 \"g\" 0 \"8\"\ninsert emp 5 \"e\" -1 \"s\"\ninsert emp 6 \"f\" 10 \"\"\ninsert emp -1 \"n\" 9 \"7\"\nfind emp order pay\nupdate emp 5 pay 10\nupdate emp 7 room \"\" pay -5\nupdate emp 6 room \"9\"\ninsert emp 5 \"again\" 0 \"\"\nfind emp\nfind emp where pay >= 0 and pay < 10\nget emp 7\ncommit\nbegin\nupdate emp 5 pay -9\ndelete emp 6\nfind emp\nabort\nfind emp where room > \"7\"\n",
-    ];
-    for script in scripts.iter() {
-        let text = plain(alloc, FILES, script)?;
+    for script in SCRIPTS {
+        let said = plain(alloc, FILES, script.as_bytes())?;
         for equation in EQUATIONS {
-            let machine = tried(alloc, equation, script)?;
-            assert_eq!(rt; machine.said(), text.as_slice(), "{equation}");
+            let machine = tried(alloc, equation, script.as_bytes())?;
+            assert_eq!(rt; machine.said(), said.as_slice(), "{equation} {script}");
         }
     }
     Ok(())
@@ -138,32 +528,35 @@ fn commented(alloc: Global, letters: usize) -> Result<Vec<u8>, Fail> {
     Ok(script)
 }
 
-// A line of 4,096 bytes and one of 4,097, and a script that is cut in a quoted text.
-#[test]
-fn long_lines_are_told_alike(rt: HostRuntime) -> Result<(), Fail> {
-    let alloc = rt.alloc();
-    let script = commented(alloc, 4095)?;
-    let machine = tried(alloc, EQUATIONS[0], &script)?;
-    assert_eq!(rt;
-        machine.said(),
-        b"begun\nok\ncommitted 1\ndept 1 \"a\"\n".as_slice()
-    );
-    assert_eq!(rt; machine.said(), plain(alloc, FILES, &script)?.as_slice());
-    let script = commented(alloc, 4096)?;
-    let machine = tried(alloc, EQUATIONS[0], &script)?;
-    assert_eq!(rt;
-        machine.said(),
-        b"begun\nok\ncommitted 1\nstopped at line 4: too long\n".as_slice()
-    );
-    assert_eq!(rt; machine.said(), plain(alloc, FILES, &script)?.as_slice());
-    let machine = tried(alloc, EQUATIONS[0], b"get dept 1\nget word \"a")?;
-    assert_eq!(rt;
-        machine.said(),
-        b"none\nstopped at line 2: quote\n".as_slice()
-    );
-    assert_eq!(rt;
-        machine.said(),
-        plain(alloc, FILES, b"get dept 1\nget word \"a")?.as_slice()
-    );
+// Plays a script with the program and with the plain one, and expects both to say the same.
+fn expect_alike(rt: &impl Abort, alloc: Global, script: &[u8], said: &str) -> Result<(), Fail> {
+    let machine = tried(alloc, EQUATIONS[0], script)?;
+    assert_eq!(rt; machine.said(), said.as_bytes());
+    let plain = plain(alloc, FILES, script)?;
+    assert_eq!(rt; plain.as_slice(), said.as_bytes());
     Ok(())
+}
+
+// A line of 4,096 bytes.
+#[test]
+fn a_line_of_full_length_is_read(rt: HostRuntime) -> Result<(), Fail> {
+    let script = commented(rt.alloc(), 4095)?;
+    let said = "begun\nok\ncommitted 1\ndept 1 \"a\"\n";
+    expect_alike(&rt, rt.alloc(), &script, said)
+}
+
+// A line of 4,097 bytes.
+#[test]
+fn a_longer_line_stops_a_script(rt: HostRuntime) -> Result<(), Fail> {
+    let script = commented(rt.alloc(), 4096)?;
+    let said = "begun\nok\ncommitted 1\nstopped at line 4: too long\n";
+    expect_alike(&rt, rt.alloc(), &script, said)
+}
+
+// A script that ends in a quoted text.
+#[test]
+fn a_cut_script_is_told_alike(rt: HostRuntime) -> Result<(), Fail> {
+    let script = b"get dept 1\nget word \"a".as_slice();
+    let said = "none\nstopped at line 2: quote\n";
+    expect_alike(&rt, rt.alloc(), script, said)
 }

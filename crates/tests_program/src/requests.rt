@@ -4,18 +4,28 @@ use gx_top::{Status, top};
 use std::alloc::Global;
 use std::test::Fail;
 
-const SCHEMA: &[u8] = b"file f (k int, t text 5)\n";
+const SCHEMA: &str = "file f (k int, t text 5)\n";
 
-const EQUATION: &[u8] = b"f = actual(heap)\n";
+const EQUATION: &str = "f = actual(heap)\n";
 
-const SCRIPT: &[u8] = b"begin\ninsert f 7 \"ann\"\nget f 7\nget f 8\ncommit\n";
+const SCRIPT: &str = r#"begin
+insert f 7 "ann"
+get f 7
+get f 8
+commit
+"#;
 
-const SAID: &[u8] = b"begun\nok\nf 7 \"ann\"\nnone\ncommitted 1\n";
+const SAID: &str = r#"begun
+ok
+f 7 "ann"
+none
+committed 1
+"#;
 
 fn machine(alloc: Global, script: &[u8]) -> Result<MemoryMachine, Fail> {
     let mut machine = MemoryMachine::new(alloc)?;
-    machine.add_text(alloc, "S1", SCHEMA)?;
-    machine.add_text(alloc, "E1", EQUATION)?;
+    machine.add_text(alloc, "S1", SCHEMA.as_bytes())?;
+    machine.add_text(alloc, "E1", EQUATION.as_bytes())?;
     machine.set_script(alloc, script)?;
     machine.reserve(alloc, 1000, 10000)?;
     Ok(machine)
@@ -34,83 +44,209 @@ fn play(alloc: Global, script: &[u8]) -> Result<(Status, MemoryMachine), Fail> {
     Ok(top(alloc, &words(alloc, "try S1 E1")?, machine))
 }
 
+// A script, and what is said of it.
+#[derive(Clone, Copy)]
+struct Case {
+    script: &'static str,
+    said: &'static str,
+}
+
 // Scripts that are played to their end.
+const PLAYED: [Case; 8] = [
+    Case {
+        script: "",
+        said: "",
+    },
+    Case {
+        script: "get f 1",
+        said: "none\n",
+    },
+    Case {
+        script: SCRIPT,
+        said: SAID,
+    },
+    Case {
+        script: r#"begin
+insert f 1 "a"
+insert f 1 "b"
+abort
+begin
+insert f 1 "b"
+commit
+get f 1
+"#,
+        said: r#"begun
+ok
+refused: key exists
+dropped
+begun
+ok
+committed 1
+f 1 "b"
+"#,
+    },
+    Case {
+        script: r#"begin
+insert f 1 "b"
+insert f 2 "a"
+insert f 3 "b"
+commit
+find f order t desc
+find f where k < -9223372036854775808
+"#,
+        said: r#"begun
+ok
+ok
+ok
+committed 1
+f 1 "b"
+f 3 "b"
+f 2 "a"
+found 3
+found 0
+"#,
+    },
+    Case {
+        script: r#"begin
+insert f 1 "a"
+update f 1 t "b"
+update f 2 t "b"
+find f
+delete f 1
+delete f 1
+commit
+get f 1
+"#,
+        said: r#"begun
+ok
+ok
+refused: no record
+f 1 "b"
+found 1
+ok
+refused: no record
+committed 1
+none
+"#,
+    },
+    Case {
+        script: "# a comment\n\n \t\nget f -0\n",
+        said: "none\n",
+    },
+    Case {
+        script: r#"begin
+insert f 1 "a"
+commit
+begin
+delete f 1
+insert f 2 ""
+abort
+find f
+"#,
+        said: r#"begun
+ok
+committed 1
+begun
+ok
+ok
+dropped
+f 1 "a"
+found 1
+"#,
+    },
+];
+
 #[test]
 fn scripts_are_played(rt: HostRuntime) -> Result<(), Fail> {
     let alloc = rt.alloc();
-    let cases: [(&[u8], &[u8]); 8] = [
-        (b"", b""),
-        (b"get f 1", b"none\n"),
-        (SCRIPT, SAID),
-        (
-            b"begin\ninsert f 1 \"a\"\ninsert f 1 \"b\"\nabort\nbegin\ninsert f 1 \"b\"\ncommit\nget f 1\n",
-            b"begun\nok\nrefused: key exists\ndropped\nbegun\nok\ncommitted 1\nf 1 \"b\"\n",
-        ),
-        (
-            b"begin\ninsert f 1 \"b\"\ninsert f 2 \"a\"\ninsert f 3 \"b\"\ncommit\nfind f order t desc\nfind f where k < -9223372036854775808\n",
-            b"begun\nok\nok\nok\ncommitted 1\nf 1 \"b\"\nf 3 \"b\"\nf 2 \"a\"\nfound 3\nfound 0\n",
-        ),
-        (
-            b"begin\ninsert f 1 \"a\"\nupdate f 1 t \"b\"\nupdate f 2 t \"b\"\nfind f\ndelete f 1\ndelete f 1\ncommit\nget f 1\n",
-            b"begun\nok\nok\nrefused: no record\nf 1 \"b\"\nfound 1\nok\nrefused: no record\ncommitted 1\nnone\n",
-        ),
-        (b"# a comment\n\n \t\nget f -0\n", b"none\n"),
-        (
-            b"begin\ninsert f 1 \"a\"\ncommit\nbegin\ndelete f 1\ninsert f 2 \"\"\nabort\nfind f\n",
-            b"begun\nok\ncommitted 1\nbegun\nok\nok\ndropped\nf 1 \"a\"\nfound 1\n",
-        ),
-    ];
-    for (script, said) in cases.iter() {
-        let (status, machine) = play(alloc, script)?;
-        assert_eq!(rt; machine.said(), *said);
+    for case in PLAYED {
+        let (status, machine) = play(alloc, case.script.as_bytes())?;
+        assert_eq!(rt; machine.said(), case.said.as_bytes(), "{}", case.script);
         assert_eq!(rt; status, Status::Done);
     }
     Ok(())
 }
 
-// Lines that end a script early.
+// Scripts that a line ends early.
+const STOPPED: [Case; 6] = [
+    Case {
+        script: "begin
+commit
+begin
+commit
+grab f
+",
+        said: "begun
+committed 1
+begun
+committed 2
+stopped at line 5: word
+",
+    },
+    Case {
+        script: "begin\n",
+        said: "begun
+stopped at line 1: open transaction
+",
+    },
+    Case {
+        script: "insert f 1 \"abcdef\"\n",
+        said: "stopped at line 1: value\n",
+    },
+    Case {
+        script: "commit\n",
+        said: "stopped at line 1: no transaction\n",
+    },
+    Case {
+        script: "
+begin
+
+",
+        said: "begun
+stopped at line 3: open transaction
+",
+    },
+    Case {
+        script: "begin
+begin
+",
+        said: "begun
+stopped at line 2: in transaction
+",
+    },
+];
+
 #[test]
 fn scripts_stop(rt: HostRuntime) -> Result<(), Fail> {
     let alloc = rt.alloc();
-    let cases: [(&[u8], &[u8]); 6] = [
-        (
-            b"begin\ncommit\nbegin\ncommit\ngrab f\n",
-            b"begun\ncommitted 1\nbegun\ncommitted 2\nstopped at line 5: word\n",
-        ),
-        (b"begin\n", b"begun\nstopped at line 1: open transaction\n"),
-        (b"insert f 1 \"abcdef\"\n", b"stopped at line 1: value\n"),
-        (b"commit\n", b"stopped at line 1: no transaction\n"),
-        (
-            b"\nbegin\n\n",
-            b"begun\nstopped at line 3: open transaction\n",
-        ),
-        (
-            b"begin\nbegin\n",
-            b"begun\nstopped at line 2: in transaction\n",
-        ),
-    ];
-    for (script, said) in cases.iter() {
-        let (status, machine) = play(alloc, script)?;
-        assert_eq!(rt; machine.said(), *said);
+    for case in STOPPED {
+        let (status, machine) = play(alloc, case.script.as_bytes())?;
+        assert_eq!(rt; machine.said(), case.said.as_bytes(), "{}", case.script);
         assert_eq!(rt; status, Status::Script);
     }
     Ok(())
+}
+
+// A comment of so many bytes.
+fn comment(alloc: Global, len: usize) -> Result<Vec<u8>, Fail> {
+    let mut line = b"#".to_vec(alloc)?;
+    line.extend_from_slice(&vec![in alloc; b'x'; len.saturating_sub(1)]?)?;
+    line.push(b'\n')?;
+    Ok(line)
 }
 
 // A line may have 4,096 bytes, and none more.
 #[test]
 fn lines_are_short(rt: HostRuntime) -> Result<(), Fail> {
     let alloc = rt.alloc();
-    let mut script = vec![in alloc; b'x'; 4096]?;
-    script[0] = b'#';
-    script.push(b'\n')?;
-    let (status, machine) = play(alloc, &script)?;
-    assert_eq!(rt; machine.said(), b"".as_slice());
-    assert_eq!(rt; status, Status::Done);
-    script.insert(1, b'x')?;
-    let (status, machine) = play(alloc, &script)?;
-    assert_eq!(rt; machine.said(), b"stopped at line 1: too long\n".as_slice());
-    assert_eq!(rt; status, Status::Script);
+    for (len, said, wanted) in [
+        (4096, "", Status::Done),
+        (4097, "stopped at line 1: too long\n", Status::Script),
+    ] {
+        let (status, machine) = play(alloc, &comment(alloc, len)?)?;
+        assert_eq!(rt; machine.said(), said.as_bytes());
+        assert_eq!(rt; status, wanted);
+    }
     Ok(())
 }
 
@@ -119,109 +255,96 @@ fn lines_are_short(rt: HostRuntime) -> Result<(), Fail> {
 fn calls_fail(rt: HostRuntime) -> Result<(), Fail> {
     let alloc = rt.alloc();
     // two texts are fetched, and the script is heard in two calls
-    let cases: [(u32, &[u8]); 6] = [
-        (0, b""),
-        (1, b""),
-        (2, b""),
-        (3, b""),
-        (4, b""),
-        (5, b"begun\n"),
-    ];
-    for (call, said) in cases.iter() {
-        let mut machine = machine(alloc, SCRIPT)?;
-        machine.fail_at(alloc, *call)?;
+    for (call, said) in [(0, ""), (1, ""), (2, ""), (3, ""), (4, ""), (5, "begun\n")] {
+        let mut machine = machine(alloc, SCRIPT.as_bytes())?;
+        machine.fail_at(alloc, call)?;
         let (status, machine) = top(alloc, &words(alloc, "try S1 E1")?, machine);
-        assert_eq!(rt; machine.said(), *said);
+        assert_eq!(rt; machine.said(), said.as_bytes(), "call {call}");
         assert_eq!(rt; status, Status::Outside);
     }
     Ok(())
 }
 
-// Words that are no request, and texts that aren't there, too long, not accepted, or that can't be carried out.
+// Texts by their names.
+const TEXTS: [(&str, &str); 9] = [
+    ("keyed", "file f (k text 101)\n"),
+    ("linked", "file f (k int)\nlink l (f, f)\n"),
+    ("E2", "f = encode(t rle, actual(heap))\n"),
+    (
+        "wide",
+        "file g (k int, a text 200, b text 200, c text 200, d text 200, e text 200)\n",
+    ),
+    ("E3", "g = actual(heap)\n"),
+    ("unended", "f =\nactual(heap"),
+    ("pieces", "f = divide(64, actual(heap))"),
+    ("linear", "f = actual(divide(64, heap))"),
+    ("ring", "f = heap l = ring(actual(heap), actual(heap))"),
+];
+
+// A machine with these texts, with one of the greatest length and with a longer one.
+fn with_texts(alloc: Global) -> Result<MemoryMachine, Fail> {
+    let mut machine = machine(alloc, SCRIPT.as_bytes())?;
+    for (name, text) in TEXTS {
+        machine.add_text(alloc, name, text.as_bytes())?;
+    }
+    let long = vec![in alloc; b'x'; 16381]?;
+    machine.add_text(alloc, "limit", &long[..16380])?;
+    machine.add_text(alloc, "long", &long)?;
+    Ok(machine)
+}
+
+// Words that are no request, and texts that aren't there, too long, not accepted, or that can't be
+// carried out.
+const REFUSED: [(&str, &str); 22] = [
+    ("", "refused: words\n"),
+    ("try", "refused: words\n"),
+    ("try S1", "refused: words\n"),
+    ("try S1 E1 d", "refused: words\n"),
+    ("check S1", "refused: words\n"),
+    ("run a b", "refused: words\n"),
+    ("Try S1 E1", "refused: words\n"),
+    ("try nothing E1", "refused: missing nothing\n"),
+    ("try S1 nothing", "refused: missing nothing\n"),
+    ("check nothing long", "refused: missing nothing\n"),
+    ("try long E1", "refused: too long long\n"),
+    ("check S1 long", "refused: too long long\n"),
+    ("try limit E1", "refused: schema line 1: token\n"),
+    ("try keyed limit", "refused: schema line 1: key\n"),
+    ("check S1 limit", "refused: equation line 1: token\n"),
+    ("try S1 unended", "refused: equation line 2: end\n"),
+    ("try linked E1", "refused: type line 1: definition\n"),
+    ("check S1 pieces", "refused: type line 1: one bytes\n"),
+    ("try wide E3", "refused: type line 1: entry too long\n"),
+    ("try S1 E2", "refused: not built\n"),
+    ("try S1 linear", "refused: not built\n"),
+    ("try linked ring", "refused: not built\n"),
+];
+
 #[test]
 fn requests_are_refused(rt: HostRuntime) -> Result<(), Fail> {
     let alloc = rt.alloc();
-    let cases: [(&str, &[u8]); 22] = [
-        ("", b"refused: words\n"),
-        ("try", b"refused: words\n"),
-        ("try S1", b"refused: words\n"),
-        ("try S1 E1 d", b"refused: words\n"),
-        ("check S1", b"refused: words\n"),
-        ("run a b", b"refused: words\n"),
-        ("Try S1 E1", b"refused: words\n"),
-        ("try nothing E1", b"refused: missing nothing\n"),
-        ("try S1 nothing", b"refused: missing nothing\n"),
-        ("check nothing long", b"refused: missing nothing\n"),
-        ("try long E1", b"refused: too long long\n"),
-        ("check S1 long", b"refused: too long long\n"),
-        ("try limit E1", b"refused: schema line 1: token\n"),
-        ("try keyed limit", b"refused: schema line 1: key\n"),
-        ("check S1 limit", b"refused: equation line 1: token\n"),
-        ("try S1 unended", b"refused: equation line 2: end\n"),
-        ("try linked E1", b"refused: type line 1: definition\n"),
-        ("check S1 pieces", b"refused: type line 1: one bytes\n"),
-        ("try wide E3", b"refused: type line 1: entry too long\n"),
-        ("try S1 E2", b"refused: not built\n"),
-        ("try S1 linear", b"refused: not built\n"),
-        ("try linked ring", b"refused: not built\n"),
-    ];
-    let long = vec![in alloc; b'x'; 16381]?;
-    for (line, said) in cases.iter() {
-        let mut machine = machine(alloc, SCRIPT)?;
-        machine.add_text(alloc, "keyed", b"file f (k text 101)\n")?;
-        machine.add_text(alloc, "linked", b"file f (k int)\nlink l (f, f)\n")?;
-        machine.add_text(alloc, "E2", b"f = encode(t rle, actual(heap))\n")?;
-        machine.add_text(
-            alloc,
-            "wide",
-            b"file g (k int, a text 200, b text 200, c text 200, d text 200, e text 200)\n",
-        )?;
-        machine.add_text(alloc, "E3", b"g = actual(heap)\n")?;
-        machine.add_text(alloc, "unended", b"f =\nactual(heap")?;
-        machine.add_text(alloc, "pieces", b"f = divide(64, actual(heap))")?;
-        machine.add_text(alloc, "linear", b"f = actual(divide(64, heap))")?;
-        machine.add_text(
-            alloc,
-            "ring",
-            b"f = heap l = ring(actual(heap), actual(heap))",
-        )?;
-        machine.add_text(alloc, "limit", &long[..16380])?;
-        machine.add_text(alloc, "long", &long)?;
+    for (line, said) in REFUSED {
+        let machine = with_texts(alloc)?;
         let (status, machine) = top(alloc, &words(alloc, line)?, machine);
-        assert_eq!(rt; machine.said(), *said);
+        assert_eq!(rt; machine.said(), said.as_bytes(), "{line}");
         assert_eq!(rt; status, Status::Refused);
     }
     Ok(())
 }
 
-// Texts that are accepted, with their leaves and the pages and blocks that those need.
+// A text that is accepted, with its leaves and the pages and blocks that those need.
 #[test]
 fn texts_are_checked(rt: HostRuntime) -> Result<(), Fail> {
     let alloc = rt.alloc();
-    let cases: [(&[u8], &[u8]); 4] = [
-        (
-            b"f = actual(heap)",
-            b"accepted: 1 leaves, 1 root pages, smallest device 41 blocks\n",
-        ),
-        (
-            b"f = actual(divide(64, heap))",
-            b"accepted: 1 leaves, 1 root pages, smallest device 41 blocks\n",
-        ),
-        (
-            b"# by key\nf = partition(k 10,\n  actual(hash(8)), actual(bplus))\n",
-            b"accepted: 2 leaves, 9 root pages, smallest device 57 blocks\n",
-        ),
-        (
-            b"f = index(t, actual(isam), hash(64))",
-            b"accepted: 2 leaves, 65 root pages, smallest device 169 blocks\n",
-        ),
-    ];
-    for (equation, said) in cases.iter() {
-        let mut machine = machine(alloc, SCRIPT)?;
-        machine.add_text(alloc, "E", equation)?;
-        let (status, machine) = top(alloc, &words(alloc, "check S1 E")?, machine);
-        assert_eq!(rt; machine.said(), *said);
-        assert_eq!(rt; status, Status::Done);
-    }
+    let equation = "# by key
+f = partition(k 10,
+  actual(hash(8)), actual(bplus))
+";
+    let said = "accepted: 2 leaves, 9 root pages, smallest device 57 blocks\n";
+    let mut machine = machine(alloc, b"")?;
+    machine.add_text(alloc, "E", equation.as_bytes())?;
+    let (status, machine) = top(alloc, &words(alloc, "check S1 E")?, machine);
+    assert_eq!(rt; machine.said(), said.as_bytes());
+    assert_eq!(rt; status, Status::Done);
     Ok(())
 }

@@ -126,7 +126,8 @@ fn leaves_text<B: Leaves>(alloc: Global, leaves: &mut B) -> Result<String, Fail>
     Ok(text)
 }
 
-// A script on one file that is stored by an equation, its answers, and the entries that there are after it.
+// A script on one file that is stored by an equation, its answers, and the entries that there are
+// after it.
 #[derive(Clone, Copy)]
 struct Case {
     schema: &'static str,
@@ -141,46 +142,85 @@ const CASES: [Case; 6] = [
     Case {
         schema: "file f (k int)",
         equation: "f = partition(k 10 20, heap, heap, heap)",
-        script: "begin\ninsert f 19\ninsert f 20\ninsert f 9\ninsert f 10",
-        answers: "begun\nok\nok\nok\nok\n",
-        entries: "0 8000000000000009=\n1 800000000000000a=\n1 8000000000000013=\n2 8000000000000014=\n",
+        script: "begin
+insert f 19
+insert f 20
+insert f 9
+insert f 10",
+        answers: "begun
+ok
+ok
+ok
+ok
+",
+        entries: "0 8000000000000009=
+1 800000000000000a=
+1 8000000000000013=
+2 8000000000000014=
+",
     },
     // Parts by another field: a record stands in one part at a time.
     Case {
         schema: "file f (k int, v int)",
         equation: "f = partition(v 10, actual(heap), actual(heap))",
         script: "begin\ninsert f 1 10",
-        answers: "begun\nok\n",
+        answers: "begun
+ok
+",
         entries: "1 8000000000000001=000000000000000a\n",
     },
     Case {
         schema: "file f (k int, v int)",
         equation: "f = partition(v 10, actual(heap), actual(heap))",
-        script: "begin\ninsert f 1 10\nupdate f 1 v 9",
-        answers: "begun\nok\nok\n",
+        script: "begin
+insert f 1 10
+update f 1 v 9",
+        answers: "begun
+ok
+ok
+",
         entries: "0 8000000000000001=0000000000000009\n",
     },
     Case {
         schema: "file f (k int, v int)",
         equation: "f = partition(v 10, actual(heap), actual(heap))",
-        script: "begin\ninsert f 1 10\nupdate f 1 v 9\ndelete f 1",
-        answers: "begun\nok\nok\nok\n",
+        script: "begin
+insert f 1 10
+update f 1 v 9
+delete f 1",
+        answers: "begun
+ok
+ok
+ok
+",
         entries: "",
     },
     // The key and a text, whose body has its length first.
     Case {
         schema: "file f (k int, t text 5)",
         equation: "f = actual(heap)",
-        script: "begin\ninsert f 7 \"ann\"\nget f 7\nget f 8\ncommit",
-        answers: "begun\nok\nf 7 \"ann\"\nnone\ncommitted 1\n",
+        script: r#"begin
+insert f 7 "ann"
+get f 7
+get f 8
+commit"#,
+        answers: r#"begun
+ok
+f 7 "ann"
+none
+committed 1
+"#,
         entries: "0 8000000000000007=03616e6e\n",
     },
     // A body within a body, whose length is in two bytes.
     Case {
         schema: "file f (k int, t text 5)",
         equation: "f = actual(actual(heap))",
-        script: "begin\ninsert f 7 \"ann\"",
-        answers: "begun\nok\n",
+        script: r#"begin
+insert f 7 "ann""#,
+        answers: "begun
+ok
+",
         entries: "0 8000000000000007=000403616e6e\n",
     },
 ];
