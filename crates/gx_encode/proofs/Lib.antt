@@ -1,0 +1,2 @@
+pub mod PackSteps
+pub mod RunSteps

@@ -1,0 +1,4 @@
+pub mod Packs
+pub mod PackLaws
+pub mod Runs
+pub mod RunLaws
