@@ -1,0 +1,3 @@
+pub mod PackSteps
+pub mod RunSteps
+pub mod GatherLemmas
