@@ -48,6 +48,7 @@ all_home P blocks spilled rs none all q = by (find_page q rs) refl
 pub listed_none : (spilled : List Bool) → ((p : ℕ) → get_or spilled p false ≡ false) → IsListed spilled []
 listed_none spilled none = record {
   within = λ i lt. absurd (omega (arith, lt));
+  flagged = λ i lt. absurd (omega (arith, lt));
   every = λ p is. absurd (true≢false (sym is ∙ none p));
   count = (let most = sum_by-le (λ b. cond b 1 0) 0 spilled (λ n d lt. omega (arith, ap (λ (b : Bool). cond {A = ℕ} b 1 0) (Rattle.std.proofs.lemmas.List.get_or_default spilled n d false lt ∙ none n))) in omega (arith, most));
 }

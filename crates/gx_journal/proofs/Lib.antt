@@ -4,3 +4,4 @@ pub mod SlotLemmas
 pub mod ForgetLemmas
 pub mod PageLemmas
 pub mod CleanLemmas
+pub mod PublishLemmas

@@ -1,15 +1,15 @@
 -- Lists of pages, and calm, from pages by index.
-use Rattle.std.proofs.Common.{◌≡◌, ◌≢◌, inl, inr, ℕ, ◌+◌, ◌*◌, ◌<◌, ◌≤◌, Bool, true, false, List, [], length, get_or, set, take, drop, map, IsTrue, refl, sym, ◌∙◌, ap, subst, arith, length-take, length-drop, length-set, Result, Ok, Err}
-use Rattle.std.specs.Prelude.{OnErr, if◌then◌else◌}
+use Rattle.std.proofs.Common.{◌≡◌, ◌≢◌, inl, inr, ℕ, ◌+◌, ◌*◌, ◌<◌, ◌≤◌, Bool, true, false, List, [], ◌∷◌, length, get_or, set, take, drop, map, IsTrue, refl, sym, ◌∙◌, ap, subst, arith, length-take, length-drop, length-set, Result, Ok, Err}
+use Rattle.std.specs.Prelude.{OnOk, OnErr, if◌then◌else◌}
 use Rattle.std.specs.List.{range_with_len}
 use Rattle.std.proofs.lemmas.Bool.Decides.{eqb_tells}
 use Rattle.std.proofs.lemmas.List.{same_lists, get_or-take, get_or-drop, get_or_default, get_or-set_same, get_or-set_other}
 use Rattle.std.proofs.lemmas.List.FromFn.{get_or-map-range_with_len, length-map-range_with_len}
 use Rattle.gx_frames.specs.Pool.{Resident}
 use Rattle.gx_device.specs.Content.{Content}
-use Rattle.gx_layout.specs.Layout.{View, home, head_of, Holds, SameButChanged}
+use Rattle.gx_layout.specs.Layout.{View, OnlyBlocks, home, head_of, Holds, SameButChanged}
 use Rattle.gx_layout.specs.Calm.{Calm, kept_view}
-use Rattle.gx_journal.specs.Sources.{stored, page_of, IsCached, SamePages, IsSlot, OnlySlots}
+use Rattle.gx_journal.specs.Sources.{stored, page_of, IsCached, SamePages, IsSlot, IsBody, OnlySlots}
 use Rattle.gx_journal.specs.State.{blank, pages_told, homes_told, head_told, CalmSince}
 
 listed_pages : (f : ℕ → List ℕ) (P k : ℕ) (d : List ℕ) → k < P → get_or (map f (range_with_len 0 P)) k d ≡ f k
@@ -158,3 +158,33 @@ module _ (old new : Content) (blocks : new.now.blocks ≡ old.now.blocks) where
         count = ap (λ (x : View). length x.pages) v ∙ is.count;
         calm = subst (λ (x : View). Calm start x new) (sym v) (calm (kept_view P old) is.calm);
       }
+
+-- a commit that left the head
+not_body : (n : ℕ) → (n ≡ 1 → ⊥) → (n ≡ 2 → ⊥) → n < 7 → IsBody n → ⊥
+not_body n one two low (inl e) = one e
+not_body n one two low (inr (inl e)) = two e
+not_body n one two low (inr (inr high)) = absurd (omega (arith, low, high))
+
+pub body_head : (tells : Bool) (old new : Content) → OnlyBlocks IsBody old new → head_told tells new ≡ head_told tells old
+body_head tells old new o =
+    let a0 = o.blocks 0 (not_body 0 (λ (e : 0 ≡ 1). absurd (omega (arith, e))) (λ (e : 0 ≡ 2). absurd (omega (arith, e))) (omega arith)) in
+    let a3 = o.blocks 3 (not_body 3 (λ (e : 3 ≡ 1). absurd (omega (arith, e))) (λ (e : 3 ≡ 2). absurd (omega (arith, e))) (omega arith)) in
+    let a4 = o.blocks 4 (not_body 4 (λ (e : 4 ≡ 1). absurd (omega (arith, e))) (λ (e : 4 ≡ 2). absurd (omega (arith, e))) (omega arith)) in
+    let a5 = o.blocks 5 (not_body 5 (λ (e : 5 ≡ 1). absurd (omega (arith, e))) (λ (e : 5 ≡ 2). absurd (omega (arith, e))) (omega arith)) in
+    let a6 = o.blocks 6 (not_body 6 (λ (e : 6 ≡ 1). absurd (omega (arith, e))) (λ (e : 6 ≡ 2). absurd (omega (arith, e))) (omega arith)) in
+    λ i. if tells then a0 i ∷ a3 i ∷ a4 i ∷ a5 i ∷ a6 i ∷ [] else []
+
+-- after a commit the kept pages are the working ones
+pub committed : {T E : Type 0} (r : Result T E) (tells : Bool) (P Q : ℕ) (old new : Content) (was is : List Bool) (rs ss : List Resident) → Q ≡ P → (IsTrue tells → 7 + 2 * P ≤ length new.now.blocks)
+    → (IsTrue tells → OnOk r ((q : ℕ) → page_of P new.now.blocks is ss q ≡ get_or new.now.blocks (home P q) []))
+    → (IsTrue tells → OnOk r (SamePages (page_of P old.now.blocks was rs) (page_of P new.now.blocks is ss)))
+    → OnOk r (homes_told tells Q new ≡ pages_told tells P old was rs)
+committed (Ok x) tells P Q old new was is rs ss size room at_home same =
+    ap (λ (n : ℕ). homes_told tells n new) size ∙ sym (pages_home tells P Q new is ss size room at_home) ∙ pages_same tells P Q old new was is rs ss size same
+committed (Err e) tells P Q old new was is rs ss size room at_home same = tt
+
+pub committed_pages : {T E : Type 0} (r : Result T E) (tells : Bool) (P Q : ℕ) (old new : Content) (was is : List Bool) (rs ss : List Resident) → Q ≡ P
+    → (IsTrue tells → OnOk r (SamePages (page_of P old.now.blocks was rs) (page_of P new.now.blocks is ss)))
+    → OnOk r (pages_told tells Q new is ss ≡ pages_told tells P old was rs)
+committed_pages (Ok x) tells P Q old new was is rs ss size same = pages_same tells P Q old new was is rs ss size same
+committed_pages (Err e) tells P Q old new was is rs ss size same = tt

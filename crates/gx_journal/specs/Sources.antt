@@ -1,5 +1,5 @@
 -- Where the working pages and the kept ones stand.
-use Rattle.std.specs.Prelude.{◌≡◌, ◌<◌, ◌≤◌, ◌+◌, ℕ, Bool, true, false, List, length, get_or, [], Some, if◌then◌else◌}
+use Rattle.std.specs.Prelude.{◌≡◌, ◌⊎◌, ◌<◌, ◌≤◌, ◌+◌, ℕ, Bool, true, false, List, length, get_or, [], Some, if◌then◌else◌}
 use Rattle.std.specs.Option.{option_map_or}
 use Rattle.std.specs.List.{count_by}
 use Rattle.gx_frames.specs.Pool.{Resident, find_page}
@@ -32,6 +32,7 @@ IsAmong i listed p = ((j : ℕ) → i ≤ j → j < length listed → get_or lis
 pub record IsListed (spilled : List Bool) (listed : List ℕ) : Type 0 where
   pub within : (i : ℕ) → i < length listed → get_or listed i 0 < length spilled
   pub every : (p : ℕ) → get_or spilled p false ≡ true → IsAmong 0 listed p
+  pub flagged : (i : ℕ) → i < length listed → get_or spilled (get_or listed i 0) false ≡ true
   pub count : length listed ≡ count_by (λ b. b) spilled
 
 -- a block is a slot
@@ -44,3 +45,17 @@ pub record OnlySlots (P : ℕ) (old new : Content) : Type 0 where
   pub script : new.script ≡ old.script
   pub aside : new.aside ≡ old.aside
   pub calm : (start : Content) (v : View) → length v.pages ≡ P → Calm start v old → Calm start v new
+
+-- the home of a page of a list
+pub record IsHomeOf (P : ℕ) (listed : List ℕ) (n : ℕ) : Type 0 where
+  pub place : ℕ
+  pub below : place < length listed
+  pub is : n ≡ home P (get_or listed place 0)
+
+-- a block that a commit writes once the slots are written: the gate, the bitmap, or a home
+abbrev pub IsCommitted : ℕ → List ℕ → ℕ → Type 0
+IsCommitted P listed n = (n ≡ 1) ⊎ (n ≡ 2) ⊎ IsHomeOf P listed n
+
+-- a block that isn't of the head
+abbrev pub IsBody : ℕ → Type 0
+IsBody n = (n ≡ 1) ⊎ (n ≡ 2) ⊎ (7 ≤ n)

@@ -1,9 +1,11 @@
 // The first step of a commit: the changed pages go to their slots.
-ghost use Rattle.std.specs.Prelude.{◌≡◌, ◌<◌, ◌≤◌, ◌+◌, ◌*◌, ℕ, List, length, vec_capacity, IsTrue, OnOk};
+ghost use Rattle.std.specs.Prelude.{◌≡◌, ◌<◌, ◌≤◌, ◌+◌, ◌*◌, ℕ, false, [], length, slice_index_or, vec_capacity, IsTrue, OnOk};
 ghost use Rattle.gx_device.specs.Faults.{IsCounted};
 ghost use Rattle.gx_frames.specs.Pool.{IsChanged};
-ghost use Rattle.gx_journal.specs.Sources.{stored, page_of, IsCached, SamePages, IsListed, OnlySlots};
+ghost use Rattle.gx_layout.specs.Layout.{OnlyBlocks, home};
+ghost use Rattle.gx_journal.specs.Sources.{stored, page_of, IsCached, SamePages, IsListed, OnlySlots, IsBody};
 
+use crate::publish::publish;
 use crate::room::spill;
 use gx_device::{Device, Failed};
 use gx_frames::Frames;
@@ -71,5 +73,52 @@ pub(crate) fn spill_all<D: Device>(
         spill_one(device, frames, spilled, listed, p)?;
         from = p + 1;
     }
+    Ok(())
+}
+
+// No page counts as spilled any more.
+fn clear(spilled: &mut Vec<bool>, listed: &mut Vec<u32>)
+    requires { IsListed spilled.old.items listed.old.items }
+    ensures none { (p : ℕ) → slice_index_or spilled.new.items p false ≡ false }
+    ensures long { length spilled.new.items ≡ length spilled.old.items }
+    ensures listed { IsListed spilled.new.items listed.new.items }
+    ensures space { vec_capacity listed.old ≤ vec_capacity listed.new }
+{
+    for i in 0..listed.len() {
+        spilled[listed[i] as usize] = false;
+    }
+    listed.clear();
+}
+
+/// Makes the pages as they are those at home, all at once.
+pub(crate) fn commit<D: Device>(
+    device: &mut D,
+    frames: &mut Frames,
+    spilled: &mut Vec<bool>,
+    listed: &mut Vec<u32>,
+) -> Result<(), Failed>
+    requires room { 7 + 2 * length spilled.old.items ≤ D.size device.old }
+    requires few { length spilled.old.items ≤ 32768 }
+    requires pages { frames.old.pages ≡ length spilled.old.items }
+    requires listed { IsListed spilled.old.items listed.old.items }
+    requires space { length spilled.old.items ≤ vec_capacity listed.old }
+    requires cached { IsTrue D.tells → IsCached (length spilled.old.items) (D.content device.old).now.blocks spilled.old.items frames.old.resident }
+    ensures home { IsTrue D.tells → OnOk result ((q : ℕ) → page_of (length spilled.old.items) (D.content device.new).now.blocks spilled.new.items frames.new.resident q ≡ slice_index_or (D.content device.new).now.blocks (home (length spilled.old.items) q) []) }
+    ensures same { IsTrue D.tells → OnOk result (SamePages (page_of (length spilled.old.items) (D.content device.old).now.blocks spilled.old.items frames.old.resident) (page_of (length spilled.old.items) (D.content device.new).now.blocks spilled.new.items frames.new.resident)) }
+    ensures cached { IsTrue D.tells → IsCached (length spilled.old.items) (D.content device.new).now.blocks spilled.new.items frames.new.resident }
+    ensures body { OnlyBlocks IsBody (D.content device.old) (D.content device.new) }
+    ensures pages { frames.new.pages ≡ frames.old.pages }
+    ensures long { length spilled.new.items ≡ length spilled.old.items }
+    ensures listed { IsListed spilled.new.items listed.new.items }
+    ensures space { vec_capacity listed.old ≤ vec_capacity listed.new }
+    ensures size { D.size device.new ≡ D.size device.old }
+    ensures cause { IsCounted (D.faults device.old) (D.faults device.new) result }
+{
+    spill_all(device, frames, spilled, listed)?;
+    if listed.is_empty() {
+        return Ok(());
+    }
+    publish(device, frames, spilled, listed)?;
+    clear(spilled, listed);
     Ok(())
 }

@@ -1,11 +1,12 @@
 // Pages over a device, with the working ones in a few frames.
-ghost use Rattle.std.specs.Prelude.{◌≡◌, ◌<◌, ◌≤◌, ◌+◌, ◌*◌, ◌/◌, ◌-◌, [], false, length, replicate, slice_set, slice_index_or, vec_capacity, IsTrue, IfOk, IfErr, OnOk, OnErr};
+ghost use Rattle.std.specs.Prelude.{◌≡◌, ◌↔◌, ◌<◌, ◌≤◌, ◌+◌, ◌*◌, ◌/◌, ◌-◌, [], false, length, replicate, slice_set, slice_index_or, vec_capacity, IsTrue, IfOk, IfErr, OnOk, OnErr};
 ghost use Rattle.gx_device.specs.Content.{Silent, Hears, Listens, Says, Speaks};
 ghost use Rattle.gx_device.specs.Faults.{Rose, HasCause, IsCounted};
 ghost use Rattle.gx_layout.specs.Layout.{home, pages_of};
 ghost use Rattle.gx_journal.specs.Sources.{IsCached, IsListed};
 
 use crate::access::{read, write};
+use crate::commit::commit;
 use crate::forget::forget;
 use gx_device::{Device, Failed, NoMemory};
 use gx_frames::Frames;
@@ -56,7 +57,7 @@ impl Room {
 }
 
 impl<D: Device> Journal<D> {
-    ghost use Rattle.gx_journal.specs.Journal.{device_of, content_of, size_of, working_of, kept_of, IsSteady, Keeps};
+    ghost use Rattle.gx_journal.specs.Journal.{device_of, content_of, size_of, working_of, kept_of, head_blocks, IsSteady, Keeps};
 
     // A journal of which nothing is resident. `NoMemory` hands the device back.
     fn make(alloc: Global, device: D, count: u32) -> Result<Journal<D>, (D, NoMemory)>
@@ -136,6 +137,27 @@ impl<D: Device> Journal<D> {
             p,
             from,
         )
+    }
+
+    /// Makes the working pages the kept ones, all at once. Where no page has changed the device isn't
+    /// called. After `Failed` the journal is to be opened again.
+    pub fn commit(&mut self) -> Result<(), Failed>
+        ensures kept { OnOk result (kept_of self.new ≡ working_of self.old) }
+        ensures working { OnOk result (working_of self.new ≡ working_of self.old) }
+        ensures head { head_blocks self.new ≡ head_blocks self.old }
+        ensures size { size_of self.new ≡ size_of self.old }
+        ensures steady { OnOk result (IsSteady self.old ↔ IsSteady self.new) }
+        ensures silent { Silent (content_of self.old) (content_of self.new) }
+        ensures faults { IsCounted (D.faults (device_of self.old)) (D.faults (device_of self.new)) result }
+    {
+        let committed = commit(
+            &mut self.device,
+            &mut self.frames,
+            &mut self.spilled,
+            &mut self.listed,
+        );
+        self.failed |= committed.is_err();
+        committed
     }
 
     /// Makes the kept pages the working ones. The device isn't called.

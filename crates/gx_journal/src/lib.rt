@@ -5,6 +5,7 @@ mod access;
 mod commit;
 mod forget;
 mod journal;
+mod publish;
 mod room;
 
 pub use journal::Journal;

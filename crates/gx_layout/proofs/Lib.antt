@@ -1,3 +1,5 @@
 pub mod BlockLemmas
 pub mod BitLemmas
 pub mod CalmLemmas
+pub mod CommitLemmas
+pub mod RecoverLemmas

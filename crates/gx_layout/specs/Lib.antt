@@ -2,3 +2,4 @@ pub mod Layout
 pub mod Calm
 pub mod PhaseLaws
 pub mod CalmLaws
+pub mod Recovered

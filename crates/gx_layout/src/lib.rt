@@ -3,6 +3,8 @@
 
 mod bitmap;
 mod gate;
+mod recovery;
 
 pub use bitmap::write_bitmap;
-pub use gate::set_gate;
+pub use gate::{close_gate, open_gate, set_gate};
+pub use recovery::recover;

@@ -1,5 +1,4 @@
-use Rattle.std.proofs.Common.{◌≡◌, ◌≤◌, ◌+◌, ◌*◌, length, refl, ap, sym, subst, ◌∙◌, arith}
-use Rattle.gx_journal.specs.Sources.{OnlySlots}
+use Rattle.std.proofs.Common.{length, arith}
 use Rattle.gx_journal.proofs.PageLemmas.{pages_home}
 use Rattle.gx_journal.proofs.journal.Journal.abort.Goals as goal
 

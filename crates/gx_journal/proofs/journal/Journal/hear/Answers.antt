@@ -1,4 +1,4 @@
-use Rattle.std.proofs.Common.{◌≡◌, ◌≤◌, ◌+◌, ◌*◌, length, refl, ap, arith, List, ℕ}
+use Rattle.std.proofs.Common.{length, refl, ap, arith}
 use Rattle.gx_device.specs.Content.{Moment}
 use Rattle.gx_layout.proofs.CalmLemmas.{calm_listens}
 use Rattle.gx_journal.proofs.PageLemmas.{still_homes, still_head, still_pages, still_cached, still_calm}

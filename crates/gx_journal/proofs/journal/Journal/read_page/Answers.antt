@@ -1,7 +1,5 @@
-use Rattle.std.proofs.Common.{◌≡◌, length, refl, ap, sym, subst, ◌∙◌, IsTrue, arith}
+use Rattle.std.proofs.Common.{length, refl, sym, ◌∙◌}
 use Rattle.std.proofs.lemmas.Result.{on_ok_weaker}
-use Rattle.gx_journal.specs.State.{CalmSince}
-use Rattle.gx_journal.specs.Sources.{OnlySlots}
 use Rattle.gx_journal.proofs.SlotLemmas.{slots_silent}
 use Rattle.gx_journal.proofs.PageLemmas.{homes_same, head_same, calm_same, pages_same, pages_at}
 use Rattle.gx_journal.proofs.journal.Journal.read_page.Goals as goal

@@ -1,5 +1,4 @@
-use Rattle.std.proofs.Common.{◌≡◌, ◌≤◌, ◌+◌, ◌*◌, length, refl, ap, arith, List, ℕ}
-use Rattle.gx_device.specs.Content.{Moment}
+use Rattle.std.proofs.Common.{length, refl, arith}
 use Rattle.gx_layout.proofs.CalmLemmas.{calm_speaks}
 use Rattle.gx_journal.proofs.PageLemmas.{still_homes, still_head, still_pages, still_cached, still_calm}
 use Rattle.gx_journal.proofs.journal.Journal.say.Goals as goal

@@ -1,0 +1,70 @@
+use Rattle.std.proofs.Common.{true, ◌∙◌, arith}
+use Rattle.gx_device.specs.Content.{block_of}
+use Rattle.gx_device.specs.Crash.{EachImage}
+use Rattle.gx_device.proofs.RunLemmas.{joined}
+use Rattle.gx_layout.specs.Layout.{StandsFor, flags}
+use Rattle.gx_layout.proofs.RecoverLemmas.{read_images, found_leaves, still_none, still_reads, still_gate, room_of}
+use Rattle.gx_layout.proofs.recovery.settle.Goals as goal
+
+pub returns-in_err-is_gate_open-clause-images : goal.returns-in_err-is_gate_open-clause-images
+returns-in_err-is_gate_open-clause-images g c told v counts none reads =
+    let a = g.D.Device.content c.args.device.now in
+    read_images (StandsFor v) a _ (c.is_gate_open.ensures.rest) (found_leaves a v (room_of a c.args.pages (omega (arith, g.met.D.Device.sized c.args.device.now told, c.requires.room))) none reads)
+
+pub returns-else-branch-clause-images : goal.returns-else-branch-clause-images
+returns-else-branch-clause-images g c told v counts none reads =
+    let a = g.D.Device.content c.args.device.now in
+    read_images (StandsFor v) a _ (c.is_gate_open.ensures.rest) (found_leaves a v (room_of a c.args.pages (omega (arith, g.met.D.Device.sized c.args.device.now told, c.requires.room))) none reads)
+
+pub returns-in_err-bring_back-clause-images : goal.returns-in_err-bring_back-clause-images
+returns-in_err-bring_back-clause-images g c told v counts none reads =
+    let content = g.D.Device.content in
+    let a = content c.args.device.now in
+    let b = content c.is_gate_open.new.device in
+    let r = c.is_gate_open.ensures.rest in
+    let first = read_images (StandsFor v) a b r (found_leaves a v (room_of a c.args.pages (omega (arith, g.met.D.Device.sized c.args.device.now told, c.requires.room))) none reads) in
+    let none_b = still_none a b r none in
+    let reads_b = still_reads a b v r reads in
+    let gate_b = still_gate a b true r (c.in_ok-is_gate_open.ensures.gate told ∙ c.if-branch.true) in
+    joined (EachImage (StandsFor v)) a b (content c.bring_back.new.device) first (c.bring_back.ensures.images told v counts none_b reads_b gate_b)
+
+pub returns-in_err-close_gate-clause-images : goal.returns-in_err-close_gate-clause-images
+returns-in_err-close_gate-clause-images g c told v counts none reads =
+    let content = g.D.Device.content in
+    let a = content c.args.device.now in
+    let b = content c.is_gate_open.new.device in
+    let r = c.is_gate_open.ensures.rest in
+    let first = read_images (StandsFor v) a b r (found_leaves a v (room_of a c.args.pages (omega (arith, g.met.D.Device.sized c.args.device.now told, c.requires.room))) none reads) in
+    let none_b = still_none a b r none in
+    let reads_b = still_reads a b v r reads in
+    let gate_b = still_gate a b true r (c.in_ok-is_gate_open.ensures.gate told ∙ c.if-branch.true) in
+    let back = joined (EachImage (StandsFor v)) a b (content c.bring_back.new.device) first (c.bring_back.ensures.images told v counts none_b reads_b gate_b) in
+    let ready = c.in_ok-bring_back.ensures.ready told v counts none_b reads_b gate_b in
+    joined (EachImage (StandsFor v)) a (content c.bring_back.new.device) (content c.close_gate.new.device) back (c.close_gate.ensures.images told v (flags (block_of b.now 2) c.args.pages) ready)
+
+pub returns-in_ok-close_gate-clause-images : goal.returns-in_ok-close_gate-clause-images
+returns-in_ok-close_gate-clause-images g c told v counts none reads =
+    let content = g.D.Device.content in
+    let a = content c.args.device.now in
+    let b = content c.is_gate_open.new.device in
+    let r = c.is_gate_open.ensures.rest in
+    let first = read_images (StandsFor v) a b r (found_leaves a v (room_of a c.args.pages (omega (arith, g.met.D.Device.sized c.args.device.now told, c.requires.room))) none reads) in
+    let none_b = still_none a b r none in
+    let reads_b = still_reads a b v r reads in
+    let gate_b = still_gate a b true r (c.in_ok-is_gate_open.ensures.gate told ∙ c.if-branch.true) in
+    let back = joined (EachImage (StandsFor v)) a b (content c.bring_back.new.device) first (c.bring_back.ensures.images told v counts none_b reads_b gate_b) in
+    let ready = c.in_ok-bring_back.ensures.ready told v counts none_b reads_b gate_b in
+    joined (EachImage (StandsFor v)) a (content c.bring_back.new.device) (content c.close_gate.new.device) back (c.close_gate.ensures.images told v (flags (block_of b.now 2) c.args.pages) ready)
+
+pub returns-in_ok-close_gate-clause-at_rest : goal.returns-in_ok-close_gate-clause-at_rest
+returns-in_ok-close_gate-clause-at_rest g c told v counts none reads =
+    let content = g.D.Device.content in
+    let a = content c.args.device.now in
+    let b = content c.is_gate_open.new.device in
+    let r = c.is_gate_open.ensures.rest in
+    let first = read_images (StandsFor v) a b r (found_leaves a v (room_of a c.args.pages (omega (arith, g.met.D.Device.sized c.args.device.now told, c.requires.room))) none reads) in
+    let none_b = still_none a b r none in
+    let reads_b = still_reads a b v r reads in
+    let gate_b = still_gate a b true r (c.in_ok-is_gate_open.ensures.gate told ∙ c.if-branch.true) in
+    let ready = c.in_ok-bring_back.ensures.ready told v counts none_b reads_b gate_b in
+    c.in_ok-close_gate.ensures.at_rest told v (flags (block_of b.now 2) c.args.pages) ready
