@@ -1,3 +1,3 @@
 pub mod ListedLemmas
-pub mod PlayLemmas
+pub mod AnswerLemmas
 pub mod RunLemmas

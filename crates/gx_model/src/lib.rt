@@ -4,4 +4,4 @@
 
 mod laws;
 
-pub use laws::{one_play_text, runs_go_on, steps_are_the_play};
+pub use laws::{one_play_text, runs_go_on};

@@ -9,7 +9,7 @@ use Rattle.gx_script.specs.Lines.{Lines, Parts, with_line, no_lines, with_byte, 
 use Rattle.gx_model.specs.States.{empty_state}
 use Rattle.gx_model.specs.Play.{end_at, end_text, start_at}
 use Rattle.gx_model.specs.Runs.{Runs, IsBadLine, IsEnd, AreFirstLines, IsPlayTextFrom}
-use Rattle.gx_model.proofs.RunLemmas.{run_on, one_text_from}
+use Rattle.gx_model.proofs.RunLemmas.{run_on, one_text}
 use Rattle.gx_plain.specs.Plain.{IsMoment, IsLineDone, IsPlayedOut, IsSoFar, end_of}
 use Rattle.gx_plain.specs.declared.plain.Moment.{Moment}
 use Rattle.gx_plain.specs.declared.plain.PlayEnd.{PlayEnd}
@@ -114,4 +114,4 @@ play_text (Ok text) schema script said last out is = record { answers = said; fi
 
 pub only_text : {E : Type 0} (r : Result (List ℕ) E) (schema : Schema) (script text : List ℕ) → IfOk r (IsPlayTextFrom schema (start_at (empty_state schema)) script) → IsPlayTextFrom schema (start_at (empty_state schema)) script text → IfOk r (λ given. given ≡ text)
 only_text (Err e) schema script text h p = tt
-only_text (Ok given) schema script text h p = one_text_from schema (start_at (empty_state schema)) script given text h p
+only_text (Ok given) schema script text h p = one_text schema (start_at (empty_state schema)) script given text h p

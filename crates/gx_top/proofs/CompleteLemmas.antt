@@ -9,8 +9,8 @@ use Rattle.gx_schema.specs.declared.schema.Schema.{Schema}
 use Rattle.gx_script.specs.declared.command.LineWhy.{LineWhy}
 use Rattle.gx_script.specs.Lines.{script_lines}
 use Rattle.gx_model.specs.States.{empty_state}
-use Rattle.gx_model.specs.Play.{Playing, End, good, stopped, start_at, IsPlay}
-use Rattle.gx_model.proofs.PlayLemmas.{played_once}
+use Rattle.gx_model.specs.Play.{Playing, End, good, stopped, start_at}
+use Rattle.gx_model.proofs.RunLemmas.{play_once}
 use Rattle.gx_top.specs.declared.ending.Ending.{Ending}
 use Rattle.gx_top.specs.declared.ending.Ending.TheVariants as ending
 use Rattle.gx_top.specs.declared.status.Status.{Status}
@@ -31,7 +31,7 @@ use Rattle.gx_top.specs.declared.words.Action.TheVariants as action
 use Rattle.gx_top.specs.Built.{is_built, text_length}
 use Rattle.gx_top.specs.Endings.{status_of, IsOutside}
 use Rattle.gx_top.specs.Requests.{IsText, IsThere, IsTooLong, IsNamed, IsAsked, AreRead, AreAccepted, AreUnaccepted, IsAccepted, IsRunnable, IsPrepared, IsRefused, IsUnprepared, equation_of, text_limit}
-use Rattle.gx_top.specs.Tries.{Says, IsPlayText, IsStoppedText, IsTry, IsPlayable, IsStoppable, IsCheckable}
+use Rattle.gx_top.specs.Tries.{Says, IsPlay, IsPlayText, IsStoppedText, IsTry, IsPlayable, IsStoppable, IsCheckable}
 use Rattle.gx_top.specs.Words.{request_words, word_of}
 
 -- the words of one request are those of no other
@@ -241,8 +241,7 @@ checkable_not_refused words before why x r = by_reason why r (not_refused words 
 pub not_stopped : (schema : Schema) (old new : Content) (s : Status) → ((answers : List ℕ) × (final : Playing) × IsPlay schema old.script answers final good) → (s ≡ status.Script → Says (IsStoppedText schema old.script) old new) → s ≢ status.Script
 not_stopped schema old new s play stops e =
     let text = stops e in
-    let lines = script_lines old.script in
-    let once = played_once schema 0 (start_at (empty_state schema)) lines.lines lines.stop play.0 text.1.2.answers play.1 text.1.2.final good (stopped text.1.0 text.1.1) play.2 text.1.2.play in
+    let once = play_once schema (start_at (empty_state schema)) (script_lines old.script) play.0 text.1.2.answers play.1 text.1.2.final good (stopped text.1.0 text.1.1) play.2 text.1.2.play in
     never text.1.0 text.1.1 once.2
   where
     never : (number : ℕ) (why : LineWhy) → ◌≡◌ {A = End} good (stopped number why) → ⊥
@@ -267,8 +266,7 @@ played_complete words schema old mid new s accepted script playable refused stop
 pub not_done : (schema : Schema) (old new : Content) (s : Status) → ((number : ℕ) × (why : LineWhy) × (answers : List ℕ) × (final : Playing) × IsPlay schema old.script answers final (stopped number why)) → (s ≡ status.Done → Says (IsPlayText schema old.script good) old new) → s ≢ status.Done
 not_done schema old new s play dones e =
     let text = dones e in
-    let lines = script_lines old.script in
-    let once = played_once schema 0 (start_at (empty_state schema)) lines.lines lines.stop text.1.answers play.2 text.1.final play.3 good (stopped play.0 play.1) text.1.play play.4 in
+    let once = play_once schema (start_at (empty_state schema)) (script_lines old.script) text.1.answers play.2 text.1.final play.3 good (stopped play.0 play.1) text.1.play play.4 in
     never play.0 play.1 once.2
   where
     never : (number : ℕ) (why : LineWhy) → ◌≡◌ {A = End} good (stopped number why) → ⊥

@@ -14,7 +14,7 @@ use Rattle.gx_script.specs.Lines.{script_lines}
 use Rattle.gx_equation.specs.Trees.{DefinitionTree}
 use Rattle.gx_model.specs.States.{empty_state}
 use Rattle.gx_model.specs.Play.{End, good, stopped, end_text, start_at}
-use Rattle.gx_model.proofs.PlayLemmas.{played_once}
+use Rattle.gx_model.proofs.RunLemmas.{play_once}
 use Rattle.gx_typing.specs.declared.typing.Typing.{Typing}
 use Rattle.gx_typing.specs.Typed.{leaves, typing_with}
 use Rattle.gx_typing.specs.Typing.{Mistake}
@@ -177,7 +177,7 @@ schema_under words texts under schema try is =
 
 text_of_play : (schema : Schema) (script : List ℕ) (end close : End) (a b : List ℕ) → IsPlayText schema script end a → IsPlayText schema script close b → a ≡ b
 text_of_play schema script end close a b x y =
-    let once = played_once schema 0 (start_at (empty_state schema)) (script_lines script).lines (script_lines script).stop x.answers y.answers x.final y.final end close x.play y.play in
+    let once = play_once schema (start_at (empty_state schema)) (script_lines script) x.answers y.answers x.final y.final end close x.play y.play in
     x.text_is ∙ (λ i. once.0 i ++ end_text (once.2 i)) ∙ sym y.text_is
 
 pub one_script_once : (words others : List (List ℕ)) (before other : Content) (text more : List ℕ) → PlayOneScript words others before other → IsWholeText words before text → IsWholeText others other more → text ≡ more

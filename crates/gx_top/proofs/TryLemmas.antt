@@ -6,9 +6,7 @@ use Rattle.std.proofs.Math.Seq.{take-append-add}
 use Rattle.gx_device.specs.Content.{Texts}
 use Rattle.gx_device.specs.Faults.{Rose}
 use Rattle.gx_ports.specs.LeafMaps.{Limits, IsCrowdedBy}
-use Rattle.gx_script.specs.declared.command.Command.{Command}
 use Rattle.gx_script.specs.declared.command.LineWhy.TheVariants as why
-use Rattle.gx_script.specs.Commands.{place_reason}
 use Rattle.gx_ports.specs.declared.stop.Stop.{Stop}
 use Rattle.gx_ports.specs.declared.stop.Stop.TheVariants as stop
 use Rattle.std.proofs.lemmas.List.{append-nil, append_assoc, take_all, take-append-le}
@@ -18,7 +16,8 @@ use Rattle.gx_script.specs.declared.command.LineWhy.{LineWhy}
 use Rattle.gx_script.specs.Lines.{Lines, parts_of, up_to_limit, with_line, without_cr, last_line, lines_within, longest_line, script_lines, longest_script, stopped as stopped_lines}
 use Rattle.gx_script.proofs.LineLaws.{enough_lines}
 use Rattle.gx_model.specs.States.{empty_state}
-use Rattle.gx_model.specs.Play.{Playing, End, good, stopped, end_at, is_inside, next_of, start_at, IsPlacedLine, IsPlayedLine, IsPlayed, IsPlay}
+use Rattle.gx_model.specs.Play.{Playing, End, good, stopped, start_at}
+use Rattle.gx_model.specs.Runs.{IsEnd, AreFirstLines, IsPlayFrom}
 use Rattle.gx_top.specs.declared.ending.Ending.{Ending}
 use Rattle.gx_top.specs.declared.ending.Ending.TheVariants as ending
 use Rattle.gx_top.specs.declared.play.PlayEnd.{PlayEnd}
@@ -32,7 +31,7 @@ use Rattle.gx_top.specs.declared.summary.Summary.{Summary}
 use Rattle.gx_top.specs.Summaries.{accepted_line}
 use Rattle.gx_top.specs.Requests.{IsHeard, IsRefused, IsRunnable, IsPrepared, IsUnprepared}
 use Rattle.gx_top.specs.Say.{IsCut}
-use Rattle.gx_top.specs.Tries.{Says, SaysFront, AreFirst, IsPlayText, IsStoppedText, IsShortText, IsTryText, IsRefusalText, IsRunText, IsMemoryText, IsAcceptedText, IsDoneText, IsRequestText, IsPlayedOut, IsPlayedAs, IsEndingOf}
+use Rattle.gx_top.specs.Tries.{Says, SaysFront, IsPlay, AreFirst, IsPlayText, IsStoppedText, IsShortText, IsTryText, IsRefusalText, IsRunText, IsMemoryText, IsAcceptedText, IsDoneText, IsRequestText, IsPlayedOut, IsPlayedAs, IsEndingOf}
 
 -- what was heard has the lines of the whole script
 heard_long : (heard left : List ℕ) → 16777216 < length heard → script_lines heard ≡ script_lines (heard ++ left)
@@ -51,20 +50,19 @@ played_out : (schema : Schema) (old mid new : Content) (left heard : List ℕ) (
 played_out schema old mid new left heard end unsaid is played = record {
   answers = played.text;
   final = played.final;
-  play = subst (λ ls. IsPlayed schema 0 (start_at (empty_state schema)) ls.lines ls.stop played.text played.final end) (heard_lines old.script left heard is) played.played;
+  play = subst (λ ls. IsPlayFrom schema (start_at (empty_state schema)) ls played.text played.final end) (heard_lines old.script left heard is) played.played;
   said = played.said ∙ ap (λ t. t ++ played.text) unsaid;
 }
 
 -- the same of the first lines
 first_answers : (schema : Schema) (old mid new : Content) (left heard : List ℕ) (why : Stop) → IsHeard old.script left heard → (part : IsPlayedPart schema (start_at (empty_state schema)) (script_lines heard) mid new why) → AreFirst schema old.script part.text
-first_answers schema old mid new left heard why is part = (
-  part.count,
-  (
-    part.final,
-    part.end,
-    subst (λ (ls : Lines). IsPlayed schema 0 (start_at (empty_state schema)) (take part.count ls.lines) None part.text part.final part.end) (heard_lines old.script left heard is) part.played,
-  ),
-)
+first_answers schema old mid new left heard why is part = record {
+  ran = part.ran;
+  later = part.later;
+  parts = ap (λ (ls : Lines). ls.lines) (sym (heard_lines old.script left heard is)) ∙ part.parts;
+  final = part.final;
+  runs = part.runs;
+}
 
 first_whole : (schema : Schema) (old mid new : Content) (left heard : List ℕ) (why : Stop) → mid.now.said ≡ old.now.said → IsHeard old.script left heard → why ≢ stop.Fault → IsPlayedPart schema (start_at (empty_state schema)) (script_lines heard) mid new why → Says (AreFirst schema old.script) old new
 first_whole schema old mid new left heard why unsaid is other part = (
@@ -90,7 +88,7 @@ played_as schema old mid new left heard (Err (play_end.Stop (stop.Damaged block)
 
 -- before a line is played
 none_played : (schema : Schema) (script : List ℕ) → AreFirst schema script []
-none_played schema script = (0, (start_at (empty_state schema), good, (refl, refl, refl)))
+none_played schema script = record { ran = []; later = (script_lines script).lines; parts = refl; final = start_at (empty_state schema); runs = (refl, refl) }
 
 pub unheard : (schema : Schema) (old new : Content) (before now : ℕ) (why : Ending) → new.now.said ≡ old.now.said → IsOutside before now why → IsPlayedAs schema old new (Err why)
 unheard schema old new before now ending.Fault unsaid is = ([], none_played schema old.script, (0, unsaid ∙ sym (append-nil old.now.said)))
@@ -108,29 +106,16 @@ unheard schema old new before now (ending.Line number why) unsaid is = absurd is
 
 -- ---- a play that ends at no line had all lines, and the whole script was heard
 
-placed_good : (why : Option LineWhy) (schema : Schema) (p : Playing) (number : ℕ) (c : Command) (Rest : Playing → List ℕ → Type 0) (text : List ℕ) (final : Playing) (Q : Type 0) → ((q : Playing) (more : List ℕ) → Rest q more → Q) → IsPlacedLine why schema p number c Rest text final good → Q
-placed_good None schema p number c Rest text final Q on x = on (next_of schema p c) x.more x.rest
-placed_good (Some why) schema p number c Rest text final Q on x = absurd (not_good x.end_is)
+good_lines : (schema : Schema) (final : Playing) (all : Lines) (ran : List (List ℕ)) (next : Result (Option (List ℕ)) LineWhy) (n : ℕ) → AreFirstLines all ran next → IsEnd schema final n next good → all.stop ≡ None
+good_lines schema final all ran (Ok None) n first ends = first.1
+good_lines schema final all ran (Ok (Some line)) n first ends = absurd (not_good ends.2)
   where
-    not_good : ◌≡◌ {A = End} good (stopped number why) → ⊥
+    not_good : ◌≡◌ {A = End} good (stopped (n + 1) ends.0) → ⊥
     not_good e = cc
-
-line_good : (r : Result Command LineWhy) (schema : Schema) (p : Playing) (number : ℕ) (Rest : Playing → List ℕ → Type 0) (text : List ℕ) (final : Playing) (Q : Type 0) → ((q : Playing) (more : List ℕ) → Rest q more → Q) → IsPlayedLine r schema p number Rest text final good → Q
-line_good (Ok c) schema p number Rest text final Q on x = placed_good (place_reason (is_inside p) c) schema p number c Rest text final Q on x
-line_good (Err why) schema p number Rest text final Q on x = absurd (not_good x.end_is)
+good_lines schema final all ran (Err why) n first ends = absurd (not_good ends)
   where
-    not_good : ◌≡◌ {A = End} good (stopped number why) → ⊥
+    not_good : ◌≡◌ {A = End} good (stopped (n + 1) why) → ⊥
     not_good e = cc
-
-good_lines : (schema : Schema) (last : ℕ) (p : Playing) (lines : List (List ℕ)) (stop : Option LineWhy) (text : List ℕ) (final : Playing) → IsPlayed schema last p lines stop text final good → stop ≡ None
-good_lines schema last p [] None text final x = refl
-good_lines schema last p [] (Some why) text final x = absurd (not_good x.end_is)
-  where
-    not_good : ◌≡◌ {A = End} good (stopped (last + 1) why) → ⊥
-    not_good e = cc
-good_lines schema last p (line ∷ lines) stop text final x =
-    line_good x.0 schema p (last + 1) (λ q more. IsPlayed schema (last + 1) q lines stop more final good) text final (stop ≡ None)
-    (λ q more y. good_lines schema (last + 1) q lines stop more final y) x.2
 
 stop_or : (t : Bool) (a c : Lines) → a.stop ≢ None → c.stop ≢ None → (if t then a else c).stop ≢ None
 stop_or true a c x y = x
@@ -156,7 +141,7 @@ heard_all schema mid new script left heard is played = by_end is.end
   where
     by_end : ((left ≡ []) ⊎ (16777216 < length heard)) → left ≡ []
     by_end (inl none) = none
-    by_end (inr long) = absurd (long_stops heard long (good_lines schema 0 (start_at (empty_state schema)) (script_lines heard).lines (script_lines heard).stop played.text played.final played.played))
+    by_end (inr long) = absurd (long_stops heard long (good_lines schema played.final (script_lines heard) played.played.ran played.played.next (length played.played.ran) played.played.first played.played.ends))
 
 no_fault : (result : Result (Unit {0}) Ending) → result ≡ Err ending.Fault → result ≡ Ok tt → ⊥
 no_fault result is e = not_ok (sym is ∙ e)
@@ -218,30 +203,16 @@ behind old mid new first line is said = said ∙ ap (λ t. t ++ line) is ∙ app
 front_behind : (old mid new : Content) (first line : List ℕ) (n : ℕ) → mid.now.said ≡ old.now.said ++ first → new.now.said ≡ mid.now.said ++ take n line → new.now.said ≡ old.now.said ++ take (length first + n) (first ++ line)
 front_behind old mid new first line n is said = said ∙ ap (λ t. t ++ take n line) is ∙ append_assoc old.now.said first (take n line) ∙ ap (λ t. old.now.said ++ t) (sym (take-append-add first line n))
 
--- the answers of all lines are those of the first ones, as many as there are
-some_placed : (why : Option LineWhy) (schema : Schema) (p : Playing) (number : ℕ) (c : Command) (From : Playing → List ℕ → Type 0) (To : End → Playing → List ℕ → Type 0) (text : List ℕ) (final : Playing) (end : End) → ((q : Playing) (more : List ℕ) → From q more → (other : End) × To other q more) → IsPlacedLine why schema p number c From text final end → (other : End) × IsPlacedLine why schema p number c (To other) text final other
-some_placed None schema p number c From To text final end on x =
-    let rest = on (next_of schema p c) x.more x.rest in
-    (rest.0, record { answer = x.answer; more = x.more; is = x.is; answered = x.answered; rest = rest.1 })
-some_placed (Some why) schema p number c From To text final end on x = (end, record { none = x.none; final_is = x.final_is; end_is = x.end_is })
-
-some_line : (r : Result Command LineWhy) (schema : Schema) (p : Playing) (number : ℕ) (From : Playing → List ℕ → Type 0) (To : End → Playing → List ℕ → Type 0) (text : List ℕ) (final : Playing) (end : End) → ((q : Playing) (more : List ℕ) → From q more → (other : End) × To other q more) → IsPlayedLine r schema p number From text final end → (other : End) × IsPlayedLine r schema p number (To other) text final other
-some_line (Ok c) schema p number From To text final end on x = some_placed (place_reason (is_inside p) c) schema p number c From To text final end on x
-some_line (Err why) schema p number From To text final end on x = (end, record { none = x.none; final_is = x.final_is; end_is = x.end_is })
-
-lines_alone : (schema : Schema) (last : ℕ) (p : Playing) (lines : List (List ℕ)) (stop : Option LineWhy) (text : List ℕ) (final : Playing) (end : End) → IsPlayed schema last p lines stop text final end → (other : End) × IsPlayed schema last p lines None text final other
-lines_alone schema last p [] None text final end x = (end, x)
-lines_alone schema last p [] (Some why) text final end x = (end_at last (is_inside p), (x.none, x.final_is, refl))
-lines_alone schema last p (line ∷ lines) stop text final end x =
-    let rest = some_line x.0 schema p (last + 1) (λ q more. IsPlayed schema (last + 1) q lines stop more final end) (λ other q more. IsPlayed schema (last + 1) q lines None more final other) text final end
-    (λ q more y. lines_alone schema (last + 1) q lines stop more final end y) x.2 in
-    (rest.0, (x.0, x.1, rest.1))
+-- the answers of a play are those of the first lines that ran
+first_parts : (all : Lines) (ran : List (List ℕ)) (next : Result (Option (List ℕ)) LineWhy) → AreFirstLines all ran next → (later : List (List ℕ)) × (all.lines ≡ ran ++ later)
+first_parts all ran (Ok (Some line)) first = (line ∷ first.0, first.1)
+first_parts all ran (Ok None) first = ([], first.0 ∙ sym (append-nil ran))
+first_parts all ran (Err why) first = ([], first.0 ∙ sym (append-nil ran))
 
 all_first : (schema : Schema) (script answers : List ℕ) (final : Playing) (end : End) → IsPlay schema script answers final end → AreFirst schema script answers
 all_first schema script answers final end play =
-    let lines = (script_lines script).lines in
-    let alone = lines_alone schema 0 (start_at (empty_state schema)) lines (script_lines script).stop answers final end play in
-    (length lines, (final, alone.0, subst (λ ls. IsPlayed schema 0 (start_at (empty_state schema)) ls None answers final alone.0) (sym (take_all (length lines) lines (omega arith))) alone.1))
+    let parts = first_parts (script_lines script) play.ran play.next play.first in
+    record { ran = play.ran; later = parts.0; parts = parts.1; final = final; runs = play.runs }
 
 -- ---- each end of the play
 
@@ -265,7 +236,7 @@ said_stopped schema old mid new ending.TextsTooLong is said e = absurd is
 
 -- the first answers, and no memory
 short : (schema : Schema) (old mid new : Content) (answers : List ℕ) → AreFirst schema old.script answers → mid.now.said ≡ old.now.said ++ answers → new.now.said ≡ mid.now.said ++ memory_line → Says (IsShortText schema old.script) old new
-short schema old mid new answers first is said = (answers ++ memory_line, (first.0, answers, first.1, refl), behind old mid new answers memory_line is said)
+short schema old mid new answers first is said = (answers ++ memory_line, (answers, first, refl), behind old mid new answers memory_line is said)
 
 pub said_short : (schema : Schema) (old mid new : Content) (why : Ending) → IsPlayedAs schema old mid (Err why) → why ≢ ending.Fault → new.now.said ≡ mid.now.said ++ memory_line → Says (IsShortText schema old.script) old new
 said_short schema old mid new (ending.Line number why) is other said = short schema old mid new is.answers (all_first schema old.script is.answers is.final (stopped number why) is.play) is.said said
@@ -283,7 +254,7 @@ said_short schema old mid new ending.TextsTooLong is other said = absurd is
 
 -- a front of the line that there was no memory, behind the first answers
 short_front : (schema : Schema) (old mid new : Content) (answers : List ℕ) (n : ℕ) → AreFirst schema old.script answers → mid.now.said ≡ old.now.said ++ answers → new.now.said ≡ mid.now.said ++ take n memory_line → SaysFront (IsTryText schema old.script) old new
-short_front schema old mid new answers n first is said = (answers ++ memory_line, inr (first.0, answers, first.1, refl), (length answers + n, front_behind old mid new answers memory_line n is said))
+short_front schema old mid new answers n first is said = (answers ++ memory_line, inr (answers, first, refl), (length answers + n, front_behind old mid new answers memory_line n is said))
 
 line_front : (schema : Schema) (old mid new : Content) (number : ℕ) (why : LineWhy) → IsPlayedOut schema old mid (stopped number why) → IsCut (line_of (ending.Line number why)) memory_line mid new → SaysFront (IsTryText schema old.script) old new
 line_front schema old mid new number why is (n, inl said) = (
@@ -301,7 +272,7 @@ memory_front schema old mid new is (n, inr said) = short_front schema old mid ne
 fault_front : (schema : Schema) (old new : Content) → SaysFront (AreFirst schema old.script) old new → SaysFront (IsTryText schema old.script) old new
 fault_front schema old new is =
     let m = min is.2.0 (length is.0) in
-    (is.0 ++ memory_line, inr (is.1.0, is.0, is.1.1, refl), (m, is.2.1 ∙ ap (λ t. old.now.said ++ t) (taken is.0 is.2.0 m (omega arith) ∙ sym (take-append-le m is.0 memory_line (omega arith)))))
+    (is.0 ++ memory_line, inr (is.0, is.1, refl), (m, is.2.1 ∙ ap (λ t. old.now.said ++ t) (taken is.0 is.2.0 m (omega arith) ∙ sym (take-append-le m is.0 memory_line (omega arith)))))
   where
     taken : (xs : List ℕ) (n m : ℕ) → m ≡ min n (length xs) → take n xs ≡ take m xs
     taken [] n m e = take_all n [] (omega arith) ∙ sym (take_all m [] (omega arith))

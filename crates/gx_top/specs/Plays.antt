@@ -1,29 +1,25 @@
 -- What the play of a script on an engine says, line by line.
-use Rattle.std.specs.Prelude.{◌≡◌, ◌≢◌, ◌⊎◌, ℕ, ◌+◌, List, ◌++◌, length, take, Bool, false, IsTrue, Option, Some, None, Result, Ok, Err}
+use Rattle.std.specs.Prelude.{◌≡◌, ◌≢◌, ◌⊎◌, ℕ, ◌+◌, List, ◌++◌, length, take, Bool, false, IsTrue, Option, None, Result, Ok, Err}
 use Rattle.gx_device.specs.Content.{Content}
 use Rattle.gx_device.specs.Faults.{Rose}
 use Rattle.gx_schema.specs.declared.schema.Schema.{Schema}
 use Rattle.gx_script.specs.declared.command.Command.{Command}
-use Rattle.gx_script.specs.declared.command.LineWhy.{LineWhy}
 use Rattle.gx_script.specs.Commands.{place_reason}
+use Rattle.gx_script.specs.Grammar.{IsLineOf}
 use Rattle.gx_script.specs.Lines.{Lines, stopped as stopped_lines}
-use Rattle.gx_script.specs.Reading.{IsReading}
 use Rattle.gx_ports.specs.LeafMaps.{Limits, IsCrowdedBy}
 use Rattle.gx_ports.specs.declared.view.View.{Ghosts}
 use Rattle.gx_ports.specs.Stops.{is_outside}
 use Rattle.gx_ports.specs.declared.stop.Stop.{Stop}
 use Rattle.gx_ports.specs.declared.stop.Stop.TheVariants as stop
-use Rattle.gx_model.specs.Play.{Playing, End, good, stopped, is_inside, next_of, IsAnswered, IsPlayed}
+use Rattle.gx_model.specs.Play.{Playing, End, good, stopped, is_inside, next_of, IsAnswered}
+use Rattle.gx_model.specs.Runs.{Runs, IsPlayFrom}
 use Rattle.gx_engine.specs.declared.engine.Engine.{Engine}
 use Rattle.gx_engine.specs.Steps.{IsAt, schema_of, leaves_of}
 use Rattle.gx_top.specs.declared.play.LineEnd.{LineEnd}
 use Rattle.gx_top.specs.declared.play.LineEnd.TheVariants as line_end
 use Rattle.gx_top.specs.declared.play.PlayEnd.{PlayEnd}
 use Rattle.gx_top.specs.declared.play.PlayEnd.TheVariants as play_end
-
--- the line means no command, or one that may not stand there
-abbrev pub IsBadLine : Schema → Bool → List ℕ → LineWhy → Type 0
-IsBadLine schema inside line why = IsReading schema line (Err why) ⊎ ((command : Command) × IsReading schema line (Ok command) × (place_reason inside command ≡ Some why))
 
 -- a command was carried out and its answer said, and the engine stands for what comes after it
 pub record IsCommandPlayed {S : Type 0} (g : Ghosts S) (p : Playing) (command : Command) (old new : Engine S) : Type 0 where
@@ -35,7 +31,7 @@ pub record IsCommandPlayed {S : Type 0} (g : Ghosts S) (p : Playing) (command : 
 -- the same of the command that a line means, which may stand there
 pub record IsLinePlayed {S : Type 0} (g : Ghosts S) (p : Playing) (line : List ℕ) (old new : Engine S) : Type 0 where
   pub command : Command
-  pub read : IsReading (schema_of old) line (Ok command)
+  pub means : IsLineOf (schema_of old) line command
   pub placed : place_reason (is_inside p) command ≡ None
   pub played : IsCommandPlayed g p command old new
 
@@ -45,7 +41,7 @@ IsCommandCut schema p command old new = (new.now.said ≡ old.now.said) ⊎ ((an
 
 -- the same of the command that a line means, which may stand there; where none was read, nothing was said
 abbrev pub IsLineCut : Schema → Playing → List ℕ → Content → Content → Type 0
-IsLineCut schema p line old new = (new.now.said ≡ old.now.said) ⊎ ((command : Command) × IsReading schema line (Ok command) × (place_reason (is_inside p) command ≡ None) × IsCommandCut schema p command old new)
+IsLineCut schema p line old new = (new.now.said ≡ old.now.said) ⊎ ((command : Command) × IsLineOf schema line command × (place_reason (is_inside p) command ≡ None) × IsCommandCut schema p command old new)
 
 -- why a line may be given up where the leaves stood for a moment of the play: a call below failed, the pages were
 -- too few for what the leaves held, or there was no memory
@@ -71,17 +67,17 @@ is_play_fault _ = false
 pub record IsPlayedUp (schema : Schema) (p : Playing) (lines : Lines) (old new : Content) (end : End) : Type 0 where
   pub text : List ℕ
   pub final : Playing
-  pub played : IsPlayed schema 0 p lines.lines lines.stop text final end
+  pub played : IsPlayFrom schema p lines text final end
   pub said : new.now.said ≡ old.now.said ++ text
 
--- The first lines were played from a moment on, so many, and a front of their answers was said; all of them, unless a
--- call below failed.
+-- The first lines ran from a moment on, and a front of their answers was said; all of them, unless a call below failed.
 pub record IsPlayedPart (schema : Schema) (p : Playing) (lines : Lines) (old new : Content) (why : Stop) : Type 0 where
-  pub count : ℕ
+  pub ran : List (List ℕ)
+  pub later : List (List ℕ)
+  pub parts : lines.lines ≡ ran ++ later
   pub text : List ℕ
   pub final : Playing
-  pub end : End
-  pub played : IsPlayed schema 0 p (take count lines.lines) None text final end
+  pub runs : Runs schema p ran text final
   pub front : (n : ℕ) × (new.now.said ≡ old.now.said ++ take n text)
   pub whole : why ≢ stop.Fault → new.now.said ≡ old.now.said ++ text
 
@@ -91,18 +87,17 @@ IsPlayedTo schema p lines old new (Ok x) = IsPlayedUp schema p lines old new goo
 IsPlayedTo schema p lines old new (Err (play_end.Line number why)) = IsPlayedUp schema p lines old new (stopped number why)
 IsPlayedTo schema p lines old new (Err (play_end.Stop why)) = IsPlayedPart schema p lines old new why
 
--- Where the play of all lines stands when so many were played, and these are left: whatever lines come behind the
--- played ones, their play goes on from here.
+-- Where the play of all lines stands when so many ran, and these are left.
 pub record IsSoFar {S : Type 0} (g : Ghosts S) (start : Playing) (all left : Lines) (number : ℕ) (old new : Engine S) : Type 0 where
   pub now : Playing
   pub answers : List ℕ
   pub at : IsAt g now new
   pub said : (g.content (leaves_of new)).now.said ≡ (g.content (leaves_of old)).now.said ++ answers
-  pub done : List (List ℕ)
-  pub many : length done ≡ number
-  pub lines_are : all.lines ≡ done ++ left.lines
+  pub ran : List (List ℕ)
+  pub many : length ran ≡ number
+  pub lines_are : all.lines ≡ ran ++ left.lines
   pub stop_is : all.stop ≡ left.stop
-  pub goes_on : (lines : List (List ℕ)) (stop : Option LineWhy) (more : List ℕ) (final : Playing) (end : End) → IsPlayed (schema_of old) number now lines stop more final end → IsPlayed (schema_of old) 0 start (done ++ lines) stop (answers ++ more) final end
+  pub runs : Runs (schema_of old) start ran answers now
 
 -- why there is no next line
 abbrev pub IsLineEnd : Lines → ℕ → PlayEnd → Type 0

@@ -5,7 +5,10 @@ use Rattle.std.specs.FinMap.{get}
 use Rattle.gx_device.specs.Content.{Content, Texts}
 use Rattle.gx_schema.specs.declared.schema.Schema.{Schema}
 use Rattle.gx_script.specs.declared.command.LineWhy.{LineWhy}
-use Rattle.gx_model.specs.Play.{Playing, End, good, stopped, end_text, IsPlay, AreFirstAnswers}
+use Rattle.gx_script.specs.Lines.{script_lines}
+use Rattle.gx_model.specs.States.{empty_state}
+use Rattle.gx_model.specs.Play.{Playing, End, good, stopped, start_at, end_text}
+use Rattle.gx_model.specs.Runs.{IsPlayFrom, AreFirstAnswersFrom}
 use Rattle.gx_ports.specs.declared.stop.Stop.TheVariants as stop
 use Rattle.gx_top.specs.declared.ending.Ending.{Ending}
 use Rattle.gx_top.specs.declared.ending.Ending.TheVariants as ending
@@ -30,6 +33,14 @@ SaysFront P old new = (text : List ℕ) × P text × ((count : ℕ) × (new.now.
 
 -- ---- of a schema and a script
 
+-- the play of a whole script on the empty state: its answers, its last states and its end
+abbrev pub IsPlay : Schema → List ℕ → List ℕ → Playing → End → Type 0
+IsPlay schema script = IsPlayFrom schema (start_at (empty_state schema)) (script_lines script)
+
+-- the answers of the script's first lines on the empty state
+abbrev pub AreFirst : Schema → List ℕ → List ℕ → Type 0
+AreFirst schema script = AreFirstAnswersFrom schema (start_at (empty_state schema)) script
+
 -- the answers of the script's play on the empty state up to this end, and then the line of the end
 pub record IsPlayText (schema : Schema) (script : List ℕ) (end : End) (text : List ℕ) : Type 0 where
   pub answers : List ℕ
@@ -43,7 +54,7 @@ IsStoppedText schema script text = (number : ℕ) × (why : LineWhy) × IsPlayTe
 
 -- the answers of the script's first lines, and then the line that there was no memory
 abbrev pub IsShortText : Schema → List ℕ → List ℕ → Type 0
-IsShortText schema script text = (count : ℕ) × (answers : List ℕ) × AreFirstAnswers schema script count answers × (text ≡ answers ++ memory_line)
+IsShortText schema script text = (answers : List ℕ) × AreFirst schema script answers × (text ≡ answers ++ memory_line)
 
 -- one of these
 abbrev pub IsTryText : Schema → List ℕ → List ℕ → Type 0
@@ -119,10 +130,6 @@ pub record IsPlayedOut (schema : Schema) (old new : Content) (end : End) : Type 
   pub final : Playing
   pub play : IsPlay schema old.script answers final end
   pub said : new.now.said ≡ old.now.said ++ answers
-
--- the answers of the script's first lines
-abbrev pub AreFirst : Schema → List ℕ → List ℕ → Type 0
-AreFirst schema script text = (count : ℕ) × AreFirstAnswers schema script count text
 
 -- what was said for how playing the script ends
 abbrev pub IsPlayedAs : Schema → Content → Content → Result (Unit {0}) Ending → Type 0

@@ -4,9 +4,10 @@ ghost use Rattle.gx_schema.specs.WellFormed.{IsWellFormed};
 ghost use Rattle.gx_ports.specs.Stops.{is_fault};
 ghost use Rattle.gx_engine.specs.Steps.{IsReady, IsAt, IsDue, schema_of, is_open, stop_of, leaves_of};
 ghost use Rattle.gx_model.specs.Play.{Playing};
+ghost use Rattle.gx_model.specs.Runs.{IsBadLine};
 ghost use Rattle.gx_script.specs.Lines.{script_lines, IsNext};
-ghost use Rattle.gx_script.specs.Reading.{IsReading};
-ghost use Rattle.gx_top.specs.Plays.{IsLinePlayed, IsCommandPlayed, IsLineCut, IsCommandCut, HasPlayCause, IsBadLine, IsPlayedTo, IsLineEnd, is_line_fault, is_play_fault};
+ghost use Rattle.gx_script.specs.Grammar.{IsLineOf};
+ghost use Rattle.gx_top.specs.Plays.{IsLinePlayed, IsCommandPlayed, IsLineCut, IsCommandCut, HasPlayCause, IsPlayedTo, IsLineEnd, is_line_fault, is_play_fault};
 ghost use Rattle.gx_top.specs.Say.{OnlySays};
 
 use crate::say::answer_all;
@@ -102,7 +103,7 @@ fn placed_command<B: Leaves + Drop>(
     engine: &Engine<B>,
 ) -> Result<Command, LineEnd>
     requires { IsWellFormed (schema_of engine.now) }
-    ensures read { IfOk result (λ command. IsReading (schema_of engine.now) line.now (Ok command)) }
+    ensures read { IfOk result (IsLineOf (schema_of engine.now) line.now) }
     ensures due { IfOk result (IsDue engine.now) }
     ensures bad { (why : LineWhy) → result ≡ Err (LineEnd.Bad why) →
         IsBadLine (schema_of engine.now) (is_open engine.now) line.now why }

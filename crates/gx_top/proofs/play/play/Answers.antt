@@ -2,7 +2,8 @@ use Rattle.std.proofs.Common.{rules, ◌≤◌, ◌∙◌, Err, true, false, len
 use Rattle.gx_engine.specs.Steps.{is_open, schema_of, leaves_of}
 use Rattle.gx_script.specs.Lines.{script_lines}
 use Rattle.gx_top.specs.declared.play.PlayEnd.TheVariants as play_end
-use Rattle.gx_top.specs.Plays.{IsSoFar, IsPlayedPart, IsBadLine}
+use Rattle.gx_model.specs.Runs.{IsBadLine}
+use Rattle.gx_top.specs.Plays.{IsSoFar, IsPlayedPart}
 use Rattle.gx_top.proofs.PlayLemmas.{few_lines, at_start, after_line, at_line_end, at_end, at_bad_line, at_cut, stop_other, cause_since, cause_of, is_err, not_fault}
 use Rattle.gx_top.proofs.play.play.Goals as goal
 
