@@ -1,6 +1,7 @@
 // What the leaves of a tree hold, where they are read whole.
-ghost use Rattle.std.specs.Prelude.{◌≡◌, ◌≢◌, ◌<◌, ◌++◌, [], ℕ, true, false, not, length, map, OnOk, IsErrOf, IfOk, IfErr};
+ghost use Rattle.std.specs.Prelude.{◌≡◌, ◌≢◌, ◌<◌, ◌≤◌, ◌+◌, ◌++◌, [], ℕ, true, false, not, length, map, OnOk, IsErrOf, IfOk, IfErr};
 ghost use Rattle.std.specs.List.{filter, flat_map};
+ghost use Rattle.std.specs.FinMap.{len};
 ghost use Rattle.gx_values.specs.declared.records.Rec.{Rec as Record};
 ghost use Rattle.gx_ports.specs.LeafMaps.{map_at};
 ghost use Rattle.gx_ports.specs.Calls.{Reads, Ends};
@@ -30,6 +31,9 @@ pub fn held_leaf<B: Leaves>(
     requires form { IsLeafForm form.now }
     ensures held { IfOk result
         (IsLeafHeld form.now (B.whole leaves.old) (map_at (B.working leaves.old) leaf)) }
+    ensures few_steps { B.whole leaves.old → OnOk result
+        (B.work leaves.new
+        ≤ B.work leaves.old + (1 + len (map_at (B.working leaves.old) leaf))) }
     ensures reads { Reads B.View leaves.old leaves.new }
     ensures ends { Ends B.View (B.whole leaves.old) leaves.old leaves.new result }
     ensures not_full { ¬ IsErrOf result Stop.Full }
@@ -54,7 +58,8 @@ fn whole_span() -> Span
     }
 }
 
-// The records that the data parts make, where the other parts are just these. `None`: there are none such.
+// The records that the data parts make, where the other parts are just theirs. `None`: there are no
+// such records.
 pub fn join_parts<M: Mapping>(
     alloc: Global,
     mapping: &M,

@@ -1,5 +1,8 @@
 // Whether the leaves of a node hold a set of records.
-ghost use Rattle.std.specs.Prelude.{◌≡◌, ◌<◌, ℕ, true, false, Ok, length, IfOk, IsErrOf};
+ghost use Rattle.std.specs.Prelude.{◌≡◌, ◌<◌, ◌≤◌, ◌+◌, ℕ, true, false, Ok, length, IfOk, OnOk, IsErrOf};
+ghost use Rattle.std.specs.List.{sum_by};
+ghost use Rattle.std.specs.FinMap.{len};
+ghost use Rattle.gx_ports.specs.LeafMaps.{map_at};
 ghost use Rattle.gx_ports.specs.Calls.{Reads, Ends};
 ghost use Rattle.gx_mapping.specs.Rule.{In};
 ghost use Rattle.gx_stack.specs.Tree.{leaves_of, IsValid};
@@ -16,10 +19,11 @@ use gx_ports::{Leaves, Stop};
 use std::alloc::Global;
 
 impl<M: Mapping> Node<M> {
-    /// Whether the leaves hold a set of records. It reads each leaf once at most.
+    /// Whether the leaves hold a set of records. Each leaf is read once at most, which takes a step
+    /// for it and one for each of its entries.
     ///
-    /// `Damaged`: some leaf's stored form isn't whole. `Fault`: the count of faults rose; with any other
-    /// answer it stays. `NoMemory`: there was none.
+    /// `Damaged`: some leaf's stored form isn't whole. `Fault`: the count of faults rose; with any
+    /// other answer it stays. `NoMemory`: there was none.
     pub fn sound<B: Leaves>(&self, alloc: Global, leaves: &mut B) -> Result<bool, Stop>
         requires valid { IsValid M.rule (tree_of self.now) }
         requires below { (n : ℕ) → In n (leaves_of (tree_of self.now)) →
@@ -28,6 +32,11 @@ impl<M: Mapping> Node<M> {
             HasSet M.rule (tree_of self.now) (B.working leaves.old) }
         ensures no { result ≡ Ok false → B.whole leaves.old →
             ¬ HasSet M.rule (tree_of self.now) (B.working leaves.old) }
+        ensures few_steps { B.whole leaves.old → OnOk result
+            (B.work leaves.new
+            ≤ B.work leaves.old
+            + sum_by (λ n. 1 + len (map_at (B.working leaves.old) n))
+            (leaves_of (tree_of self.now))) }
         ensures reads { Reads B.View leaves.old leaves.new }
         ensures ends { Ends B.View (B.whole leaves.old) leaves.old leaves.new result }
         ensures not_full { ¬ IsErrOf result Stop.Full }
@@ -35,13 +44,19 @@ impl<M: Mapping> Node<M> {
         Ok(self.held(alloc, leaves)?.is_some())
     }
 
-    // The records that the leaves hold, in the order of their keys. `None`: they hold no set of records.
+    // The records that the leaves hold, in the order of their keys. `None`: they hold no set of
+    // records.
     fn held<B: Leaves>(&self, alloc: Global, leaves: &mut B) -> Result<Option<Recs>, Stop>
         requires valid { IsValid M.rule (tree_of self.now) }
         requires below { (n : ℕ) → In n (leaves_of (tree_of self.now)) →
             n < length (B.working leaves.old) }
         ensures held { IfOk result
             (IsHeld M.rule (tree_of self.now) (B.whole leaves.old) (B.working leaves.old)) }
+        ensures few_steps { B.whole leaves.old → OnOk result
+            (B.work leaves.new
+            ≤ B.work leaves.old
+            + sum_by (λ n. 1 + len (map_at (B.working leaves.old) n))
+            (leaves_of (tree_of self.now))) }
         ensures reads { Reads B.View leaves.old leaves.new }
         ensures ends { Ends B.View (B.whole leaves.old) leaves.old leaves.new result }
         ensures not_full { ¬ IsErrOf result Stop.Full }

@@ -1,8 +1,9 @@
-use Rattle.std.proofs.Common.{◌≡◌, ◌++◌, ◌∙◌, Err, ap, sym, subst}
+use Rattle.std.proofs.Common.{◌≡◌, ◌++◌, ◌∙◌, Err, ap, sym, subst, length}
 use Rattle.gx_ports.specs.LeafMaps.{map_at, selected}
 use Rattle.gx_mapping.specs.Rule.{In}
 use Rattle.gx_stack.specs.Held.{AreLeafHeld}
 use Rattle.gx_stack.proofs.LeafRead.{none_unread}
+use Rattle.gx_stack.proofs.StepLemmas.{few_read}
 use Rattle.gx_stack.proofs.WholeLeaf.{found_map, leaf_in_order}
 use Rattle.gx_stack.proofs.held.held_leaf.Goals as goal
 
@@ -28,3 +29,15 @@ returns-in-Err-Damaged-clause-held g c = λ whole s.
     let entries_is : c.select.new.out ≡ selected span.lo span.hi m = c.in_ok-select.ensures.ok whole ∙ ap (λ zs. zs ++ selected span.lo span.hi m) c.new-entries.ensures in
     let d = c.read_records.ensures.damaged c.in-Err-Damaged.field-0-0 (c.in-Err-Damaged.is ∙ ap Err c.in-Err-Damaged.field-0-is) in
     none_unread c.args.form.now c.requires.form m span s.0 s.1 s.2 d.0 (subst (In d.0) entries_is d.1) d.2
+
+pub returns-in-Ok-clause-few_steps : goal.returns-in-Ok-clause-few_steps
+returns-in-Ok-clause-few_steps g c = λ whole.
+    let b = g.B.View in
+    let m = map_at (b.working c.args.leaves.now) c.args.leaf in
+    few_read (b.work c.args.leaves.now) (b.work c.select.new.self) (length c.new-entries.result) c.whole_span.result.lo c.whole_span.result.hi m c.select.new.out c.in_ok-select.ensures.steps (c.in_ok-select.ensures.ok whole ∙ ap (λ zs. zs ++ selected c.whole_span.result.lo c.whole_span.result.hi m) c.new-entries.ensures)
+
+pub returns-in-Err-Damaged-clause-few_steps : goal.returns-in-Err-Damaged-clause-few_steps
+returns-in-Err-Damaged-clause-few_steps g c = λ whole.
+    let b = g.B.View in
+    let m = map_at (b.working c.args.leaves.now) c.args.leaf in
+    few_read (b.work c.args.leaves.now) (b.work c.select.new.self) (length c.new-entries.result) c.whole_span.result.lo c.whole_span.result.hi m c.select.new.out c.in_ok-select.ensures.steps (c.in_ok-select.ensures.ok whole ∙ ap (λ zs. zs ++ selected c.whole_span.result.lo c.whole_span.result.hi m) c.new-entries.ensures)
