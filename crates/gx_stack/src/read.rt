@@ -45,7 +45,12 @@ pub fn select_leaf<B: Leaves>(
 }
 
 // The records of entries, in the same order.
-fn read_records(alloc: Global, form: &Form, entries: &Entries, out: &mut Recs) -> Result<(), Stop>
+pub fn read_records(
+    alloc: Global,
+    form: &Form,
+    entries: &Entries,
+    out: &mut Recs,
+) -> Result<(), Stop>
     requires form { IsLeafForm form.now }
     ensures read { OnOk result (AreRecords form.now entries.now out.old out.new) }
     ensures front { Extends out.old out.new }
