@@ -28,7 +28,8 @@ use Rattle.gx_types.specs.Any.{any_rule}
 use Rattle.gx_types.specs.Nodes.{tree_at}
 use Rattle.gx_model.specs.States.{Link, IsRowOf, empty_state}
 use Rattle.gx_ports.specs.declared.leaves.TheConstants.{MAX_KEY_LEN}
-use Rattle.gx_engine.specs.Internal.{rec_of, records_of, IsInternal, AreInternal, IsStorable, AreStorable}
+use Rattle.gx_scan.specs.Files.{rec_of, records_of, IsInternal, IsStorable}
+use Rattle.gx_engine.specs.Internal.{AreInternal, AreStorable}
 use Rattle.gx_engine.specs.Steps.{AreFor}
 
 -- ---- each file

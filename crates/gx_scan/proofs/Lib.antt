@@ -1,0 +1,6 @@
+pub mod FileLemmas
+pub mod RecordLemmas
+mod EntryLemmas
+mod PlaceLemmas
+mod ListingLemmas
+mod ScanLemmas
