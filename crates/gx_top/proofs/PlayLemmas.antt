@@ -21,11 +21,9 @@ use Rattle.gx_model.proofs.RunLemmas.{run_on}
 use Rattle.gx_engine.specs.declared.engine.Engine.{Engine}
 use Rattle.gx_engine.specs.Steps.{schema_of, leaves_of, is_open, IsDue, IsAt}
 use Rattle.gx_ports.specs.declared.stop.Stop.TheVariants as stop
-use Rattle.gx_top.specs.declared.play.LineEnd.{LineEnd}
-use Rattle.gx_top.specs.declared.play.LineEnd.TheVariants as line_end
 use Rattle.gx_top.specs.declared.play.PlayEnd.{PlayEnd}
 use Rattle.gx_top.specs.declared.play.PlayEnd.TheVariants as play_end
-use Rattle.gx_top.specs.Plays.{IsLinePlayed, IsLineCut, IsCommandCut, HasPlayCause, IsPlayedUp, IsPlayedPart, IsPlayedTo, IsLineEnd, IsSoFar}
+use Rattle.gx_top.specs.Plays.{IsLinePlayed, IsLineCut, IsCommandCut, HasPlayCause, IsBadAt, IsPlayedUp, IsPlayedPart, IsPlayedTo, IsLineEnd, IsSoFar}
 
 -- no line was played yet
 pub at_start : {S : Type 0} (g : Ghosts S) (start : Playing) (all : Lines) (e : Engine S) → IsAt g start e → IsSoFar g start all all 0 e e
@@ -97,7 +95,7 @@ at_stop g start all left number n reason old e so n_is left_is =
     (all_ran g start all left number (Some reason) old e left_is so) (ap (λ k. stopped k reason) n_is)
 
 -- at a line that means no command, or one that may not stand there
-pub at_bad_line : {S : Type 0} (g : Ghosts S) (start : Playing) (all before left : Lines) (number : ℕ) (line : List ℕ) (reason : LineWhy) (old e : Engine S) (now : Content) → schema_of e ≡ schema_of old → before ≡ with_line line left → IsSoFar g start all before number old e → now.now.said ≡ (g.content (leaves_of e)).now.said → IsBadLine (schema_of e) (is_open e) line reason → IsPlayedUp (schema_of old) start all (g.content (leaves_of old)) now (stopped (number + 1) reason)
+at_bad_line : {S : Type 0} (g : Ghosts S) (start : Playing) (all before left : Lines) (number : ℕ) (line : List ℕ) (reason : LineWhy) (old e : Engine S) (now : Content) → schema_of e ≡ schema_of old → before ≡ with_line line left → IsSoFar g start all before number old e → now.now.said ≡ (g.content (leaves_of e)).now.said → IsBadLine (schema_of e) (is_open e) line reason → IsPlayedUp (schema_of old) start all (g.content (leaves_of old)) now (stopped (number + 1) reason)
 at_bad_line g start all before left number line reason old e now schema_is before_is so unsaid bad =
     ended g start all before number (Ok (Some line)) old e now (stopped (number + 1) reason) so unsaid
     (left.lines, so.lines_are ∙ ap (λ (ls : Lines). so.ran ++ ls.lines) before_is)
@@ -145,14 +143,14 @@ at_fault g start all before left number line old e now schema_is before_is so (i
     (subst (λ s. IsAnswered s so.now command answer) schema_is answered) said
 
 -- the same of every stop
-pub at_cut : {S : Type 0} (g : Ghosts S) (start : Playing) (all before left : Lines) (number : ℕ) (line : List ℕ) (why : Stop) (old e : Engine S) (now : Content) → schema_of e ≡ schema_of old → before ≡ with_line line left → (so : IsSoFar g start all before number old e) → (why ≢ stop.Fault → now.now.said ≡ (g.content (leaves_of e)).now.said) → IsLineCut (schema_of e) so.now line (g.content (leaves_of e)) now → IsPlayedPart (schema_of old) start all (g.content (leaves_of old)) now why
+at_cut : {S : Type 0} (g : Ghosts S) (start : Playing) (all before left : Lines) (number : ℕ) (line : List ℕ) (why : Stop) (old e : Engine S) (now : Content) → schema_of e ≡ schema_of old → before ≡ with_line line left → (so : IsSoFar g start all before number old e) → (why ≢ stop.Fault → now.now.said ≡ (g.content (leaves_of e)).now.said) → IsLineCut (schema_of e) so.now line (g.content (leaves_of e)) now → IsPlayedPart (schema_of old) start all (g.content (leaves_of old)) now why
 at_cut g start all before left number line stop.Fault old e now schema_is before_is so unsaid cut = at_fault g start all before left number line old e now schema_is before_is so cut
 at_cut g start all before left number line stop.Full old e now schema_is before_is so unsaid cut = part_before g start all before number old e now stop.Full so (unsaid (λ f. cc))
 at_cut g start all before left number line stop.NoMemory old e now schema_is before_is so unsaid cut = part_before g start all before number old e now stop.NoMemory so (unsaid (λ f. cc))
 at_cut g start all before left number line (stop.Damaged block) old e now schema_is before_is so unsaid cut = part_before g start all before number old e now (stop.Damaged block) so (unsaid (λ f. cc))
 
 -- the cut of the command that the line means
-pub line_cut : {S : Type 0} (e : Engine S) (p : Playing) (line : List ℕ) (command : Command) (old new : Content) (out : Result (Unit {0}) LineEnd) → is_open e ≡ is_inside p → IsLineOf (schema_of e) line command → IsDue e command → IsCommandCut (schema_of e) p command old new → OnErr out (IsLineCut (schema_of e) p line old new)
+pub line_cut : {S : Type 0} (e : Engine S) (p : Playing) (line : List ℕ) (command : Command) (old new : Content) (out : Result (Unit {0}) PlayEnd) → is_open e ≡ is_inside p → IsLineOf (schema_of e) line command → IsDue e command → IsCommandCut (schema_of e) p command old new → OnErr out (IsLineCut (schema_of e) p line old new)
 line_cut e p line command old new (Ok x) same means due cut = tt
 line_cut e p line command old new (Err end) same means due cut = inr (command, means, subst (λ i. place_reason i command ≡ None) same due.allowed, cut)
 
@@ -166,20 +164,26 @@ cause_since limit start before mid now stop.Full limit_is le cause = (cause.0, s
 cause_since limit start before mid now stop.NoMemory limit_is le cause = tt
 cause_since limit start before mid now (stop.Damaged block) limit_is le cause = absurd cause
 
-pub stop_other : (end : LineEnd) (s : Stop) → end ≡ line_end.Stop s → s ≢ stop.Fault → end ≢ line_end.Stop stop.Fault
-stop_other end s is other e = other (ap given (sym is ∙ e))
+stop_other : (s : Stop) → s ≢ stop.Fault → play_end.Stop s ≢ play_end.Stop stop.Fault
+stop_other s other e = other (ap given e)
   where
-    given : LineEnd → Stop
-    given (line_end.Stop t) = t
-    given (line_end.Bad reason) = s
+    given : PlayEnd → Stop
+    given (play_end.Stop t) = t
+    given (play_end.Line number reason) = s
 
-pub cause_of : (limit : Option Limits) (before now : ℕ) (given s : Stop) → ◌≡◌ {A = Result (Unit {0}) PlayEnd} (Err (play_end.Stop given)) (Err (play_end.Stop s)) → HasPlayCause limit before now given → HasPlayCause limit before now s
-cause_of limit before now given s e cause = subst (HasPlayCause limit before now) (ap stop_in e) cause
-  where
-    stop_in : Result (Unit {0}) PlayEnd → Stop
-    stop_in (Err (play_end.Stop t)) = t
-    stop_in (Err (play_end.Line number reason)) = given
-    stop_in (Ok x) = given
+line_other : (number : ℕ) (reason : LineWhy) → play_end.Line number reason ≢ play_end.Stop stop.Fault
+line_other number reason e = cc
+
+-- how the play ends where a line isn't carried out
+pub at_line : {S : Type 0} (g : Ghosts S) (start : Playing) (all before left : Lines) (number : ℕ) (line : List ℕ) (end : PlayEnd) (result : Result (Unit {0}) PlayEnd) (old e : Engine S) (now : Content) → schema_of e ≡ schema_of old → before ≡ with_line line left → (so : IsSoFar g start all before number old e) → result ≡ Err end → ((n : ℕ) (reason : LineWhy) → end ≡ play_end.Line n reason → IsBadAt (schema_of e) (is_open e) (number + 1) line n reason) → (end ≢ play_end.Stop stop.Fault → now.now.said ≡ (g.content (leaves_of e)).now.said) → IsLineCut (schema_of e) so.now line (g.content (leaves_of e)) now → IsPlayedTo (schema_of old) start all (g.content (leaves_of old)) now result
+at_line g start all before left number line (play_end.Line n reason) result old e now schema_is before_is so result_is bad unsaid cut =
+    let at = bad n reason refl in
+    subst (λ r. IsPlayedTo (schema_of old) start all (g.content (leaves_of old)) now r) (sym result_is)
+    (subst (λ k. IsPlayedUp (schema_of old) start all (g.content (leaves_of old)) now (stopped k reason)) (sym at.0)
+    (at_bad_line g start all before left number line reason old e now schema_is before_is so (unsaid (line_other n reason)) at.1))
+at_line g start all before left number line (play_end.Stop s) result old e now schema_is before_is so result_is bad unsaid cut =
+    subst (λ r. IsPlayedTo (schema_of old) start all (g.content (leaves_of old)) now r) (sym result_is)
+    (at_cut g start all before left number line s old e now schema_is before_is so (λ other. unsaid (stop_other s other)) cut)
 
 -- ---- how many lines there are
 
@@ -234,9 +238,3 @@ no_stop lines number r (play_end.Line n reason) why is e f = other (sym e ∙ f)
     other : ◌≡◌ {A = Result (Unit {0}) PlayEnd} (Err (play_end.Line n reason)) (Err (play_end.Stop why)) → ⊥
     other g = cc
 no_stop lines number r (play_end.Stop stop) why is e f = is
-
-pub not_fault : (end : LineEnd) (reason : LineWhy) → end ≡ line_end.Bad reason → end ≢ line_end.Stop stop.Fault
-not_fault end reason is e = other (sym is ∙ e)
-  where
-    other : line_end.Bad reason ≡ line_end.Stop stop.Fault → ⊥
-    other f = cc

@@ -5,8 +5,11 @@ use Rattle.gx_device.specs.Faults.{Rose}
 use Rattle.gx_tokens.specs.Whys.{word_of as why_word}
 use Rattle.gx_script.specs.LineWhys.{word_of as line_word}
 use Rattle.gx_typing.specs.Reasons.{words_of as type_words}
+use Rattle.gx_ports.specs.declared.stop.Stop.TheVariants as stop
 use Rattle.gx_top.specs.declared.ending.Ending.{Ending}
 use Rattle.gx_top.specs.declared.ending.Ending.TheVariants as ending
+use Rattle.gx_top.specs.declared.play.PlayEnd.{PlayEnd}
+use Rattle.gx_top.specs.declared.play.PlayEnd.TheVariants as play_end
 use Rattle.gx_top.specs.declared.status.Status.{Status}
 use Rattle.gx_top.specs.declared.status.Status.TheVariants as status
 use Rattle.gx_top.specs.Summaries.{accepted_line}
@@ -28,6 +31,12 @@ line_of (ending.Accepted summary) = accepted_line summary
 line_of (ending.Line number why) = codes "stopped at line " ++ decimal number ++ codes ": " ++ line_word why ++ codes "\n"
 line_of ending.Fault = []
 line_of ending.NoMemory = memory_line
+
+-- how the request ends where its play does
+abbrev pub ending_of : PlayEnd → Ending
+ending_of (play_end.Line number why) = ending.Line number why
+ending_of (play_end.Stop stop.NoMemory) = ending.NoMemory
+ending_of (play_end.Stop _) = ending.Fault
 
 abbrev pub status_of : Ending → Status
 status_of (ending.Accepted summary) = status.Done

@@ -6,5 +6,4 @@ pub mod Requests
 pub mod Prepared
 pub mod Say
 pub mod Tries
-pub mod Lines
 pub mod Plays

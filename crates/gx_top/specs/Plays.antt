@@ -4,6 +4,7 @@ use Rattle.gx_device.specs.Content.{Content}
 use Rattle.gx_device.specs.Faults.{Rose}
 use Rattle.gx_schema.specs.declared.schema.Schema.{Schema}
 use Rattle.gx_script.specs.declared.command.Command.{Command}
+use Rattle.gx_script.specs.declared.command.LineWhy.{LineWhy}
 use Rattle.gx_script.specs.Commands.{place_reason}
 use Rattle.gx_script.specs.Grammar.{IsLineOf}
 use Rattle.gx_script.specs.Lines.{Lines, stopped as stopped_lines}
@@ -13,11 +14,9 @@ use Rattle.gx_ports.specs.Stops.{is_outside}
 use Rattle.gx_ports.specs.declared.stop.Stop.{Stop}
 use Rattle.gx_ports.specs.declared.stop.Stop.TheVariants as stop
 use Rattle.gx_model.specs.Play.{Playing, End, good, stopped, is_inside, next_of, IsAnswered}
-use Rattle.gx_model.specs.Runs.{Runs, IsPlayFrom}
+use Rattle.gx_model.specs.Runs.{Runs, IsBadLine, IsPlayFrom}
 use Rattle.gx_engine.specs.declared.engine.Engine.{Engine}
 use Rattle.gx_engine.specs.Steps.{IsAt, schema_of, leaves_of}
-use Rattle.gx_top.specs.declared.play.LineEnd.{LineEnd}
-use Rattle.gx_top.specs.declared.play.LineEnd.TheVariants as line_end
 use Rattle.gx_top.specs.declared.play.PlayEnd.{PlayEnd}
 use Rattle.gx_top.specs.declared.play.PlayEnd.TheVariants as play_end
 
@@ -43,6 +42,10 @@ IsCommandCut schema p command old new = (new.now.said ≡ old.now.said) ⊎ ((an
 abbrev pub IsLineCut : Schema → Playing → List ℕ → Content → Content → Type 0
 IsLineCut schema p line old new = (new.now.said ≡ old.now.said) ⊎ ((command : Command) × IsLineOf schema line command × (place_reason (is_inside p) command ≡ None) × IsCommandCut schema p command old new)
 
+-- the line of this number is bad
+abbrev pub IsBadAt : Schema → Bool → ℕ → List ℕ → ℕ → LineWhy → Type 0
+IsBadAt schema inside number line n why = (n ≡ number) × IsBadLine schema inside line why
+
 -- why a line may be given up where the leaves stood for a moment of the play: a call below failed, the pages were
 -- too few for what the leaves held, or there was no memory
 abbrev pub HasPlayCause : Option Limits → ℕ → ℕ → Stop → Type 0
@@ -51,12 +54,7 @@ HasPlayCause limit before now stop.Fault = Rose before now
 HasPlayCause limit before now stop.Full = (needed : ℕ) × IsCrowdedBy limit needed
 HasPlayCause limit before now (stop.Damaged block) = ⊥
 
--- whether a call below failed in a line
-abbrev pub is_line_fault : Result (Unit {0}) LineEnd → Bool
-is_line_fault (Err (line_end.Stop why)) = is_outside why
-is_line_fault _ = false
-
--- the same in a play
+-- whether a call below failed
 abbrev pub is_play_fault : Result (Unit {0}) PlayEnd → Bool
 is_play_fault (Err (play_end.Stop why)) = is_outside why
 is_play_fault _ = false

@@ -9,13 +9,11 @@ use Rattle.gx_script.specs.Lines.{script_lines}
 use Rattle.gx_model.specs.States.{empty_state}
 use Rattle.gx_model.specs.Play.{Playing, End, good, stopped, start_at, end_text}
 use Rattle.gx_model.specs.Runs.{IsPlayFrom, AreFirstAnswersFrom}
-use Rattle.gx_ports.specs.declared.stop.Stop.TheVariants as stop
 use Rattle.gx_top.specs.declared.ending.Ending.{Ending}
 use Rattle.gx_top.specs.declared.ending.Ending.TheVariants as ending
 use Rattle.gx_top.specs.declared.play.PlayEnd.{PlayEnd}
-use Rattle.gx_top.specs.declared.play.PlayEnd.TheVariants as play_end
 use Rattle.gx_top.specs.declared.status.Status.TheVariants as status
-use Rattle.gx_top.specs.Endings.{line_of, status_of, memory_line}
+use Rattle.gx_top.specs.Endings.{line_of, status_of, memory_line, ending_of}
 use Rattle.gx_equation.specs.Trees.{DefinitionTree}
 use Rattle.gx_typing.specs.declared.typing.Typing.{Typing}
 use Rattle.gx_top.specs.declared.words.Action.TheVariants as action
@@ -142,6 +140,4 @@ IsPlayedAs schema old new (Err _) = ⊥
 -- what an end of the play means for the request
 abbrev pub IsEndingOf : Result (Unit {0}) PlayEnd → Result (Unit {0}) Ending → Type 0
 IsEndingOf (Ok x) result = result ≡ Ok tt
-IsEndingOf (Err (play_end.Line number why)) result = result ≡ Err (ending.Line number why)
-IsEndingOf (Err (play_end.Stop stop.NoMemory)) result = result ≡ Err ending.NoMemory
-IsEndingOf (Err (play_end.Stop _)) result = result ≡ Err ending.Fault
+IsEndingOf (Err end) result = result ≡ Err (ending_of end)

@@ -8,10 +8,12 @@ ghost use Rattle.gx_top.specs.Summaries.{accepted_line};
 ghost use Rattle.gx_top.specs.Endings.{line_of, status_of, memory_line};
 ghost use Rattle.gx_top.specs.Say.{IsCut, OnlySays};
 
+use crate::play::PlayEnd;
 use crate::say::say_all;
 use crate::status::Status;
 use crate::summary::Summary;
 use gx_device::{Failed, Machine};
+use gx_ports::Stop;
 use gx_schema::Why;
 use gx_script::LineWhy;
 use gx_typing::TypeWhy;
@@ -64,6 +66,21 @@ impl From<NoMemory> for Ending<'_> {
 
     fn from(_: NoMemory) -> Self {
         Ending::NoMemory
+    }
+}
+
+// Leaves in memory are never full or damaged.
+impl From<PlayEnd> for Ending<'_> {
+    ghost use Rattle.gx_top.specs.Endings.{ending_of};
+
+    ghost from_gives = { λ end e. e ≡ ending_of end };
+
+    fn from(end: PlayEnd) -> Self {
+        match end {
+            PlayEnd::Line(number, why) => Ending::Line(number, why),
+            PlayEnd::Stop(Stop::NoMemory) => Ending::NoMemory,
+            PlayEnd::Stop(Stop::Fault | Stop::Full | Stop::Damaged(_)) => Ending::Fault,
+        }
     }
 }
 

@@ -4,10 +4,9 @@ ghost use Rattle.gx_schema.specs.WellFormed.{IsWellFormed};
 ghost use Rattle.gx_ports.specs.Stops.{is_fault};
 ghost use Rattle.gx_engine.specs.Steps.{IsReady, IsAt, IsDue, schema_of, is_open, stop_of, leaves_of};
 ghost use Rattle.gx_model.specs.Play.{Playing};
-ghost use Rattle.gx_model.specs.Runs.{IsBadLine};
 ghost use Rattle.gx_script.specs.Lines.{script_lines, IsNext};
 ghost use Rattle.gx_script.specs.Grammar.{IsLineOf};
-ghost use Rattle.gx_top.specs.Plays.{IsLinePlayed, IsCommandPlayed, IsLineCut, IsCommandCut, HasPlayCause, IsPlayedTo, IsLineEnd, is_line_fault, is_play_fault};
+ghost use Rattle.gx_top.specs.Plays.{IsLinePlayed, IsCommandPlayed, IsLineCut, IsCommandCut, HasPlayCause, IsBadAt, IsPlayedTo, IsLineEnd, is_play_fault};
 ghost use Rattle.gx_top.specs.Say.{OnlySays};
 
 use crate::say::answer_all;
@@ -17,69 +16,47 @@ use gx_script::{Command, LineWhy, NoCommand, ScriptLines, allowed, read_command}
 use gx_values::Octets;
 use std::alloc::Global;
 
-/// Why a line isn't carried out.
+/// Why a script isn't played to its end.
 #[derive(Clone, Copy, Debug)]
-pub enum LineEnd {
-    /// It means no command, or one that may not stand there.
-    Bad(LineWhy),
-    /// It was given up.
+pub enum PlayEnd {
+    /// The line of this number, counted from 1, ends it.
+    Line(u32, LineWhy),
+    /// A line was given up.
     Stop(Stop),
 }
 
-impl From<NoCommand> for LineEnd {
-    ghost use Rattle.gx_top.specs.Lines.{IsEndOf};
+impl From<Stop> for PlayEnd {
+    ghost use Rattle.gx_top.specs.declared.play.PlayEnd.TheVariants as play_end;
 
-    ghost from_gives = { λ e end. IsEndOf e end };
-
-    fn from(error: NoCommand) -> Self {
-        match error {
-            NoCommand::Bad(why) => LineEnd::Bad(why),
-            NoCommand::NoMemory => LineEnd::Stop(Stop::NoMemory),
-        }
-    }
-}
-
-impl From<LineWhy> for LineEnd {
-    ghost use Rattle.gx_top.specs.declared.play.LineEnd.TheVariants as line_end;
-
-    ghost from_gives = { λ why e. e ≡ line_end.Bad why };
-
-    fn from(why: LineWhy) -> Self {
-        LineEnd::Bad(why)
-    }
-}
-
-impl From<Stop> for LineEnd {
-    ghost use Rattle.gx_top.specs.declared.play.LineEnd.TheVariants as line_end;
-
-    ghost from_gives = { λ s e. e ≡ line_end.Stop s };
+    ghost from_gives = { λ s e. e ≡ play_end.Stop s };
 
     fn from(stop: Stop) -> Self {
-        LineEnd::Stop(stop)
+        PlayEnd::Stop(stop)
     }
 }
 
-/// Carries out one line and says its answer whole.
+// Carries out the line of this number and says its answer whole.
 fn play_line<B: Leaves + Drop>(
     alloc: Global,
+    number: u32,
     line: &[u8],
     engine: &mut Engine<B>,
-) -> Result<(), LineEnd>
+) -> Result<(), PlayEnd>
     requires ready { IsReady B.View engine.old }
     requires well_formed { IsWellFormed (schema_of engine.old) }
     requires going { stop_of engine.old ≡ None }
     ensures played { (p : Playing) → IsAt B.View p engine.old →
         OnOk result (IsLinePlayed B.View p line.now engine.old engine.new) }
-    ensures bad { (why : LineWhy) → result ≡ Err (LineEnd.Bad why) →
-        IsBadLine (schema_of engine.old) (is_open engine.old) line.now why }
-    ensures unsaid { IsTrue B.tells → (end : LineEnd) → result ≡ Err end →
-        end ≢ LineEnd.Stop Stop.Fault →
+    ensures bad { (n : ℕ) (why : LineWhy) → result ≡ Err (PlayEnd.Line n why) →
+        IsBadAt (schema_of engine.old) (is_open engine.old) number line.now n why }
+    ensures unsaid { IsTrue B.tells → (end : PlayEnd) → result ≡ Err end →
+        end ≢ PlayEnd.Stop Stop.Fault →
         (B.content (leaves_of engine.new)).now.said ≡ (B.content (leaves_of engine.old)).now.said }
     ensures cut { IsTrue B.tells → (p : Playing) → IsAt B.View p engine.old → OnErr result
         (IsLineCut (schema_of engine.old) p line.now (B.content (leaves_of engine.old))
         (B.content (leaves_of engine.new))) }
     ensures cause { (p : Playing) → IsAt B.View p engine.old → (stop : Stop) →
-        result ≡ Err (LineEnd.Stop stop) →
+        result ≡ Err (PlayEnd.Stop stop) →
         HasPlayCause (B.limit (leaves_of engine.old)) (B.faults (leaves_of engine.old))
         (B.faults (leaves_of engine.new)) stop }
     ensures schema { schema_of engine.new ≡ schema_of engine.old }
@@ -87,32 +64,37 @@ fn play_line<B: Leaves + Drop>(
     ensures going { OnOk result (stop_of engine.new ≡ None) }
     ensures limit { B.limit (leaves_of engine.new) ≡ B.limit (leaves_of engine.old) }
     ensures rest { OnlySays (B.content (leaves_of engine.old)) (B.content (leaves_of engine.new)) }
-    ensures counted { is_line_fault result ≡ false →
+    ensures counted { is_play_fault result ≡ false →
         B.faults (leaves_of engine.new) ≡ B.faults (leaves_of engine.old) }
     ensures later { B.faults (leaves_of engine.old) ≤ B.faults (leaves_of engine.new) }
 {
-    let command = placed_command(alloc, line, engine)?;
+    let command = placed_command(alloc, number, line, engine)?;
     carry_out(alloc, &command, engine)?;
     Ok(())
 }
 
-// The command of a line, which may stand where the engine is.
+// The command of the line of this number, which may stand where the engine is.
 fn placed_command<B: Leaves + Drop>(
     alloc: Global,
+    number: u32,
     line: &[u8],
     engine: &Engine<B>,
-) -> Result<Command, LineEnd>
+) -> Result<Command, PlayEnd>
     requires { IsWellFormed (schema_of engine.now) }
     ensures read { IfOk result (IsLineOf (schema_of engine.now) line.now) }
     ensures due { IfOk result (IsDue engine.now) }
-    ensures bad { (why : LineWhy) → result ≡ Err (LineEnd.Bad why) →
-        IsBadLine (schema_of engine.now) (is_open engine.now) line.now why }
-    ensures unread { (stop : Stop) → result ≡ Err (LineEnd.Stop stop) → stop ≡ Stop.NoMemory }
+    ensures bad { (n : ℕ) (why : LineWhy) → result ≡ Err (PlayEnd.Line n why) →
+        IsBadAt (schema_of engine.now) (is_open engine.now) number line.now n why }
+    ensures unread { (stop : Stop) → result ≡ Err (PlayEnd.Stop stop) → stop ≡ Stop.NoMemory }
 {
-    let command = read_command(alloc, engine.schema(), line)?;
+    let command = match read_command(alloc, engine.schema(), line) {
+        Ok(command) => command,
+        Err(NoCommand::Bad(why)) => return Err(PlayEnd::Line(number, why)),
+        Err(NoCommand::NoMemory) => return Err(PlayEnd::Stop(Stop::NoMemory)),
+    };
     match allowed(engine.inside(), &command) {
         Ok(()) => Ok(command),
-        Err(why) => Err(LineEnd::Bad(why)),
+        Err(why) => Err(PlayEnd::Line(number, why)),
     }
 }
 
@@ -153,15 +135,6 @@ fn carry_out<B: Leaves + Drop>(
     Ok(())
 }
 
-/// Why a script isn't played to its end.
-#[derive(Clone, Copy, Debug)]
-pub enum PlayEnd {
-    /// The line of this number, counted from 1, ends it.
-    Line(u32, LineWhy),
-    /// A line was given up.
-    Stop(Stop),
-}
-
 /// Plays a script line by line, up to its end or the line that ends it. Each answer is said whole
 /// before the next line is carried out. On a device that tells its content: after `Ok` and `Line`
 /// exactly the answers of the play were said, and it ends there; after `Stop` exactly the answers of
@@ -191,11 +164,7 @@ pub fn play<B: Leaves + Drop>(
     let mut number = 0u32;
     while let Some(line) = next_line(&mut lines, number)? {
         number += 1;
-        match play_line(alloc, line, engine) {
-            Ok(()) => {}
-            Err(LineEnd::Bad(why)) => return Err(PlayEnd::Line(number, why)),
-            Err(LineEnd::Stop(stop)) => return Err(PlayEnd::Stop(stop)),
-        }
+        play_line(alloc, number, line, engine)?;
     }
     if engine.inside() {
         return Err(PlayEnd::Line(number, LineWhy::OpenTransaction));

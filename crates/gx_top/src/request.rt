@@ -18,7 +18,7 @@ use crate::script::hear_script;
 use crate::status::Status;
 use gx_device::Machine;
 use gx_engine::Engine;
-use gx_ports::{PlainLeaves, Stop};
+use gx_ports::PlainLeaves;
 use gx_schema::Schema;
 use gx_types::Built;
 use gx_values::NoMemory;
@@ -142,14 +142,9 @@ fn play_script<'a, M: Machine + Drop>(
     }
 }
 
-// What an end of the play means for the request. Leaves in memory are never full or damaged.
+// How the request ends where its play does.
 fn ended<'a>(played: Result<(), PlayEnd>) -> Result<(), Ending<'a>>
     ensures { IsEndingOf played result }
 {
-    match played {
-        Ok(()) => Ok(()),
-        Err(PlayEnd::Line(number, why)) => Err(Ending::Line(number, why)),
-        Err(PlayEnd::Stop(Stop::NoMemory)) => Err(Ending::NoMemory),
-        Err(PlayEnd::Stop(Stop::Fault | Stop::Full | Stop::Damaged(_))) => Err(Ending::Fault),
-    }
+    Ok(played?)
 }
