@@ -1,6 +1,7 @@
 // Finding by entries: where records stand whole in leaves, conditions are tested on the bytes of entries.
 ghost use Rattle.std.specs.Prelude.{◌≡◌, ◌++◌, ℕ, length, filter, OnOk, IsErrOf};
 ghost use Rattle.gx_ports.specs.Calls.{Reads, Ends};
+ghost use Rattle.gx_ports.specs.LeafMaps.{Extends};
 ghost use Rattle.gx_stack.specs.Seen.{tree_of};
 ghost use Rattle.gx_model.specs.States.{File as FileMap};
 ghost use Rattle.gx_scan.specs.Files.{IsInternal, HasFile, IsStorable, IsTreeFor};
@@ -37,6 +38,7 @@ pub(crate) fn add_by_entries<B: Leaves>(
     ensures rows { (f : FileMap) → B.whole leaves.old →
         IsInternal file.now (tree_of node.now) (B.working leaves.old) f →
         OnOk result (AreAdded span.now conds.now f rows.old.items rows.new.items) }
+    ensures front { Extends rows.old.items rows.new.items }
     ensures reads { Reads B.View leaves.old leaves.new }
     ensures ends { Ends B.View
         (B.whole leaves.old × HasFile file.now (tree_of node.now) (B.working leaves.old))
@@ -69,6 +71,7 @@ fn add_at<B: Leaves>(
         (rows.new.items
         ≡ rows.old.items ++ filter (is_within span.now conds.now)
         (rows_at (tree_of node.now) place.leaf f)) }
+    ensures front { Extends rows.old.items rows.new.items }
     ensures reads { Reads B.View leaves.old leaves.new }
     ensures ends { Ends B.View
         (B.whole leaves.old × HasFile file.now (tree_of node.now) (B.working leaves.old))

@@ -2,6 +2,7 @@
 ghost use Rattle.std.specs.Prelude.{◌≡◌, ◌<◌, ◌++◌, ℕ, length, map, filter, OnOk, IsErrOf};
 ghost use Rattle.gx_values.specs.declared.records.Rec.{Rec as Record};
 ghost use Rattle.gx_ports.specs.Calls.{Reads, Ends};
+ghost use Rattle.gx_ports.specs.LeafMaps.{Extends};
 ghost use Rattle.gx_mapping.specs.Rule.{In, IsOf};
 ghost use Rattle.gx_stack.specs.Selected.{IsKeySpan};
 ghost use Rattle.gx_stack.specs.Seen.{tree_of};
@@ -36,6 +37,7 @@ pub(crate) fn add_by_records<B: Leaves>(
     ensures rows { (f : FileMap) → B.whole leaves.old →
         IsInternal file.now (tree_of node.now) (B.working leaves.old) f →
         OnOk result (AreAdded span.now conds.now f rows.old.items rows.new.items) }
+    ensures front { Extends rows.old.items rows.new.items }
     ensures reads { Reads B.View leaves.old leaves.new }
     ensures ends { Ends B.View
         (B.whole leaves.old × HasFile file.now (tree_of node.now) (B.working leaves.old))
@@ -58,8 +60,9 @@ fn add_met(
 ) -> Result<(), AllocError>
     requires keyed { 0 < length file.now.fields }
     requires fit { (r : Record) → In r found → IsOf (file_form file.now) r }
-    ensures { OnOk result
+    ensures kept { OnOk result
         (rows.new.items ≡ rows.old.items ++ filter (meets_conds conds.now) (map row_of found)) }
+    ensures front { Extends rows.old.items rows.new.items }
 {
     for rec in found.0 {
         let row = into_row(file, rec);

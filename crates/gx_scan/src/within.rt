@@ -3,6 +3,7 @@ ghost use Rattle.std.specs.Prelude.{◌≡◌, ℕ, List, length, true, OnOk, Is
 ghost use Rattle.gx_values.specs.declared.records.Form.{Form as TheForm};
 ghost use Rattle.gx_values.specs.Keys.{is_inside};
 ghost use Rattle.gx_ports.specs.Calls.{Reads, Ends};
+ghost use Rattle.gx_ports.specs.LeafMaps.{Extends};
 ghost use Rattle.gx_stack.specs.Selected.{IsKeySpan};
 ghost use Rattle.gx_stack.specs.Seen.{tree_of};
 ghost use Rattle.gx_typing.specs.Dues.{file_form};
@@ -44,6 +45,7 @@ pub fn rows_within<B: Leaves>(
     ensures rows { (f : FileMap) → B.whole leaves.old →
         IsInternal file.now (tree_of node.now) (B.working leaves.old) f →
         OnOk result (AreAdded span.now conds.now f rows.old.items rows.new.items) }
+    ensures front { Extends rows.old.items rows.new.items }
     ensures reads { Reads B.View leaves.old leaves.new }
     ensures ends { Ends B.View
         (B.whole leaves.old × HasFile file.now (tree_of node.now) (B.working leaves.old))

@@ -27,7 +27,7 @@ returns-then-branch-clause-rows g c = λ f whole is.
     let stored = place_entries file t _ maps f c.requires.storable c.requires.tree is.fit union p c.requires.place in
     let same = span_entries _ p.lengths (rows_at t p.leaf f) lo hi _ _ _ stored c.new-entries.ensures (c.in_ok-select.ensures.ok whole) refl in
     let fit = filter_fits file inside (rows_at t p.leaf f) (rows_fit file t _ maps f c.requires.storable c.requires.tree is.fit p.leaf) in
-    (c.in_ok-add_chosen_rows.ensures (filter inside (rows_at t p.leaf f)) fit same).1
+    (c.in_ok-add_chosen_rows.ensures.chosen (filter inside (rows_at t p.leaf f)) fit same).1
     ∙ ap (λ (l : List Row). c.args.rows.now.items ++ l) (filter_twice (meets_conds c.args.conds.now) inside (rows_at t p.leaf f))
 
 pub returns-clause-ends : goal.returns-clause-ends
@@ -50,6 +50,6 @@ returns-clause-ends g c = record {
       let stored = place_entries file t _ maps f c.requires.storable c.requires.tree is.fit union p c.requires.place in
       let same = span_entries _ p.lengths (rows_at t p.leaf f) lo hi _ _ _ stored c.new-entries.ensures (c.in_ok-select.ensures.ok sound.0) refl in
       let fit = filter_fits file inside (rows_at t p.leaf f) (rows_fit file t _ maps f c.requires.storable c.requires.tree is.fit p.leaf) in
-      let all = (c.in_ok-add_chosen_rows.ensures (filter inside (rows_at t p.leaf f)) fit same).0 in
+      let all = (c.in_ok-add_chosen_rows.ensures.chosen (filter inside (rows_at t p.leaf f)) fit same).0 in
       true≢false (sym all ∙ c.if-branch.false);
 }

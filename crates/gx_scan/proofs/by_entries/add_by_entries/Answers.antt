@@ -18,6 +18,7 @@ use Rattle.gx_scan.proofs.by_entries.add_by_entries.Goals as goal
 pub loop-place-init : goal.loop-place-init
 loop-place-init g c = record {
   rows = λ f whole is. ([], sym (append-nil c.args.rows.now.items), none_chosen (tree_of c.args.node.now) (is_within c.args.span.now c.args.conds.now) f [] refl);
+  front = ([], sym (append-nil c.args.rows.now.items));
   reads = reads_itself g.B.View c.args.leaves.now;
   whole = λ h. h;
   counted = refl;
@@ -54,6 +55,7 @@ loop-place-preserved g c =
             now ∙ ap (λ (l : List Row). l ++ more) so_far.1 ∙ append_assoc c.args.rows.now.items so_far.0 more,
             place_chosen t test f ps i p so_far.0 (so_far.0 ++ more) (subst IsOnce (sym are.leaves) (leaves_once any_rule t c.requires.tree.valid)) c.loop-place-test.true (get_or_any ps i _ p c.loop-place-test.true) so_far.2 refl,
           );
+      front = (inv.front.0 ++ e.front.0, e.front.1 ∙ ap (λ (l : List Row). l ++ e.front.0) inv.front.1 ∙ append_assoc c.args.rows.now.items inv.front.0 e.front.0);
       reads = reads_joined b inv.reads e.reads;
       whole = λ h. e.ends.whole (inv.whole h);
       counted = e.ends.counted refl ∙ inv.counted;

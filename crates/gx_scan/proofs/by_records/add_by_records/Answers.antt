@@ -43,4 +43,4 @@ returns-clause-rows g c = λ f whole is.
     let set = subst (λ form. IsSet form (records_of f)) (sym c.requires.tree.form) (set_of c.args.file.now f c.requires.storable.keyed is.fit) in
     let all = found.appended ∙ ap (λ (before : List Rec). before ++ found.found) c.new-found.ensures in
     selected_added f c.args.span.now c.args.conds.now found.found c.args.rows.now.items _ (found.selected whole (records_of f) set is.held)
-    (c.in_ok-add_met.ensures ∙ ap (λ (rs : List Rec). c.args.rows.now.items ++ filter (meets_conds c.args.conds.now) (map row_of rs)) all)
+    (c.in_ok-add_met.ensures.kept ∙ ap (λ (rs : List Rec). c.args.rows.now.items ++ filter (meets_conds c.args.conds.now) (map row_of rs)) all)
