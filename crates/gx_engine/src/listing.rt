@@ -9,7 +9,7 @@ ghost use Rattle.gx_scan.specs.Files.{IsInternal, HasFile, IsStorable, IsTreeFor
 
 use gx_ports::{Leaves, Stop};
 use gx_rows::{records_text, sort_rows};
-use gx_scan::chosen_rows;
+use gx_scan::{rows_within, whole_span};
 use gx_schema::FileDef;
 use gx_script::Find;
 use gx_stack::Node;
@@ -37,7 +37,9 @@ pub(crate) fn found_text<B: Leaves>(
     ensures block { (n : ℕ) → IsErrOf result (Stop.Damaged n) → B.whole leaves.old → n ≡ 0 }
     ensures not_full { ¬ IsErrOf result Stop.Full }
 {
-    let mut rows = chosen_rows(alloc, file, node, &find.conds.0, leaves)?;
+    let conds = &find.conds.0;
+    let mut rows = Vec::new(alloc);
+    rows_within(alloc, file, node, &whole_span(), conds, leaves, &mut rows)?;
     sort_rows(&mut rows, find.order)?;
     Ok(records_text(alloc, file, &rows)?)
 }

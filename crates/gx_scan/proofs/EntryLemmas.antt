@@ -1,5 +1,5 @@
 -- What is read of the entries of records.
-use Rattle.std.proofs.Common.{[], ◌≡◌, ℕ, zero, suc, ◌+◌, ◌*◌, ◌<◌, ◌≤◌, List, ◌∷◌, ◌++◌, length, take, drop, get_or, map, cond, Bool, true, Option, Some, refl, sym, ap, subst, ◌∙◌, arith, append-nil, length-append}
+use Rattle.std.proofs.Common.{[], ◌≡◌, ℕ, zero, suc, ◌+◌, ◌*◌, ◌<◌, ◌≤◌, List, ◌∷◌, ◌++◌, length, take, drop, get_or, map, cond, Bool, true, false, Option, Some, refl, sym, ap, subst, ◌∙◌, arith, append-nil, length-append}
 use Rattle.std.proofs.lemmas.List.{length-map}
 use Rattle.std.proofs.Math.Seq.{drop-append-add}
 use Rattle.std.specs.Prelude.{filter}
@@ -88,22 +88,22 @@ pub values_behind : (n : ℕ) (r : Rec) → IsBehind (leaf_body (wrapped (suc n)
 values_behind zero r = record { long = omega arith; is = refl }
 values_behind (suc n) r = subst (λ k. IsBehind (leaf_body (wrapped (suc (suc n)) r).fields) k (body_of r.fields)) (let y : 2 * n + 2 ≡ 2 * suc n = omega arith in y) (behind_more (leaf_body (wrapped (suc n) r).fields) (body_of r.fields) (2 * n) (values_behind n r))
 
--- ---- all records
+-- ---- the records within a span
 
-inside_all : (key : List ℕ) → is_inside [] [] key ≡ true
-inside_all [] = refl
-inside_all (x ∷ key) = refl
-
-filter_all : {A : Type 0} (test : A → Bool) → ((x : A) → test x ≡ true) → (xs : List A) → filter test xs ≡ xs
-filter_all test all [] = refl
-filter_all {A} test all (x ∷ xs) = ap (λ b. cond b (x ∷ filter test xs) (filter test xs)) (all x) ∙ ap (λ (l : List A). x ∷ l) (filter_all test all xs)
+filter_map : {A B : Type 0} (test : B → Bool) (f : A → B) (xs : List A) → filter test (map f xs) ≡ map f (filter (λ x. test (f x)) xs)
+filter_map test f [] = refl
+filter_map {A} {B} test f (x ∷ xs) = elim (test (f x)) as (λ b. cond b (f x ∷ filter test (map f xs)) (filter test (map f xs)) ≡ map f (cond b (x ∷ filter (λ y. test (f y)) xs) (filter (λ y. test (f y)) xs))) [
+  | true ↦ ap (λ (l : List B). f x ∷ l) (filter_map test f xs)
+  | false ↦ filter_map test f xs
+]
 
 map_joined : {A B C : Type 0} (g : B → C) (f : A → B) (xs : List A) → map g (map f xs) ≡ map (λ x. g (f x)) xs
 map_joined g f [] = refl
 map_joined {A} {B} {C} g f (x ∷ xs) = ap (λ (l : List C). g (f x) ∷ l) (map_joined g f xs)
 
--- the span without bounds selects the entries of all records
-pub all_entries : (m : LeafMap) (n : ℕ) (rs : List Row) (lo hi : List ℕ) (before out entries : List Entry) → fin.entries m ≡ map (entry_of_row n) rs → lo ≡ [] → hi ≡ [] → before ≡ [] → out ≡ before ++ selected lo hi m → entries ≡ out
-    → entries ≡ map (λ (r : Row). entry_of (entry_of_row n r)) rs
-all_entries m n rs lo hi before out entries same l h b o e =
-    e ∙ o ∙ (λ i. b i ++ selected (l i) (h i) m) ∙ ap (map entry_of) (filter_all (λ (x : List ℕ × List ℕ). is_inside [] [] x.0) (λ x. inside_all x.0) (fin.entries m)) ∙ ap (map entry_of) same ∙ map_joined entry_of (entry_of_row n) rs
+-- the span selects the entries of the records within it
+pub span_entries : (m : LeafMap) (n : ℕ) (rs : List Row) (lo hi : List ℕ) (before out entries : List Entry) → fin.entries m ≡ map (entry_of_row n) rs → before ≡ [] → out ≡ before ++ selected lo hi m → entries ≡ out
+    → entries ≡ map (λ (r : Row). entry_of (entry_of_row n r)) (filter (λ (r : Row). is_inside lo hi (bytes_of r.0)) rs)
+span_entries m n rs lo hi before out entries same b o e =
+    e ∙ o ∙ ap (λ (l : List Entry). l ++ selected lo hi m) b ∙ ap (λ (es : List (List ℕ × List ℕ)). map entry_of (filter (λ x. is_inside lo hi x.0) es)) same
+    ∙ ap (map entry_of) (filter_map (λ (x : List ℕ × List ℕ). is_inside lo hi x.0) (entry_of_row n) rs) ∙ map_joined entry_of (entry_of_row n) (filter (λ (r : Row). is_inside lo hi (bytes_of r.0)) rs)

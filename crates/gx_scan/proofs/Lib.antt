@@ -4,3 +4,5 @@ mod EntryLemmas
 mod PlaceLemmas
 mod ListingLemmas
 mod ScanLemmas
+pub mod SelectLemmas
+pub mod StorableLemmas

@@ -17,7 +17,7 @@ use Rattle.gx_scan.proofs.PlaceLemmas.{number, IsOnce}
 
 -- ---- filters
 
-same_filter : {A : Type 0} (p q : A → Bool) (xs : List A) → ((x : A) → In x xs → p x ≡ q x) → filter p xs ≡ filter q xs
+pub same_filter : {A : Type 0} (p q : A → Bool) (xs : List A) → ((x : A) → In x xs → p x ≡ q x) → filter p xs ≡ filter q xs
 same_filter p q [] same = refl
 same_filter {A} p q (x ∷ xs) same = (λ i. cond (same x (inl refl) i) (x ∷ filter p xs) (filter p xs)) ∙ ap (λ (l : List A). cond (q x) (x ∷ l) l) (same_filter p q xs (λ y h. same y (inr h)))
 
@@ -29,7 +29,7 @@ filter_false : {A : Type 0} (xs : List A) → filter (λ _. false) xs ≡ []
 filter_false [] = refl
 filter_false (x ∷ xs) = filter_false xs
 
-filter_twice : {A : Type 0} (p q : A → Bool) (xs : List A) → filter p (filter q xs) ≡ filter (λ x. q x && p x) xs
+pub filter_twice : {A : Type 0} (p q : A → Bool) (xs : List A) → filter p (filter q xs) ≡ filter (λ x. q x && p x) xs
 filter_twice p q [] = refl
 filter_twice {A} p q (x ∷ xs) = elim (q x) as (λ b. filter p (cond b (x ∷ filter q xs) (filter q xs)) ≡ cond (b && p x) (x ∷ filter (λ y. q y && p y) xs) (filter (λ y. q y && p y) xs)) [
   | true ↦ ap (λ (l : List A). cond (p x) (x ∷ l) l) (filter_twice p q xs)

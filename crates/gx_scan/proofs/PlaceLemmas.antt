@@ -5,7 +5,7 @@ use Rattle.std.proofs.lemmas.Bool.{eqb-true, eq-eqb}
 use Rattle.std.specs.List.{flat_map, AllByRecursion}
 use Rattle.std.specs.FinMap as fin
 use Rattle.std.specs.FinMap.Entries.{below_all}
-use Rattle.std.specs.Prelude.{T}
+use Rattle.std.specs.Prelude.{T, filter, Bool}
 use Rattle.std.specs.Ordering.{nat_cmp}
 use Rattle.std.specs.declared.cmp.Ordering.{Ordering}
 use Rattle.std.specs.declared.cmp.Ordering.TheVariants.{Less}
@@ -23,12 +23,8 @@ use Rattle.gx_values.proofs.OrderLemmas.{key_order}
 use Rattle.gx_schema.specs.declared.schema.FileDef.{FileDef}
 use Rattle.gx_schema.specs.Lookups.{key_kind}
 use Rattle.gx_ports.specs.LeafMaps.{LeafMap, map_at}
-use Rattle.gx_actual.specs.Bodies.{field_widths}
 use Rattle.gx_mapping.specs.declared.parts.Part.{Part}
 use Rattle.gx_mapping.specs.Rule.{Rule, In, IsOf}
-use Rattle.gx_partition.specs.Places.{value_at}
-use Rattle.gx_partition.specs.Bounds.{child_of}
-use Rattle.gx_partition.specs.Rules.{at_of, bounds_of}
 use Rattle.gx_stack.specs.declared.entries.LeafEntry.{LeafEntry}
 use Rattle.gx_stack.specs.declared.node.Node.{Node}
 use Rattle.gx_stack.specs.declared.node.LeafNode.{LeafNode}
@@ -37,11 +33,13 @@ use Rattle.gx_stack.specs.declared.node.Node.TheVariants as nodes
 use Rattle.gx_stack.specs.Tree.{Tree, Kids, leaf, layer, kid, no_kids, leaves_of, kids_leaves, tree_form, entries_of, kid_entries, entry_in, leaf_body, IsBytesUpTo, IsLeafData, IsLeafForm, IsValid, AreValid}
 use Rattle.gx_stack.specs.Seen.{tree_of, kids_from}
 use Rattle.gx_stack.specs.Internal.{IsUnion}
-use Rattle.gx_stack.proofs.Lists.{in_left, in_right, in_cases, in_map, from_map, in_each, from_each, in_filter, filter_in, all_at, all_of}
+use Rattle.gx_stack.proofs.Lists.{in_left, in_right, in_cases, in_map, from_map, in_each, from_each, in_filter, filter_in, all_at, all_of, some_same, none_some}
 use Rattle.gx_stack.proofs.Orders.{Ascends, ascends_filter, ascends_unique}
 use Rattle.gx_stack.proofs.Seen.{seen_layer, seen_leaf, layer_form, child_there, child_valid, kid_entries_at}
 use Rattle.gx_types.specs.declared.any.AnyMapping.{AnyMapping}
-use Rattle.gx_types.specs.declared.any.AnyMapping.TheVariants as any
+use Rattle.gx_types.specs.declared.any.Passing.{Passing}
+use Rattle.gx_types.specs.declared.any.Passing.TheVariants.{Whole, Wrapped, Apart}
+use Rattle.gx_types.specs.Passing.{Passes}
 use Rattle.gx_types.specs.Any.{any_rule, any_laws}
 use Rattle.gx_model.specs.States.{File, Row, IsRowOf, IsFileOf}
 use Rattle.gx_scan.specs.declared.places.Place.{Place}
@@ -127,19 +125,25 @@ leaf_placed node l n p is valid plain number_is lengths_is =
 abbrev part : ℕ → Rec → Part
 part c r = record { child = c; rec = r }
 
--- each record goes whole to one child
-one_part : (m : AnyMapping) (n : ℕ) (r : Rec) → (c : ℕ) × ((any_rule m).parts (wrapped n r) ≡ part c (wrapped (layers_below m n) r) ∷ [])
-one_part (any.Actual m) n r = (0, refl)
-one_part (any.Partition m) n r = (child_of (bounds_of m) (value_at (at_of m) (wrapped n r)), refl)
+-- how a layer passes the records that stand below so many layers `actual`
+pub record PassesOn (m : AnyMapping) (n b : ℕ) : Type 0 where
+  pub one : (r : Rec) → (c : ℕ) × ((any_rule m).parts (wrapped n r) ≡ part c (wrapped b r) ∷ [])
+  pub plain : (c : ℕ) → (n ≡ 0 → AreKeyFields (any_rule m).form.fields) → b ≡ 0 → AreKeyFields ((any_rule m).kid_form c).fields
 
--- the layers above the children are few, as those above the layer are
-pub layers_few : (m : AnyMapping) (n c : ℕ) → n ≤ field_widths (any_rule m).form.fields + 1 → layers_below m n ≤ field_widths ((any_rule m).kid_form c).fields + 1
-layers_few (any.Actual m) n c few = omega (arith, few)
-layers_few (any.Partition m) n c few = few
-
-pub kids_plain : (m : AnyMapping) (n c : ℕ) → (n ≡ 0 → AreKeyFields (any_rule m).form.fields) → layers_below m n ≡ 0 → AreKeyFields ((any_rule m).kid_form c).fields
-kids_plain (any.Actual m) n c plain none = absurd (omega (arith, none))
-kids_plain (any.Partition m) n c plain none = plain none
+pub passes_on : (m : AnyMapping) (p : Passing) (n b : ℕ) → Passes (any_rule m) p → layers_below p n ≡ Some b → PassesOn m n b
+passes_on m Whole n b passes is =
+    let same : n ≡ b = some_same n b is in
+    record {
+      one = λ r. let x = passes.one (wrapped n r) in (x.0, x.1 ∙ ap (λ k. part x.0 (wrapped k r) ∷ []) same);
+      plain = λ c plain none. subst (λ f. AreKeyFields f.fields) (sym (passes.form c)) (plain (same ∙ none));
+    }
+passes_on m Wrapped n b passes is =
+    let same : suc n ≡ b = some_same (suc n) b is in
+    record {
+      one = λ r. let x = passes (wrapped n r) in (x.0, x.1 ∙ ap (λ k. part x.0 (wrapped k r) ∷ []) same);
+      plain = λ c plain none. absurd (omega (arith, same, none));
+    }
+passes_on m Apart n b passes is = absurd (none_some b is)
 
 abbrev pub Stand : ℕ → Tree AnyMapping → List Place → Type 0
 Stand n t ps = (r : Rec) → IsOf (tree_form any_rule t) (wrapped n r) → (p : Place) × In p ps × (entries_of any_rule t (wrapped n r) ≡ entry_in p.leaf (wrapped (suc p.lengths) r) ∷ [])
@@ -184,12 +188,12 @@ kid_placed n ks i k ps qs l read so_far one = record {
   ];
 }
 
-pub layer_placed : (node : Node AnyMapping) (l : LayerNode AnyMapping) (n i : ℕ) (ps : List Place) → node ≡ nodes.Layer l → IsValid any_rule (tree_of node) → length l.kids.items ≤ i → ArePlacesOf (layers_below l.mapping n) l.kids.items i ps → ArePlaces n (tree_of node) ps
-layer_placed node l n i ps is valid end placed = record {
+pub layer_placed : (node : Node AnyMapping) (l : LayerNode AnyMapping) (n b i : ℕ) (ps : List Place) → node ≡ nodes.Layer l → IsValid any_rule (tree_of node) → PassesOn l.mapping n b → length l.kids.items ≤ i → ArePlacesOf b l.kids.items i ps → ArePlaces n (tree_of node) ps
+layer_placed node l n b i ps is valid passes end placed = record {
   leaves = placed.leaves ∙ ap (λ ks. kids_leaves (kids_from (map tree_of ks))) (take_all i l.kids.items end) ∙ sym (ap leaves_of (seen_layer node l is));
   stand = λ r fits.
-      let below = wrapped (layers_below l.mapping n) r in
-      let one = one_part l.mapping n r in
+      let below = wrapped b r in
+      let one = passes.one r in
       let fits' = subst (λ f. IsOf f (wrapped n r)) (layer_form any_rule node l is) fits in
       let here = (any_laws l.mapping).fit (wrapped n r) (part one.0 below) fits' (subst (In (part one.0 below)) (sym one.1) (inl refl)) in
       let there = child_there any_rule node l is one.0 valid here.0 in
@@ -213,7 +217,7 @@ Pair = List ℕ × List ℕ
 abbrev pair_cmp : Pair → Pair → Ordering
 pair_cmp a b = slice_cmp nat_cmp a.0 b.0
 
-abbrev key_cmp : Row → Row → Ordering
+abbrev pub key_cmp : Row → Row → Ordering
 key_cmp a b = value_cmp a.0 b.0
 
 module _ {K X : Type 0} (R : K → K → Ordering) where
@@ -221,7 +225,7 @@ module _ {K X : Type 0} (R : K → K → Ordering) where
   below_each x [] h = tt
   below_each x (e ∷ es) h = (is_less _ (first_of_both _ _ h), below_each x es (second_of_both _ _ h))
 
-  entries_ascend : (es : List (K × X)) → T (fin.is_sorted R es) → Ascends (λ a b. R a.0 b.0) es
+  pub entries_ascend : (es : List (K × X)) → T (fin.is_sorted R es) → Ascends (λ a b. R a.0 b.0) es
   entries_ascend [] h = tt
   entries_ascend (e ∷ es) h = (below_each e.0 es (first_of_both _ _ h), entries_ascend es (second_of_both _ _ h))
 
@@ -232,6 +236,9 @@ rows_below file n x (r ∷ rs) key fit fits h = (key_order (key_kind file) x.0 r
 rows_ascend : (file : FileDef) (n : ℕ) (rs : List Row) → IsKeyKind (key_kind file) → AllByRecursion (IsRowOf file) rs → Ascends key_cmp rs → Ascends pair_cmp (map (entry_of_row n) rs)
 rows_ascend file n [] key fits h = tt
 rows_ascend file n (r ∷ rs) key fits h = (rows_below file n r rs key fits.0 fits.1 h.0, rows_ascend file n rs key fits.1 h.1)
+
+pub filter_fits : (file : FileDef) (test : Row → Bool) (rs : List Row) → AllByRecursion (IsRowOf file) rs → AllByRecursion (IsRowOf file) (filter test rs)
+filter_fits file test rs fit = all_of (IsRowOf file) (filter test rs) (λ r h. all_at (IsRowOf file) rs r fit (in_filter test r rs h).0)
 
 wrapped_key : (n : ℕ) (r : Rec) → (wrapped n r).key ≡ r.key
 wrapped_key zero r = refl

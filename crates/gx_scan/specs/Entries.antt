@@ -1,5 +1,5 @@
 -- Records that stand whole in leaves.
-use Rattle.std.specs.Prelude.{[], ◌≡◌, ℕ, zero, suc, List, ◌∷◌, map, nat_eq}
+use Rattle.std.specs.Prelude.{[], ◌≡◌, ℕ, zero, suc, List, ◌∷◌, map, nat_eq, Option, Some, None}
 use Rattle.std.specs.List.{filter}
 use Rattle.std.specs.FinMap as fin
 use Rattle.gx_values.specs.declared.records.Rec.{Rec}
@@ -9,7 +9,8 @@ use Rattle.gx_mapping.specs.Rule.{In, IsOf}
 use Rattle.gx_stack.specs.declared.entries.LeafEntry.{LeafEntry}
 use Rattle.gx_stack.specs.Tree.{Tree, leaves_of, tree_form, entries_of, entry_in, leaf_body}
 use Rattle.gx_types.specs.declared.any.AnyMapping.{AnyMapping}
-use Rattle.gx_types.specs.declared.any.AnyMapping.TheVariants as any
+use Rattle.gx_types.specs.declared.any.Passing.{Passing}
+use Rattle.gx_types.specs.declared.any.Passing.TheVariants.{Whole, Wrapped, Apart}
 use Rattle.gx_types.specs.Any.{any_rule}
 use Rattle.gx_model.specs.States.{File, Row}
 use Rattle.gx_scan.specs.declared.places.Place.{Place}
@@ -24,10 +25,11 @@ wrapped (suc n) r = actual_rec (wrapped n r)
 abbrev pub entry_of_row : ℕ → Row → List ℕ × List ℕ
 entry_of_row n r = (bytes_of r.0, leaf_body (wrapped (suc n) (rec_of r)).fields)
 
--- how many layers `actual` stand above the children of a layer above which there are so many
-abbrev pub layers_below : AnyMapping → ℕ → ℕ
-layers_below (any.Actual m) n = suc n
-layers_below (any.Partition m) n = n
+-- how many layers `actual` stand above the children of a layer above which there are so many, where it passes its records whole
+abbrev pub layers_below : Passing → ℕ → Option ℕ
+layers_below Whole n = Some n
+layers_below Wrapped n = Some (suc n)
+layers_below Apart n = None
 
 -- The places are the leaves of the tree, each once and in their order. Each record of the tree, which is below n layers `actual`,
 -- stands whole in one of them.

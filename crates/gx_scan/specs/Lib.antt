@@ -2,3 +2,4 @@ pub mod Files
 pub mod Records
 pub mod Entries
 pub mod Scan
+pub mod Within

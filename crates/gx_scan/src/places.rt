@@ -1,7 +1,6 @@
 // Where the records of a file stand in its node's leaves.
-ghost use Rattle.std.specs.Prelude.{◌≡◌, ◌≤◌, ◌+◌, ◌++◌, List, IfOk, OnOk};
+ghost use Rattle.std.specs.Prelude.{◌≡◌, ◌++◌, List, ℕ, true, Some, IfOk, IfSome};
 ghost use Rattle.gx_values.specs.Keys.{AreKeyFields};
-ghost use Rattle.gx_actual.specs.Bodies.{field_widths};
 ghost use Rattle.gx_stack.specs.Tree.{tree_form, IsValid};
 ghost use Rattle.gx_stack.specs.Seen.{tree_of};
 ghost use Rattle.gx_types.specs.Any.{any_rule};
@@ -9,7 +8,7 @@ ghost use Rattle.gx_scan.specs.declared.places.Place.{Place as ThePlace};
 ghost use Rattle.gx_scan.specs.Entries.{layers_below, ArePlaces};
 
 use gx_stack::Node;
-use gx_types::AnyMapping;
+use gx_types::{AnyMapping, Passing};
 use gx_values::NoMemory;
 use std::alloc::{AllocError, Global};
 
@@ -23,28 +22,35 @@ pub struct Place {
     pub lengths: u32,
 }
 
-/// The places of the records of a file's node: its leaves, each once. `NoMemory`: there was none for them.
-pub(crate) fn places_of(alloc: Global, node: &Node<AnyMapping>) -> Result<Vec<Place>, NoMemory>
+/// The places of the records of a file's node: its leaves, each once. `None`: some layer codes or splits
+/// its records. `NoMemory`: there was none for the places.
+pub(crate) fn places_of(
+    alloc: Global,
+    node: &Node<AnyMapping>,
+) -> Result<Option<Vec<Place>>, NoMemory>
     requires valid { IsValid any_rule (tree_of node.now) }
     requires plain { AreKeyFields (tree_form any_rule (tree_of node.now)).fields }
-    ensures { IfOk result (λ places. ArePlaces 0 (tree_of node.now) places.items) }
+    ensures { IfOk result
+        (λ found. IfSome found (λ places. ArePlaces 0 (tree_of node.now) places.items)) }
 {
     let mut places = Vec::new(alloc);
-    add_places(node, 0, &mut places)?;
-    Ok(places)
+    if add_places(node, 0, &mut places)? {
+        Ok(Some(places))
+    } else {
+        Ok(None)
+    }
 }
 
-// The same of a node below so many layers `actual`.
+// The same of a node below so many layers `actual`, and whether each of its layers passes records whole.
 fn add_places(
     node: &Node<AnyMapping>,
     layers: u32,
     places: &mut Vec<Place>,
-) -> Result<(), AllocError>
+) -> Result<bool, AllocError>
     requires valid { IsValid any_rule (tree_of node.now) }
-    requires few { layers ≤ field_widths (tree_form any_rule (tree_of node.now)).fields + 1 }
     requires plain { layers ≡ 0 → AreKeyFields (tree_form any_rule (tree_of node.now)).fields }
-    ensures { OnOk result
-        ((added : List ThePlace) × (places.new.items ≡ places.old.items ++ added)
+    ensures { IfOk result (λ whole. whole ≡ true →
+        (added : List ThePlace) × (places.new.items ≡ places.old.items ++ added)
         × ArePlaces layers (tree_of node.now) added) }
 {
     match node {
@@ -53,25 +59,30 @@ fn add_places(
                 leaf: node.leaf,
                 lengths: layers.saturating_sub(1),
             })?;
-            Ok(())
+            Ok(true)
         }
         Node::Layer(layer) => {
-            let below = layers_below(&layer.mapping, layers);
+            let Some(below) = layers_below(layer.mapping.passing(), layers) else {
+                return Ok(false);
+            };
             for kid in &layer.kids {
-                add_places(kid, below, places)?;
+                if !add_places(kid, below, places)? {
+                    return Ok(false);
+                }
             }
-            Ok(())
+            Ok(true)
         }
     }
 }
 
-// How many layers `actual` stand above the children of a layer.
-fn layers_below(mapping: &AnyMapping, layers: u32) -> u32
-    requires { layers ≤ field_widths (any_rule mapping.now).form.fields + 1 }
-    ensures { result ≡ layers_below mapping.now layers }
+// How many layers `actual` stand above the children of a layer. `None`: it codes or splits its records, or
+// they are too many to count.
+fn layers_below(passing: Passing, layers: u32) -> Option<u32>
+    ensures { (below : ℕ) → result ≡ Some below → layers_below passing layers ≡ Some below }
 {
-    match mapping {
-        AnyMapping::Actual(_) => layers + 1,
-        AnyMapping::Partition(_) => layers,
+    match passing {
+        Passing::Whole => Some(layers),
+        Passing::Wrapped => layers.checked_add(1),
+        Passing::Apart => None,
     }
 }

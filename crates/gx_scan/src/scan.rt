@@ -9,7 +9,7 @@ ghost use Rattle.gx_values.specs.declared.values.Value.{Value as FieldValue};
 ghost use Rattle.gx_values.specs.declared.values.Value.TheVariants as value;
 ghost use Rattle.gx_values.specs.Values.{Fits, AreFit, value_cmp, is_met};
 ghost use Rattle.gx_values.specs.Keys.{bytes_of, rank_of, IsKeyKind};
-ghost use Rattle.gx_ports.specs.LeafMaps.{entry_of};
+ghost use Rattle.gx_ports.specs.LeafMaps.{entry_of, Extends};
 ghost use Rattle.gx_actual.specs.Bodies.{field_bytes, body_of, IsShort, AreShort};
 ghost use Rattle.gx_model.specs.States.{Row as TheRow, IsRowOf};
 ghost use Rattle.gx_model.specs.Found.{value_at, meets_conds};
@@ -41,10 +41,11 @@ pub(crate) fn add_chosen_rows(
     rows: &mut Vec<Row>,
 ) -> Result<bool, NoMemory>
     requires { IsStorable file.now }
-    ensures { (rs : List TheRow) → AllByRecursion (IsRowOf file.now) rs →
+    ensures chosen { (rs : List TheRow) → AllByRecursion (IsRowOf file.now) rs →
         entries.now ≡ map (λ r. entry_of (entry_of_row lengths r)) rs → IfOk result
         (λ all. (all ≡ true)
         × (rows.new.items ≡ rows.old.items ++ filter (meets_conds conds.now) rs)) }
+    ensures front { Extends rows.old.items rows.new.items }
 {
     for index in 0..entries.len() {
         let entry = entries.entry(index);

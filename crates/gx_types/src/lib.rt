@@ -6,6 +6,6 @@ mod building;
 mod built;
 mod nodes;
 
-pub use any::AnyMapping;
+pub use any::{AnyMapping, Passing};
 pub use building::{build, heads_built};
 pub use built::{Built, Trees};
