@@ -19,6 +19,7 @@ use Rattle.gx_schema.specs.declared.schema.FileDef.{FileDef}
 use Rattle.gx_schema.specs.Rules.{IsKind, AreFields}
 use Rattle.gx_actual.specs.Bodies.{body_of, IsShortText, AreShortTexts}
 use Rattle.gx_actual.specs.Laws.{body_width}
+use Rattle.gx_divide.specs.Forms.{is_bytes, is_bytes_form, most_of, most_in}
 use Rattle.gx_partition.specs.Bounds.{IsPartition}
 use Rattle.gx_partition.specs.Places.{no_field, kind_at, IsPlace}
 use Rattle.gx_partition.specs.declared.place.Where.{Where}
@@ -37,7 +38,7 @@ use Rattle.gx_types.specs.FileForms.{IsLimited, AreLimited, AreDistinct, room_of
 use Rattle.gx_types.specs.HeadRules.{first_in, place_in}
 use Rattle.gx_types.specs.Makers.{kind_of, CanMake}
 use Rattle.gx_typing.specs.Places.{leaves_at}
-use Rattle.gx_typing.specs.Typed.{IsCodeFor, IsPartitioned, IsTypedTerm, AreTypedTerms}
+use Rattle.gx_typing.specs.Typed.{IsCodeFor, IsOneBytes, IsPartitioned, IsTypedTerm, AreTypedTerms}
 use Rattle.gx_typing.specs.Typing.{count}
 use Rattle.gx_types.proofs.FormLaws.{body_room, count_list, keys_narrow}
 use Rattle.gx_types.proofs.HeadLaws.{key_kind, place_is, typed_kind, others_are}
@@ -252,6 +253,11 @@ partition_can levels form name bounds kids fits met are few =
       few = omega arith;
     }
 
+one_bytes : (fs : List Field) → IsOneBytes fs → (is_bytes_form fs ≡ true) × (most_in fs ≤ rooms fs)
+one_bytes [] is = absurd is
+one_bytes (f ∷ []) is = (ap is_bytes is.1, subst (λ (k : Kind). most_of k ≤ room_of k + 0) (sym is.1) (omega arith))
+one_bytes (f ∷ g ∷ fs) is = absurd is
+
 -- the second child of an index is a term
 second : (form : Form) (name : List ℕ) (levels : ℕ) (kids : Trees) → IsCount (arity (heads.Index name)) (list_of kids) → AllByRecursion (IsTerm levels) (list_of kids) → AreTypedTerms (kid_form (heads.Index name) form) 0 kids
     → widths (kid_form (heads.Index name) form 1).keys ≤ 400
@@ -283,7 +289,9 @@ can_make levels (heads.Segment names) form kids fits term typed few = record {
 can_make levels heads.Transpose form kids fits term typed few = record { texts = fits.texts; some = typed.0.some }
 can_make levels (heads.Partition name bounds) form kids fits term typed few =
     partition_can (suc levels) form name bounds (count kids) fits typed.0 term.0.2 (omega (arith, typed.0.each, some_leaves levels form kids term.2))
-can_make levels (heads.Divide size) form kids fits term typed few = record { bytes = typed.0; narrow = omega (arith, fits.room); some = term.0.0 }
+can_make levels (heads.Divide size) form kids fits term typed few =
+    let one = one_bytes form.fields typed.0 in
+    record { bytes = one.0; narrow = omega (arith, one.1, fits.room); some = term.0.0 }
 can_make levels (heads.Index name) form kids fits term typed few =
     let at = typed_kind form.fields name typed.0.kind typed.0.field.is in
     let key : IsKeyKind (kind_of form.fields (first_in form.fields name)) = subst IsKeyKind (sym at.1) typed.0.key_kind in

@@ -1,5 +1,5 @@
 -- The rule of each head over the records of a form.
-use Rattle.std.specs.Prelude.{ℕ, zero, suc, pos, ◌+◌, ◌/◌, Bool, true, false, ◌&&◌, ◌||◌, not, List, [], ◌∷◌, ◌++◌, length, map, take, drop, Option, Some, None, nat_eq, nat_lt, nat_le, ◌==◌, slice_index_or, if◌then◌else◌}
+use Rattle.std.specs.Prelude.{ℕ, zero, suc, ◌+◌, Bool, true, false, ◌&&◌, ◌||◌, not, List, [], ◌∷◌, length, map, Option, Some, None, nat_eq, nat_lt, nat_le, ◌==◌, slice_index_or, if◌then◌else◌}
 use Rattle.std.specs.List.{flat_map, list_any}
 use Rattle.std.specs.Int.{w64, to_be_bytes, cast_unsigned}
 use Rattle.std.specs.Cmp.Lexicographic.{pointwise}
@@ -12,6 +12,7 @@ use Rattle.gx_values.specs.declared.records.Form.{Form}
 use Rattle.gx_mapping.specs.declared.parts.Part.{Part}
 use Rattle.gx_mapping.specs.Rule.{Rule, is_field}
 use Rattle.gx_actual.specs.Rules.{actual_rule}
+use Rattle.gx_divide.specs.Rules.{divide_rule}
 use Rattle.gx_partition.specs.Rules.{partition_rule}
 use Rattle.gx_partition.specs.Places.{no_field, no_value}
 use Rattle.gx_partition.specs.declared.place.Where.{Where}
@@ -19,7 +20,7 @@ use Rattle.gx_partition.specs.declared.place.Where.TheVariants.{Key, Rest}
 use Rattle.gx_equation.specs.declared.heads.Head.{Head}
 use Rattle.gx_equation.specs.declared.heads.Head.TheVariants as heads
 use Rattle.gx_typing.specs.Fields.{field, has_name}
-use Rattle.gx_typing.specs.Forms.{coded_kind, one_field, divide_form}
+use Rattle.gx_typing.specs.Forms.{coded_kind, one_field}
 
 -- ---- names as numbers
 
@@ -159,32 +160,6 @@ transpose_rule form = record {
   skips = λ child span. false;
   indexes = λ name. None;
   carries = λ child name. is_field form.fields name && nat_eq (first_in form.fields name) child;
-}
-
--- so many pieces of `size` bytes, and then what is left of the bytes
-abbrev pub cut : ℕ → ℕ → List ℕ → List (List ℕ)
-cut zero size bytes = bytes ∷ []
-cut (suc more) size bytes = take size bytes ∷ cut more size (drop size bytes)
-
-abbrev pub bytes_in : List Value → List ℕ
-bytes_in (values.Bytes bytes ∷ vs) = bytes
-bytes_in other = []
-
--- pieces under their numbers, from j on
-abbrev pub numbered : List Value → ℕ → List (List ℕ) → List Part
-numbered key j [] = []
-numbered key j (p ∷ ps) = part 0 (key ++ values.Int (pos j) ∷ []) (values.Bytes p ∷ []) ∷ numbered key (suc j) ps
-
-abbrev pub divide_rule : Form → ℕ → Rule
-divide_rule form size = record {
-  kids = 1;
-  form = form;
-  kid_form = λ child. divide_form size form;
-  holds_rest = λ child. true;
-  parts = λ r. numbered r.key 0 (cut (length (bytes_in r.fields) / size) size (bytes_in r.fields));
-  skips = λ child span. false;
-  indexes = λ name. None;
-  carries = λ child name. false;
 }
 
 abbrev pub entries_form : Form → ℕ → ℕ → Form

@@ -6,13 +6,14 @@ use Rattle.gx_values.specs.declared.values.Code.{Code}
 use Rattle.gx_values.specs.declared.records.Field.{Field}
 use Rattle.gx_values.specs.declared.records.Form.{Form}
 use Rattle.gx_actual.specs.Bodies.{field_widths, AreShortTexts}
+use Rattle.gx_divide.specs.Forms.{IsDivide}
 use Rattle.gx_partition.specs.Places.{no_field}
 use Rattle.gx_partition.specs.Bounds.{IsPartition}
 use Rattle.gx_equation.specs.declared.heads.Head.{Head}
 use Rattle.gx_equation.specs.declared.heads.Head.TheVariants as heads
-use Rattle.gx_types.specs.FileForms.{AreLimited, rooms}
+use Rattle.gx_types.specs.FileForms.{AreLimited}
 use Rattle.gx_types.specs.HeadRules.{first_in, numbers_in, place_in, others_of}
-use Rattle.gx_typing.specs.Typed.{IsCodeFor, IsOneBytes}
+use Rattle.gx_typing.specs.Typed.{IsCodeFor}
 
 -- the kind of the data field with the number
 abbrev pub kind_of : List Field → ℕ → Kind
@@ -35,11 +36,6 @@ pub record CanTranspose (form : Form) : Type 0 where
   pub texts : AreLimited form.fields
   pub some : 0 < length form.fields
 
-pub record CanDivide (form : Form) (size : ℕ) : Type 0 where
-  pub bytes : IsOneBytes form.fields
-  pub narrow : rooms form.fields ≤ 65535
-  pub some : 0 < size
-
 pub record CanIndex (form : Form) (i : ℕ) : Type 0 where
   pub texts : AreLimited form.fields
   pub place : i < length form.fields
@@ -53,5 +49,5 @@ CanMake (heads.Encode name c) form = CanEncode form (first_in form.fields name) 
 CanMake (heads.Segment names) form = CanSegment form (numbers_in form.fields names)
 CanMake heads.Transpose form = CanTranspose form
 CanMake (heads.Partition name bounds) form = IsPartition form (place_in form name) bounds
-CanMake (heads.Divide size) form = CanDivide form size
+CanMake (heads.Divide size) form = IsDivide form size
 CanMake (heads.Index name) form = CanIndex form (first_in form.fields name)

@@ -2,6 +2,7 @@
 ghost use Rattle.std.specs.Prelude.{◌≡◌};
 
 use gx_actual::Actual;
+use gx_divide::Divide;
 use gx_mapping::{Mapping, Parts};
 use gx_partition::Partition;
 use gx_values::{Form, Name, NoMemory, Rec, Span, Values};
@@ -14,6 +15,8 @@ pub enum AnyMapping {
     Actual(Actual),
     /// whole records, by the value of one field
     Partition(Partition),
+    /// the bytes of the one data field, in pieces
+    Divide(Divide),
 }
 
 impl Mapping for AnyMapping {
@@ -27,6 +30,7 @@ impl Mapping for AnyMapping {
         match self {
             AnyMapping::Actual(mapping) => mapping.kids(),
             AnyMapping::Partition(mapping) => mapping.kids(),
+            AnyMapping::Divide(mapping) => mapping.kids(),
         }
     }
 
@@ -34,6 +38,7 @@ impl Mapping for AnyMapping {
         match self {
             AnyMapping::Actual(mapping) => mapping.form(),
             AnyMapping::Partition(mapping) => mapping.form(),
+            AnyMapping::Divide(mapping) => mapping.form(),
         }
     }
 
@@ -41,6 +46,7 @@ impl Mapping for AnyMapping {
         match self {
             AnyMapping::Actual(mapping) => mapping.kid_form(child),
             AnyMapping::Partition(mapping) => mapping.kid_form(child),
+            AnyMapping::Divide(mapping) => mapping.kid_form(child),
         }
     }
 
@@ -48,6 +54,7 @@ impl Mapping for AnyMapping {
         match self {
             AnyMapping::Actual(mapping) => mapping.holds_rest(child),
             AnyMapping::Partition(mapping) => mapping.holds_rest(child),
+            AnyMapping::Divide(mapping) => mapping.holds_rest(child),
         }
     }
 
@@ -55,6 +62,7 @@ impl Mapping for AnyMapping {
         match self {
             AnyMapping::Actual(mapping) => mapping.parts(alloc, rec),
             AnyMapping::Partition(mapping) => mapping.parts(alloc, rec),
+            AnyMapping::Divide(mapping) => mapping.parts(alloc, rec),
         }
     }
 
@@ -62,6 +70,7 @@ impl Mapping for AnyMapping {
         match self {
             AnyMapping::Actual(mapping) => mapping.gather(alloc, key, parts),
             AnyMapping::Partition(mapping) => mapping.gather(alloc, key, parts),
+            AnyMapping::Divide(mapping) => mapping.gather(alloc, key, parts),
         }
     }
 
@@ -69,6 +78,7 @@ impl Mapping for AnyMapping {
         match self {
             AnyMapping::Actual(mapping) => mapping.skips(child, span),
             AnyMapping::Partition(mapping) => mapping.skips(child, span),
+            AnyMapping::Divide(mapping) => mapping.skips(child, span),
         }
     }
 
@@ -76,6 +86,7 @@ impl Mapping for AnyMapping {
         match self {
             AnyMapping::Actual(mapping) => mapping.indexes(field),
             AnyMapping::Partition(mapping) => mapping.indexes(field),
+            AnyMapping::Divide(mapping) => mapping.indexes(field),
         }
     }
 
@@ -83,6 +94,7 @@ impl Mapping for AnyMapping {
         match self {
             AnyMapping::Actual(mapping) => mapping.carries(child, field),
             AnyMapping::Partition(mapping) => mapping.carries(child, field),
+            AnyMapping::Divide(mapping) => mapping.carries(child, field),
         }
     }
 }

@@ -34,7 +34,7 @@ fn term_built(term: &Term) -> bool
 {
     match term {
         Term::Leaf(_) => true,
-        Term::Actual(kid) => term_built(kid),
+        Term::Actual(kid) | Term::Divide(_, kid) => term_built(kid),
         Term::Partition(_, _, kids) => terms_built(kids),
         _ => false,
     }
@@ -49,7 +49,7 @@ fn side_built(side: &Side) -> bool
     }
 }
 
-/// Whether each side is that of a file, whose heads are leaves, `actual` and `partition`: those that nodes are built of.
+/// Whether each side is that of a file, whose heads are leaves, `actual`, `partition` and `divide`: those that nodes are built of.
 pub fn heads_built(equation: &Equation) -> bool
     ensures { result ≡ heads_built (definitions_of equation.now.definitions) }
 {

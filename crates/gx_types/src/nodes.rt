@@ -1,6 +1,7 @@
 // Nodes of terms and of files.
 ghost use Rattle.std.specs.Prelude.{◌≡◌, ◌≢◌, ◌<◌, ◌≤◌, ◌+◌, ℕ, length, map, None, OnOk, IfOk, IfSome, IfNone};
 ghost use Rattle.gx_actual.specs.Bodies.{field_widths, AreShortTexts};
+ghost use Rattle.gx_divide.specs.Forms.{IsDivide};
 ghost use Rattle.gx_partition.specs.Bounds.{IsPartition};
 ghost use Rattle.gx_values.specs.declared.values.Kind.{Kind as KindOf};
 ghost use Rattle.gx_equation.specs.declared.heads.Head.TheVariants as heads;
@@ -17,6 +18,7 @@ ghost use Rattle.gx_typing.specs.Typed.{IsField};
 
 use crate::any::AnyMapping;
 use gx_actual::actual;
+use gx_divide::divide;
 use gx_equation::{Definition, Side, Term};
 use gx_mapping::Mapping;
 use gx_partition::{Where, partition};
@@ -111,6 +113,14 @@ fn partition_of(
     Ok(AnyMapping::Partition(partition(alloc, form, at, bounds)?))
 }
 
+// The mapping of `divide` by pieces of so many bytes, for the records of the form.
+fn divide_of(alloc: Global, form: &Form, size: u16) -> Result<AnyMapping, NoMemory>
+    requires { IsDivide form.now size }
+    ensures { IfOk result (IsMappingOf (heads.Divide size) form.now) }
+{
+    Ok(AnyMapping::Divide(divide(alloc, form, size)?))
+}
+
 // The mapping of the head of a term, for the records of the form.
 fn mapping_of(alloc: Global, form: &Form, term: &Term) -> Result<AnyMapping, NoMemory>
     requires ready { (next : ℕ) × IsReady next form.now (tree_of term.now) }
@@ -120,6 +130,7 @@ fn mapping_of(alloc: Global, form: &Form, term: &Term) -> Result<AnyMapping, NoM
     match term {
         Term::Actual(_) => actual_of(alloc, form),
         Term::Partition(name, bounds, _) => partition_of(alloc, form, name, bounds),
+        Term::Divide(size, _) => divide_of(alloc, form, *size),
         _ => unreachable!(),
     }
 }

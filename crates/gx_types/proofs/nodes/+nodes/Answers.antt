@@ -6,9 +6,9 @@ use Rattle.gx_stack.specs.declared.node.Node.{Node}
 use Rattle.gx_stack.specs.Seen.{tree_of as node_tree, kids_from as node_kids}
 use Rattle.gx_types.specs.declared.any.AnyMapping.{AnyMapping}
 use Rattle.gx_types.specs.Any.{any_rule}
-use Rattle.gx_types.specs.Build.{leaf_count, kids_of, IsTreeOf, AreTreesOf, IsReady, AreReady}
+use Rattle.gx_types.specs.Build.{leaf_count, leaf_counts, kids_of, IsTreeOf, AreTreesOf, IsReady, AreReady}
 use Rattle.gx_types.proofs.NodeSteps.{kids_below, child_ready, behind_ready, behind_count, behind_trees, all_trees}
-use Rattle.gx_types.proofs.TreeLaws.{layer_ready, layer_kids, layer_few}
+use Rattle.gx_types.proofs.TreeLaws.{layer_ready, layer_kids, layer_few, layer_tree, layer_leaves}
 use Rattle.gx_typing.proofs.TermSize.{trees_size, one_smaller}
 use Rattle.gx_typing.proofs.TypingSteps.{count_kids}
 use Rattle.gx_typing.specs.Typing.{count}
@@ -61,3 +61,17 @@ node_of-kid_nodes-requires t c =
         ),
       ),
     )
+
+pub node_of-returns-in_ok-nodes-in_default : goal.node_of-returns-in_ok-nodes-in_default
+node_of-returns-in_ok-nodes-in_default t c =
+    let n = c.args.next.now in
+    let form = c.args.form.now in
+    let seen = tree_of c.args.term.now in
+    let is = c.in_ok-mapping-in_default.ensures in
+    let kids = node_kids (map node_tree c.in_ok-nodes-in_default.nodes.items) in
+    let trees = subst (λ (ks : Trees). AreTreesOf n (any_rule c.in_ok-mapping-in_default.mapping).kid_form 0 ks kids) c.children.ensures c.in_ok-nodes-in_default.ensures.trees in
+    let all : leaf_counts (kids_from (trees_of c.children.result.now)) ≡ leaf_count seen = ap leaf_counts c.children.ensures ∙ sym (layer_leaves seen is.0) in
+    record {
+      tree = subst (IsTreeOf n form seen) (sym c.layer_node.ensures) (layer_tree n form seen c.in_ok-mapping-in_default.mapping kids c.requires is trees);
+      next = omega (arith, c.in_ok-nodes-in_default.ensures.next, all);
+    }
