@@ -12,7 +12,8 @@ use Rattle.gx_values.specs.declared.values.Kind.{Kind}
 use Rattle.gx_values.specs.declared.values.Kind.TheVariants as kinds
 use Rattle.gx_values.specs.declared.records.Field.{Field}
 use Rattle.gx_values.specs.declared.records.Form.{Form}
-use Rattle.gx_mapping.specs.Rule.{is_field}
+use Rattle.gx_mapping.specs.Rule.{is_field, first_in}
+use Rattle.gx_split.specs.Groups.{marks, chosen}
 use Rattle.gx_partition.specs.Places.{no_field}
 use Rattle.gx_partition.specs.declared.place.Where.{Where}
 use Rattle.gx_partition.specs.declared.place.Where.TheVariants.{Key, Rest}
@@ -24,7 +25,7 @@ use Rattle.gx_types.specs.Build.{IsFirstOf, IsPlaceOf}
 use Rattle.gx_typing.specs.Fields.{field, kind_in, has_name}
 use Rattle.gx_typing.specs.Forms.{coded_kind, coded_field, index_kind, kid_form}
 use Rattle.gx_types.specs.FileForms.{AreDistinct}
-use Rattle.gx_types.specs.HeadRules.{first_in, numbers_from, place_in, marks, chosen, changed, named_of, others_of, head_rule, IsLayer}
+use Rattle.gx_types.specs.HeadRules.{numbers_from, place_in, changed, head_rule, IsLayer}
 use Rattle.gx_typing.specs.Typed.{IsField, IsMet}
 use Rattle.gx_typing.specs.Typing.{count}
 use Rattle.gx_types.proofs.FormLaws.{coded_none, count_list}
@@ -141,14 +142,8 @@ marks_again j (false ∷ bs) =
     let rest = marks_again (suc j) bs in
     λ i. here i ∷ rest i
 
-marked : (p : Field → Bool) (fs : List Field) → marks (numbers_from 0 (map p fs)) 0 (length fs) ≡ map p fs
+pub marked : (p : Field → Bool) (fs : List Field) → marks (numbers_from 0 (map p fs)) 0 (length fs) ≡ map p fs
 marked p fs = ap (marks (numbers_from 0 (map p fs)) 0) (sym (length-map fs p)) ∙ marks_again 0 (map p fs)
-
-pub named_are : (p : Field → Bool) (fs : List Field) → named_of (numbers_from 0 (map p fs)) fs ≡ filter p fs
-named_are p fs = ap (λ (bs : List Bool). chosen bs fs) (marked p fs) ∙ chosen_filter p fs
-
-pub others_are : (p : Field → Bool) (fs : List Field) → others_of (numbers_from 0 (map p fs)) fs ≡ filter (λ f. not (p f)) fs
-others_are p fs = ap (λ (bs : List Bool). chosen (map not bs) fs) (marked p fs) ∙ others_chosen p fs
 
 changed_first : (name : List ℕ) (c : Code) (fs : List Field) → AreDistinct fs → is_field fs name ≡ true → changed (first_in fs name) (λ f. field f.name (coded_kind c f.kind)) fs ≡ map (coded_field name c) fs
 changed_first name c [] are h = refl
@@ -204,8 +199,8 @@ rule_kid_form heads.Actual form kids met names c = refl
 rule_kid_form (heads.Encode name e) form kids met names c =
     let here = changed_first name e form.fields names (field_there form.fields name met.kind met.field.is) in
     λ i. record { keys = form.keys; fields = here i }
-rule_kid_form (heads.Segment names) form kids met distinct zero = λ i. record { keys = form.keys; fields = named_are (λ f. has_name names f.name) form.fields i }
-rule_kid_form (heads.Segment names) form kids met distinct (suc c) = λ i. record { keys = form.keys; fields = others_are (λ f. has_name names f.name) form.fields i }
+rule_kid_form (heads.Segment names) form kids met distinct zero = λ i. record { keys = form.keys; fields = chosen_filter (λ f. has_name names f.name) form.fields i }
+rule_kid_form (heads.Segment names) form kids met distinct (suc c) = λ i. record { keys = form.keys; fields = others_chosen (λ f. has_name names f.name) form.fields i }
 rule_kid_form heads.Transpose form kids met names c = refl
 rule_kid_form (heads.Partition name bounds) form kids met names c = refl
 rule_kid_form (heads.Divide size) form kids met names c = refl

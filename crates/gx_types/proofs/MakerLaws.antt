@@ -14,7 +14,7 @@ use Rattle.gx_values.specs.declared.records.Field.{Field}
 use Rattle.gx_values.specs.declared.records.Form.{Form}
 use Rattle.gx_values.specs.declared.records.Rec.{Rec}
 use Rattle.gx_values.proofs.KeyLemmas.{fit_key}
-use Rattle.gx_mapping.specs.Rule.{IsOf, is_field}
+use Rattle.gx_mapping.specs.Rule.{IsOf, is_field, first_in}
 use Rattle.gx_schema.specs.declared.schema.FileDef.{FileDef}
 use Rattle.gx_schema.specs.Rules.{IsKind, AreFields}
 use Rattle.gx_actual.specs.Bodies.{body_of, IsShortText, AreShortTexts}
@@ -32,16 +32,16 @@ use Rattle.gx_equation.specs.Printing.{IsBound, IsCount, IsTerm, IsSide}
 use Rattle.gx_equation.specs.Trees.{Tree, Trees, node, none, kid, kids_from, list_of, arity, link_side}
 use Rattle.gx_types.specs.Build.{are_built_terms, leaf_count, leaf_counts, IsReady, AreReady}
 use Rattle.gx_typing.specs.Dues.{file_form}
-use Rattle.gx_typing.specs.Fields.{kind_in, has_name}
+use Rattle.gx_typing.specs.Fields.{kind_in}
 use Rattle.gx_typing.specs.Forms.{index_kind, kid_form, link_form}
 use Rattle.gx_types.specs.FileForms.{IsLimited, AreLimited, AreDistinct, room_of, rooms, IsFileForm}
-use Rattle.gx_types.specs.HeadRules.{first_in, place_in}
+use Rattle.gx_types.specs.HeadRules.{place_in}
 use Rattle.gx_types.specs.Makers.{kind_of, CanMake}
 use Rattle.gx_typing.specs.Places.{leaves_at}
 use Rattle.gx_typing.specs.Typed.{IsCodeFor, IsOneBytes, IsPartitioned, IsTypedTerm, AreTypedTerms}
 use Rattle.gx_typing.specs.Typing.{count}
 use Rattle.gx_types.proofs.FormLaws.{body_room, count_list, keys_narrow}
-use Rattle.gx_types.proofs.HeadLaws.{key_kind, place_is, typed_kind, others_are}
+use Rattle.gx_types.proofs.HeadLaws.{key_kind, place_is, typed_kind}
 use Rattle.gx_types.proofs.ReadyLaws.{within, kind_is, bounds_fit, sorted_bounds}
 
 -- ---- the forms of files
@@ -282,11 +282,8 @@ can_make levels heads.Actual form kids fits term typed few = record {
 can_make levels (heads.Encode name c) form kids fits term typed few =
     let at = typed_kind form.fields name typed.0.kind typed.0.field.is in
     record { texts = fits.texts; place = at.0; kind = subst (IsCodeFor c) (sym at.1) typed.0.coded }
-can_make levels (heads.Segment names) form kids fits term typed few = record {
-  texts = fits.texts;
-  others = subst (λ (gs : List Field). 0 < length gs) (sym (others_are (λ f. has_name names f.name) form.fields)) typed.0.others;
-}
-can_make levels heads.Transpose form kids fits term typed few = record { texts = fits.texts; some = typed.0.some }
+can_make levels (heads.Segment names) form kids fits term typed few = omega (arith, fits.few_fields)
+can_make levels heads.Transpose form kids fits term typed few = record { some = typed.0.some; few = omega (arith, fits.few_fields) }
 can_make levels (heads.Partition name bounds) form kids fits term typed few =
     partition_can (suc levels) form name bounds (count kids) fits typed.0 term.0.2 (omega (arith, typed.0.each, some_leaves levels form kids term.2))
 can_make levels (heads.Divide size) form kids fits term typed few =

@@ -3,7 +3,7 @@ use Rattle.gx_equation.specs.declared.heads.Head.TheVariants as heads
 use Rattle.gx_types.specs.Build.{IsReady}
 use Rattle.gx_types.proofs.MakerLaws.{limited_short, ready_can, ready_keys}
 use Rattle.gx_typing.proofs.SeenAs.{seen_actual, seen_partition, seen_divide}
-use Rattle.gx_types.proofs.nodes.mapping_of.Goals as goal
+use Rattle.gx_types.proofs.mappings.mapping_of.Goals as goal
 
 pub actual_of-requires-clause-texts : goal.actual_of-requires-clause-texts
 actual_of-requires-clause-texts c = limited_short c.args.form.now.fields c.requires.ready.1.records.texts

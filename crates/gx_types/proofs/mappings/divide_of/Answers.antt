@@ -1,5 +1,5 @@
 use Rattle.gx_divide.specs.Rules.{divide_rule}
-use Rattle.gx_types.proofs.nodes.divide_of.Goals as goal
+use Rattle.gx_types.proofs.mappings.divide_of.Goals as goal
 
 pub returns : goal.returns
 returns c =
