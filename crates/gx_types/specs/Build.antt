@@ -30,6 +30,7 @@ use Rattle.gx_typing.specs.Typing.{count}
 abbrev pub is_built_head : Head → ℕ → Bool
 is_built_head (heads.Leaf kind) kids = kids == 0
 is_built_head heads.Actual kids = kids == 1
+is_built_head (heads.Encode name code) kids = kids == 1
 is_built_head (heads.Segment names) kids = kids == 2
 is_built_head heads.Transpose kids = true
 is_built_head (heads.Partition name bounds) kids = true

@@ -1,17 +1,13 @@
 -- The rule of each head over the records of a form.
-use Rattle.std.specs.Prelude.{ℕ, zero, suc, ◌+◌, Bool, true, false, ◌&&◌, ◌||◌, not, List, [], ◌∷◌, map, Some, None, nat_eq, nat_lt, nat_le, ◌==◌, slice_index_or, if◌then◌else◌}
-use Rattle.std.specs.List.{flat_map}
-use Rattle.std.specs.Int.{w64, to_be_bytes, cast_unsigned}
-use Rattle.gx_values.specs.declared.values.Code.{Code}
-use Rattle.gx_values.specs.declared.values.Code.TheVariants as code
+use Rattle.std.specs.Prelude.{ℕ, zero, suc, Bool, true, false, ◌&&◌, List, [], ◌∷◌, map, Some, None, nat_eq, slice_index_or, if◌then◌else◌}
 use Rattle.gx_values.specs.declared.values.Value.{Value}
-use Rattle.gx_values.specs.declared.values.Value.TheVariants as values
 use Rattle.gx_values.specs.declared.records.Field.{Field}
 use Rattle.gx_values.specs.declared.records.Form.{Form}
 use Rattle.gx_mapping.specs.declared.parts.Part.{Part}
 use Rattle.gx_mapping.specs.Rule.{Rule, is_field, first_in}
 use Rattle.gx_actual.specs.Rules.{actual_rule}
 use Rattle.gx_divide.specs.Rules.{divide_rule}
+use Rattle.gx_encode.specs.Rules.{encode_rule}
 use Rattle.gx_split.specs.SegmentRules.{segment_rule}
 use Rattle.gx_split.specs.TransposeRules.{transpose_rule}
 use Rattle.gx_partition.specs.Rules.{partition_rule}
@@ -20,8 +16,7 @@ use Rattle.gx_partition.specs.declared.place.Where.{Where}
 use Rattle.gx_partition.specs.declared.place.Where.TheVariants.{Key, Rest}
 use Rattle.gx_equation.specs.declared.heads.Head.{Head}
 use Rattle.gx_equation.specs.declared.heads.Head.TheVariants as heads
-use Rattle.gx_typing.specs.Fields.{field, has_name}
-use Rattle.gx_typing.specs.Forms.{coded_kind}
+use Rattle.gx_typing.specs.Fields.{has_name}
 
 -- ---- names as numbers
 
@@ -42,56 +37,10 @@ numbers_in fs names = numbers_from 0 (named_in fs names)
 abbrev pub place_in : Form → List ℕ → Where
 place_in form name = if is_field form.keys name then Key (first_in form.keys name) else Rest (first_in form.fields name)
 
--- ---- parts of lists
-
--- with another one in the place of that with the number
-abbrev pub changed : {A : Type 0} → ℕ → (A → A) → List A → List A
-changed i g [] = []
-changed zero g (x ∷ xs) = g x ∷ xs
-changed (suc i) g (x ∷ xs) = x ∷ changed i g xs
-
--- ---- the codes
-
--- whether a byte says no more than the sign of the next one
-abbrev pub is_sign : ℕ → ℕ → Bool
-is_sign b next = (b == 0 && nat_lt next 128) || (b == 255 && nat_le 128 next)
-
-abbrev pub shortest : List ℕ → List ℕ
-shortest [] = []
-shortest (b ∷ []) = if b == 0 then [] else b ∷ []
-shortest (b ∷ next ∷ bs) = if is_sign b next then shortest (next ∷ bs) else b ∷ next ∷ bs
-
--- a run is a count and a byte
-abbrev pub with_byte : ℕ → List (ℕ × ℕ) → List (ℕ × ℕ)
-with_byte b [] = (1, b) ∷ []
-with_byte b (run ∷ runs) = if b == run.1 then (run.0 + 1, b) ∷ runs else (1, b) ∷ run ∷ runs
-
-abbrev pub runs_of : List ℕ → List (ℕ × ℕ)
-runs_of [] = []
-runs_of (b ∷ bs) = with_byte b (runs_of bs)
-
-abbrev pub code_of : Code → Value → List ℕ
-code_of code.Pack (values.Int n) = shortest (to_be_bytes w64 (cast_unsigned w64 n))
-code_of code.Rle (values.Text text) = flat_map (λ (run : ℕ × ℕ). run.0 ∷ run.1 ∷ []) (runs_of text)
-code_of code other = []
-
 -- ---- the rules of the layers
 
 abbrev pub part : ℕ → List Value → List Value → Part
 part child key fields = record { child = child; rec = record { key = key; fields = fields } }
-
--- field i by its code
-abbrev pub encode_rule : Form → ℕ → Code → Rule
-encode_rule form i c = record {
-  kids = 1;
-  form = form;
-  kid_form = λ child. record { keys = form.keys; fields = changed i (λ f. field f.name (coded_kind c f.kind)) form.fields };
-  holds_rest = λ child. true;
-  parts = λ r. part 0 r.key (changed i (λ v. values.Bytes (code_of c v)) r.fields) ∷ [];
-  skips = λ child span. false;
-  indexes = λ name. None;
-  carries = λ child name. is_field form.fields name && not (nat_eq (first_in form.fields name) i);
-}
 
 abbrev pub is_first : ℕ → Bool
 is_first zero = true

@@ -2,6 +2,8 @@
 ghost use Rattle.std.specs.Prelude.{◌≡◌, ◌<◌, ◌≤◌, ℕ, length, None, IfOk, IfSome, IfNone};
 ghost use Rattle.gx_actual.specs.Bodies.{field_widths, AreShortTexts};
 ghost use Rattle.gx_divide.specs.Forms.{IsDivide};
+ghost use Rattle.gx_encode.specs.Forms.{IsEncode};
+ghost use Rattle.gx_mapping.specs.Rule.{first_in};
 ghost use Rattle.gx_partition.specs.Bounds.{IsPartition};
 ghost use Rattle.gx_values.specs.declared.values.Kind.{Kind as KindOf};
 ghost use Rattle.gx_equation.specs.declared.heads.Head.TheVariants as heads;
@@ -16,11 +18,12 @@ ghost use Rattle.gx_typing.specs.Typed.{IsField};
 use crate::any::AnyMapping;
 use gx_actual::actual;
 use gx_divide::divide;
+use gx_encode::encode;
 use gx_equation::{Names, Term};
 use gx_partition::{Where, partition};
 use gx_split::{segment, transpose};
 use gx_typing::has_name;
-use gx_values::{Field, Form, Name, NoMemory, Values};
+use gx_values::{Code, Field, Form, Name, NoMemory, Values};
 use std::alloc::Global;
 
 // The mapping of `actual` for the records of the form.
@@ -79,6 +82,18 @@ fn partition_of(
     Ok(AnyMapping::Partition(partition(alloc, form, at, bounds)?))
 }
 
+// The mapping of `encode` by the field of the name, for the records of the form.
+fn encode_of(alloc: Global, form: &Form, name: &Name, code: Code) -> Result<AnyMapping, NoMemory>
+    requires few_fields { length form.now.fields ≤ 65535 }
+    requires can { IsEncode form.now (first_in form.now.fields name.now) code }
+    ensures { IfOk result (IsMappingOf (heads.Encode name.now code) form.now) }
+{
+    match position(&form.fields.0, name.as_slice()) {
+        Some(field) => Ok(AnyMapping::Encode(encode(alloc, form, field, code)?)),
+        None => unreachable!(),
+    }
+}
+
 // The numbers of the fields that have one of the names.
 fn numbers_of(alloc: Global, fields: &[Field], names: &Names) -> Result<Vec<u16>, NoMemory>
     requires { length fields.now ≤ 65535 }
@@ -126,6 +141,7 @@ pub(crate) fn mapping_of(alloc: Global, form: &Form, term: &Term) -> Result<AnyM
 {
     match term {
         Term::Actual(_) => actual_of(alloc, form),
+        Term::Encode(name, code, _) => encode_of(alloc, form, name, *code),
         Term::Segment(names, _, _) => segment_of(alloc, form, names),
         Term::Transpose(_) => transpose_of(alloc, form),
         Term::Partition(name, bounds, _) => partition_of(alloc, form, name, bounds),
