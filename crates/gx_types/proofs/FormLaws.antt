@@ -159,7 +159,7 @@ module _ (name : List ℕ) (c : Code) where
 
 -- ---- one field
 
-one_limited : (fs : List Field) (i : ℕ) (d : Field) → i < length fs → AreLimited fs → IsLimited (slice_index_or fs i d).kind
+pub one_limited : (fs : List Field) (i : ℕ) (d : Field) → i < length fs → AreLimited fs → IsLimited (slice_index_or fs i d).kind
 one_limited [] i d lt are = absurd (omega arith)
 one_limited (f ∷ fs) zero d lt are = are.0
 one_limited (f ∷ fs) (suc i) d lt are = one_limited fs i d (omega arith) are.1

@@ -8,11 +8,15 @@ use Rattle.std.proofs.lemmas.Bool.Decides.{nat_tests}
 use Rattle.std.proofs.lemmas.List.{length-map}
 use Rattle.gx_values.specs.Keys.{IsKeyKind}
 use Rattle.gx_values.specs.declared.values.Code.{Code}
+use Rattle.gx_values.specs.declared.values.Code.TheVariants as code
 use Rattle.gx_values.specs.declared.values.Kind.{Kind}
 use Rattle.gx_values.specs.declared.values.Kind.TheVariants as kinds
 use Rattle.gx_values.specs.declared.records.Field.{Field}
 use Rattle.gx_values.specs.declared.records.Form.{Form}
-use Rattle.gx_mapping.specs.Rule.{is_field}
+use Rattle.gx_mapping.specs.Rule.{is_field, first_in}
+use Rattle.gx_encode.specs.Codes.{coded_kind as kind_by_code}
+use Rattle.gx_encode.specs.Forms.{changed, coded_field as field_by_code}
+use Rattle.gx_split.specs.Groups.{marks, chosen}
 use Rattle.gx_partition.specs.Places.{no_field}
 use Rattle.gx_partition.specs.declared.place.Where.{Where}
 use Rattle.gx_partition.specs.declared.place.Where.TheVariants.{Key, Rest}
@@ -24,7 +28,7 @@ use Rattle.gx_types.specs.Build.{IsFirstOf, IsPlaceOf}
 use Rattle.gx_typing.specs.Fields.{field, kind_in, has_name}
 use Rattle.gx_typing.specs.Forms.{coded_kind, coded_field, index_kind, kid_form}
 use Rattle.gx_types.specs.FileForms.{AreDistinct}
-use Rattle.gx_types.specs.HeadRules.{first_in, numbers_from, place_in, marks, chosen, changed, named_of, others_of, head_rule, IsLayer}
+use Rattle.gx_types.specs.HeadRules.{numbers_from, place_in, head_rule, IsLayer}
 use Rattle.gx_typing.specs.Typed.{IsField, IsMet}
 use Rattle.gx_typing.specs.Typing.{count}
 use Rattle.gx_types.proofs.FormLaws.{coded_none, count_list}
@@ -66,10 +70,18 @@ first_is (f ∷ fs) name h = go (pointwise nat_eq f.name name) refl (first_is fs
         let ne : f.name ≢ name = λ same. true≢false (sym ((bytes_decides f.name name).1 same) ∙ e) in
         subst (IsFirstOf (f ∷ fs) name) (sym (cond-false (pointwise nat_eq f.name name) 0 (suc (first_in fs name)) e)) (ne, behind (ap (λ (t : Bool). t || is_field fs name) (sym e) ∙ h))
 
-first_only : (fs : List Field) (name : List ℕ) (i : ℕ) → IsFirstOf fs name i → first_in fs name ≡ i
+pub first_only : (fs : List Field) (name : List ℕ) (i : ℕ) → IsFirstOf fs name i → first_in fs name ≡ i
 first_only [] name i is = absurd is
 first_only (f ∷ fs) name zero is = cond-true (pointwise nat_eq f.name name) 0 (suc (first_in fs name)) ((bytes_decides f.name name).1 is)
 first_only (f ∷ fs) name (suc i) is = cond-false (pointwise nat_eq f.name name) 0 (suc (first_in fs name)) (other_name f.name name is.0) ∙ ap suc (first_only fs name i is.1)
+
+-- all fields stand before one that isn't there
+pub none_first : (fs : List Field) (name : List ℕ) → kind_in fs name ≡ None → first_in fs name ≡ length fs
+none_first [] name none = refl
+none_first (f ∷ fs) name none = elim (pointwise nat_eq f.name name) as (λ b. cond b (Some f.kind) (kind_in fs name) ≡ None → cond b 0 (suc (first_in fs name)) ≡ suc (length fs)) [
+  | true ↦ λ e. absurd (no_some e)
+  | false ↦ λ e. ap suc (none_first fs name e)
+] none
 
 first_name : (fs : List Field) (name : List ℕ) (i : ℕ) → IsFirstOf fs name i → (slice_index_or fs i no_field).name ≡ name
 first_name [] name i is = absurd is
@@ -141,14 +153,18 @@ marks_again j (false ∷ bs) =
     let rest = marks_again (suc j) bs in
     λ i. here i ∷ rest i
 
-marked : (p : Field → Bool) (fs : List Field) → marks (numbers_from 0 (map p fs)) 0 (length fs) ≡ map p fs
+pub marked : (p : Field → Bool) (fs : List Field) → marks (numbers_from 0 (map p fs)) 0 (length fs) ≡ map p fs
 marked p fs = ap (marks (numbers_from 0 (map p fs)) 0) (sym (length-map fs p)) ∙ marks_again 0 (map p fs)
 
-pub named_are : (p : Field → Bool) (fs : List Field) → named_of (numbers_from 0 (map p fs)) fs ≡ filter p fs
-named_are p fs = ap (λ (bs : List Bool). chosen bs fs) (marked p fs) ∙ chosen_filter p fs
+-- the layer and typing give a coded field one kind
+same_code : (c : Code) (k : Kind) → kind_by_code c k ≡ coded_kind c k
+same_code code.Pack k = refl
+same_code code.Rle kinds.Int = refl
+same_code code.Rle (kinds.Text most) = refl
+same_code code.Rle (kinds.Bytes most) = refl
 
-pub others_are : (p : Field → Bool) (fs : List Field) → others_of (numbers_from 0 (map p fs)) fs ≡ filter (λ f. not (p f)) fs
-others_are p fs = ap (λ (bs : List Bool). chosen (map not bs) fs) (marked p fs) ∙ others_chosen p fs
+same_field : (c : Code) → field_by_code c ≡ (λ (f : Field). field f.name (coded_kind c f.kind))
+same_field c = λ i f. field f.name (same_code c f.kind i)
 
 changed_first : (name : List ℕ) (c : Code) (fs : List Field) → AreDistinct fs → is_field fs name ≡ true → changed (first_in fs name) (λ f. field f.name (coded_kind c f.kind)) fs ≡ map (coded_field name c) fs
 changed_first name c [] are h = refl
@@ -202,10 +218,10 @@ pub rule_kid_form : (top : Head) (form : Form) (kids : ℕ) → IsMet top form k
 rule_kid_form (heads.Leaf kind) form kids met names c = refl
 rule_kid_form heads.Actual form kids met names c = refl
 rule_kid_form (heads.Encode name e) form kids met names c =
-    let here = changed_first name e form.fields names (field_there form.fields name met.kind met.field.is) in
+    let here = ap (λ (change : Field → Field). changed (first_in form.fields name) change form.fields) (same_field e) ∙ changed_first name e form.fields names (field_there form.fields name met.kind met.field.is) in
     λ i. record { keys = form.keys; fields = here i }
-rule_kid_form (heads.Segment names) form kids met distinct zero = λ i. record { keys = form.keys; fields = named_are (λ f. has_name names f.name) form.fields i }
-rule_kid_form (heads.Segment names) form kids met distinct (suc c) = λ i. record { keys = form.keys; fields = others_are (λ f. has_name names f.name) form.fields i }
+rule_kid_form (heads.Segment names) form kids met distinct zero = λ i. record { keys = form.keys; fields = chosen_filter (λ f. has_name names f.name) form.fields i }
+rule_kid_form (heads.Segment names) form kids met distinct (suc c) = λ i. record { keys = form.keys; fields = others_chosen (λ f. has_name names f.name) form.fields i }
 rule_kid_form heads.Transpose form kids met names c = refl
 rule_kid_form (heads.Partition name bounds) form kids met names c = refl
 rule_kid_form (heads.Divide size) form kids met names c = refl

@@ -6,6 +6,8 @@ use Rattle.std.specs.Cmp.Lexicographic.{pointwise, bytes_decides}
 use Rattle.std.proofs.lemmas.Bool.{true≢false}
 use Rattle.gx_values.specs.Keys.{key_of, width_of, widths, IsKeyKind}
 use Rattle.gx_values.specs.Values.{Fits, AreSized}
+use Rattle.gx_values.specs.declared.values.Code.{Code}
+use Rattle.gx_values.specs.declared.values.Code.TheVariants as code
 use Rattle.gx_values.specs.declared.values.Kind.{Kind}
 use Rattle.gx_values.specs.declared.values.Kind.TheVariants as kinds
 use Rattle.gx_values.specs.declared.values.Value.{Value}
@@ -14,11 +16,13 @@ use Rattle.gx_values.specs.declared.records.Field.{Field}
 use Rattle.gx_values.specs.declared.records.Form.{Form}
 use Rattle.gx_values.specs.declared.records.Rec.{Rec}
 use Rattle.gx_values.proofs.KeyLemmas.{fit_key}
-use Rattle.gx_mapping.specs.Rule.{IsOf, is_field}
+use Rattle.gx_mapping.specs.Rule.{IsOf, is_field, first_in}
 use Rattle.gx_schema.specs.declared.schema.FileDef.{FileDef}
 use Rattle.gx_schema.specs.Rules.{IsKind, AreFields}
 use Rattle.gx_actual.specs.Bodies.{body_of, IsShortText, AreShortTexts}
 use Rattle.gx_actual.specs.Laws.{body_width}
+use Rattle.gx_encode.specs.Codes.{IsCodeKind}
+use Rattle.gx_divide.specs.Forms.{is_bytes, is_bytes_form, most_of, most_in}
 use Rattle.gx_partition.specs.Bounds.{IsPartition}
 use Rattle.gx_partition.specs.Places.{no_field, kind_at, IsPlace}
 use Rattle.gx_partition.specs.declared.place.Where.{Where}
@@ -31,16 +35,16 @@ use Rattle.gx_equation.specs.Printing.{IsBound, IsCount, IsTerm, IsSide}
 use Rattle.gx_equation.specs.Trees.{Tree, Trees, node, none, kid, kids_from, list_of, arity, link_side}
 use Rattle.gx_types.specs.Build.{are_built_terms, leaf_count, leaf_counts, IsReady, AreReady}
 use Rattle.gx_typing.specs.Dues.{file_form}
-use Rattle.gx_typing.specs.Fields.{kind_in, has_name}
+use Rattle.gx_typing.specs.Fields.{kind_in}
 use Rattle.gx_typing.specs.Forms.{index_kind, kid_form, link_form}
 use Rattle.gx_types.specs.FileForms.{IsLimited, AreLimited, AreDistinct, room_of, rooms, IsFileForm}
-use Rattle.gx_types.specs.HeadRules.{first_in, place_in}
+use Rattle.gx_types.specs.HeadRules.{place_in}
 use Rattle.gx_types.specs.Makers.{kind_of, CanMake}
 use Rattle.gx_typing.specs.Places.{leaves_at}
-use Rattle.gx_typing.specs.Typed.{IsCodeFor, IsPartitioned, IsTypedTerm, AreTypedTerms}
+use Rattle.gx_typing.specs.Typed.{IsCodeFor, IsOneBytes, IsPartitioned, IsTypedTerm, AreTypedTerms}
 use Rattle.gx_typing.specs.Typing.{count}
-use Rattle.gx_types.proofs.FormLaws.{body_room, count_list, keys_narrow}
-use Rattle.gx_types.proofs.HeadLaws.{key_kind, place_is, typed_kind, others_are}
+use Rattle.gx_types.proofs.FormLaws.{body_room, count_list, keys_narrow, one_limited}
+use Rattle.gx_types.proofs.HeadLaws.{key_kind, place_is, typed_kind}
 use Rattle.gx_types.proofs.ReadyLaws.{within, kind_is, bounds_fit, sorted_bounds}
 
 -- ---- the forms of files
@@ -252,6 +256,19 @@ partition_can levels form name bounds kids fits met are few =
       few = omega arith;
     }
 
+code_kind : (c : Code) (k : Kind) → IsCodeFor c k → IsLimited k → IsCodeKind c k
+code_kind code.Pack kinds.Int is limited = tt
+code_kind code.Pack (kinds.Text most) is limited = absurd is
+code_kind code.Pack (kinds.Bytes most) is limited = absurd is
+code_kind code.Rle kinds.Int is limited = absurd is
+code_kind code.Rle (kinds.Text most) is limited = limited
+code_kind code.Rle (kinds.Bytes most) is limited = absurd is
+
+one_bytes : (fs : List Field) → IsOneBytes fs → (is_bytes_form fs ≡ true) × (most_in fs ≤ rooms fs)
+one_bytes [] is = absurd is
+one_bytes (f ∷ []) is = (ap is_bytes is.1, subst (λ (k : Kind). most_of k ≤ room_of k + 0) (sym is.1) (omega arith))
+one_bytes (f ∷ g ∷ fs) is = absurd is
+
 -- the second child of an index is a term
 second : (form : Form) (name : List ℕ) (levels : ℕ) (kids : Trees) → IsCount (arity (heads.Index name)) (list_of kids) → AllByRecursion (IsTerm levels) (list_of kids) → AreTypedTerms (kid_form (heads.Index name) form) 0 kids
     → widths (kid_form (heads.Index name) form 1).keys ≤ 400
@@ -275,15 +292,14 @@ can_make levels heads.Actual form kids fits term typed few = record {
 }
 can_make levels (heads.Encode name c) form kids fits term typed few =
     let at = typed_kind form.fields name typed.0.kind typed.0.field.is in
-    record { texts = fits.texts; place = at.0; kind = subst (IsCodeFor c) (sym at.1) typed.0.coded }
-can_make levels (heads.Segment names) form kids fits term typed few = record {
-  texts = fits.texts;
-  others = subst (λ (gs : List Field). 0 < length gs) (sym (others_are (λ f. has_name names f.name) form.fields)) typed.0.others;
-}
-can_make levels heads.Transpose form kids fits term typed few = record { texts = fits.texts; some = typed.0.some }
+    record { place = at.0; kind = code_kind c (kind_of form.fields (first_in form.fields name)) (subst (IsCodeFor c) (sym at.1) typed.0.coded) (one_limited form.fields (first_in form.fields name) no_field at.0 fits.texts) }
+can_make levels (heads.Segment names) form kids fits term typed few = omega (arith, fits.few_fields)
+can_make levels heads.Transpose form kids fits term typed few = record { some = typed.0.some; few = omega (arith, fits.few_fields) }
 can_make levels (heads.Partition name bounds) form kids fits term typed few =
     partition_can (suc levels) form name bounds (count kids) fits typed.0 term.0.2 (omega (arith, typed.0.each, some_leaves levels form kids term.2))
-can_make levels (heads.Divide size) form kids fits term typed few = record { bytes = typed.0; narrow = omega (arith, fits.room); some = term.0.0 }
+can_make levels (heads.Divide size) form kids fits term typed few =
+    let one = one_bytes form.fields typed.0 in
+    record { bytes = one.0; narrow = omega (arith, one.1, fits.room); some = term.0.0 }
 can_make levels (heads.Index name) form kids fits term typed few =
     let at = typed_kind form.fields name typed.0.kind typed.0.field.is in
     let key : IsKeyKind (kind_of form.fields (first_in form.fields name)) = subst IsKeyKind (sym at.1) typed.0.key_kind in

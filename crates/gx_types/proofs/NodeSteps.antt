@@ -1,5 +1,5 @@
 -- Steps of building: terms of each kind as trees, and a child behind those before it.
-use Rattle.std.proofs.Common.{◌≡◌, ◌≢◌, true, false, ℕ, zero, suc, ◌+◌, ◌<◌, ◌≤◌, List, [], ◌∷◌, ◌++◌, length, get_or, map, drop, refl, sym, ap, subst, ◌∙◌, arith, append_assoc}
+use Rattle.std.proofs.Common.{◌≡◌, ◌≢◌, ◌⊎◌, Vec, Global, true, false, ℕ, zero, suc, ◌+◌, ◌<◌, ◌≤◌, List, [], ◌∷◌, ◌++◌, length, get_or, map, drop, refl, sym, ap, subst, inl, inr, ◌∙◌, arith, append_assoc}
 use Rattle.std.specs.Prelude.{nat_eq, Option}
 use Rattle.std.specs.Cmp.Lexicographic.{pointwise, bytes_decides}
 use Rattle.std.proofs.lemmas.Bool.{true≢false, cond-false}
@@ -7,6 +7,7 @@ use Rattle.std.proofs.lemmas.List.{drop_more, append-nil}
 use Rattle.std.proofs.Math.Numerals.{add-one}
 use Rattle.gx_ports.specs.declared.kinds.LeafKind.{LeafKind}
 use Rattle.gx_values.specs.declared.values.Kind.{Kind}
+use Rattle.gx_values.specs.declared.values.Value.{Value}
 use Rattle.gx_values.specs.declared.records.Field.{Field}
 use Rattle.gx_values.specs.declared.records.Form.{Form}
 use Rattle.gx_schema.specs.declared.schema.FileDef.{FileDef}
@@ -15,7 +16,8 @@ use Rattle.gx_equation.specs.declared.equation.Term.{Term}
 use Rattle.gx_equation.specs.declared.equation.Term.TheVariants as terms
 use Rattle.gx_equation.specs.declared.equation.Term.TheOpen.{Leaf}
 use Rattle.gx_equation.specs.declared.equation.Term.TheFolds.{fold-roll-Term}
-use Rattle.gx_equation.specs.Trees.{Tree, Trees, node, none, kid, kids_from}
+use Rattle.gx_equation.specs.Trees.{Tree, Trees, node, none, kid, kids_from, list_of}
+use Rattle.gx_equation.proofs.Again.{from_list}
 use Rattle.gx_equation.specs.declared.equation.Definition.{Definition}
 use Rattle.gx_equation.specs.Seen.{seen_step, tree_of, trees_of, definitions_of}
 use Rattle.gx_stack.specs.declared.node.Node.{Node}
@@ -25,10 +27,21 @@ use Rattle.gx_types.specs.declared.any.AnyMapping.{AnyMapping}
 use Rattle.gx_types.specs.Build.{kids_of, leaf_count, leaf_counts, IsFirstOf, IsTreeOf, AreTreesOf, AreTreesOfFiles, IsReady, AreReady, AreReadyFiles}
 use Rattle.gx_typing.specs.Fields.{kind_in}
 use Rattle.gx_types.proofs.ReadyLaws.{first_ready, others_ready}
+use Rattle.gx_typing.proofs.SeenAs.{seen_transpose, seen_partition}
 use Rattle.gx_typing.proofs.TermSize.{tree_size, trees_size}
 
 pub seen_leaf : (t : Term) (kind : LeafKind) → t ≡ terms.Leaf kind → tree_of t ≡ node (heads.Leaf kind) none
 seen_leaf t kind is = ap tree_of (is ∙ sym (terms.rolls-Leaf kind)) ∙ fold-roll-Term Tree seen_step (Leaf kind)
+
+-- the children of a term that has a list of them
+pub listed : (t : Term) (kids : Vec Term Global) → (t ≡ terms.Transpose kids) ⊎ ((name : List ℕ) × (bounds : List Value) × (t ≡ terms.Partition name bounds kids)) → kids_of (tree_of t) ≡ kids_from (trees_of kids.items)
+listed t kids (inl is) = ap kids_of (seen_transpose t kids is)
+listed t kids (inr is) = ap kids_of (seen_partition t is.0 is.1 kids is.2)
+
+pub listed_at : (ts : List Term) (i : ℕ) (t : Term) (d : Tree) → i < length ts → tree_of (get_or ts i t) ≡ get_or (list_of (kids_from (trees_of ts))) i d
+listed_at [] i t d lt = absurd (omega arith)
+listed_at (x ∷ ts) zero t d lt = refl
+listed_at (x ∷ ts) (suc i) t d lt = listed_at ts i t d (omega arith)
 
 -- the children are smaller
 pub kids_below : (t : Tree) → trees_size (kids_of t) < tree_size t
@@ -36,51 +49,57 @@ kids_below (node top kids) = omega arith
 
 -- ---- one child of several
 
-kids_at : (ts : List Term) (i : ℕ) (t : Term) → i < length ts → t ≡ get_or ts i t → kids_from (trees_of (drop i ts)) ≡ kid (tree_of t) (kids_from (trees_of (drop (i + 1) ts)))
-kids_at ts i t lt read =
-    ap (λ (us : List Term). kids_from (trees_of us)) (drop_more ts i t lt)
-    ∙ ap (λ (x : Term). kid (tree_of x) (kids_from (trees_of (drop (i + 1) ts)))) (sym read)
+kids_at : (ts : List Tree) (i : ℕ) (d t : Tree) → i < length ts → t ≡ get_or ts i d → kids_from (drop i ts) ≡ kid t (kids_from (drop (i + 1) ts))
+kids_at ts i d t lt read = ap kids_from (drop_more ts i d lt) ∙ ap (λ (x : Tree). kid x (kids_from (drop (i + 1) ts))) (sym read)
 
-module _ (n : ℕ) (forms : ℕ → Form) (ts : List Term) (i : ℕ) (t : Term) (lt : i < length ts) (read : t ≡ get_or ts i t) where
-  pub child_ready : AreReady n forms i (kids_from (trees_of (drop i ts))) → IsReady n (forms i) (tree_of t)
-  child_ready r =
-      first_ready n forms i (tree_of t) (kids_from (trees_of (drop (i + 1) ts))) (subst (AreReady n forms i) (kids_at ts i t lt read) r)
+size_at : (ts : List Tree) (i : ℕ) (d : Tree) → i < length ts → tree_size (get_or ts i d) < trees_size (kids_from ts)
+size_at [] i d lt = absurd (omega arith)
+size_at (x ∷ ts) zero d lt = omega arith
+size_at (x ∷ ts) (suc i) d lt = omega (arith, size_at ts i d (omega arith))
 
-  pub behind_ready : (next : ℕ) → next ≡ n + leaf_count (tree_of t) → AreReady n forms i (kids_from (trees_of (drop i ts))) → AreReady next forms (i + 1) (kids_from (trees_of (drop (i + 1) ts)))
+-- a child is smaller than all of them
+pub child_smaller : (kids : Trees) (i : ℕ) (d t : Tree) → i < length (list_of kids) → t ≡ get_or (list_of kids) i d → tree_size t < trees_size kids
+child_smaller kids i d t lt read =
+    subst (λ (x : Tree). tree_size x < trees_size kids) (sym read) (subst (λ (us : Trees). tree_size (get_or (list_of kids) i d) < trees_size us) (from_list kids) (size_at (list_of kids) i d lt))
+
+module _ (n : ℕ) (forms : ℕ → Form) (ts : List Tree) (i : ℕ) (d t : Tree) (lt : i < length ts) (read : t ≡ get_or ts i d) where
+  pub child_ready : AreReady n forms i (kids_from (drop i ts)) → IsReady n (forms i) t
+  child_ready r = first_ready n forms i t (kids_from (drop (i + 1) ts)) (subst (AreReady n forms i) (kids_at ts i d t lt read) r)
+
+  pub behind_ready : (next : ℕ) → next ≡ n + leaf_count t → AreReady n forms i (kids_from (drop i ts)) → AreReady next forms (i + 1) (kids_from (drop (i + 1) ts))
   behind_ready next is r =
-      let more = others_ready n forms i (tree_of t) (kids_from (trees_of (drop (i + 1) ts))) (subst (AreReady n forms i) (kids_at ts i t lt read) r) in
-      let more' = subst (λ (m : ℕ). AreReady m forms (suc i) (kids_from (trees_of (drop (i + 1) ts)))) (sym is) more in
-      subst (λ (j : ℕ). AreReady next forms j (kids_from (trees_of (drop (i + 1) ts)))) (sym (add-one i)) more'
+      let rest = kids_from (drop (i + 1) ts) in
+      let more = others_ready n forms i t rest (subst (AreReady n forms i) (kids_at ts i d t lt read) r) in
+      let more' = subst (λ (m : ℕ). AreReady m forms (suc i) rest) (sym is) more in
+      subst (λ (j : ℕ). AreReady next forms j rest) (sym (add-one i)) more'
 
-  pub behind_count : (next total : ℕ) → next ≡ n + leaf_count (tree_of t) → n + leaf_counts (kids_from (trees_of (drop i ts))) ≡ total → next + leaf_counts (kids_from (trees_of (drop (i + 1) ts))) ≡ total
+  pub behind_count : (next total : ℕ) → next ≡ n + leaf_count t → n + leaf_counts (kids_from (drop i ts)) ≡ total → next + leaf_counts (kids_from (drop (i + 1) ts)) ≡ total
   behind_count next total is so_far =
-      let e : leaf_counts (kids_from (trees_of (drop i ts))) ≡ leaf_count (tree_of t) + leaf_counts (kids_from (trees_of (drop (i + 1) ts))) = ap leaf_counts (kids_at ts i t lt read) in
+      let e : leaf_counts (kids_from (drop i ts)) ≡ leaf_count t + leaf_counts (kids_from (drop (i + 1) ts)) = ap leaf_counts (kids_at ts i d t lt read) in
       omega arith
 
-  pub behind_trees : (next : ℕ) (Goal : List (Node AnyMapping) → Type 0) (nodes pushed : List (Node AnyMapping)) (x : Node AnyMapping) → next ≡ n + leaf_count (tree_of t) → pushed ≡ nodes ++ x ∷ [] → IsTreeOf n (forms i) (tree_of t) (node_tree x)
-      → ((more : List (Node AnyMapping)) → AreTreesOf n forms i (kids_from (trees_of (drop i ts))) (node_kids (map node_tree more)) → Goal (nodes ++ more))
-      → (more : List (Node AnyMapping)) → AreTreesOf next forms (i + 1) (kids_from (trees_of (drop (i + 1) ts))) (node_kids (map node_tree more)) → Goal (pushed ++ more)
+  pub behind_trees : (next : ℕ) (Goal : List (Node AnyMapping) → Type 0) (nodes pushed : List (Node AnyMapping)) (x : Node AnyMapping) → next ≡ n + leaf_count t → pushed ≡ nodes ++ x ∷ [] → IsTreeOf n (forms i) t (node_tree x)
+      → ((more : List (Node AnyMapping)) → AreTreesOf n forms i (kids_from (drop i ts)) (node_kids (map node_tree more)) → Goal (nodes ++ more))
+      → (more : List (Node AnyMapping)) → AreTreesOf next forms (i + 1) (kids_from (drop (i + 1) ts)) (node_kids (map node_tree more)) → Goal (pushed ++ more)
   behind_trees next Goal nodes pushed x is push tree so_far more h =
-      let rest = kids_from (trees_of (drop (i + 1) ts)) in
+      let rest = kids_from (drop (i + 1) ts) in
       let h' = subst (λ (m : ℕ). AreTreesOf m forms (i + 1) rest (node_kids (map node_tree more))) is h in
-      let h'' = subst (λ (j : ℕ). AreTreesOf (n + leaf_count (tree_of t)) forms j rest (node_kids (map node_tree more))) (add-one i) h' in
-      let all = so_far (x ∷ more) (subst (λ (us : Trees). AreTreesOf n forms i us (node_kids (map node_tree (x ∷ more)))) (sym (kids_at ts i t lt read)) (tree, h'')) in
+      let h'' = subst (λ (j : ℕ). AreTreesOf (n + leaf_count t) forms j rest (node_kids (map node_tree more))) (add-one i) h' in
+      let all = so_far (x ∷ more) (subst (λ (us : Trees). AreTreesOf n forms i us (node_kids (map node_tree (x ∷ more)))) (sym (kids_at ts i d t lt read)) (tree, h'')) in
       subst Goal (sym (ap (λ (ys : List (Node AnyMapping)). ys ++ more) push ∙ append_assoc nodes (x ∷ []) more)) all
 
+pub none_left : (i : ℕ) (ts : List Tree) → length ts ≤ i → drop i ts ≡ []
+none_left zero [] le = refl
+none_left (suc i) [] le = refl
+none_left zero (t ∷ ts) le = absurd (omega arith)
+none_left (suc i) (t ∷ ts) le = none_left i ts (omega arith)
+
 -- behind the last child
-pub all_trees : (n next : ℕ) (forms : ℕ → Form) (ts : List Term) (i : ℕ) (nodes : List (Node AnyMapping)) → length ts ≤ i
-    → ((more : List (Node AnyMapping)) → AreTreesOf next forms i (kids_from (trees_of (drop i ts))) (node_kids (map node_tree more)) → AreTreesOf n forms 0 (kids_from (trees_of ts)) (node_kids (map node_tree (nodes ++ more))))
-    → AreTreesOf n forms 0 (kids_from (trees_of ts)) (node_kids (map node_tree nodes))
-all_trees n next forms ts i nodes end so_far =
-    let last : drop i ts ≡ [] = drop_past i ts end in
-    subst (λ (ys : List (Node AnyMapping)). AreTreesOf n forms 0 (kids_from (trees_of ts)) (node_kids (map node_tree ys))) (append-nil nodes)
-    (so_far [] (subst (λ (us : List Term). AreTreesOf next forms i (kids_from (trees_of us)) no_kids) (sym last) tt))
-  where
-    drop_past : (i : ℕ) (ts : List Term) → length ts ≤ i → drop i ts ≡ []
-    drop_past zero [] le = refl
-    drop_past (suc i) [] le = refl
-    drop_past zero (t ∷ ts) le = absurd (omega arith)
-    drop_past (suc i) (t ∷ ts) le = drop_past i ts (omega arith)
+pub all_trees : (next : ℕ) (forms : ℕ → Form) (ts : List Tree) (i : ℕ) (Goal : List (Node AnyMapping) → Type 0) (nodes : List (Node AnyMapping)) → length ts ≤ i
+    → ((more : List (Node AnyMapping)) → AreTreesOf next forms i (kids_from (drop i ts)) (node_kids (map node_tree more)) → Goal (nodes ++ more)) → Goal nodes
+all_trees next forms ts i Goal nodes end so_far =
+    let last : drop i ts ≡ [] = none_left i ts end in
+    subst Goal (append-nil nodes) (so_far [] (subst (λ (us : List Tree). AreTreesOf next forms i (kids_from us) no_kids) (sym last) tt))
 
 -- behind the last definition
 pub all_files : (files : List FileDef) (definitions : List Definition) (left : List FileDef) (rest : List Definition) (next : ℕ) (nodes : List (Node AnyMapping)) → length rest < 1 → AreReadyFiles next left (definitions_of rest)

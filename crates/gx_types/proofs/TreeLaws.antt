@@ -14,6 +14,7 @@ use Rattle.gx_types.specs.Any.{any_rule}
 use Rattle.gx_types.specs.Build.{leaf_count, leaf_counts, IsMappingOf, kids_of, IsLeafOf, IsTreeOf, AreTreesOf, IsReady, AreReady}
 use Rattle.gx_types.specs.FileForms.{AreDistinct, IsFileForm}
 use Rattle.gx_equation.specs.Printing.{IsTerm}
+use Rattle.gx_types.specs.HeadRules.{IsLayer}
 use Rattle.gx_types.proofs.HeadLaws.{rule_form, rule_kid_form, rule_kids}
 use Rattle.gx_typing.specs.Forms.{kid_form}
 use Rattle.gx_typing.specs.Places.{leaves_at}
@@ -108,6 +109,23 @@ pub layer_few : (n : ℕ) (form : Form) (t : Tree) → IsReady n form t → coun
 layer_few n form (node top kids) ready =
     let below = kids_ready n form top kids ready in
     omega (arith, some_leaves below.levels form kids below.terms, below.few)
+
+-- a layer over what its children mean
+pub layer_tree : (n : ℕ) (form : Form) (t : Tree) (m : AnyMapping) (ks : NodeKids AnyMapping) → IsReady n form t → IsMappingOf (head_of t) form m → AreTreesOf n (any_rule m).kid_form 0 (kids_of t) ks → IsTreeOf n form t (layer m ks)
+layer_tree n form (node top kids) m ks ready is are = (is, subst (λ (forms : ℕ → Form). AreTreesOf n forms 0 kids ks) (kid_forms n form top kids m ready is) are)
+
+pub layer_leaves : (t : Tree) → IsLayer (head_of t) → leaf_count t ≡ leaf_counts (kids_of t)
+layer_leaves (node top kids) is = omega (arith, none_at top is)
+  where
+    none_at : (top : Head) → IsLayer top → leaves_at top ≡ 0
+    none_at (heads.Leaf kind) is = absurd is
+    none_at heads.Actual is = refl
+    none_at (heads.Encode name code) is = refl
+    none_at (heads.Segment names) is = refl
+    none_at heads.Transpose is = refl
+    none_at (heads.Partition name bounds) is = refl
+    none_at (heads.Divide size) is = refl
+    none_at (heads.Index name) is = refl
 
 as_many : (n : ℕ) (forms : ℕ → Form) (i : ℕ) (ts : Trees) (us : NodeKids AnyMapping) → AreTreesOf n forms i ts us → kid_count us ≡ count ts
 as_many n forms i none no_kids are = refl

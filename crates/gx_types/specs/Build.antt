@@ -26,11 +26,15 @@ use Rattle.gx_typing.specs.Typing.{count}
 
 -- ---- the equations
 
--- a head with so many children: a leaf, `actual` or `partition`
+-- a head with so many children that nodes are built of
 abbrev pub is_built_head : Head → ℕ → Bool
 is_built_head (heads.Leaf kind) kids = kids == 0
 is_built_head heads.Actual kids = kids == 1
+is_built_head (heads.Encode name code) kids = kids == 1
+is_built_head (heads.Segment names) kids = kids == 2
+is_built_head heads.Transpose kids = true
 is_built_head (heads.Partition name bounds) kids = true
+is_built_head (heads.Divide size) kids = kids == 1
 is_built_head other kids = false
 
 abbrev mutual

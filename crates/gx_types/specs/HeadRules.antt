@@ -1,191 +1,50 @@
 -- The rule of each head over the records of a form.
-use Rattle.std.specs.Prelude.{ℕ, zero, suc, pos, ◌+◌, ◌/◌, Bool, true, false, ◌&&◌, ◌||◌, not, List, [], ◌∷◌, ◌++◌, length, map, take, drop, Option, Some, None, nat_eq, nat_lt, nat_le, ◌==◌, slice_index_or, if◌then◌else◌}
-use Rattle.std.specs.List.{flat_map, list_any}
-use Rattle.std.specs.Int.{w64, to_be_bytes, cast_unsigned}
-use Rattle.std.specs.Cmp.Lexicographic.{pointwise}
-use Rattle.gx_values.specs.declared.values.Code.{Code}
-use Rattle.gx_values.specs.declared.values.Code.TheVariants as code
+use Rattle.std.specs.Prelude.{ℕ, zero, suc, Bool, true, false, ◌&&◌, List, [], ◌∷◌, map, Some, None, nat_eq, slice_index_or, if◌then◌else◌}
 use Rattle.gx_values.specs.declared.values.Value.{Value}
-use Rattle.gx_values.specs.declared.values.Value.TheVariants as values
 use Rattle.gx_values.specs.declared.records.Field.{Field}
 use Rattle.gx_values.specs.declared.records.Form.{Form}
 use Rattle.gx_mapping.specs.declared.parts.Part.{Part}
-use Rattle.gx_mapping.specs.Rule.{Rule, is_field}
+use Rattle.gx_mapping.specs.Rule.{Rule, is_field, first_in}
 use Rattle.gx_actual.specs.Rules.{actual_rule}
+use Rattle.gx_divide.specs.Rules.{divide_rule}
+use Rattle.gx_encode.specs.Rules.{encode_rule}
+use Rattle.gx_split.specs.SegmentRules.{segment_rule}
+use Rattle.gx_split.specs.TransposeRules.{transpose_rule}
 use Rattle.gx_partition.specs.Rules.{partition_rule}
 use Rattle.gx_partition.specs.Places.{no_field, no_value}
 use Rattle.gx_partition.specs.declared.place.Where.{Where}
 use Rattle.gx_partition.specs.declared.place.Where.TheVariants.{Key, Rest}
 use Rattle.gx_equation.specs.declared.heads.Head.{Head}
 use Rattle.gx_equation.specs.declared.heads.Head.TheVariants as heads
-use Rattle.gx_typing.specs.Fields.{field, has_name}
-use Rattle.gx_typing.specs.Forms.{coded_kind, one_field, divide_form}
+use Rattle.gx_typing.specs.Fields.{has_name}
 
 -- ---- names as numbers
-
--- how many fields stand before the first one of the name
-abbrev pub first_in : List Field → List ℕ → ℕ
-first_in [] name = 0
-first_in (f ∷ fs) name = if pointwise nat_eq f.name name then 0 else suc (first_in fs name)
-
--- the number of the first field of the name
-abbrev pub number_in : List Field → List ℕ → Option ℕ
-number_in fs name = if is_field fs name then Some (first_in fs name) else None
 
 -- the numbers, from i on, of those that are true
 abbrev pub numbers_from : ℕ → List Bool → List ℕ
 numbers_from i [] = []
 numbers_from i (b ∷ bs) = if b then i ∷ numbers_from (suc i) bs else numbers_from (suc i) bs
 
+-- for each field whether its name is one of these
+abbrev pub named_in : List Field → List (List ℕ) → List Bool
+named_in fs names = map (λ f. has_name names f.name) fs
+
 -- the numbers of all fields whose name is one of these
 abbrev pub numbers_in : List Field → List (List ℕ) → List ℕ
-numbers_in fs names = numbers_from 0 (map (λ f. has_name names f.name) fs)
+numbers_in fs names = numbers_from 0 (named_in fs names)
 
 -- keys before data
 abbrev pub place_in : Form → List ℕ → Where
 place_in form name = if is_field form.keys name then Key (first_in form.keys name) else Rest (first_in form.fields name)
-
--- ---- parts of lists
-
--- for each of so many numbers, from i on, whether it is one of these
-abbrev pub marks : List ℕ → ℕ → ℕ → List Bool
-marks ns i zero = []
-marks ns i (suc n) = list_any (nat_eq i) ns ∷ marks ns (suc i) n
-
--- those that are chosen
-abbrev pub chosen : {A : Type 0} → List Bool → List A → List A
-chosen [] xs = []
-chosen (b ∷ bs) [] = []
-chosen (b ∷ bs) (x ∷ xs) = if b then x ∷ chosen bs xs else chosen bs xs
-
--- with another one in the place of that with the number
-abbrev pub changed : {A : Type 0} → ℕ → (A → A) → List A → List A
-changed i g [] = []
-changed zero g (x ∷ xs) = g x ∷ xs
-changed (suc i) g (x ∷ xs) = x ∷ changed i g xs
-
--- ---- the codes
-
--- whether a byte says no more than the sign of the next one
-abbrev pub is_sign : ℕ → ℕ → Bool
-is_sign b next = (b == 0 && nat_lt next 128) || (b == 255 && nat_le 128 next)
-
-abbrev pub shortest : List ℕ → List ℕ
-shortest [] = []
-shortest (b ∷ []) = if b == 0 then [] else b ∷ []
-shortest (b ∷ next ∷ bs) = if is_sign b next then shortest (next ∷ bs) else b ∷ next ∷ bs
-
--- a run is a count and a byte
-abbrev pub with_byte : ℕ → List (ℕ × ℕ) → List (ℕ × ℕ)
-with_byte b [] = (1, b) ∷ []
-with_byte b (run ∷ runs) = if b == run.1 then (run.0 + 1, b) ∷ runs else (1, b) ∷ run ∷ runs
-
-abbrev pub runs_of : List ℕ → List (ℕ × ℕ)
-runs_of [] = []
-runs_of (b ∷ bs) = with_byte b (runs_of bs)
-
-abbrev pub code_of : Code → Value → List ℕ
-code_of code.Pack (values.Int n) = shortest (to_be_bytes w64 (cast_unsigned w64 n))
-code_of code.Rle (values.Text text) = flat_map (λ (run : ℕ × ℕ). run.0 ∷ run.1 ∷ []) (runs_of text)
-code_of code other = []
 
 -- ---- the rules of the layers
 
 abbrev pub part : ℕ → List Value → List Value → Part
 part child key fields = record { child = child; rec = record { key = key; fields = fields } }
 
--- field i by its code
-abbrev pub encode_rule : Form → ℕ → Code → Rule
-encode_rule form i c = record {
-  kids = 1;
-  form = form;
-  kid_form = λ child. record { keys = form.keys; fields = changed i (λ f. field f.name (coded_kind c f.kind)) form.fields };
-  holds_rest = λ child. true;
-  parts = λ r. part 0 r.key (changed i (λ v. values.Bytes (code_of c v)) r.fields) ∷ [];
-  skips = λ child span. false;
-  indexes = λ name. None;
-  carries = λ child name. is_field form.fields name && not (nat_eq (first_in form.fields name) i);
-}
-
-abbrev pub is_default : Value → Bool
-is_default (values.Int n) = pointwise nat_eq (shortest (to_be_bytes w64 (cast_unsigned w64 n))) []
-is_default (values.Text text) = length text == 0
-is_default (values.Bytes bytes) = length bytes == 0
-
-abbrev pub are_default : List Value → Bool
-are_default [] = true
-are_default (v ∷ vs) = is_default v && are_default vs
-
--- the fields with these numbers, and the others
-abbrev pub named_of : {A : Type 0} → List ℕ → List A → List A
-named_of ns xs = chosen (marks ns 0 (length xs)) xs
-
-abbrev pub others_of : {A : Type 0} → List ℕ → List A → List A
-others_of ns xs = chosen (map not (marks ns 0 (length xs))) xs
-
-abbrev pub split_form : Form → List ℕ → ℕ → Form
-split_form form ns zero = record { keys = form.keys; fields = named_of ns form.fields }
-split_form form ns (suc i) = record { keys = form.keys; fields = others_of ns form.fields }
-
 abbrev pub is_first : ℕ → Bool
 is_first zero = true
 is_first (suc i) = false
-
--- the fields with the numbers, and the others where one of them isn't the default
-abbrev pub segment_rule : Form → List ℕ → Rule
-segment_rule form ns = record {
-  kids = 2;
-  form = form;
-  kid_form = split_form form ns;
-  holds_rest = λ child. true;
-  parts = λ r. part 0 r.key (named_of ns r.fields) ∷ (if are_default (others_of ns r.fields) then [] else part 1 r.key (others_of ns r.fields) ∷ []);
-  skips = λ child span. false;
-  indexes = λ name. None;
-  carries = λ child name. is_first child && is_field form.fields name && list_any (nat_eq (first_in form.fields name)) ns;
-}
-
--- from child i on
-abbrev pub each_alone : List Value → ℕ → List Value → List Part
-each_alone key i [] = []
-each_alone key i (v ∷ vs) = part i key (v ∷ []) ∷ each_alone key (suc i) vs
-
-abbrev pub transpose_rule : Form → Rule
-transpose_rule form = record {
-  kids = length form.fields;
-  form = form;
-  kid_form = one_field form;
-  holds_rest = λ child. true;
-  parts = λ r. each_alone r.key 0 r.fields;
-  skips = λ child span. false;
-  indexes = λ name. None;
-  carries = λ child name. is_field form.fields name && nat_eq (first_in form.fields name) child;
-}
-
--- so many pieces of `size` bytes, and then what is left of the bytes
-abbrev pub cut : ℕ → ℕ → List ℕ → List (List ℕ)
-cut zero size bytes = bytes ∷ []
-cut (suc more) size bytes = take size bytes ∷ cut more size (drop size bytes)
-
-abbrev pub bytes_in : List Value → List ℕ
-bytes_in (values.Bytes bytes ∷ vs) = bytes
-bytes_in other = []
-
--- pieces under their numbers, from j on
-abbrev pub numbered : List Value → ℕ → List (List ℕ) → List Part
-numbered key j [] = []
-numbered key j (p ∷ ps) = part 0 (key ++ values.Int (pos j) ∷ []) (values.Bytes p ∷ []) ∷ numbered key (suc j) ps
-
-abbrev pub divide_rule : Form → ℕ → Rule
-divide_rule form size = record {
-  kids = 1;
-  form = form;
-  kid_form = λ child. divide_form size form;
-  holds_rest = λ child. true;
-  parts = λ r. numbered r.key 0 (cut (length (bytes_in r.fields) / size) size (bytes_in r.fields));
-  skips = λ child span. false;
-  indexes = λ name. None;
-  carries = λ child name. false;
-}
 
 abbrev pub entries_form : Form → ℕ → ℕ → Form
 entries_form form i zero = form
@@ -221,7 +80,7 @@ abbrev pub head_rule : Head → Form → Rule
 head_rule (heads.Leaf kind) form = no_rule form
 head_rule heads.Actual form = actual_rule form
 head_rule (heads.Encode name c) form = encode_rule form (first_in form.fields name) c
-head_rule (heads.Segment names) form = segment_rule form (numbers_in form.fields names)
+head_rule (heads.Segment names) form = segment_rule form (named_in form.fields names)
 head_rule heads.Transpose form = transpose_rule form
 head_rule (heads.Partition name bounds) form = partition_rule form (place_in form name) bounds
 head_rule (heads.Divide size) form = divide_rule form size

@@ -2,17 +2,18 @@
 use Rattle.std.specs.Prelude.{ℕ, ◌+◌, ◌<◌, ◌≤◌, List, length, slice_index_or}
 use Rattle.gx_values.specs.Keys.{width_of, widths, IsKeyKind}
 use Rattle.gx_values.specs.declared.values.Kind.{Kind}
-use Rattle.gx_values.specs.declared.values.Code.{Code}
 use Rattle.gx_values.specs.declared.records.Field.{Field}
 use Rattle.gx_values.specs.declared.records.Form.{Form}
+use Rattle.gx_mapping.specs.Rule.{first_in}
 use Rattle.gx_actual.specs.Bodies.{field_widths, AreShortTexts}
+use Rattle.gx_divide.specs.Forms.{IsDivide}
+use Rattle.gx_encode.specs.Forms.{IsEncode}
 use Rattle.gx_partition.specs.Places.{no_field}
 use Rattle.gx_partition.specs.Bounds.{IsPartition}
 use Rattle.gx_equation.specs.declared.heads.Head.{Head}
 use Rattle.gx_equation.specs.declared.heads.Head.TheVariants as heads
-use Rattle.gx_types.specs.FileForms.{AreLimited, rooms}
-use Rattle.gx_types.specs.HeadRules.{first_in, numbers_in, place_in, others_of}
-use Rattle.gx_typing.specs.Typed.{IsCodeFor, IsOneBytes}
+use Rattle.gx_types.specs.FileForms.{AreLimited}
+use Rattle.gx_types.specs.HeadRules.{place_in}
 
 -- the kind of the data field with the number
 abbrev pub kind_of : List Field → ℕ → Kind
@@ -22,23 +23,9 @@ pub record CanActual (form : Form) : Type 0 where
   pub texts : AreShortTexts form.fields
   pub narrow : field_widths form.fields ≤ 65535
 
-pub record CanEncode (form : Form) (i : ℕ) (c : Code) : Type 0 where
-  pub texts : AreLimited form.fields
-  pub place : i < length form.fields
-  pub kind : IsCodeFor c (kind_of form.fields i)
-
-pub record CanSegment (form : Form) (ns : List ℕ) : Type 0 where
-  pub texts : AreLimited form.fields
-  pub others : 0 < length (others_of ns form.fields)
-
 pub record CanTranspose (form : Form) : Type 0 where
-  pub texts : AreLimited form.fields
   pub some : 0 < length form.fields
-
-pub record CanDivide (form : Form) (size : ℕ) : Type 0 where
-  pub bytes : IsOneBytes form.fields
-  pub narrow : rooms form.fields ≤ 65535
-  pub some : 0 < size
+  pub few : length form.fields ≤ 65535
 
 pub record CanIndex (form : Form) (i : ℕ) : Type 0 where
   pub texts : AreLimited form.fields
@@ -49,9 +36,9 @@ pub record CanIndex (form : Form) (i : ℕ) : Type 0 where
 abbrev pub CanMake : Head → Form → Type 0
 CanMake (heads.Leaf kind) form = Unit {0}
 CanMake heads.Actual form = CanActual form
-CanMake (heads.Encode name c) form = CanEncode form (first_in form.fields name) c
-CanMake (heads.Segment names) form = CanSegment form (numbers_in form.fields names)
+CanMake (heads.Encode name c) form = IsEncode form (first_in form.fields name) c
+CanMake (heads.Segment names) form = length form.fields ≤ 65535
 CanMake heads.Transpose form = CanTranspose form
 CanMake (heads.Partition name bounds) form = IsPartition form (place_in form name) bounds
-CanMake (heads.Divide size) form = CanDivide form size
+CanMake (heads.Divide size) form = IsDivide form size
 CanMake (heads.Index name) form = CanIndex form (first_in form.fields name)

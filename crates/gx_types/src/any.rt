@@ -2,8 +2,11 @@
 ghost use Rattle.std.specs.Prelude.{◌≡◌};
 
 use gx_actual::Actual;
+use gx_divide::Divide;
+use gx_encode::Encode;
 use gx_mapping::{Mapping, Parts};
 use gx_partition::Partition;
+use gx_split::{Segment, Transpose};
 use gx_values::{Form, Name, NoMemory, Rec, Span, Values};
 use std::alloc::Global;
 
@@ -12,8 +15,16 @@ use std::alloc::Global;
 pub enum AnyMapping {
     /// all data fields as one field of bytes
     Actual(Actual),
+    /// one data field by its code
+    Encode(Encode),
+    /// the data fields in two groups
+    Segment(Segment),
+    /// each data field alone
+    Transpose(Transpose),
     /// whole records, by the value of one field
     Partition(Partition),
+    /// the bytes of the one data field, in pieces
+    Divide(Divide),
 }
 
 impl Mapping for AnyMapping {
@@ -26,63 +37,99 @@ impl Mapping for AnyMapping {
     fn kids(&self) -> u16 {
         match self {
             AnyMapping::Actual(mapping) => mapping.kids(),
+            AnyMapping::Encode(mapping) => mapping.kids(),
+            AnyMapping::Segment(mapping) => mapping.kids(),
+            AnyMapping::Transpose(mapping) => mapping.kids(),
             AnyMapping::Partition(mapping) => mapping.kids(),
+            AnyMapping::Divide(mapping) => mapping.kids(),
         }
     }
 
     fn form(&self) -> &Form {
         match self {
             AnyMapping::Actual(mapping) => mapping.form(),
+            AnyMapping::Encode(mapping) => mapping.form(),
+            AnyMapping::Segment(mapping) => mapping.form(),
+            AnyMapping::Transpose(mapping) => mapping.form(),
             AnyMapping::Partition(mapping) => mapping.form(),
+            AnyMapping::Divide(mapping) => mapping.form(),
         }
     }
 
     fn kid_form(&self, child: u16) -> &Form {
         match self {
             AnyMapping::Actual(mapping) => mapping.kid_form(child),
+            AnyMapping::Encode(mapping) => mapping.kid_form(child),
+            AnyMapping::Segment(mapping) => mapping.kid_form(child),
+            AnyMapping::Transpose(mapping) => mapping.kid_form(child),
             AnyMapping::Partition(mapping) => mapping.kid_form(child),
+            AnyMapping::Divide(mapping) => mapping.kid_form(child),
         }
     }
 
     fn holds_rest(&self, child: u16) -> bool {
         match self {
             AnyMapping::Actual(mapping) => mapping.holds_rest(child),
+            AnyMapping::Encode(mapping) => mapping.holds_rest(child),
+            AnyMapping::Segment(mapping) => mapping.holds_rest(child),
+            AnyMapping::Transpose(mapping) => mapping.holds_rest(child),
             AnyMapping::Partition(mapping) => mapping.holds_rest(child),
+            AnyMapping::Divide(mapping) => mapping.holds_rest(child),
         }
     }
 
     fn parts(&self, alloc: Global, rec: &Rec) -> Result<Parts, NoMemory> {
         match self {
             AnyMapping::Actual(mapping) => mapping.parts(alloc, rec),
+            AnyMapping::Encode(mapping) => mapping.parts(alloc, rec),
+            AnyMapping::Segment(mapping) => mapping.parts(alloc, rec),
+            AnyMapping::Transpose(mapping) => mapping.parts(alloc, rec),
             AnyMapping::Partition(mapping) => mapping.parts(alloc, rec),
+            AnyMapping::Divide(mapping) => mapping.parts(alloc, rec),
         }
     }
 
     fn gather(&self, alloc: Global, key: &Values, parts: &Parts) -> Result<Option<Rec>, NoMemory> {
         match self {
             AnyMapping::Actual(mapping) => mapping.gather(alloc, key, parts),
+            AnyMapping::Encode(mapping) => mapping.gather(alloc, key, parts),
+            AnyMapping::Segment(mapping) => mapping.gather(alloc, key, parts),
+            AnyMapping::Transpose(mapping) => mapping.gather(alloc, key, parts),
             AnyMapping::Partition(mapping) => mapping.gather(alloc, key, parts),
+            AnyMapping::Divide(mapping) => mapping.gather(alloc, key, parts),
         }
     }
 
     fn skips(&self, child: u16, span: &Span) -> bool {
         match self {
             AnyMapping::Actual(mapping) => mapping.skips(child, span),
+            AnyMapping::Encode(mapping) => mapping.skips(child, span),
+            AnyMapping::Segment(mapping) => mapping.skips(child, span),
+            AnyMapping::Transpose(mapping) => mapping.skips(child, span),
             AnyMapping::Partition(mapping) => mapping.skips(child, span),
+            AnyMapping::Divide(mapping) => mapping.skips(child, span),
         }
     }
 
     fn indexes(&self, field: &Name) -> Option<u16> {
         match self {
             AnyMapping::Actual(mapping) => mapping.indexes(field),
+            AnyMapping::Encode(mapping) => mapping.indexes(field),
+            AnyMapping::Segment(mapping) => mapping.indexes(field),
+            AnyMapping::Transpose(mapping) => mapping.indexes(field),
             AnyMapping::Partition(mapping) => mapping.indexes(field),
+            AnyMapping::Divide(mapping) => mapping.indexes(field),
         }
     }
 
     fn carries(&self, child: u16, field: &Name) -> bool {
         match self {
             AnyMapping::Actual(mapping) => mapping.carries(child, field),
+            AnyMapping::Encode(mapping) => mapping.carries(child, field),
+            AnyMapping::Segment(mapping) => mapping.carries(child, field),
+            AnyMapping::Transpose(mapping) => mapping.carries(child, field),
             AnyMapping::Partition(mapping) => mapping.carries(child, field),
+            AnyMapping::Divide(mapping) => mapping.carries(child, field),
         }
     }
 }

@@ -4,6 +4,7 @@
 mod any;
 mod building;
 mod built;
+mod mappings;
 mod nodes;
 
 pub use any::{AnyMapping, Passing};

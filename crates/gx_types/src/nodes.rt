@@ -1,31 +1,23 @@
 // Nodes of terms and of files.
-ghost use Rattle.std.specs.Prelude.{◌≡◌, ◌≢◌, ◌<◌, ◌≤◌, ◌+◌, ℕ, length, map, None, OnOk, IfOk, IfSome, IfNone};
-ghost use Rattle.gx_actual.specs.Bodies.{field_widths, AreShortTexts};
-ghost use Rattle.gx_partition.specs.Bounds.{IsPartition};
-ghost use Rattle.gx_values.specs.declared.values.Kind.{Kind as KindOf};
-ghost use Rattle.gx_equation.specs.declared.heads.Head.TheVariants as heads;
-ghost use Rattle.gx_equation.specs.Seen.{tree_of, trees_of, side_of, definitions_of};
-ghost use Rattle.gx_equation.specs.Trees.{arity, head_of, kids_from, Two_kids};
+ghost use Rattle.std.specs.Prelude.{◌≡◌, ◌<◌, ◌≤◌, ◌+◌, map, slice_index_or, OnOk, IfOk};
+ghost use Rattle.gx_equation.specs.Seen.{tree_of, side_of, definitions_of};
+ghost use Rattle.gx_equation.specs.Trees.{list_of};
 ghost use Rattle.gx_stack.specs.Seen.{tree_of as node_tree, kids_from as node_kids};
 ghost use Rattle.gx_stack.specs.Tree.{leaf, layer};
 ghost use Rattle.gx_types.specs.Any.{any_rule};
-ghost use Rattle.gx_types.specs.Build.{leaf_count, leaf_counts, side_leaf_count, IsFirstOf, IsPlaceOf, IsMappingOf, kids_of, IsTreeOf, AreTreesOf, IsTreeOfSide, AreTreesOfFiles, IsReady, AreReady, IsReadySide, AreReadyFiles};
+ghost use Rattle.gx_types.specs.Build.{leaf_count, leaf_counts, side_leaf_count, kids_of, IsTreeOf, AreTreesOf, IsTreeOfSide, AreTreesOfFiles, IsReady, AreReady, IsReadySide, AreReadyFiles};
 ghost use Rattle.gx_typing.specs.Dues.{file_form};
-ghost use Rattle.gx_typing.specs.Fields.{kind_in};
-ghost use Rattle.gx_types.specs.HeadRules.{place_in, IsLayer};
-ghost use Rattle.gx_typing.specs.Typed.{IsField};
+ghost use Rattle.gx_typing.specs.Typing.{count};
 
 use crate::any::AnyMapping;
-use gx_actual::actual;
+use crate::mappings::mapping_of;
 use gx_equation::{Definition, Side, Term};
 use gx_mapping::Mapping;
-use gx_partition::{Where, partition};
 use gx_schema::FileDef;
 use gx_stack::{LayerNode, LeafNode, Node};
 use gx_typing::file_form;
-use gx_values::{Field, Form, Name, NoMemory, Values};
+use gx_values::{Form, NoMemory};
 use std::alloc::Global;
-use std::slice::from_ref;
 
 // ---- nodes
 
@@ -53,109 +45,40 @@ fn next_leaf(alloc: Global, form: &Form, next: &mut u32) -> Result<Node<AnyMappi
     Ok(leaf_node(number, form))
 }
 
-// ---- mappings
-
-// The mapping of `actual` for the records of the form.
-fn actual_of(alloc: Global, form: &Form) -> Result<AnyMapping, NoMemory>
-    requires texts { AreShortTexts form.now.fields }
-    requires narrow { field_widths form.now.fields ≤ 65535 }
-    ensures { IfOk result (IsMappingOf heads.Actual form.now) }
-{
-    Ok(AnyMapping::Actual(actual(alloc, form)?))
-}
-
-// The number of the first field of the name.
-fn position(fields: &[Field], name: &[u8]) -> Option<u16>
-    requires { length fields.now ≤ 65535 }
-    ensures some { IfSome result (IsFirstOf fields.now name.now) }
-    ensures none { IfNone result (kind_in fields.now name.now ≡ None) }
-{
-    for (i, field) in fields.iter().enumerate() {
-        if field.name.as_slice() == name {
-            return Some(i as u16);
-        }
-    }
-    None
-}
-
-// The place of the first field of the name, keys before data.
-fn place_of(form: &Form, name: &[u8]) -> Where
-    requires few_keys { length form.now.keys ≤ 65535 }
-    requires few_fields { length form.now.fields ≤ 65535 }
-    requires named { (kind : KindOf) × IsField form.now name.now kind }
-    ensures { IsPlaceOf form.now name.now result }
-{
-    if let Some(i) = position(&form.keys.0, name) {
-        return Where::Key(i);
-    }
-    match position(&form.fields.0, name) {
-        Some(i) => Where::Rest(i),
-        None => unreachable!(),
-    }
-}
-
-// The mapping of `partition` by the field of the name, for the records of the form.
-fn partition_of(
-    alloc: Global,
-    form: &Form,
-    name: &Name,
-    bounds: &Values,
-) -> Result<AnyMapping, NoMemory>
-    requires few_keys { length form.now.keys ≤ 65535 }
-    requires few_fields { length form.now.fields ≤ 65535 }
-    requires named { (kind : KindOf) × IsField form.now name.now kind }
-    requires can { IsPartition form.now (place_in form.now name.now) bounds.now }
-    ensures { IfOk result (IsMappingOf (heads.Partition name.now bounds.now) form.now) }
-{
-    let at = place_of(form, name.as_slice());
-    Ok(AnyMapping::Partition(partition(alloc, form, at, bounds)?))
-}
-
-// The mapping of the head of a term, for the records of the form.
-fn mapping_of(alloc: Global, form: &Form, term: &Term) -> Result<AnyMapping, NoMemory>
-    requires ready { (next : ℕ) × IsReady next form.now (tree_of term.now) }
-    requires layer { IsLayer (head_of (tree_of term.now)) }
-    ensures { IfOk result (IsMappingOf (head_of (tree_of term.now)) form.now) }
-{
-    match term {
-        Term::Actual(_) => actual_of(alloc, form),
-        Term::Partition(name, bounds, _) => partition_of(alloc, form, name, bounds),
-        _ => unreachable!(),
-    }
-}
-
 // ---- terms
 
-// The children of a term that has a list of them, or one.
-fn children(term: &Term) -> &[Term]
-    requires layer { IsLayer (head_of (tree_of term.now)) }
-    requires list { arity (head_of (tree_of term.now)) ≢ Two_kids }
-    ensures { kids_from (trees_of result.now) ≡ kids_of (tree_of term.now) }
+// The child of a term with the number, from 0.
+fn child(term: &Term, number: usize) -> &Term
+    requires { number < count (kids_of (tree_of term.now)) }
+    ensures { tree_of result.now ≡ slice_index_or (list_of (kids_of (tree_of term.now))) number (tree_of term.now) }
 {
     match term {
-        Term::Actual(kid) | Term::Encode(_, _, kid) | Term::Divide(_, kid) => from_ref(kid),
-        Term::Transpose(kids) | Term::Partition(_, _, kids) => kids,
-        _ => unreachable!(),
+        Term::Actual(kid) | Term::Encode(_, _, kid) | Term::Divide(_, kid) => kid,
+        Term::Segment(_, first, second) | Term::Index(_, first, second) => {
+            if number == 0 { first } else { second }
+        }
+        Term::Transpose(kids) | Term::Partition(_, _, kids) => &kids[number],
+        Term::Leaf(_) => unreachable!(),
     }
 }
 
-// The children of a mapping, each for the records of its form.
+// The nodes of a term's children by its mapping, each for the records of its form.
 #[cycle(nodes)]
 fn kid_nodes(
     alloc: Global,
     mapping: &AnyMapping,
-    kids: &[Term],
+    term: &Term,
     next: &mut u32,
 ) -> Result<Vec<Node<AnyMapping>>, NoMemory>
-    requires ready { AreReady next.old (any_rule mapping.now).kid_form 0 (kids_from (trees_of kids.now)) }
-    requires each { length kids.now ≡ (any_rule mapping.now).kids }
-    requires few { length kids.now ≤ 255 }
-    ensures trees { IfOk result (λ nodes. AreTreesOf next.old (any_rule mapping.now).kid_form 0 (kids_from (trees_of kids.now)) (node_kids (map node_tree nodes.items))) }
-    ensures next { OnOk result (next.new ≡ next.old + leaf_counts (kids_from (trees_of kids.now))) }
+    requires ready { AreReady next.old (any_rule mapping.now).kid_form 0 (kids_of (tree_of term.now)) }
+    requires each { count (kids_of (tree_of term.now)) ≡ (any_rule mapping.now).kids }
+    ensures trees { IfOk result (λ nodes. AreTreesOf next.old (any_rule mapping.now).kid_form 0 (kids_of (tree_of term.now)) (node_kids (map node_tree nodes.items))) }
+    ensures next { OnOk result (next.new ≡ next.old + leaf_counts (kids_of (tree_of term.now))) }
 {
-    let mut nodes = Vec::with_capacity(alloc, kids.len())?;
-    for (i, kid) in kids.iter().enumerate() {
-        nodes.push(node_of(alloc, mapping.kid_form(i as u16), kid, next)?)?;
+    let mut nodes = Vec::with_capacity(alloc, usize::from(mapping.kids()))?;
+    for i in 0..mapping.kids() {
+        let kid = child(term, usize::from(i));
+        nodes.push(node_of(alloc, mapping.kid_form(i), kid, next)?)?;
     }
     Ok(nodes)
 }
@@ -177,7 +100,7 @@ pub fn node_of(
         Term::Leaf(_) => next_leaf(alloc, form, next),
         _ => {
             let mapping = mapping_of(alloc, form, term)?;
-            let nodes = kid_nodes(alloc, &mapping, children(term), next)?;
+            let nodes = kid_nodes(alloc, &mapping, term, next)?;
             Ok(layer_node(mapping, nodes))
         }
     }

@@ -12,6 +12,7 @@ mod typing;
 mod whole;
 
 pub use dues::file_form;
+pub use fields::has_name;
 pub use reasons::{TypeWhy, Untyped};
 pub use typing::{Owners, Specs, Typing, root_pages, smallest_device};
 pub use whole::typed;

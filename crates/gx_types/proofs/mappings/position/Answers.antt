@@ -1,6 +1,6 @@
 use Rattle.std.proofs.Common.{sym, ◌∙◌}
 use Rattle.gx_types.proofs.NodeSteps.{first_here, first_behind, kind_behind}
-use Rattle.gx_types.proofs.nodes.position.Goals as goal
+use Rattle.gx_types.proofs.mappings.position.Goals as goal
 
 pub returns-then-eq-clause-some : goal.returns-then-eq-clause-some
 returns-then-eq-clause-some c =

@@ -1,7 +1,7 @@
 use Rattle.std.proofs.Common.{◌≡◌, ◌+◌, ℕ, drop}
 use Rattle.gx_types.specs.Build.{IsFirstOf}
 use Rattle.gx_typing.specs.Fields.{kind_in}
-use Rattle.gx_types.proofs.nodes.position.Given as goal
+use Rattle.gx_types.proofs.mappings.position.Given as goal
 
 abbrev pub invariant-loop-i : goal.invariant-loop-i
 invariant-loop-i l = record {

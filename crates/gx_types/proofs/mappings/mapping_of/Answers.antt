@@ -2,8 +2,8 @@ use Rattle.std.proofs.Common.{subst}
 use Rattle.gx_equation.specs.declared.heads.Head.TheVariants as heads
 use Rattle.gx_types.specs.Build.{IsReady}
 use Rattle.gx_types.proofs.MakerLaws.{limited_short, ready_can, ready_keys}
-use Rattle.gx_typing.proofs.SeenAs.{seen_actual, seen_partition}
-use Rattle.gx_types.proofs.nodes.mapping_of.Goals as goal
+use Rattle.gx_typing.proofs.SeenAs.{seen_actual, seen_partition, seen_divide, seen_encode}
+use Rattle.gx_types.proofs.mappings.mapping_of.Goals as goal
 
 pub actual_of-requires-clause-texts : goal.actual_of-requires-clause-texts
 actual_of-requires-clause-texts c = limited_short c.args.form.now.fields c.requires.ready.1.records.texts
@@ -21,3 +21,14 @@ partition_of-requires-clause-can c =
     let ready = c.requires.ready in
     let seen = seen_partition c.args.term.now c.in-Partition.name c.in-Partition.bounds c.in-Partition.field-2 c.in-Partition.is in
     ready_can ready.0 c.args.form.now (heads.Partition c.in-Partition.name c.in-Partition.bounds) _ (subst (IsReady ready.0 c.args.form.now) seen ready.1)
+
+pub divide_of-requires : goal.divide_of-requires
+divide_of-requires c =
+    let ready = c.requires.ready in
+    ready_can ready.0 c.args.form.now (heads.Divide c.in-Divide.size) _ (subst (IsReady ready.0 c.args.form.now) (seen_divide c.args.term.now c.in-Divide.size c.in-Divide.field-1 c.in-Divide.is) ready.1)
+
+pub encode_of-requires-clause-can : goal.encode_of-requires-clause-can
+encode_of-requires-clause-can c =
+    let ready = c.requires.ready in
+    let seen = seen_encode c.args.term.now c.in-Encode.name c.in-Encode.code c.in-Encode.field-2 c.in-Encode.is in
+    ready_can ready.0 c.args.form.now (heads.Encode c.in-Encode.name c.in-Encode.code) _ (subst (IsReady ready.0 c.args.form.now) seen ready.1)
