@@ -156,6 +156,10 @@ impl AnyMapping {
         match self {
             AnyMapping::Actual(_) => Passing::Wrapped,
             AnyMapping::Partition(_) => Passing::Whole,
+            AnyMapping::Encode(_)
+            | AnyMapping::Segment(_)
+            | AnyMapping::Transpose(_)
+            | AnyMapping::Divide(_) => Passing::Apart,
         }
     }
 }
