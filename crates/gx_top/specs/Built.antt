@@ -1,4 +1,4 @@
--- What of the accepted texts is carried out so far: files alone, whose heads are leaves, `actual` and `partition`.
+-- What of the accepted texts is carried out so far: files alone, without the head `index`.
 use Rattle.std.specs.Prelude.{ℕ, ◌+◌, List, length, Bool, ◌&&◌, ◌==◌}
 use Rattle.gx_schema.specs.declared.schema.Schema.{Schema}
 use Rattle.gx_schema.specs.Printing.{schema_text}
