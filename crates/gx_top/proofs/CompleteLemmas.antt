@@ -24,25 +24,22 @@ use Rattle.gx_typing.specs.declared.typing.Typing.{Typing}
 use Rattle.gx_typing.specs.Typed.{IsTyped, leaves, typing_with}
 use Rattle.gx_typing.specs.Typing.{Mistake}
 use Rattle.gx_typing.proofs.TypedLaws.{again as typed_again}
-use Rattle.gx_top.specs.declared.prepare.Prepared.TheVariants as prepared
 use Rattle.gx_top.specs.declared.summary.Summary.{Summary}
-use Rattle.gx_top.specs.declared.words.Action.{Action}
-use Rattle.gx_top.specs.declared.words.Action.TheVariants as action
 use Rattle.gx_top.specs.Built.{is_built, text_length}
 use Rattle.gx_top.specs.Endings.{status_of, IsOutside}
-use Rattle.gx_top.specs.Requests.{IsText, IsThere, IsTooLong, IsNamed, IsAsked, AreRead, AreAccepted, AreUnaccepted, IsAccepted, IsRunnable, IsPrepared, IsRefused, IsUnprepared, equation_of, text_limit}
+use Rattle.gx_top.specs.Requests.{IsText, IsThere, IsTooLong, IsNamed, IsAsked, AreRead, AreAccepted, AreUnaccepted, IsAccepted, IsRunnable, IsSummary, IsRefused, IsUnprepared, equation_of, text_limit}
 use Rattle.gx_top.specs.Tries.{Says, IsPlay, IsPlayText, IsStoppedText, IsTry, IsPlayable, IsStoppable, IsCheckable}
-use Rattle.gx_top.specs.Words.{request_words, word_of}
+use Rattle.gx_top.specs.Words.{Action, checking, trying, request_words, word_of}
 
 -- the words of one request are those of no other
 word_once : (a b : Action) → word_of a ≡ word_of b → a ≡ b
-word_once action.Check action.Check e = refl
-word_once action.Try action.Try e = refl
-word_once action.Check action.Try e = absurd (never e)
+word_once checking checking e = refl
+word_once trying trying e = refl
+word_once checking trying e = absurd (never e)
   where
     never : codes "check" ≡ codes "try" → ⊥
     never f = cc
-word_once action.Try action.Check e = absurd (never e)
+word_once trying checking e = absurd (never e)
   where
     never : codes "try" ≡ codes "check" → ⊥
     never f = cc
@@ -194,18 +191,18 @@ one_acceptance words texts a b schema other ds fs typing more x y =
     record { actions = same.actions; schemas = read.schemas; definitions = read.definitions }
 
 -- what is played isn't checked
-pub not_both_asked : action.Try ≡ action.Check → ⊥
+pub not_both_asked : trying ≡ checking → ⊥
 not_both_asked e = cc
 
 pub runnable_once : (words : List (List ℕ)) (texts : Texts) (s t : Schema) → IsRunnable words texts s → IsRunnable words texts t → s ≡ t
-runnable_once words texts s t x y = (one_acceptance words texts action.Try action.Try s t x.0 y.0 x.1 y.1 x.2 y.2).schemas
+runnable_once words texts s t x y = (one_acceptance words texts trying trying s t x.0 y.0 x.1 y.1 x.2 y.2).schemas
 
 pub runnable_not_refused : (words : List (List ℕ)) (texts : Texts) (schema : Schema) (why : Ending) → IsRunnable words texts schema → IsRefused words texts why → ⊥
-runnable_not_refused words texts schema why x r = by_reason why r (not_refused words texts action.Try schema x.0 x.1 why x.2 r)
+runnable_not_refused words texts schema why x r = by_reason why r (not_refused words texts trying schema x.0 x.1 why x.2 r)
   where
     by_reason : (why : Ending) → IsRefused words texts why → OnlyUnbuilt why → ⊥
     by_reason ending.NotBuilt r only =
-        let same = one_acceptance words texts action.Try action.Try schema r.0 x.0 r.1 x.1 r.2 x.2 r.3 in
+        let same = one_acceptance words texts trying trying schema r.0 x.0 r.1 x.1 r.2 x.2 r.3 in
         not_both (is_built r.0 r.1) (subst (λ (k : Schema). is_built k r.1 ≡ true) same.schemas (subst (λ fs. is_built schema fs ≡ true) same.definitions x.3)) r.4
     by_reason ending.Words r only = only
     by_reason (ending.Missing name) r only = only
@@ -220,10 +217,10 @@ runnable_not_refused words texts schema why x r = by_reason why r (not_refused w
     by_reason (ending.Line number reason) r only = only
 
 pub checkable_not_refused : (words : List (List ℕ)) (before : Content) (why : Ending) → IsCheckable words before → IsRefused words before.aside.texts why → ⊥
-checkable_not_refused words before why x r = by_reason why r (not_refused words before.aside.texts action.Check x.0 x.1 x.2 why x.3 r)
+checkable_not_refused words before why x r = by_reason why r (not_refused words before.aside.texts checking x.0 x.1 x.2 why x.3 r)
   where
     by_reason : (why : Ending) → IsRefused words before.aside.texts why → OnlyUnbuilt why → ⊥
-    by_reason ending.NotBuilt r only = not_both_asked (sym (one_acceptance words before.aside.texts action.Check action.Try x.0 r.0 x.1 r.1 x.2 r.2 x.3 r.3).actions)
+    by_reason ending.NotBuilt r only = not_both_asked (sym (one_acceptance words before.aside.texts checking trying x.0 r.0 x.1 r.1 x.2 r.2 x.3 r.3).actions)
     by_reason ending.Words r only = only
     by_reason (ending.Missing name) r only = only
     by_reason (ending.TooLong name) r only = only
@@ -312,7 +309,7 @@ unprepared_memory words texts before now why s (inr out) never is fault outside 
 
 -- what is prepared is what was asked
 pub checked_not_played : (words : List (List ℕ)) (before : Content) (schema : Schema) → IsCheckable words before → IsRunnable words before.aside.texts schema → ⊥
-checked_not_played words before schema x y = not_both_asked (sym (one_acceptance words before.aside.texts action.Check action.Try x.0 schema x.1 y.0 x.2 y.1 x.3 y.2).actions)
+checked_not_played words before schema x y = not_both_asked (sym (one_acceptance words before.aside.texts checking trying x.0 schema x.1 y.0 x.2 y.1 x.3 y.2).actions)
 
 -- a line that was to be said was said, or there was no memory for it
 pub said_complete : (s : Status) → (s ≢ status.Outside → s ≢ status.Memory → s ≡ status.Done) → s ≢ status.Outside → (s ≡ status.Done) ⊎ (s ≡ status.Memory)
@@ -323,12 +320,12 @@ said_complete status.Refused is outside = inl (is outside (λ e. cc))
 said_complete status.Script is outside = inl (is outside (λ e. cc))
 
 -- a script isn't heard where it isn't to be played
-pub checked_no_try : (words : List (List ℕ)) (texts : Texts) (summary : Summary) → IsPrepared words texts (prepared.Check summary) → IsTry words → ⊥
-checked_no_try words texts summary is try = not_both_asked (same_words words action.Try action.Check try.0 is.3.2.schema_name try.1 is.3.2.equation_name try.2 is.3.2.words_are).actions
+pub checked_no_try : (words : List (List ℕ)) (texts : Texts) (summary : Summary) → IsSummary words texts summary → IsTry words → ⊥
+checked_no_try words texts summary is try = not_both_asked (same_words words trying checking try.0 is.3.2.schema_name try.1 is.3.2.equation_name try.2 is.3.2.words_are).actions
 
 -- ---- where there is a reason to refuse
 
-refused_status : (words : List (List ℕ)) (texts : Texts) (why : Ending) → IsRefused words texts why → status_of why ≡ status.Refused
+pub refused_status : (words : List (List ℕ)) (texts : Texts) (why : Ending) → IsRefused words texts why → status_of why ≡ status.Refused
 refused_status words texts ending.Words r = refl
 refused_status words texts (ending.Missing name) r = refl
 refused_status words texts (ending.TooLong name) r = refl

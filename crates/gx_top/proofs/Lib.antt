@@ -6,3 +6,4 @@ mod PlayLemmas
 mod TryLemmas
 mod CompleteLemmas
 mod OnceLemmas
+mod EndLemmas

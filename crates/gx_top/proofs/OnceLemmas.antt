@@ -22,13 +22,11 @@ use Rattle.gx_typing.specs.Whole.{typing_of}
 use Rattle.gx_typing.proofs.TypedLaws.{again as typed_again}
 use Rattle.gx_top.specs.declared.ending.Ending.{Ending}
 use Rattle.gx_top.specs.declared.ending.Ending.TheVariants as ending
-use Rattle.gx_top.specs.declared.words.Action.{Action}
-use Rattle.gx_top.specs.declared.words.Action.TheVariants as action
 use Rattle.gx_top.specs.Built.{text_length}
 use Rattle.gx_top.specs.Endings.{line_of}
 use Rattle.gx_top.specs.Requests.{IsThere, IsNamed, IsAsked, AreRead, AreAccepted, AreUnaccepted, IsRunnable, IsRefused, equation_of, text_limit}
 use Rattle.gx_top.specs.Tries.{IsPlayText, IsWholeText, IsTryUnder, PlayOneScript}
-use Rattle.gx_top.specs.Words.{request_words}
+use Rattle.gx_top.specs.Words.{Action, checking, trying, request_words}
 use Rattle.gx_top.proofs.CompleteLemmas.{SameWords, same_words, one_request, named, not_missing, not_long, text_once, equation_read, not_both_asked}
 
 -- ---- the line of a refusal, from what stands in the texts
@@ -116,7 +114,7 @@ reason : (words : List (List ℕ)) (texts : Texts) (why : Ending) → IsRefused 
 reason words texts ending.Words r = inl (r, refl)
 reason words texts (ending.Missing name) r = inr (inl (record { name = name.now; is_named = r.0; not_there = λ there. not_missing texts name.now there r.1; line_is = missing_line name.now (get texts name.now) r.1 }))
 reason words texts (ending.TooLong name) r = inr (inl (record { name = name.now; is_named = r.0; not_there = λ there. not_long texts name.now there r.1; line_is = long_line name.now (get texts name.now) r.1 }))
-reason words texts ending.NotBuilt r = inr (inr (record { asked = action.Try; schema = r.3.0; equation = r.3.1; is_asked = r.3.2; line_is = accepted_line r.3.0 r.3.1 r.0 r.1 r.2 r.3.3 }))
+reason words texts ending.NotBuilt r = inr (inr (record { asked = trying; schema = r.3.0; equation = r.3.1; is_asked = r.3.2; line_is = accepted_line r.3.0 r.3.1 r.0 r.1 r.2 r.3.3 }))
 reason words texts (ending.Schema line why) r = judged words texts (ending.Schema line why) r
 reason words texts (ending.Equation line why) r = judged words texts (ending.Equation line why) r
 reason words texts (ending.Type line why) r = judged words texts (ending.Type line why) r
@@ -165,14 +163,14 @@ record IsPlayed (words : List (List ℕ)) (before : Content) (text : List ℕ) :
 
 is_played : (words : List (List ℕ)) (before : Content) (under text : List ℕ) → IsTryUnder words before.aside.texts under → IsWholeText words before text → IsPlayed words before text
 is_played words before under text try (inl (inl run)) = record { schema = run.0; runnable = run.1; end = good; is = run.2 }
-is_played words before under text try (inl (inr is)) = absurd (not_both_asked (same_words words action.Try action.Check try.0 is.3.2.schema_name try.1 is.3.2.equation_name try.2 is.3.2.words_are).actions)
+is_played words before under text try (inl (inr is)) = absurd (not_both_asked (same_words words trying checking try.0 is.3.2.schema_name try.1 is.3.2.equation_name try.2 is.3.2.words_are).actions)
 is_played words before under text try (inr run) = record { schema = run.0; runnable = run.1; end = stopped run.2.0 run.2.1; is = run.2.2 }
 
 -- the schema that is played on is that of the schema text
 schema_under : (words : List (List ℕ)) (texts : Texts) (under : List ℕ) (schema : Schema) → IsTryUnder words texts under → IsRunnable words texts schema → IsSchemaText under schema
 schema_under words texts under schema try is =
     let asked = is.2.2 in
-    let same = same_words words action.Try action.Try asked.schema_name try.0 asked.equation_name try.1 asked.words_are try.2 in
+    let same = same_words words trying trying asked.schema_name try.0 asked.equation_name try.1 asked.words_are try.2 in
     subst (λ t. IsSchemaText t schema) (text_once texts asked.schema_name try.0 is.2.0 under same.schemas asked.schema_there.0 try.3) is.2.3.read.schema_means
 
 text_of_play : (schema : Schema) (script : List ℕ) (end close : End) (a b : List ℕ) → IsPlayText schema script end a → IsPlayText schema script close b → a ≡ b

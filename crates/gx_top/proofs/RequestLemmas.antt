@@ -1,21 +1,23 @@
 -- Why a request isn't carried out, from why its texts aren't accepted.
 use Rattle.std.proofs.Common.{◌≡◌, ◌≤◌, ℕ, List, true, Result, Ok, Err, sym, subst, arith, inl, inr, length}
-use Rattle.std.specs.Prelude.{IfOk, IfErr}
+use Rattle.std.specs.Prelude.{IfOk, IfErr, IsErrAnd}
 use Rattle.std.proofs.lemmas.List.{length-map}
 use Rattle.gx_device.specs.Content.{Texts}
 use Rattle.gx_schema.specs.declared.schema.Schema.{Schema}
+use Rattle.gx_equation.specs.Seen.{definitions_of}
 use Rattle.gx_equation.specs.Trees.{DefinitionTree}
+use Rattle.gx_types.specs.declared.built.Built.{Built}
 use Rattle.gx_typing.specs.declared.typing.Typing.{Typing}
 use Rattle.gx_typing.specs.Typed.{leaves, spec_of}
 use Rattle.gx_top.specs.declared.ending.Ending.{Ending}
 use Rattle.gx_top.specs.declared.ending.Ending.TheVariants as ending
-use Rattle.gx_top.specs.declared.prepare.Prepared.{Prepared}
-use Rattle.gx_top.specs.declared.prepare.Prepared.TheVariants as prepared
-use Rattle.gx_top.specs.declared.words.Action.{Action}
-use Rattle.gx_top.specs.declared.words.Action.TheVariants as action
+use Rattle.gx_top.specs.declared.reading.Checked.{Checked}
+use Rattle.gx_top.specs.declared.summary.Summary.{Summary}
 use Rattle.gx_top.specs.Built.{is_built}
-use Rattle.gx_top.specs.Prepared.{IsPreparedFor, IsUnbuilt}
-use Rattle.gx_top.specs.Requests.{IsAsked, AreAccepted, AreUnchecked, IsPrepared, IsUnprepared}
+use Rattle.gx_top.specs.Checked.{AreChecked, IsAcceptedAs, IsBuiltFor, IsUnbuilt}
+use Rattle.gx_top.specs.Requests.{IsAsked, IsAccepted, AreAccepted, AreUnchecked, IsRunnable, IsSummary, IsUnprepared}
+use Rattle.gx_top.specs.Summaries.{summary_of}
+use Rattle.gx_top.specs.Words.{Action, checking, trying}
 
 -- as many leaves as a typed equation may have
 pub few_leaves : (s e : List ℕ) (schema : Schema) (ds : List DefinitionTree) (typing : Typing) → AreAccepted s e schema ds typing → length typing.specs ≤ 255
@@ -35,32 +37,45 @@ unaccepted words texts before now a s e (ending.TooLong name) asked h = absurd h
 unaccepted words texts before now a s e (ending.Line number reason) asked h = absurd h
 unaccepted words texts before now a s e ending.Fault asked h = absurd h
 
--- accepted texts that can't be carried out
-pub unbuilt : (words : List (List ℕ)) (texts : Texts) (before now : ℕ) (a : Action) (s e : List ℕ) (schema : Schema) (ds : List DefinitionTree) (typing : Typing) (why : Ending) → IsAsked words texts a s e → AreAccepted s e schema ds typing → IsUnbuilt a schema ds why → IsUnprepared words texts before now why
-unbuilt words texts before now a s e schema ds typing ending.NotBuilt asked is un = inl (schema, ds, typing, (s, e, subst (λ b. IsAsked words texts b s e) un.0 asked, is), un.1)
-unbuilt words texts before now a s e schema ds typing ending.NoMemory asked is un = inr tt
-unbuilt words texts before now a s e schema ds typing (ending.Schema line reason) asked is un = absurd un
-unbuilt words texts before now a s e schema ds typing (ending.Equation line reason) asked is un = absurd un
-unbuilt words texts before now a s e schema ds typing (ending.Type line reason) asked is un = absurd un
-unbuilt words texts before now a s e schema ds typing ending.TextsTooLong asked is un = absurd un
-unbuilt words texts before now a s e schema ds typing (ending.Accepted summary) asked is un = absurd un
-unbuilt words texts before now a s e schema ds typing ending.Words asked is un = absurd un
-unbuilt words texts before now a s e schema ds typing (ending.Missing name) asked is un = absurd un
-unbuilt words texts before now a s e schema ds typing (ending.TooLong name) asked is un = absurd un
-unbuilt words texts before now a s e schema ds typing (ending.Line number reason) asked is un = absurd un
-unbuilt words texts before now a s e schema ds typing ending.Fault asked is un = absurd un
-
-pub prepared_for : (words : List (List ℕ)) (texts : Texts) (a : Action) (s e : List ℕ) (schema : Schema) (ds : List DefinitionTree) (typing : Typing) (p : Prepared) → IsAsked words texts a s e → AreAccepted s e schema ds typing → IsPreparedFor a schema ds typing p → IsPrepared words texts p
-prepared_for words texts action.Check s e schema ds typing (prepared.Check summary) asked is for = (schema, ds, typing, (s, e, asked, is), for)
-prepared_for words texts action.Check s e schema ds typing (prepared.Try played built) asked is for = absurd for
-prepared_for words texts action.Try s e schema ds typing (prepared.Check summary) asked is for = absurd for
-prepared_for words texts action.Try s e schema ds typing (prepared.Try played nodes) asked is (same, built, trees) = (ds, typing, (s, e, asked, subst (λ k. AreAccepted s e k ds typing) (sym same) is), subst (λ k. is_built k ds ≡ true) (sym same) built)
-
 -- the same for what a call answers
-pub all_prepared : (words : List (List ℕ)) (texts : Texts) (a : Action) (s e : List ℕ) (schema : Schema) (ds : List DefinitionTree) (typing : Typing) (result : Result Prepared Ending) → IsAsked words texts a s e → AreAccepted s e schema ds typing → IfOk result (IsPreparedFor a schema ds typing) → IfOk result (IsPrepared words texts)
-all_prepared words texts a s e schema ds typing (Ok p) asked is for = prepared_for words texts a s e schema ds typing p asked is for
-all_prepared words texts a s e schema ds typing (Err why) asked is for = tt
+pub all_unaccepted : (words : List (List ℕ)) (texts : Texts) (before now : ℕ) (a : Action) (s e : List ℕ) (result : Result Checked Ending) → IsAsked words texts a s e → IfErr result (AreUnchecked s e) → IfErr result (IsUnprepared words texts before now)
+all_unaccepted words texts before now a s e (Ok c) asked h = tt
+all_unaccepted words texts before now a s e (Err why) asked h = unaccepted words texts before now a s e why asked h
 
-pub all_unbuilt : (words : List (List ℕ)) (texts : Texts) (before now : ℕ) (a : Action) (s e : List ℕ) (schema : Schema) (ds : List DefinitionTree) (typing : Typing) (result : Result Prepared Ending) → IsAsked words texts a s e → AreAccepted s e schema ds typing → IfErr result (IsUnbuilt a schema ds) → IfErr result (IsUnprepared words texts before now)
-all_unbuilt words texts before now a s e schema ds typing (Ok p) asked is for = tt
-all_unbuilt words texts before now a s e schema ds typing (Err why) asked is for = unbuilt words texts before now a s e schema ds typing why asked is for
+pub all_accepted : (words : List (List ℕ)) (texts : Texts) (a : Action) (s e : List ℕ) (result : Result Checked Ending) → IsAsked words texts a s e → IfOk result (AreChecked s e) → IfOk result (IsAcceptedAs words texts a)
+all_accepted words texts a s e (Ok c) asked h = (s, e, asked, h)
+all_accepted words texts a s e (Err why) asked h = tt
+
+-- accepted texts that can't be carried out
+unbuilt : (words : List (List ℕ)) (texts : Texts) (before now : ℕ) (c : Checked) (why : Ending) → IsAcceptedAs words texts trying c → IsUnbuilt c why → IsUnprepared words texts before now why
+unbuilt words texts before now c ending.NotBuilt is un = inl (c.schema, definitions_of c.equation.definitions, c.typing, is, un)
+unbuilt words texts before now c ending.NoMemory is un = inr tt
+unbuilt words texts before now c (ending.Schema line reason) is un = absurd un
+unbuilt words texts before now c (ending.Equation line reason) is un = absurd un
+unbuilt words texts before now c (ending.Type line reason) is un = absurd un
+unbuilt words texts before now c ending.TextsTooLong is un = absurd un
+unbuilt words texts before now c (ending.Accepted summary) is un = absurd un
+unbuilt words texts before now c ending.Words is un = absurd un
+unbuilt words texts before now c (ending.Missing name) is un = absurd un
+unbuilt words texts before now c (ending.TooLong name) is un = absurd un
+unbuilt words texts before now c (ending.Line number reason) is un = absurd un
+unbuilt words texts before now c ending.Fault is un = absurd un
+
+pub all_unbuilt : (words : List (List ℕ)) (texts : Texts) (before now : ℕ) (c : Checked) (result : Result (Schema × Built) Ending) → IsAcceptedAs words texts trying c → IfErr result (IsUnbuilt c) → IfErr result (IsUnprepared words texts before now)
+all_unbuilt words texts before now c (Ok x) is h = tt
+all_unbuilt words texts before now c (Err why) is h = unbuilt words texts before now c why is h
+
+pub all_runnable : (words : List (List ℕ)) (texts : Texts) (c : Checked) (result : Result (Schema × Built) Ending) → IsAcceptedAs words texts trying c → IfOk result (IsBuiltFor c) → IfOk result (λ x. IsRunnable words texts x.0)
+all_runnable words texts c (Err why) is h = tt
+all_runnable words texts c (Ok x) is h =
+    let ds = definitions_of c.equation.definitions in
+    (ds, c.typing, subst (λ k. IsAccepted words texts trying k ds c.typing) (sym h.0) is, subst (λ k. is_built k ds ≡ true) (sym h.0) h.1)
+
+-- what the checker says of them
+pub summary : (words : List (List ℕ)) (texts : Texts) (c : Checked) (given : Summary) → IsAcceptedAs words texts checking c → given ≡ summary_of c.typing.specs → IsSummary words texts given
+summary words texts c given is same = (c.schema, definitions_of c.equation.definitions, c.typing, is, same)
+
+-- an error that is passed on as it is
+pub passed_on : (words : List (List ℕ)) (texts : Texts) (before now : ℕ) (why : Ending) (result : Result (Schema × Built) Ending) → IsUnprepared words texts before now why → IsErrAnd result (λ e. e ≡ why) → IfErr result (IsUnprepared words texts before now)
+passed_on words texts before now why (Ok x) un is = tt
+passed_on words texts before now why (Err e) un is = subst (IsUnprepared words texts before now) (sym is) un

@@ -26,10 +26,9 @@ use Rattle.gx_top.specs.declared.status.Status.{Status}
 use Rattle.gx_top.specs.declared.status.Status.TheVariants as status
 use Rattle.gx_top.specs.Endings.{line_of, status_of, memory_line, IsOutside}
 use Rattle.gx_top.specs.Plays.{IsPlayedUp, IsPlayedPart, IsPlayedTo, HasPlayCause}
-use Rattle.gx_top.specs.declared.prepare.Prepared.TheVariants as prepared
 use Rattle.gx_top.specs.declared.summary.Summary.{Summary}
 use Rattle.gx_top.specs.Summaries.{accepted_line}
-use Rattle.gx_top.specs.Requests.{IsHeard, IsRefused, IsRunnable, IsPrepared, IsUnprepared}
+use Rattle.gx_top.specs.Requests.{IsHeard, IsRefused, IsRunnable, IsSummary, IsUnprepared}
 use Rattle.gx_top.specs.Say.{IsCut}
 use Rattle.gx_top.specs.Tries.{Says, SaysFront, IsPlay, AreFirst, IsPlayText, IsStoppedText, IsShortText, IsTryText, IsRefusalText, IsRunText, IsMemoryText, IsAcceptedText, IsDoneText, IsRequestText, IsPlayedOut, IsPlayedAs, IsEndingOf}
 
@@ -316,10 +315,10 @@ run_done words schema old mid new accepted script unsaid is = (is.0, inl (schema
 
 -- ---- texts that are to be checked
 
-accepted_text : (words : List (List ℕ)) (before : Content) (summary : Summary) → IsPrepared words before.aside.texts (prepared.Check summary) → IsAcceptedText words before (accepted_line summary)
+accepted_text : (words : List (List ℕ)) (before : Content) (summary : Summary) → IsSummary words before.aside.texts summary → IsAcceptedText words before (accepted_line summary)
 accepted_text words before summary is = (is.0, is.1, is.2, is.3, ap accepted_line is.4)
 
-pub check_done : (words : List (List ℕ)) (old mid new : Content) (summary : Summary) → IsPrepared words old.aside.texts (prepared.Check summary) → mid.now.said ≡ old.now.said → new.now.said ≡ mid.now.said ++ accepted_line summary → Says (IsDoneText words old) old new
+pub check_done : (words : List (List ℕ)) (old mid new : Content) (summary : Summary) → IsSummary words old.aside.texts summary → mid.now.said ≡ old.now.said → new.now.said ≡ mid.now.said ++ accepted_line summary → Says (IsDoneText words old) old new
 check_done words old mid new summary is unsaid said = (accepted_line summary, inr (accepted_text words old summary is), said ∙ ap (λ t. t ++ accepted_line summary) unsaid)
 
 -- ---- a request that isn't carried out
@@ -381,6 +380,6 @@ pub unprepared_front : (words : List (List ℕ)) (old mid new : Content) (before
 unprepared_front words old mid new before now why is silent (n, inl said) unsaid = own_front words old mid new before now n why is silent said unsaid
 unprepared_front words old mid new before now why is silent (n, inr said) unsaid = line_says words old mid new n said unsaid
 
-pub check_front : (words : List (List ℕ)) (old mid new : Content) (summary : Summary) → IsPrepared words old.aside.texts (prepared.Check summary) → mid.now.said ≡ old.now.said → IsCut (accepted_line summary) memory_line mid new → SaysFront (IsRequestText words old) old new
+pub check_front : (words : List (List ℕ)) (old mid new : Content) (summary : Summary) → IsSummary words old.aside.texts summary → mid.now.said ≡ old.now.said → IsCut (accepted_line summary) memory_line mid new → SaysFront (IsRequestText words old) old new
 check_front words old mid new summary is unsaid (n, inl said) = (accepted_line summary, inr (inr (inl (accepted_text words old summary is))), (n, said ∙ ap (λ t. t ++ take n (accepted_line summary)) unsaid))
 check_front words old mid new summary is unsaid (n, inr said) = line_says words old mid new n said unsaid

@@ -3,7 +3,7 @@ pub mod Built
 pub mod Summaries
 pub mod Endings
 pub mod Requests
-pub mod Prepared
+pub mod Checked
 pub mod Say
 pub mod Tries
 pub mod Plays

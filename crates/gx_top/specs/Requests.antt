@@ -16,11 +16,8 @@ use Rattle.gx_typing.specs.Typed.{IsTyped, leaves, typing_with}
 use Rattle.gx_typing.specs.Whole.{typing_of}
 use Rattle.gx_top.specs.declared.ending.Ending.{Ending}
 use Rattle.gx_top.specs.declared.ending.Ending.TheVariants as ending
-use Rattle.gx_top.specs.declared.prepare.Prepared.{Prepared}
-use Rattle.gx_top.specs.declared.prepare.Prepared.TheVariants as prepared
-use Rattle.gx_top.specs.declared.words.Action.{Action}
-use Rattle.gx_top.specs.declared.words.Action.TheVariants as action
-use Rattle.gx_top.specs.Words.{request_words}
+use Rattle.gx_top.specs.declared.summary.Summary.{Summary}
+use Rattle.gx_top.specs.Words.{Action, checking, trying, request_words}
 use Rattle.gx_top.specs.Built.{is_built, text_length}
 use Rattle.gx_top.specs.Endings.{IsOutside}
 use Rattle.gx_top.specs.Summaries.{summary_of}
@@ -98,19 +95,18 @@ IsAccepted words texts a schema ds typing = (s : List ℕ) × (e : List ℕ) × 
 
 -- a script that can be played on this schema
 abbrev pub IsRunnable : List (List ℕ) → Texts → Schema → Type 0
-IsRunnable words texts schema = (ds : List DefinitionTree) × (typing : Typing) × IsAccepted words texts action.Try schema ds typing × (is_built schema ds ≡ true)
+IsRunnable words texts schema = (ds : List DefinitionTree) × (typing : Typing) × IsAccepted words texts trying schema ds typing × (is_built schema ds ≡ true)
 
--- what is to be done
-abbrev pub IsPrepared : List (List ℕ) → Texts → Prepared → Type 0
-IsPrepared words texts (prepared.Check summary) = (schema : Schema) × (ds : List DefinitionTree) × (typing : Typing) × IsAccepted words texts action.Check schema ds typing × (summary ≡ summary_of typing.specs)
-IsPrepared words texts (prepared.Try schema built) = IsRunnable words texts schema
+-- what the checker says of accepted texts
+abbrev pub IsSummary : List (List ℕ) → Texts → Summary → Type 0
+IsSummary words texts summary = (schema : Schema) × (ds : List DefinitionTree) × (typing : Typing) × IsAccepted words texts checking schema ds typing × (summary ≡ summary_of typing.specs)
 
 -- why a request is refused: the first reason in the order of words, texts, schema, equation, types, lengths, and what is built
 abbrev pub IsRefused : List (List ℕ) → Texts → Ending → Type 0
 IsRefused words texts ending.Words = (a : Action) (schema equation : List ℕ) → words ≢ request_words a schema equation
 IsRefused words texts (ending.Missing name) = IsNamed words texts name.now × (get texts name.now ≡ None)
 IsRefused words texts (ending.TooLong name) = IsNamed words texts name.now × IsTooLong texts name.now
-IsRefused words texts ending.NotBuilt = (schema : Schema) × (ds : List DefinitionTree) × (typing : Typing) × IsAccepted words texts action.Try schema ds typing × (is_built schema ds ≡ false)
+IsRefused words texts ending.NotBuilt = (schema : Schema) × (ds : List DefinitionTree) × (typing : Typing) × IsAccepted words texts trying schema ds typing × (is_built schema ds ≡ false)
 IsRefused words texts why = (a : Action) × (s : List ℕ) × (e : List ℕ) × IsAsked words texts a s e × AreUnaccepted s e why
 
 -- why nothing is to be done: the request is refused, or its texts can't be had for the machine or for want of memory

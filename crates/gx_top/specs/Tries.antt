@@ -1,8 +1,9 @@
 -- What the program says: the play of the script, what the checker says, or why the request is refused, or as much of it as
 -- can be said.
-use Rattle.std.specs.Prelude.{◌≡◌, ◌⊎◌, ℕ, List, ◌++◌, take, Result, Ok, Err, Some}
+use Rattle.std.specs.Prelude.{◌≡◌, ◌≢◌, ◌⊎◌, ℕ, ◌≤◌, List, [], ◌++◌, take, Result, Ok, Err, Some}
 use Rattle.std.specs.FinMap.{get}
 use Rattle.gx_device.specs.Content.{Content, Texts}
+use Rattle.gx_device.specs.Faults.{Rose}
 use Rattle.gx_schema.specs.declared.schema.Schema.{Schema}
 use Rattle.gx_script.specs.declared.command.LineWhy.{LineWhy}
 use Rattle.gx_script.specs.Lines.{script_lines}
@@ -12,14 +13,14 @@ use Rattle.gx_model.specs.Runs.{IsPlayFrom, AreFirstAnswersFrom}
 use Rattle.gx_top.specs.declared.ending.Ending.{Ending}
 use Rattle.gx_top.specs.declared.ending.Ending.TheVariants as ending
 use Rattle.gx_top.specs.declared.play.PlayEnd.{PlayEnd}
+use Rattle.gx_top.specs.declared.status.Status.{Status}
 use Rattle.gx_top.specs.declared.status.Status.TheVariants as status
 use Rattle.gx_top.specs.Endings.{line_of, status_of, memory_line, ending_of}
 use Rattle.gx_equation.specs.Trees.{DefinitionTree}
 use Rattle.gx_typing.specs.declared.typing.Typing.{Typing}
-use Rattle.gx_top.specs.declared.words.Action.TheVariants as action
 use Rattle.gx_top.specs.Requests.{IsRefused, IsAccepted, IsRunnable}
 use Rattle.gx_top.specs.Summaries.{summary_of, accepted_line}
-use Rattle.gx_top.specs.Words.{request_words}
+use Rattle.gx_top.specs.Words.{checking, trying, request_words}
 
 -- such a text was said
 abbrev pub Says : (List ℕ → Type 0) → Content → Content → Type 0
@@ -73,7 +74,7 @@ IsRunText P words before text = (schema : Schema) × IsRunnable words before.asi
 
 -- the line of the leaves of the accepted texts that are to be checked
 abbrev pub IsAcceptedText : List (List ℕ) → Content → List ℕ → Type 0
-IsAcceptedText words before text = (schema : Schema) × (ds : List DefinitionTree) × (typing : Typing) × IsAccepted words before.aside.texts action.Check schema ds typing × (text ≡ accepted_line (summary_of typing.specs))
+IsAcceptedText words before text = (schema : Schema) × (ds : List DefinitionTree) × (typing : Typing) × IsAccepted words before.aside.texts checking schema ds typing × (text ≡ accepted_line (summary_of typing.specs))
 
 -- all that was asked: the answers of a script whose play ends at no line, or what the checker says
 abbrev pub IsDoneText : List (List ℕ) → Content → List ℕ → Type 0
@@ -89,7 +90,7 @@ IsRequestText words before text = IsRefusalText words before text ⊎ (text ≡ 
 
 -- the words ask for a script to be played
 abbrev pub IsTry : List (List ℕ) → Type 0
-IsTry words = (schema : List ℕ) × (equation : List ℕ) × (words ≡ request_words action.Try schema equation)
+IsTry words = (schema : List ℕ) × (equation : List ℕ) × (words ≡ request_words trying schema equation)
 
 -- a script can be played, and its play ends at no line
 abbrev pub IsPlayable : List (List ℕ) → Content → Type 0
@@ -101,7 +102,40 @@ IsStoppable words before = (schema : Schema) × IsRunnable words before.aside.te
 
 -- the texts to be checked are accepted
 abbrev pub IsCheckable : List (List ℕ) → Content → Type 0
-IsCheckable words before = (schema : Schema) × (ds : List DefinitionTree) × (typing : Typing) × IsAccepted words before.aside.texts action.Check schema ds typing
+IsCheckable words before = (schema : Schema) × (ds : List DefinitionTree) × (typing : Typing) × IsAccepted words before.aside.texts checking schema ds typing
+
+-- ---- how a request ends
+
+-- what was said, by the status
+abbrev pub IsSaid : List (List ℕ) → Content → Content → Status → Type 0
+IsSaid words old new status.Done = Says (IsDoneText words old) old new
+IsSaid words old new status.Script = Says (IsRunText IsStoppedText words old) old new
+IsSaid words old new status.Refused = Says (IsRefusalText words old) old new
+IsSaid words old new status.Memory = Says (IsMemoryText words old) old new
+IsSaid words old new status.Outside = SaysFront (IsRequestText words old) old new
+
+-- the same, and what was heard: the script to its end where all of it was played, and none of it where none is to be played
+pub record IsEnd (words : List (List ℕ)) (old new : Content) (s : Status) : Type 0 where
+  pub said : IsSaid words old new s
+  pub heard : s ≡ status.Done → IsTry words → new.script ≡ []
+  pub unheard : ((schema : Schema) → IsRunnable words old.aside.texts schema → ⊥) → new.script ≡ old.script
+
+-- the status that a request is due
+abbrev pub IsDueStatus : List (List ℕ) → Content → Status → Type 0
+IsDueStatus words before status.Done = IsPlayable words before ⊎ IsCheckable words before
+IsDueStatus words before status.Script = IsStoppable words before
+IsDueStatus words before status.Refused = (why : Ending) × IsRefused words before.aside.texts why
+IsDueStatus words before other = ⊥
+
+-- it has that status, but where there was no memory, or a call of the machine failed
+abbrev pub IsAsDue : List (List ℕ) → Content → Status → Type 0
+IsAsDue words before s = (due : Status) → IsDueStatus words before due → s ≢ status.Outside → (s ≡ due) ⊎ (s ≡ status.Memory)
+
+-- `Outside` comes only where a call of the machine failed, and with any other status none did
+pub record CountsOutside (before now : ℕ) (s : Status) : Type 0 where
+  pub outside : s ≡ status.Outside → Rose before now
+  pub counted : s ≢ status.Outside → now ≡ before
+  pub later : before ≤ now
 
 -- ---- of two requests
 
@@ -111,7 +145,7 @@ IsWholeText words before text = IsDoneText words before text ⊎ IsRunText IsSto
 
 -- the words ask for a script to be played under the schema that this text means
 abbrev pub IsTryUnder : List (List ℕ) → Texts → List ℕ → Type 0
-IsTryUnder words texts schema = (schema_name : List ℕ) × (equation_name : List ℕ) × (words ≡ request_words action.Try schema_name equation_name) × (get texts schema_name ≡ Some schema)
+IsTryUnder words texts schema = (schema_name : List ℕ) × (equation_name : List ℕ) × (words ≡ request_words trying schema_name equation_name) × (get texts schema_name ≡ Some schema)
 
 -- two requests ask for one script to be played under one schema, whatever their equations are
 pub record PlayOneScript (words others : List (List ℕ)) (before other : Content) : Type 0 where

@@ -3,16 +3,20 @@
 #![tactic(auto)]
 
 mod built;
+mod check;
 mod ending;
+mod laws;
 mod play;
-mod prepare;
+mod reading;
 mod request;
 mod say;
 mod script;
 mod status;
 mod summary;
 mod texts;
+mod try_script;
 mod words;
 
+pub use laws::{one_reason, one_text};
 pub use request::top;
 pub use status::Status;

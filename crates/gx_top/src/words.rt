@@ -1,47 +1,38 @@
 // The words of the command line.
-ghost use Rattle.std.specs.Prelude.{◌≡◌, ◌≢◌, List, ℕ, IfSome, IsNone};
-ghost use Rattle.gx_top.specs.Words.{texts_of, request_words, word_of};
+ghost use Rattle.std.specs.Prelude.{◌≡◌, ◌≢◌, ◌∷◌, [], List, ℕ, IfSome, IsNone};
+ghost use Rattle.gx_top.specs.Words.{Action, texts_of, request_words, word_of, words_of};
 
-/// What is to be done with a schema and an equation.
-#[derive(Clone, Copy, Debug, PartialEq, Eq)]
-pub enum Action {
-    /// To tell whether they are accepted.
-    Check,
-    /// To play the script over leaves in memory.
-    Try,
-}
-
-/// What the words ask for, and the names of the two texts.
+/// What is asked for, with the names of a schema and of an equation.
 #[derive(Clone, Copy, Debug)]
-pub struct Request<'a> {
-    pub action: Action,
-    pub schema: &'a str,
-    pub equation: &'a str,
+pub enum Request<'a> {
+    /// To tell whether the two are accepted.
+    Check { schema: &'a str, equation: &'a str },
+    /// To play the script over leaves in memory.
+    Try { schema: &'a str, equation: &'a str },
 }
 
-/// The request that `check SCHEMA EQUATION` or `try SCHEMA EQUATION` means; nothing where the words are others.
+/// The request that `check SCHEMA EQUATION` or `try SCHEMA EQUATION` means; nothing where the words
+/// are others.
 pub fn read_words(words: &[String]) -> Option<Request<'_>>
-    ensures some { IfSome result (λ request. texts_of words.now ≡ request_words request.action request.schema.now request.equation.now) }
-    ensures none { IsNone result → (a : Action) (schema equation : List ℕ) → texts_of words.now ≢ request_words a schema equation }
+    ensures some { IfSome result (λ request. texts_of words.now ≡ words_of request) }
+    ensures none { IsNone result →
+        (a : Action) (schema equation : List ℕ) → texts_of words.now ≢ request_words a schema equation }
 {
     let [word, schema, equation] = words else {
         return None;
     };
-    let action = read_action(word.as_str())?;
-    Some(Request {
-        action,
-        schema: schema.as_str(),
-        equation: equation.as_str(),
-    })
+    request_for(word.as_str(), schema.as_str(), equation.as_str())
 }
 
-fn read_action(word: &str) -> Option<Action>
-    ensures some { IfSome result (λ action. word.now ≡ word_of action) }
+// What this word asks for of two texts.
+fn request_for<'a>(word: &str, schema: &'a str, equation: &'a str) -> Option<Request<'a>>
+    ensures some { IfSome result
+        (λ request. words_of request ≡ word.now ∷ schema.now ∷ equation.now ∷ []) }
     ensures none { IsNone result → (a : Action) → word.now ≢ word_of a }
 {
     match word {
-        "check" => Some(Action::Check),
-        "try" => Some(Action::Try),
+        "check" => Some(Request::Check { schema, equation }),
+        "try" => Some(Request::Try { schema, equation }),
         _ => None,
     }
 }

@@ -1,9 +1,8 @@
 use Rattle.std.proofs.Common.{rules, subst, Err}
 use Rattle.gx_top.specs.Tries.{IsPlayedAs}
 use Rattle.gx_top.proofs.TryLemmas.{said_short, said_front, not_fault}
-use Rattle.gx_top.proofs.request.try_script.Goals as goal
+use Rattle.gx_top.proofs.try_script.run_script.Goals as goal
 
--- src/request.rt:62:1
 pub returns-in-Err-clause-memory : goal.returns-in-Err-clause-memory
 returns-in-Err-clause-memory g c = λ told e.
     said_short c.args.schema (g.M.Device.content c.args.machine) (g.M.Device.content c.play_script-machine.result.1) (g.M.Device.content c.end-status.new.machine) c.in-Err.ending
@@ -11,7 +10,6 @@ returns-in-Err-clause-memory g c = λ told e.
     (not_fault c.in-Err.ending c.end-status.result e c.end-status.ensures.fault)
     (c.end-status.ensures.memory told e)
 
--- src/request.rt:62:1
 pub returns-in-Err-clause-cut : goal.returns-in-Err-clause-cut
 returns-in-Err-clause-cut g c = λ told e.
     said_front c.args.schema (g.M.Device.content c.args.machine) (g.M.Device.content c.play_script-machine.result.1) (g.M.Device.content c.end-status.new.machine) c.in-Err.ending

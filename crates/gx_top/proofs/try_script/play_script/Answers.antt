@@ -9,17 +9,14 @@ use Rattle.gx_top.specs.Tries.{IsPlayedAs}
 use Rattle.gx_top.specs.declared.ending.Ending.TheVariants as ending
 use Rattle.gx_engine.proofs.StartLemmas.{start_state}
 use Rattle.gx_top.proofs.TryLemmas.{played_as, unheard, heard_to_end, fault_cause, rose_before}
-use Rattle.gx_top.proofs.request.play_script.Goals as goal
+use Rattle.gx_top.proofs.try_script.play_script.Goals as goal
 
--- src/request.rt:101:24
 pub returns-in-Err-clause-answered : goal.returns-in-Err-clause-answered
 returns-in-Err-clause-answered g c = λ told. unheard c.args.schema (g.M.Device.content c.args.machine) (g.M.Device.content c.hear_script.new.machine) _ _ c.in-Err.ending (ap (λ n. n.said) c.in-Err.ensures.rest.now) c.in-Err.ensures.unheard
 
--- src/request.rt:85:1
 pub returns-clause-answered : goal.returns-clause-answered
 returns-clause-answered g c = λ told. unheard c.args.schema (g.M.Device.content c.args.machine) (g.M.Device.content c.in-Err-make.machine) 0 0 ending.NoMemory (ap (λ m. (g.M.Device.content m).now.said) (search rules) ∙ ap (λ n. n.said) c.in-Ok.ensures.rest.now) tt
 
--- src/request.rt:73:1
 pub returns-in-Ok-make-clause-answered : goal.returns-in-Ok-make-clause-answered
 returns-in-Ok-make-clause-answered g c = λ told.
     let internal = subst (λ w. AreInternal c.args.schema c.args.built.files w (empty_state c.args.schema)) (sym c.in-Ok-make.ensures.working) (start_state c.args.schema c.args.built _ _ c.requires.built) in
@@ -32,7 +29,6 @@ returns-in-Ok-make-clause-answered g c = λ told.
     c.ended.ensures
     (subst (λ s. IsPlayedTo s (start_at (empty_state c.args.schema)) (script_lines c.deref.result.now) (g.M.Device.content c.start-engine.result.leaves.device) (g.M.Device.content c.play-played.new.engine.leaves.device) c.play-played.result) c.start-engine.ensures.schema to))
 
--- src/request.rt:97:1
 pub returns-in-Ok-make-clause-heard : goal.returns-in-Ok-make-clause-heard
 returns-in-Ok-make-clause-heard g c = λ told e.
     let internal = subst (λ w. AreInternal c.args.schema c.args.built.files w (empty_state c.args.schema)) (sym c.in-Ok-make.ensures.working) (start_state c.args.schema c.args.built _ _ c.requires.built) in
@@ -48,7 +44,6 @@ returns-in-Ok-make-clause-heard g c = λ told e.
     (subst (λ s. IsPlayedTo s (start_at (empty_state c.args.schema)) (script_lines c.deref.result.now) (g.M.Device.content c.start-engine.result.leaves.device) (g.M.Device.content c.play-played.new.engine.leaves.device) c.play-played.result) c.start-engine.ensures.schema to)
     e
 
--- src/request.rt:97:1
 pub returns-in-Ok-make-clause-fault : goal.returns-in-Ok-make-clause-fault
 returns-in-Ok-make-clause-fault g c = λ e.
     let internal = subst (λ w. AreInternal c.args.schema c.args.built.files w (empty_state c.args.schema)) (sym c.in-Ok-make.ensures.working) (start_state c.args.schema c.args.built _ _ c.requires.built) in

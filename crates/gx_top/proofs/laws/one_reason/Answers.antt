@@ -1,0 +1,6 @@
+use Rattle.gx_top.specs.Words.{texts_of}
+use Rattle.gx_top.proofs.OnceLemmas.{refused_once}
+use Rattle.gx_top.proofs.laws.one_reason.Goals as goal
+
+pub returns : goal.returns
+returns c texts why other x y = refused_once (texts_of c.args.words.now) texts why other x y

@@ -1,0 +1,71 @@
+-- The steps from the texts of a request to what is played.
+use Rattle.std.specs.Prelude.{◌≡◌, ℕ, ◌≤◌, List, length, true, false, Err}
+use Rattle.gx_tokens.specs.declared.why.Unread.TheVariants as unread
+use Rattle.gx_device.specs.Content.{Texts}
+use Rattle.gx_schema.specs.declared.schema.Schema.{Schema}
+use Rattle.gx_schema.specs.Reading.{schema_of}
+use Rattle.gx_schema.specs.Rules.{IsSchema}
+use Rattle.gx_schema.specs.WellFormed.{IsWellFormed}
+use Rattle.gx_equation.specs.Printing.{AreWritten}
+use Rattle.gx_equation.specs.Seen.{definitions_of}
+use Rattle.gx_equation.specs.Trees.{DefinitionTree}
+use Rattle.gx_engine.specs.Steps.{AreFor}
+use Rattle.gx_types.specs.Build.{AreTreesOfFiles}
+use Rattle.gx_types.specs.declared.built.Built.{Built}
+use Rattle.gx_typing.specs.Typed.{IsTyped, leaves, typing_with}
+use Rattle.gx_typing.specs.Whole.{typing_of}
+use Rattle.gx_top.specs.declared.ending.Ending.{Ending}
+use Rattle.gx_top.specs.declared.ending.Ending.TheVariants as ending
+use Rattle.gx_top.specs.declared.reading.Checked.{Checked}
+use Rattle.gx_top.specs.Built.{is_built}
+use Rattle.gx_top.specs.Requests.{AreAccepted, IsAccepted, equation_of}
+use Rattle.gx_top.specs.Words.{Action}
+
+-- why a schema isn't read
+abbrev pub IsUnread : List ℕ → Ending → Type 0
+IsUnread text (ending.Schema line why) = schema_of text ≡ Err (unread.Bad line why)
+IsUnread text ending.NoMemory = Unit {0}
+IsUnread text _ = ⊥
+
+-- why an equation isn't read
+abbrev pub IsUnreadEquation : List ℕ → Ending → Type 0
+IsUnreadEquation text (ending.Equation line why) = equation_of text ≡ Err (unread.Bad line why)
+IsUnreadEquation text ending.NoMemory = Unit {0}
+IsUnreadEquation text _ = ⊥
+
+-- why definitions aren't typed
+abbrev pub IsUntyped : Schema → List DefinitionTree → List ℕ → Ending → Type 0
+IsUntyped schema ds lines (ending.Type line why) = typing_of schema ds lines ≡ Err (line, why)
+IsUntyped schema ds lines ending.NoMemory = Unit {0}
+IsUntyped schema ds lines _ = ⊥
+
+-- what the checker found of a schema and an equation
+pub record IsChecked (c : Checked) : Type 0 where
+  pub rules : IsSchema c.schema
+  pub well_formed : IsWellFormed c.schema
+  pub written : AreWritten (definitions_of c.equation.definitions)
+  pub typed : IsTyped c.schema (definitions_of c.equation.definitions)
+  pub leaves_are : c.typing ≡ typing_with (leaves c.schema (definitions_of c.equation.definitions))
+  pub few : length c.typing.specs ≤ 255
+
+-- the checker accepts these two texts
+abbrev pub AreChecked : List ℕ → List ℕ → Checked → Type 0
+AreChecked schema_text equation_text c = AreAccepted schema_text equation_text c.schema (definitions_of c.equation.definitions) c.typing
+
+-- the same of the texts of a request
+abbrev pub IsAcceptedAs : List (List ℕ) → Texts → Action → Checked → Type 0
+IsAcceptedAs words texts a c = IsAccepted words texts a c.schema (definitions_of c.equation.definitions) c.typing
+
+-- the nodes that a script is played over, and their schema
+abbrev pub IsBuiltFor : Checked → Schema × Built → Type 0
+IsBuiltFor c x = (x.0 ≡ c.schema) × (is_built c.schema (definitions_of c.equation.definitions) ≡ true) × AreTreesOfFiles 0 c.schema.files (definitions_of c.equation.definitions) x.1.files
+
+-- or why there are none
+abbrev pub IsUnbuilt : Checked → Ending → Type 0
+IsUnbuilt c ending.NotBuilt = is_built c.schema (definitions_of c.equation.definitions) ≡ false
+IsUnbuilt c ending.NoMemory = Unit {0}
+IsUnbuilt c why = ⊥
+
+-- a script can be played on the schema as it is built
+abbrev pub CanPlay : Schema × Built → Type 0
+CanPlay x = AreFor x.0 x.1 (length x.1.specs) × IsWellFormed x.0

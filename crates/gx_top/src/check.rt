@@ -1,0 +1,33 @@
+// The request to check two texts.
+ghost use Rattle.std.specs.Prelude.{◌≡◌, ◌≢◌, ◌≤◌, IsTrue};
+ghost use Rattle.gx_device.specs.Faults.{Rose};
+ghost use Rattle.gx_top.specs.Words.{checking, request_words};
+ghost use Rattle.gx_top.specs.Tries.{IsEnd, IsAsDue};
+
+use crate::ending::{Ending, end};
+use crate::reading::read_texts;
+use crate::status::Status;
+use crate::summary::summarize;
+use gx_device::Machine;
+use std::alloc::Global;
+
+/// Says what leaves the equation has where both texts of these names are accepted, and the reason
+/// where they aren't. No script is heard.
+pub fn check<M: Machine>(alloc: Global, schema: &str, equation: &str, machine: &mut M) -> Status
+    ensures said { IsTrue M.tells →
+        IsEnd (request_words checking schema.now equation.now) (M.content machine.old)
+        (M.content machine.new) result }
+    ensures due { IsTrue M.tells →
+        IsAsDue (request_words checking schema.now equation.now) (M.content machine.old) result }
+    ensures outside { result ≡ Status.Outside → Rose (M.faults machine.old) (M.faults machine.new) }
+    ensures counted { result ≢ Status.Outside → M.faults machine.new ≡ M.faults machine.old }
+    ensures later { M.faults machine.old ≤ M.faults machine.new }
+{
+    match read_texts(alloc, schema, equation, machine) {
+        Ok(checked) => {
+            let summary = summarize(&checked.typing.specs);
+            end(alloc, Ending::Accepted(summary), machine)
+        }
+        Err(ending) => end(alloc, ending, machine),
+    }
+}

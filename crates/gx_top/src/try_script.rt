@@ -1,0 +1,163 @@
+// The request to play a script under two texts.
+ghost use Rattle.std.specs.Prelude.{◌≡◌, ◌≢◌, ◌≤◌, [], Ok, true, false, length, IsTrue, IsErrOf, IfOk, IfErr};
+ghost use Rattle.gx_device.specs.Content.{SameContent};
+ghost use Rattle.gx_device.specs.Faults.{Rose};
+ghost use Rattle.gx_schema.specs.WellFormed.{IsWellFormed};
+ghost use Rattle.gx_model.specs.Play.{good};
+ghost use Rattle.gx_engine.specs.Steps.{AreFor};
+ghost use Rattle.gx_top.specs.Words.{trying, request_words};
+ghost use Rattle.gx_top.specs.Checked.{IsChecked, IsBuiltFor, IsUnbuilt, CanPlay};
+ghost use Rattle.gx_top.specs.Endings.{status_of, is_fault};
+ghost use Rattle.gx_top.specs.Requests.{IsRunnable, IsUnprepared};
+ghost use Rattle.gx_top.specs.Tries.{Says, SaysFront, IsPlayText, IsStoppedText, IsShortText, IsTryText, IsPlayedAs, IsEndingOf, IsEnd, IsAsDue};
+
+use crate::built::is_built;
+use crate::ending::{Ending, end};
+use crate::play::{PlayEnd, play};
+use crate::reading::{Checked, read_texts};
+use crate::script::hear_script;
+use crate::status::Status;
+use gx_device::Machine;
+use gx_engine::Engine;
+use gx_ports::PlainLeaves;
+use gx_schema::Schema;
+use gx_types::{Built, build};
+use gx_values::NoMemory;
+use std::alloc::Global;
+
+/// Plays the script over leaves in memory, under the texts of these names, and says its answers; or
+/// says the reason where the request is refused.
+pub fn try_script<M: Machine + Drop>(
+    alloc: Global,
+    schema: &str,
+    equation: &str,
+    machine: M,
+) -> (Status, M)
+    ensures said { IsTrue M.tells →
+        IsEnd (request_words trying schema.now equation.now) (M.content machine)
+        (M.content result.1) result.0 }
+    ensures due { IsTrue M.tells →
+        IsAsDue (request_words trying schema.now equation.now) (M.content machine) result.0 }
+    ensures outside { result.0 ≡ Status.Outside → Rose (M.faults machine) (M.faults result.1) }
+    ensures counted { result.0 ≢ Status.Outside → M.faults result.1 ≡ M.faults machine }
+    ensures later { M.faults machine ≤ M.faults result.1 }
+{
+    let mut machine = machine;
+    match prepare(alloc, schema, equation, &mut machine) {
+        Ok((schema, built)) => run_script(alloc, schema, built, machine),
+        Err(ending) => {
+            let status = end(alloc, ending, &mut machine);
+            (status, machine)
+        }
+    }
+}
+
+// The schema, and the nodes that the script is played over.
+fn prepare<'a, M: Machine>(
+    alloc: Global,
+    schema: &'a str,
+    equation: &'a str,
+    machine: &mut M,
+) -> Result<(Schema, Built), Ending<'a>>
+    ensures runnable { IsTrue M.tells → IfOk result (λ x.
+        IsRunnable (request_words trying schema.now equation.now)
+        (M.content machine.old).aside.texts x.0) }
+    ensures unprepared { IsTrue M.tells → IfErr result
+        (IsUnprepared (request_words trying schema.now equation.now)
+        (M.content machine.old).aside.texts (M.faults machine.old) (M.faults machine.new)) }
+    ensures fault { IsErrOf result Ending.Fault → Rose (M.faults machine.old) (M.faults machine.new) }
+    ensures can_play { IfOk result CanPlay }
+    ensures counted { is_fault result ≡ false → M.faults machine.new ≡ M.faults machine.old }
+    ensures later { M.faults machine.old ≤ M.faults machine.new }
+    ensures content { SameContent (M.content machine.old) (M.content machine.new) }
+{
+    let checked = read_texts(alloc, schema, equation, machine)?;
+    build_nodes(alloc, checked)
+}
+
+// The same of accepted texts.
+fn build_nodes<'a>(alloc: Global, checked: Checked) -> Result<(Schema, Built), Ending<'a>>
+    requires { IsChecked checked }
+    ensures built { IfOk result (IsBuiltFor checked) }
+    ensures can_play { IfOk result CanPlay }
+    ensures unbuilt { IfErr result (IsUnbuilt checked) }
+{
+    let Checked {
+        schema,
+        equation,
+        typing,
+    } = checked;
+    if !is_built(&schema, &equation) {
+        return Err(Ending::NotBuilt);
+    }
+    let built = build(alloc, &schema, &equation, typing)?;
+    Ok((schema, built))
+}
+
+// Plays the script, and says why it ends early.
+fn run_script<M: Machine + Drop>(
+    alloc: Global,
+    schema: Schema,
+    built: Built,
+    machine: M,
+) -> (Status, M)
+    requires built { AreFor schema built (length built.specs) }
+    requires well_formed { IsWellFormed schema }
+    ensures done { IsTrue M.tells → result.0 ≡ Status.Done → Says (IsPlayText schema (M.content machine).script good) (M.content machine) (M.content result.1) }
+    ensures heard { IsTrue M.tells → result.0 ≡ Status.Done → (M.content result.1).script ≡ [] }
+    ensures stopped { IsTrue M.tells → result.0 ≡ Status.Script → Says (IsStoppedText schema (M.content machine).script) (M.content machine) (M.content result.1) }
+    ensures memory { IsTrue M.tells → result.0 ≡ Status.Memory → Says (IsShortText schema (M.content machine).script) (M.content machine) (M.content result.1) }
+    ensures cut { IsTrue M.tells → result.0 ≡ Status.Outside → SaysFront (IsTryText schema (M.content machine).script) (M.content machine) (M.content result.1) }
+    ensures outside { result.0 ≡ Status.Outside → Rose (M.faults machine) (M.faults result.1) }
+    ensures played { result.0 ≢ Status.Refused }
+    ensures counted { result.0 ≢ Status.Outside → M.faults result.1 ≡ M.faults machine }
+    ensures later { M.faults machine ≤ M.faults result.1 }
+{
+    let (played, mut machine) = play_script(alloc, schema, built, machine);
+    match played {
+        Ok(()) => (Status::Done, machine),
+        Err(ending) => {
+            let status = end(alloc, ending, &mut machine);
+            (status, machine)
+        }
+    }
+}
+
+// Hears the script and plays it on leaves over the machine.
+fn play_script<'a, M: Machine + Drop>(
+    alloc: Global,
+    schema: Schema,
+    built: Built,
+    machine: M,
+) -> (Result<(), Ending<'a>>, M)
+    requires built { AreFor schema built (length built.specs) }
+    requires well_formed { IsWellFormed schema }
+    ensures answered { IsTrue M.tells → IsPlayedAs schema (M.content machine) (M.content result.1) result.0 }
+    ensures heard { IsTrue M.tells → result.0 ≡ Ok tt → (M.content result.1).script ≡ [] }
+    ensures fault { IsErrOf result.0 Ending.Fault → Rose (M.faults machine) (M.faults result.1) }
+    ensures played { IfErr result.0 (λ ending. status_of ending ≢ Status.Refused) }
+    ensures counted { is_fault result.0 ≡ false → M.faults result.1 ≡ M.faults machine }
+    ensures later { M.faults machine ≤ M.faults result.1 }
+{
+    let mut machine = machine;
+    let script = match hear_script(alloc, &mut machine) {
+        Ok(script) => script,
+        Err(ending) => return (Err(ending), machine),
+    };
+    let count = built.specs.0.len() as u32;
+    match PlainLeaves::make(alloc, machine, count) {
+        Ok(leaves) => {
+            let mut engine = Engine::start(schema, built, leaves);
+            let played = play(alloc, &script, &mut engine);
+            (ended(played), engine.into_leaves().into_device())
+        }
+        Err((machine, NoMemory)) => (Err(Ending::NoMemory), machine),
+    }
+}
+
+// How the request ends where its play does.
+fn ended<'a>(played: Result<(), PlayEnd>) -> Result<(), Ending<'a>>
+    ensures { IsEndingOf played result }
+{
+    Ok(played?)
+}
