@@ -1,9 +1,5 @@
-mod FileLemmas
-mod EntryLemmas
-mod PlaceLemmas
-mod ListingLemmas
+mod ChangeLemmas
 mod RecordLemmas
-mod ScanLemmas
 mod StepLemmas
 mod ToldLemmas
 pub mod StartLemmas

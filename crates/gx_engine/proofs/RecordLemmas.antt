@@ -1,18 +1,14 @@
 -- Records of a file: what is found of them, and what edits do.
-use Rattle.std.proofs.Common.{◌≡◌, ℕ, zero, suc, ◌+◌, ◌-◌, ◌<◌, ◌≤◌, List, [], ◌∷◌, ◌++◌, length, take, drop, get_or, set, cond, Bool, true, false, Option, Some, None, refl, sym, ap, subst, ◌∙◌, arith, length-append, inl}
-use Rattle.std.specs.Prelude.{IfSome, is_some, unwrap_or, slice_set}
+use Rattle.std.proofs.Common.{[], ◌≡◌, ℕ, zero, suc, ◌+◌, ◌-◌, ◌<◌, ◌≤◌, List, ◌∷◌, length, take, drop, get_or, set, cond, Bool, true, false, Option, Some, None, refl, sym, ap, subst, ◌∙◌, arith}
+use Rattle.std.specs.Prelude.{is_some, unwrap_or, slice_set}
 use Rattle.std.specs.List.{AllByRecursion}
 use Rattle.std.specs.Option.{option_map}
 use Rattle.std.specs.FinMap as fin
 use Rattle.std.proofs.lemmas.List.{take_all}
-use Rattle.gx_values.specs.declared.values.Kind.{Kind}
-use Rattle.gx_values.specs.declared.values.Kind.TheVariants as kind
 use Rattle.gx_values.specs.declared.values.Value.{Value}
-use Rattle.gx_values.specs.declared.values.Value.TheVariants as value
 use Rattle.gx_values.specs.declared.records.Field.{Field}
 use Rattle.gx_values.specs.declared.records.Rec.{Rec}
 use Rattle.gx_values.specs.Values.{Fits, AreFit, IsSized, AreSized}
-use Rattle.gx_values.specs.Keys.{bytes_of, width_of, IsKeyKind}
 use Rattle.gx_schema.specs.declared.schema.FileDef.{FileDef}
 use Rattle.gx_schema.specs.Lookups.{no_field, key_kind, data_fields}
 use Rattle.gx_script.specs.declared.command.Change.{Change}
@@ -26,27 +22,17 @@ use Rattle.gx_types.specs.Any.{any_rule}
 use Rattle.gx_typing.specs.Dues.{file_form}
 use Rattle.gx_schema.specs.declared.schema.Schema.{Schema}
 use Rattle.gx_schema.specs.Lookups.{file_at}
-use Rattle.std.specs.Option.{option_to_list}
 use Rattle.gx_stack.specs.declared.node.Node.{Node}
 use Rattle.gx_stack.specs.Seen.{tree_of}
-use Rattle.gx_stack.proofs.Lists.{in_right}
 use Rattle.gx_types.specs.Nodes.{tree_at, AreNodes}
 use Rattle.gx_model.specs.States.{File, Row}
 use Rattle.gx_model.specs.Commands.{changed, updated}
-use Rattle.gx_engine.specs.Internal.{rec_of, records_of, IsInternal, IsTreeFor, IsEdited, IsEditedWhere}
-use Rattle.gx_engine.specs.Records.{record_at}
-use Rattle.gx_engine.proofs.FileLemmas.{key_of_form, held_inserted, held_updated, held_removed, insert_fits, remove_fits}
-
--- ---- lengths
-
-pub key_width : (k : Kind) (v : Value) → IsKeyKind k → Fits k v → length (bytes_of v) ≤ width_of k
-key_width kind.Int (value.Int n) key h = omega arith
-key_width (kind.Text most) (value.Text t) key h = omega (arith, h.0, length-append t (0 ∷ []))
-key_width (kind.Bytes most) v key h = absurd key
-key_width kind.Int (value.Text t) key h = absurd h
-key_width kind.Int (value.Bytes t) key h = absurd h
-key_width (kind.Text most) (value.Int n) key h = absurd h
-key_width (kind.Text most) (value.Bytes n) key h = absurd h
+use Rattle.gx_scan.specs.Files.{rec_of, records_of, IsInternal, IsTreeFor}
+use Rattle.gx_engine.specs.Internal.{IsEdited, IsEditedWhere}
+use Rattle.gx_scan.specs.Records.{record_at}
+use Rattle.gx_scan.proofs.FileLemmas.{key_of_form}
+use Rattle.gx_values.proofs.CopyLemmas.{fit_sized, are_sized}
+use Rattle.gx_engine.proofs.ChangeLemmas.{held_inserted, held_updated, held_removed, insert_fits, remove_fits}
 
 -- ---- what is found
 
@@ -178,21 +164,6 @@ change_in file c vs is are =
     let here = data_field file.fields c.field c.value is.past_key is.in_file is.fits in
     omega (arith, here.0, are_many (data_fields file) vs are)
 
--- ---- ints have 64 bits
-
-pub fit_sized : (k : Kind) (v : Value) → Fits k v → IsSized v
-fit_sized kind.Int (value.Int n) h = h
-fit_sized k (value.Text t) h = tt
-fit_sized k (value.Bytes t) h = tt
-fit_sized (kind.Text most) (value.Int n) h = absurd h
-fit_sized (kind.Bytes most) (value.Int n) h = absurd h
-
-pub are_sized : (fs : List Field) (vs : List Value) → AreFit fs vs → AreSized vs
-are_sized [] [] h = tt
-are_sized [] (v ∷ vs) h = absurd h
-are_sized (f ∷ fs) [] h = absurd h
-are_sized (f ∷ fs) (v ∷ vs) h = (fit_sized f.kind v h.0, are_sized fs vs h.1)
-
 -- ---- a new record
 
 pub parted_fit : (fs : List Field) (k : Value) (vs : List Value) → 0 < length fs → AreFit fs (k ∷ vs) → Fits (get_or fs 0 no_field).kind k × AreFit (drop 1 fs) vs
@@ -226,12 +197,6 @@ tree_for schema ns leaves i t lt is nodes =
       form = nodes.form i there;
       below = λ n h. nodes.below i n there h;
     })
-
--- ---- lists of records
-
-pub last_fits : (P : Rec → Type 0) (found front : List Rec) (o : Option Rec) → found ≡ front ++ option_to_list o → ((r : Rec) → In r found → P r) → IfSome o P
-last_fits P found front None is all = tt
-last_fits P found front (Some r) is all = all r (subst (In r) (sym is) (in_right r front (r ∷ []) (inl refl)))
 
 -- the key and the data of a file's record
 pub rec_sized : (file : FileDef) (r : Rec) → 0 < length file.fields → IsOf (file_form file) r → AreSized r.key × AreSized r.fields

@@ -34,11 +34,12 @@ use Rattle.gx_model.specs.States.{File, Link, State, Row, file_in}
 use Rattle.gx_model.specs.Found.{IsListed, is_chosen, meets_conds, meets_of}
 use Rattle.gx_model.specs.Commands.{Refusal, key_exists, no_record, linked, changed, updated, next_state, refusal_text, first_refusal, is_linked, with_file, IsAnswerOr, IsListText, lacks_of}
 use Rattle.gx_script.specs.declared.command.Change.{Change}
-use Rattle.gx_engine.proofs.FileLemmas.{inserted_new}
+use Rattle.gx_engine.proofs.ChangeLemmas.{inserted_new}
 use Rattle.gx_model.specs.Play.{Playing, IsAnswered, seen_state, is_inside, working_after, with_working, next_of}
 use Rattle.gx_engine.specs.declared.engine.Engine.{Engine}
 use Rattle.gx_engine.specs.Steps.{schema_of, nodes_of, leaves_of, IsSound}
-use Rattle.gx_engine.specs.Internal.{rec_of, records_of, IsInternal, HasFile, AreInternal, Stands, IsEdited, IsEditedWhere, entries_from, IsCarried}
+use Rattle.gx_scan.specs.Files.{rec_of, records_of, IsInternal, HasFile}
+use Rattle.gx_engine.specs.Internal.{AreInternal, Stands, IsEdited, IsEditedWhere, entries_from, IsCarried}
 
 -- ---- one file among all
 

@@ -18,8 +18,9 @@ use Rattle.gx_types.specs.Any.{any_rule, any_laws}
 use Rattle.gx_typing.specs.Dues.{file_form}
 use Rattle.gx_types.specs.Nodes.{tree_at, AreNodes}
 use Rattle.gx_model.specs.States.{File, State, file_in}
-use Rattle.gx_engine.specs.Internal.{rec_of, records_of, IsInternal, AreInternal, AreStorable}
-use Rattle.gx_engine.proofs.FileLemmas.{in_there, there_in, one_key, set_of}
+use Rattle.gx_scan.specs.Files.{rec_of, records_of, IsInternal}
+use Rattle.gx_engine.specs.Internal.{AreInternal, AreStorable}
+use Rattle.gx_scan.proofs.FileLemmas.{in_there, there_in, one_key, set_of}
 
 -- what one file has at a key the other has
 got : (f g : File) (k : Value) (vs : List Value) → ((r : Rec) → In r (records_of f) → In r (records_of g)) → fin.get f k ≡ Some vs → fin.get g k ≡ Some vs

@@ -1,43 +1,20 @@
 -- The leaves that stand for a state: for each file a node, which holds the file's records.
-use Rattle.std.specs.Prelude.{◌≡◌, ℕ, ◌+◌, ◌<◌, ◌≤◌, List, [], ◌∷◌, ◌++◌, length, map, Bool, if◌then◌else◌}
-use Rattle.std.specs.FinMap as fin
-use Rattle.gx_values.specs.declared.records.Rec.{Rec}
-use Rattle.gx_values.specs.Keys.{width_of, IsKeyKind, AreKeyFields}
+use Rattle.std.specs.Prelude.{[], ◌≡◌, ℕ, ◌+◌, ◌<◌, List, ◌∷◌, ◌++◌, length, Bool, if◌then◌else◌}
 use Rattle.gx_schema.specs.declared.schema.FileDef.{FileDef}
 use Rattle.gx_schema.specs.declared.schema.Schema.{Schema}
-use Rattle.gx_schema.specs.Lookups.{file_at, key_kind, data_fields}
-use Rattle.gx_actual.specs.Bodies.{AreShort}
+use Rattle.gx_schema.specs.Lookups.{file_at}
 use Rattle.gx_ports.specs.LeafMaps.{LeafMap, map_at}
-use Rattle.gx_ports.specs.declared.leaves.TheConstants.{MAX_KEY_LEN}
 use Rattle.gx_script.specs.declared.command.Command.{Command}
 use Rattle.gx_mapping.specs.Rule.{In}
 use Rattle.gx_stack.specs.declared.node.Node.{Node}
-use Rattle.gx_stack.specs.Tree.{Tree, leaves_of, tree_form, entry_total, IsValid}
+use Rattle.gx_stack.specs.Tree.{Tree, leaves_of, entry_total}
 use Rattle.gx_stack.specs.Seen.{tree_of}
-use Rattle.gx_stack.specs.Internal.{IsInternal as IsHeld}
 use Rattle.gx_types.specs.declared.any.AnyMapping.{AnyMapping}
 use Rattle.gx_types.specs.Any.{any_rule}
-use Rattle.gx_typing.specs.Dues.{file_form}
 use Rattle.gx_types.specs.Nodes.{tree_at}
-use Rattle.gx_model.specs.States.{File, State, Row, file_in, IsFileOf}
+use Rattle.gx_model.specs.States.{File, State, file_in}
 use Rattle.gx_model.specs.Play.{Playing, seen_state, is_inside, next_of, IsAnswered}
-
--- the record of a form's key and data
-abbrev pub rec_of : Row → Rec
-rec_of r = record { key = r.0 ∷ []; fields = r.1 }
-
--- the records of a file, in the order of their keys
-abbrev pub records_of : File → List Rec
-records_of f = map rec_of (fin.entries f)
-
--- a valid file, whose records the tree's leaves hold
-pub record IsInternal (file : FileDef) (t : Tree AnyMapping) (maps : List LeafMap) (f : File) : Type 0 where
-  pub fit : IsFileOf file f
-  pub held : IsHeld any_rule t (records_of f) maps
-
--- the tree's leaves hold some valid file
-abbrev pub HasFile : FileDef → Tree AnyMapping → List LeafMap → Type 0
-HasFile file t maps = (f : File) × IsInternal file t maps f
+use Rattle.gx_scan.specs.Files.{records_of, IsInternal, IsStorable}
 
 -- the same for all files of a schema without links
 pub record AreInternal (schema : Schema) (nodes : List (Node AnyMapping)) (maps : List LeafMap) (s : State) : Type 0 where
@@ -52,24 +29,10 @@ pub record Stands (schema : Schema) (nodes : List (Node AnyMapping)) (inside : B
   pub working_is : AreInternal schema nodes working (seen_state p)
   pub kept_is : AreInternal schema nodes kept p.kept
 
--- the file has a key whose bytes can stand in a leaf; its other values are ints and texts, whose lengths can be written
-pub record IsStorable (file : FileDef) : Type 0 where
-  pub keyed : 0 < length file.fields
-  pub key : IsKeyKind (key_kind file)
-  pub key_small : width_of (key_kind file) ≤ MAX_KEY_LEN
-  pub others : AreKeyFields (data_fields file)
-  pub short : AreShort (data_fields file)
-
 -- so each file of the schema has, and there is no link
 pub record AreStorable (schema : Schema) : Type 0 where
   pub files : (i : ℕ) → i < length schema.files → IsStorable (file_at schema i)
   pub links : schema.links ≡ []
-
--- the tree can hold the records of the file in leaves of which there are so many
-pub record IsTreeFor (file : FileDef) (t : Tree AnyMapping) (leaves : ℕ) : Type 0 where
-  pub valid : IsValid any_rule t
-  pub form : tree_form any_rule t ≡ file_form file
-  pub below : (n : ℕ) → In n (leaves_of t) → n < leaves
 
 -- the working maps after a command on one file: its tree holds the records after it, and all other leaves stay
 pub record IsEdited (file : FileDef) (t : Tree AnyMapping) (old new : List LeafMap) (f : File) : Type 0 where

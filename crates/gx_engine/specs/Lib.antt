@@ -1,5 +1,2 @@
 pub mod Internal
-pub mod Records
-pub mod Entries
-pub mod Scan
 pub mod Steps

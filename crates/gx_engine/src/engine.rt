@@ -1,22 +1,22 @@
 // The engine: one command after the other on leaves.
-ghost use Rattle.std.specs.Prelude.{◌≡◌, ◌∷◌, ◌≤◌, ◌<◌, ◌++◌, ◌+◌, List, ℕ, Option, Some, None, Ok, Err, false, length, take, IfOk, OnOk, OnErr, IsErrOf, IsSome, IsTrue, codes, if◌then◌else◌};
-ghost use Rattle.std.specs.Fmt.{decimal};
+ghost use Rattle.std.specs.Prelude.{◌≡◌, ◌∷◌, ◌<◌, ◌++◌, ◌+◌, List, ℕ, Some, None, Ok, Err, false, length, OnOk, OnErr, IsSome, codes, if◌then◌else◌};
 ghost use Rattle.gx_values.specs.Values.{Fits, AreFit};
 ghost use Rattle.gx_schema.specs.Lookups.{file_at, key_kind, data_fields};
-ghost use Rattle.gx_model.specs.States.{State, file_in};
-ghost use Rattle.gx_model.specs.Play.{Playing, start_at, next_count};
+ghost use Rattle.gx_model.specs.States.{State};
+ghost use Rattle.gx_model.specs.Play.{Playing, start_at};
 ghost use Rattle.gx_schema.specs.declared.schema.Schema.{Schema as TheSchema};
 ghost use Rattle.gx_ports.specs.LeafMaps.{LeafMap};
 ghost use Rattle.gx_ports.specs.Calls.{Keeps, Hearing, Saying};
 ghost use Rattle.gx_stack.specs.Seen.{tree_of};
 ghost use Rattle.gx_types.specs.Nodes.{tree_at, AreNodes};
-ghost use Rattle.gx_engine.specs.Internal.{IsTreeFor};
+ghost use Rattle.gx_scan.specs.Files.{IsTreeFor};
 
 use crate::listing::found_text;
-use crate::records::{delete_record, find_record, insert_record, reorganize_file, update_record};
+use crate::records::{delete_record, insert_record, reorganize_file, update_record};
 use gx_device::Failed;
 use gx_ports::{Leaves, Stop};
 use gx_rows::{commit_line, record_line};
+use gx_scan::find_record;
 use gx_schema::{FileDef, Schema};
 use gx_script::{Changes, Command, Find};
 use gx_stack::Node;

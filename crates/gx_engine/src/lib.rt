@@ -3,8 +3,6 @@
 
 mod engine;
 mod listing;
-mod places;
 mod records;
-mod scan;
 
 pub use engine::{Engine, StepStop};

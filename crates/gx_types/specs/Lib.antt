@@ -4,3 +4,4 @@ pub mod HeadRules
 pub mod Makers
 pub mod Nodes
 pub mod Build
+pub mod Passing

@@ -133,3 +133,33 @@ impl Mapping for AnyMapping {
         }
     }
 }
+
+/// How a layer passes records to its children.
+#[derive(Clone, Copy, Debug, PartialEq, Eq)]
+pub enum Passing {
+    /// each as it is, to one child
+    Whole,
+    /// each with its data as one field of bytes, to one child
+    Wrapped,
+    /// in another way: coded, or in several parts
+    Apart,
+}
+
+impl AnyMapping {
+    ghost use Rattle.gx_types.specs.Any.{any_rule};
+    ghost use Rattle.gx_types.specs.Passing.{Passes};
+
+    /// How the layer passes records to its children.
+    pub fn passing(&self) -> Passing
+        ensures { Passes (any_rule self.now) result }
+    {
+        match self {
+            AnyMapping::Actual(_) => Passing::Wrapped,
+            AnyMapping::Partition(_) => Passing::Whole,
+            AnyMapping::Encode(_)
+            | AnyMapping::Segment(_)
+            | AnyMapping::Transpose(_)
+            | AnyMapping::Divide(_) => Passing::Apart,
+        }
+    }
+}

@@ -7,6 +7,6 @@ mod built;
 mod mappings;
 mod nodes;
 
-pub use any::AnyMapping;
+pub use any::{AnyMapping, Passing};
 pub use building::{build, heads_built};
 pub use built::{Built, Trees};

@@ -3,7 +3,7 @@ use Rattle.gx_values.specs.declared.values.Value.{Value}
 use Rattle.gx_values.specs.Values.{AreFit}
 use Rattle.gx_schema.specs.Lookups.{data_fields}
 use Rattle.gx_model.specs.Commands.{changed}
-use Rattle.gx_engine.proofs.RecordLemmas.{are_sized}
+use Rattle.gx_values.proofs.CopyLemmas.{are_sized}
 use Rattle.gx_engine.proofs.records.changed_record.Goals as goal
 
 pub changed_values-requires-clause-values : goal.changed_values-requires-clause-values

@@ -1,5 +1,6 @@
 use Rattle.std.proofs.Common.{arith}
-use Rattle.gx_engine.proofs.RecordLemmas.{item_change, fit_sized, change_in, changed_more, value_fits}
+use Rattle.gx_engine.proofs.RecordLemmas.{item_change, change_in, changed_more, value_fits}
+use Rattle.gx_values.proofs.CopyLemmas.{fit_sized}
 use Rattle.gx_engine.proofs.records.changed_values.Goals as goal
 
 pub index_mut-requires : goal.index_mut-requires

@@ -6,8 +6,8 @@ use Rattle.gx_ports.specs.LeafMaps.{LeafMap, map_at}
 use Rattle.gx_stack.specs.Seen.{tree_of}
 use Rattle.gx_stack.specs.Internal.{IsSet, IsInternal as IsHeld}
 use Rattle.gx_types.specs.Any.{any_rule}
-use Rattle.gx_engine.specs.Internal.{records_of}
-use Rattle.gx_engine.proofs.FileLemmas.{set_of, there_in}
+use Rattle.gx_scan.specs.Files.{records_of}
+use Rattle.gx_scan.proofs.FileLemmas.{set_of, there_in}
 use Rattle.gx_engine.proofs.RecordLemmas.{found_values, is_done, delete_edit}
 use Rattle.gx_engine.proofs.records.delete_record.Goals as goal
 

@@ -6,8 +6,9 @@ use Rattle.gx_ports.specs.LeafMaps.{LeafMap, map_at}
 use Rattle.gx_stack.specs.Seen.{tree_of}
 use Rattle.gx_stack.specs.Internal.{IsSet, IsInternal as IsHeld}
 use Rattle.gx_types.specs.Any.{any_rule}
-use Rattle.gx_engine.specs.Internal.{records_of}
-use Rattle.gx_engine.proofs.FileLemmas.{set_of, row_fits, is_insert}
+use Rattle.gx_scan.specs.Files.{records_of}
+use Rattle.gx_scan.proofs.FileLemmas.{set_of, row_fits}
+use Rattle.gx_engine.proofs.ChangeLemmas.{is_insert}
 use Rattle.gx_engine.proofs.RecordLemmas.{is_there, none_there, is_done, insert_edit, new_sized, crowded_same}
 use Rattle.gx_engine.proofs.records.insert_record.Goals as goal
 

@@ -9,8 +9,9 @@ use Rattle.gx_types.specs.Any.{any_rule}
 use Rattle.gx_values.specs.Values.{AreFit}
 use Rattle.gx_schema.specs.Lookups.{data_fields}
 use Rattle.gx_model.specs.Commands.{changed}
-use Rattle.gx_engine.specs.Internal.{records_of, IsEdited}
-use Rattle.gx_engine.proofs.FileLemmas.{set_of, there_in}
+use Rattle.gx_scan.specs.Files.{records_of}
+use Rattle.gx_engine.specs.Internal.{IsEdited}
+use Rattle.gx_scan.proofs.FileLemmas.{set_of, there_in}
 use Rattle.gx_engine.proofs.RecordLemmas.{found_values, is_done, update_edit, updated_is, rec_made}
 use Rattle.gx_engine.proofs.records.update_record.Goals as goal
 

@@ -1,7 +1,7 @@
 use Rattle.std.proofs.Common.{rules, ◌∙◌, ◌++◌, ℕ, List, length, sym, ap, subst}
 use Rattle.gx_schema.specs.declared.schema.FileDef.{FileDef}
 use Rattle.gx_stack.specs.Seen.{tree_of}
-use Rattle.gx_engine.specs.Internal.{IsTreeFor}
+use Rattle.gx_scan.specs.Files.{IsTreeFor}
 use Rattle.gx_engine.proofs.StepLemmas.{internal_at, file_cause, find_carried}
 use Rattle.gx_engine.proofs.engine.Engine.find.Goals as goal
 

@@ -3,7 +3,7 @@ use Rattle.std.proofs.lemmas.Result.{err_from_is_err_and}
 use Rattle.gx_ports.specs.declared.stop.Stop.TheVariants as stop
 use Rattle.gx_schema.specs.declared.schema.FileDef.{FileDef}
 use Rattle.gx_stack.specs.Seen.{tree_of}
-use Rattle.gx_engine.specs.Internal.{IsTreeFor}
+use Rattle.gx_scan.specs.Files.{IsTreeFor}
 use Rattle.gx_engine.proofs.StepLemmas.{internal_at, file_cause, insert_carried, short_insert, open_of}
 use Rattle.gx_engine.proofs.engine.Engine.insert.Goals as goal
 

@@ -12,7 +12,8 @@ use Rattle.gx_model.specs.Play.{seen_state}
 use Rattle.gx_model.specs.Commands.{changed, updated}
 use Rattle.gx_schema.specs.declared.schema.FileDef.{FileDef}
 use Rattle.gx_stack.specs.Seen.{tree_of}
-use Rattle.gx_engine.specs.Internal.{rec_of, IsTreeFor, IsEditedWhere}
+use Rattle.gx_scan.specs.Files.{rec_of, IsTreeFor}
+use Rattle.gx_engine.specs.Internal.{IsEditedWhere}
 use Rattle.gx_engine.proofs.StepLemmas.{internal_at, file_cause, update_carried, short_update, open_of}
 use Rattle.gx_engine.proofs.engine.Engine.update.Goals as goal
 

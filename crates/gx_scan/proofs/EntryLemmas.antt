@@ -1,0 +1,109 @@
+-- What is read of the entries of records.
+use Rattle.std.proofs.Common.{[], ◌≡◌, ℕ, zero, suc, ◌+◌, ◌*◌, ◌<◌, ◌≤◌, List, ◌∷◌, ◌++◌, length, take, drop, get_or, map, cond, Bool, true, false, Option, Some, refl, sym, ap, subst, ◌∙◌, arith, append-nil, length-append}
+use Rattle.std.proofs.lemmas.List.{length-map}
+use Rattle.std.proofs.Math.Seq.{drop-append-add}
+use Rattle.std.specs.Prelude.{filter}
+use Rattle.std.specs.List.{AllByRecursion}
+use Rattle.std.specs.FinMap as fin
+use Rattle.std.specs.Int.{w16, to_be_bytes}
+use Rattle.gx_values.specs.declared.values.Kind.{Kind}
+use Rattle.gx_values.specs.declared.values.Value.{Value}
+use Rattle.gx_values.specs.declared.values.Value.TheVariants as value
+use Rattle.gx_values.specs.declared.records.Field.{Field}
+use Rattle.gx_values.specs.declared.records.Rec.{Rec}
+use Rattle.gx_values.specs.Values.{Fits, AreFit}
+use Rattle.gx_values.specs.Keys.{bytes_of, is_inside, IsKeyKind}
+use Rattle.gx_values.specs.Written.{AreRead, IsRead}
+use Rattle.gx_values.proofs.OrderLemmas.{value_prefix_free}
+use Rattle.gx_schema.specs.declared.schema.FileDef.{FileDef}
+use Rattle.gx_schema.specs.Lookups.{no_field, key_kind, data_fields}
+use Rattle.gx_ports.specs.declared.leaves.Entry.{Entry}
+use Rattle.gx_ports.specs.LeafMaps.{LeafMap, entry_of, selected}
+use Rattle.gx_actual.specs.Bodies.{field_bytes, body_of}
+use Rattle.gx_actual.specs.BodyLaws.{same_body}
+use Rattle.gx_stack.specs.Tree.{leaf_body}
+use Rattle.gx_model.specs.States.{Row, IsRowOf}
+use Rattle.gx_scan.specs.Files.{IsStorable}
+use Rattle.gx_scan.specs.Entries.{wrapped, entry_of_row}
+
+-- ---- one record
+
+first_kind : (fs : List Field) (d : Field) → 0 < length fs → d ≡ get_or fs 0 d → d.kind ≡ (get_or fs 0 no_field).kind
+first_kind [] d some is = absurd (omega arith)
+first_kind (f ∷ fs) d some is = ap (λ (g : Field). g.kind) is
+
+pub kind_is : (file : FileDef) (d : Field) → IsStorable file → d ≡ get_or file.fields 0 d → d.kind ≡ key_kind file
+kind_is file d is at = first_kind file.fields d is.keyed at
+
+pub key_fits : (file : FileDef) (k : Kind) (bytes : List ℕ) (key : Value) → k ≡ key_kind file → IsRead bytes_of k bytes (Some key) → Fits (key_kind file) key
+key_fits file k bytes key same read = subst (λ (j : Kind). Fits j key) same read.0
+
+same_key : (k : Kind) (v w : Value) → IsKeyKind k → Fits k v → Fits k w → bytes_of v ≡ bytes_of w → v ≡ w
+same_key k v w key f g e = (value_prefix_free k key v w [] [] f g (append-nil (bytes_of v) ∙ e ∙ sym (append-nil (bytes_of w)))).0
+
+-- what is read of a record's entry is the record
+pub row_read : (file : FileDef) (k : Kind) (key_bytes body_bytes : List ℕ) (fields : List Field) (key : Value) (vs : List Value) (r : Row) → IsStorable file → k ≡ key_kind file → fields ≡ data_fields file → key_bytes ≡ bytes_of r.0 → body_bytes ≡ body_of r.1
+    → IsRead bytes_of k key_bytes (Some key) → AreRead field_bytes fields body_bytes (Some vs) → IsRowOf file r → ◌≡◌ {A = Option Row} (Some (key, vs)) (Some r)
+row_read file k key_bytes body_bytes fields key vs r is kind_same same ke be read reads fit =
+    let first : key ≡ r.0 = same_key (key_kind file) key r.0 is.key (key_fits file k key_bytes key kind_same read) fit.0 (read.1 ∙ ke) in
+    let others : vs ≡ r.1 = same_body (data_fields file) vs r.1 is.short (subst (λ (fs : List Field). AreFit fs vs) same reads.0) fit.1 (reads.1 ∙ be) in
+    λ i. Some (first i, others i)
+
+pub record RowAt (file : FileDef) (n : ℕ) (rs : List Row) (i : ℕ) (e : Entry) : Type 0 where
+  pub row : Row
+  pub fits : IsRowOf file row
+  pub is : e ≡ entry_of (entry_of_row n row)
+  pub more : take (i + 1) rs ≡ take i rs ++ row ∷ []
+
+row_at : (file : FileDef) (n : ℕ) (rs : List Row) (i : ℕ) (d : Entry) → AllByRecursion (IsRowOf file) rs → i < length rs → (r : Row) × IsRowOf file r × (get_or (map (λ (r : Row). entry_of (entry_of_row n r)) rs) i d ≡ entry_of (entry_of_row n r)) × (take (suc i) rs ≡ take i rs ++ r ∷ [])
+row_at file n [] i d all lt = absurd (omega arith)
+row_at file n (r ∷ rs) zero d all lt = (r, all.0, refl, refl)
+row_at file n (r ∷ rs) (suc i) d all lt = let x = row_at file n rs i d all.1 (omega arith) in (x.0, x.1, x.2, ap (λ (l : List Row). r ∷ l) x.3)
+
+pub entry_at : (file : FileDef) (n : ℕ) (rs : List Row) (es : List Entry) (i : ℕ) (e : Entry) → AllByRecursion (IsRowOf file) rs → es ≡ map (λ (r : Row). entry_of (entry_of_row n r)) rs → i < length es → e ≡ get_or es i e → RowAt file n rs i e
+entry_at file n rs es i e all same lt item =
+    let x = row_at file n rs i e all (omega (arith, ap length same, length-map rs (λ (r : Row). entry_of (entry_of_row n r)))) in
+    record { row = x.0; fits = x.1; is = item ∙ ap (λ (l : List Entry). get_or l i e) same ∙ x.2; more = ap (λ n. take n rs) (let y : i + 1 ≡ suc i = omega arith in y) ∙ x.3 }
+
+-- ---- the values behind the lengths of a body
+
+length_be : (w : ℕ) → length (to_be_bytes w16 w) ≡ 2
+length_be w = refl
+
+-- so many lengths of two bytes each stand before the values
+pub record IsBehind (body : List ℕ) (front : ℕ) (values : List ℕ) : Type 0 where
+  pub long : front ≤ length body
+  pub is : drop front body ≡ values
+
+behind_more : (body values : List ℕ) (front : ℕ) → IsBehind body front values → IsBehind (body_of (value.Bytes body ∷ [])) (front + 2) values
+behind_more body values front is =
+    let two = to_be_bytes w16 (length body) in
+    let all : body_of (value.Bytes body ∷ []) ≡ two ++ body = append-nil (two ++ body) in
+    record {
+      long = omega (arith, is.long, ap length all, length-append two body, length_be (length body));
+      is = ap (drop (front + 2)) all ∙ ap (λ n. drop n (two ++ body)) (let y : front + 2 ≡ length two + front = omega (arith, length_be (length body)) in y) ∙ drop-append-add two body front ∙ is.is;
+    }
+
+pub values_behind : (n : ℕ) (r : Rec) → IsBehind (leaf_body (wrapped (suc n) r).fields) (2 * n) (body_of r.fields)
+values_behind zero r = record { long = omega arith; is = refl }
+values_behind (suc n) r = subst (λ k. IsBehind (leaf_body (wrapped (suc (suc n)) r).fields) k (body_of r.fields)) (let y : 2 * n + 2 ≡ 2 * suc n = omega arith in y) (behind_more (leaf_body (wrapped (suc n) r).fields) (body_of r.fields) (2 * n) (values_behind n r))
+
+-- ---- the records within a span
+
+filter_map : {A B : Type 0} (test : B → Bool) (f : A → B) (xs : List A) → filter test (map f xs) ≡ map f (filter (λ x. test (f x)) xs)
+filter_map test f [] = refl
+filter_map {A} {B} test f (x ∷ xs) = elim (test (f x)) as (λ b. cond b (f x ∷ filter test (map f xs)) (filter test (map f xs)) ≡ map f (cond b (x ∷ filter (λ y. test (f y)) xs) (filter (λ y. test (f y)) xs))) [
+  | true ↦ ap (λ (l : List B). f x ∷ l) (filter_map test f xs)
+  | false ↦ filter_map test f xs
+]
+
+map_joined : {A B C : Type 0} (g : B → C) (f : A → B) (xs : List A) → map g (map f xs) ≡ map (λ x. g (f x)) xs
+map_joined g f [] = refl
+map_joined {A} {B} {C} g f (x ∷ xs) = ap (λ (l : List C). g (f x) ∷ l) (map_joined g f xs)
+
+-- the span selects the entries of the records within it
+pub span_entries : (m : LeafMap) (n : ℕ) (rs : List Row) (lo hi : List ℕ) (before out entries : List Entry) → fin.entries m ≡ map (entry_of_row n) rs → before ≡ [] → out ≡ before ++ selected lo hi m → entries ≡ out
+    → entries ≡ map (λ (r : Row). entry_of (entry_of_row n r)) (filter (λ (r : Row). is_inside lo hi (bytes_of r.0)) rs)
+span_entries m n rs lo hi before out entries same b o e =
+    e ∙ o ∙ ap (λ (l : List Entry). l ++ selected lo hi m) b ∙ ap (λ (es : List (List ℕ × List ℕ)). map entry_of (filter (λ x. is_inside lo hi x.0) es)) same
+    ∙ ap (map entry_of) (filter_map (λ (x : List ℕ × List ℕ). is_inside lo hi x.0) (entry_of_row n) rs) ∙ map_joined entry_of (entry_of_row n) (filter (λ (r : Row). is_inside lo hi (bytes_of r.0)) rs)

@@ -1,0 +1,74 @@
+-- Values found in the bytes of entries.
+use Rattle.std.proofs.Common.{[], ◌≡◌, ℕ, zero, suc, ◌+◌, ◌<◌, ◌≤◌, List, ◌∷◌, ◌++◌, length, take, drop, get_or, map, cond, Bool, true, false, Some, refl, sym, ap, subst, ◌∙◌, arith, append-nil, append_assoc}
+use Rattle.std.specs.Prelude.{pos, filter, slice_get}
+use Rattle.std.specs.List.{AllByRecursion}
+use Rattle.std.proofs.lemmas.List.Elements.{filter-append}
+use Rattle.std.proofs.lemmas.Option.{slice_get_within, get_or_from_slice_get}
+use Rattle.gx_values.specs.declared.values.Value.{Value}
+use Rattle.gx_values.specs.declared.values.Value.TheVariants as value
+use Rattle.gx_values.specs.declared.records.Field.{Field}
+use Rattle.gx_values.specs.Values.{Fits, AreFit}
+use Rattle.gx_schema.specs.declared.schema.FileDef.{FileDef}
+use Rattle.gx_ports.specs.declared.leaves.Entry.{Entry}
+use Rattle.gx_ports.specs.LeafMaps.{entry_of}
+use Rattle.gx_actual.specs.Bodies.{field_bytes, body_of}
+use Rattle.gx_model.specs.States.{Row, IsRowOf}
+use Rattle.gx_scan.specs.Entries.{entry_of_row}
+use Rattle.gx_scan.proofs.EntryLemmas.{RowAt, entry_at}
+
+abbrev none : Value
+none = value.Int (pos 0)
+
+-- ---- a value in a body
+
+there : (fs : List Field) (vs : List Value) (i : ℕ) (d : Field) → AreFit fs vs → i < length fs
+    → (v : Value) × Fits (get_or fs i d).kind v × (body_of (drop i vs) ≡ field_bytes v ++ body_of (drop (suc i) vs)) × (get_or vs i none ≡ v)
+there [] vs i d fit lt = absurd (omega arith)
+there (f ∷ fs) [] i d fit lt = absurd fit
+there (f ∷ fs) (v ∷ vs) zero d fit lt = (v, fit.0, refl, refl)
+there (f ∷ fs) (v ∷ vs) (suc i) d fit lt = there fs vs i d fit.1 (omega arith)
+
+-- the value of a field, and what follows it
+pub record ValueAt (f : Field) (vs : List Value) (i : ℕ) (rest : List ℕ) : Type 0 where
+  pub value : Value
+  pub fits : Fits f.kind value
+  pub front : rest ≡ field_bytes value ++ body_of (drop (i + 1) vs)
+  pub is : get_or vs i none ≡ value
+
+pub value_there : (fs : List Field) (vs : List Value) (i : ℕ) (f : Field) (rest : List ℕ) → AreFit fs vs → i < length fs → f ≡ get_or fs i f → rest ≡ body_of (drop i vs) → ValueAt f vs i rest
+value_there fs vs i f rest fit lt item is =
+    let x = there fs vs i f fit lt in
+    let next : suc i ≡ i + 1 = omega arith in
+    record {
+      value = x.0;
+      fits = subst (λ (g : Field). Fits g.kind x.0) (sym item) x.1;
+      front = is ∙ x.2 ∙ ap (λ n. field_bytes x.0 ++ body_of (drop n vs)) next;
+      is = x.3;
+    }
+
+-- past the last field there is none
+pub none_past : (fs : List Field) (vs : List Value) (i : ℕ) → AreFit fs vs → length fs ≤ i → none ≡ get_or vs i none
+none_past [] [] i fit le = refl
+none_past [] (v ∷ vs) i fit le = absurd fit
+none_past (f ∷ fs) [] i fit le = absurd fit
+none_past (f ∷ fs) (v ∷ vs) zero fit le = absurd (omega arith)
+none_past (f ∷ fs) (v ∷ vs) (suc i) fit le = none_past fs vs i fit.1 (omega arith)
+
+-- ---- records chosen
+
+-- the record of an entry
+pub row_of : (file : FileDef) (n : ℕ) (rs : List Row) (es : List Entry) (i : ℕ) (e : Entry) → AllByRecursion (IsRowOf file) rs → es ≡ map (λ (r : Row). entry_of (entry_of_row n r)) rs → slice_get es i ≡ Some e → RowAt file n rs i e
+row_of file n rs es i e all same h = entry_at file n rs es i e all same (slice_get_within es i e h) (sym (get_or_from_slice_get es i e e h))
+
+-- one more record was tested
+pub row_kept : (file : FileDef) (n : ℕ) (test : Row → Bool) (rs before rows after : List Row) (row : Row) (i : ℕ) (e : Entry) (at : RowAt file n rs i e) → rows ≡ before ++ filter test (take i rs) → test at.row ≡ true → row ≡ at.row → after ≡ rows ++ row ∷ [] → after ≡ before ++ filter test (take (i + 1) rs)
+row_kept file n test rs before rows after row i e at so_far met same pushed =
+    pushed ∙ (λ k. so_far k ++ same k ∷ []) ∙ append_assoc before (filter test (take i rs)) (at.row ∷ [])
+    ∙ ap (λ b. before ++ (filter test (take i rs) ++ cond b (at.row ∷ []) [])) (sym met)
+    ∙ sym (ap (λ l. before ++ filter test l) at.more ∙ ap (λ l. before ++ l) (filter-append test (take i rs) (at.row ∷ [])))
+
+pub row_left : (file : FileDef) (n : ℕ) (test : Row → Bool) (rs before rows : List Row) (i : ℕ) (e : Entry) (at : RowAt file n rs i e) → rows ≡ before ++ filter test (take i rs) → test at.row ≡ false → rows ≡ before ++ filter test (take (i + 1) rs)
+row_left file n test rs before rows i e at so_far unmet =
+    so_far ∙ ap (λ l. before ++ l) (sym (append-nil (filter test (take i rs))))
+    ∙ ap (λ b. before ++ (filter test (take i rs) ++ cond b (at.row ∷ []) [])) (sym unmet)
+    ∙ sym (ap (λ l. before ++ filter test l) at.more ∙ ap (λ l. before ++ l) (filter-append test (take i rs) (at.row ∷ [])))

@@ -1,0 +1,53 @@
+-- The files of a schema that some text means can be stored.
+use Rattle.std.proofs.Common.{[], ℕ, zero, suc, ◌<◌, ◌≤◌, List, ◌∷◌, ◌++◌, length, get_or, drop, Bool, true, arith}
+use Rattle.std.specs.Prelude.{◌==◌}
+use Rattle.gx_values.specs.declared.values.Kind.{Kind}
+use Rattle.gx_values.specs.declared.values.Kind.TheVariants as kind
+use Rattle.gx_values.specs.declared.records.Field.{Field}
+use Rattle.gx_values.specs.Keys.{width_of, IsKeyKind, AreKeyFields}
+use Rattle.gx_schema.specs.declared.schema.FileDef.{FileDef}
+use Rattle.gx_schema.specs.Lookups.{no_file, no_field}
+use Rattle.gx_schema.specs.Rules.{IsKind, AreFields, AreFiles}
+use Rattle.gx_actual.specs.Bodies.{IsShort, AreShort}
+use Rattle.gx_ports.specs.declared.leaves.TheConstants.{MAX_KEY_LEN}
+use Rattle.gx_scan.specs.Files.{IsStorable}
+
+-- ---- each file
+
+pub record HasRules (f : FileDef) : Type 0 where
+  pub some : 0 < length f.fields
+  pub fields : AreFields [] f.fields
+
+pub rules_at : (before fs : List FileDef) (i : ℕ) → AreFiles before fs → i < length fs → HasRules (get_or fs i no_file)
+rules_at before [] i are lt = absurd (omega arith)
+rules_at before (f ∷ fs) zero are lt = record { some = are.0.some; fields = are.0.fields }
+rules_at before (f ∷ fs) (suc i) are lt = rules_at (before ++ f ∷ []) fs i are.1 (omega arith)
+
+-- ---- records that can be stored
+
+kind_short : (first : Bool) (k : Kind) → IsKind first k → IsShort k
+kind_short first kind.Int is = tt
+kind_short first (kind.Text most) is = omega (arith, is.1)
+kind_short first (kind.Bytes most) is = absurd is
+
+fields_short : (before fs : List Field) → AreFields before fs → AreShort fs
+fields_short before [] are = tt
+fields_short before (f ∷ fs) are = (kind_short (length before == 0) f.kind are.0.kind, fields_short (before ++ f ∷ []) fs are.1)
+
+key_is : (first : Bool) (k : Kind) → IsKind first k → IsKeyKind k × (width_of k ≤ MAX_KEY_LEN)
+key_is first kind.Int is = (tt, omega arith)
+key_is first (kind.Text most) is = (tt, omega (arith, is.1))
+key_is first (kind.Bytes most) is = absurd is
+
+fields_plain : (before fs : List Field) → AreFields before fs → AreKeyFields fs
+fields_plain before [] are = tt
+fields_plain before (f ∷ fs) are = ((key_is (length before == 0) f.kind are.0.kind).0, fields_plain (before ++ f ∷ []) fs are.1)
+
+first_stored : (fs : List Field) → AreFields [] fs → 0 < length fs → IsKeyKind (get_or fs 0 no_field).kind × (width_of (get_or fs 0 no_field).kind ≤ MAX_KEY_LEN) × AreKeyFields (drop 1 fs) × AreShort (drop 1 fs)
+first_stored [] are some = absurd (omega arith)
+first_stored (f ∷ fs) are some = let key = key_is true f.kind are.0.kind in (key.0, key.1, fields_plain (f ∷ []) fs are.1, fields_short (f ∷ []) fs are.1)
+
+pub file_stored : (file : FileDef) → HasRules file → IsStorable file
+file_stored file rules =
+    let all = first_stored file.fields rules.fields rules.some in
+    record { keyed = rules.some; key = all.0; key_small = all.1; others = all.2; short = all.3 }

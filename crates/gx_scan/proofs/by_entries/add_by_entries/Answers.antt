@@ -1,0 +1,90 @@
+use Rattle.std.proofs.Common.{rules, ◌≡◌, ◌∙◌, ◌++◌, [], List, Err, filter, get_or, refl, sym, ap, subst, arith, append-nil, append_assoc}
+use Rattle.std.proofs.lemmas.Result.{err_from_is_err_and}
+use Rattle.gx_ports.specs.declared.stop.Stop.TheVariants as stop
+use Rattle.gx_ports.specs.LeafMaps.{LeafMap}
+use Rattle.gx_ports.proofs.CallLemmas.{reads_itself, reads_joined}
+use Rattle.gx_stack.specs.Seen.{tree_of}
+use Rattle.gx_stack.proofs.Lists.{in_read}
+use Rattle.gx_types.specs.Any.{any_rule}
+use Rattle.gx_model.specs.States.{Row}
+use Rattle.gx_scan.specs.declared.places.Place.{Place}
+use Rattle.gx_scan.specs.Files.{IsInternal}
+use Rattle.gx_scan.specs.Entries.{rows_at}
+use Rattle.gx_scan.specs.Within.{is_within}
+use Rattle.gx_scan.proofs.PlaceLemmas.{IsOnce, leaves_once, leaf_there, get_or_any}
+use Rattle.gx_scan.proofs.ListingLemmas.{none_chosen, place_chosen, all_chosen}
+use Rattle.gx_scan.proofs.by_entries.add_by_entries.Goals as goal
+
+pub loop-place-init : goal.loop-place-init
+loop-place-init g c = record {
+  rows = λ f whole is. ([], sym (append-nil c.args.rows.now.items), none_chosen (tree_of c.args.node.now) (is_within c.args.span.now c.args.conds.now) f [] refl);
+  front = ([], sym (append-nil c.args.rows.now.items));
+  reads = reads_itself g.B.View c.args.leaves.now;
+  whole = λ h. h;
+  counted = refl;
+}
+
+pub add_at-requires-clause-place : goal.add_at-requires-clause-place
+add_at-requires-clause-place g c =
+    let ps = c.args.places.now in
+    let i = c.loop-place.place-index in
+    let p : Place = get_or ps i (record { leaf = 0; lengths = 0 }) in
+    record {
+      places = ps;
+      are = c.requires.places;
+      there = in_read ps i p (get_or_any ps i _ p c.loop-place-test.true) c.loop-place-test.true;
+    }
+
+pub loop-place-preserved : goal.loop-place-preserved
+loop-place-preserved g c =
+    let b = g.B.View in
+    let t = tree_of c.args.node.now in
+    let ps = c.args.places.now in
+    let i = c.loop-place.place-index in
+    let p : Place = get_or ps i (record { leaf = 0; lengths = 0 }) in
+    let inv = c.loop-place.invariant in
+    let e = c.in_ok-add_at.ensures in
+    let are = c.requires.places in
+    let test = is_within c.args.span.now c.args.conds.now in
+    record {
+      rows = λ f whole is.
+          let so_far = inv.rows f whole is in
+          let more = filter test (rows_at t p.leaf f) in
+          let now = e.rows f (inv.whole whole) (subst (λ (maps : List LeafMap). IsInternal c.args.file.now t maps f) (sym inv.reads.working) is) in (
+            so_far.0 ++ more,
+            now ∙ ap (λ (l : List Row). l ++ more) so_far.1 ∙ append_assoc c.args.rows.now.items so_far.0 more,
+            place_chosen t test f ps i p so_far.0 (so_far.0 ++ more) (subst IsOnce (sym are.leaves) (leaves_once any_rule t c.requires.tree.valid)) c.loop-place-test.true (get_or_any ps i _ p c.loop-place-test.true) so_far.2 refl,
+          );
+      front = (inv.front.0 ++ e.front.0, e.front.1 ∙ ap (λ (l : List Row). l ++ e.front.0) inv.front.1 ∙ append_assoc c.args.rows.now.items inv.front.0 e.front.0);
+      reads = reads_joined b inv.reads e.reads;
+      whole = λ h. e.ends.whole (inv.whole h);
+      counted = e.ends.counted refl ∙ inv.counted;
+    }
+
+pub returns-in_err-add_at-clause-ends : goal.returns-in_err-add_at-clause-ends
+returns-in_err-add_at-clause-ends g c = record {
+  whole = search rules;
+  later = search rules;
+  fault = search rules;
+  counted = search rules;
+  damaged = λ block e sound.
+      let inv = c.loop-place.invariant in
+      let p = err_from_is_err_and c.from_residual.result c.from_residual.ensures.1 in
+      let both = sym p.1 ∙ e in
+      let why : p.0 ≡ stop.Damaged block = cc in
+      let f = sound.1.0 in
+      c.in_err-add_at.ensures.ends.damaged block (ap Err (sym p.2 ∙ why))
+      (inv.whole sound.0, (f, subst (λ (maps : List LeafMap). IsInternal c.args.file.now (tree_of c.args.node.now) maps f) (sym inv.reads.working) sound.1.1));
+}
+
+pub returns-clause-rows : goal.returns-clause-rows
+returns-clause-rows g c = λ f whole is.
+    let t = tree_of c.args.node.now in
+    let ps = c.args.places.now in
+    let so_far = c.loop-place.invariant.rows f whole is in
+    record {
+      added = so_far.0;
+      appended = so_far.1;
+      those = all_chosen t (is_within c.args.span.now c.args.conds.now) f ps c.loop-place.place-index so_far.0 (omega (arith, c.loop-place-test.false))
+          (leaf_there c.args.file.now t _ (g.B.View.working c.args.leaves.now) f c.requires.storable c.requires.tree is.fit ps c.requires.places) so_far.2;
+    }

@@ -1,0 +1,16 @@
+use Rattle.std.proofs.Common.{rules, ◌≡◌, ◌∙◌, ◌++◌, ◌∷◌, List, inl, refl, sym, ap, subst}
+use Rattle.std.specs.Vec.Iter.{into_iter_items}
+use Rattle.gx_values.specs.declared.records.Rec.{Rec}
+use Rattle.gx_mapping.specs.Rule.{In}
+use Rattle.gx_stack.proofs.Lists.{in_right}
+use Rattle.gx_scan.proofs.by_records.add_met.Goals as goal
+
+pub into_row-row-requires-clause-fits : goal.into_row-row-requires-clause-fits
+into_row-row-requires-clause-fits c =
+    let at = c.loop-rec in
+    let r = c.in-Some.rec in
+    let rest = into_iter_items c.next.new.self in
+    let given : into_iter_items c.into_iter-rec-iterator.result ≡ c.args.found = search rules in
+    let steps : into_iter_items at.rec-iterator ≡ r ∷ rest = c.in-Some.ensures.steps.0 in
+    let all : at.yielded ++ (r ∷ rest) ≡ c.args.found = ap (λ (l : List Rec). at.yielded ++ l) (sym steps) ∙ at.invariant.left ∙ given in
+    c.requires.fit r (subst (In r) all (in_right r at.yielded (r ∷ rest) (inl refl)))

@@ -1,0 +1,5 @@
+pub mod Files
+pub mod Records
+pub mod Entries
+pub mod Scan
+pub mod Within

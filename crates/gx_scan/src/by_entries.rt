@@ -1,0 +1,90 @@
+// Finding by entries: where records stand whole in leaves, conditions are tested on the bytes of entries.
+ghost use Rattle.std.specs.Prelude.{◌≡◌, ◌++◌, ℕ, length, filter, OnOk, IsErrOf};
+ghost use Rattle.gx_ports.specs.Calls.{Reads, Ends};
+ghost use Rattle.gx_ports.specs.LeafMaps.{Extends};
+ghost use Rattle.gx_stack.specs.Seen.{tree_of};
+ghost use Rattle.gx_model.specs.States.{File as FileMap};
+ghost use Rattle.gx_scan.specs.Files.{IsInternal, HasFile, IsStorable, IsTreeFor};
+ghost use Rattle.gx_scan.specs.Entries.{ArePlaces, IsPlaceOf, rows_at};
+ghost use Rattle.gx_scan.specs.Within.{is_within, AreAdded};
+
+use crate::places::Place;
+use crate::records::NO_BLOCK;
+use crate::scan::add_chosen_rows;
+use gx_ports::{Entries, Leaves, Stop};
+use gx_rows::Row;
+use gx_schema::FileDef;
+use gx_script::Cond;
+use gx_stack::Node;
+use gx_types::AnyMapping;
+use gx_values::Span;
+use std::alloc::Global;
+
+/// Appends the records of the file within the span that meet the conditions, in the order of the places,
+/// which are those of the node.
+pub(crate) fn add_by_entries<B: Leaves>(
+    alloc: Global,
+    file: &FileDef,
+    node: &Node<AnyMapping>,
+    places: &[Place],
+    span: &Span,
+    conds: &[Cond],
+    leaves: &mut B,
+    rows: &mut Vec<Row>,
+) -> Result<(), Stop>
+    requires places { ArePlaces 0 (tree_of node.now) places.now }
+    requires tree { IsTreeFor file.now (tree_of node.now) (length (B.working leaves.old)) }
+    requires storable { IsStorable file.now }
+    ensures rows { (f : FileMap) → B.whole leaves.old →
+        IsInternal file.now (tree_of node.now) (B.working leaves.old) f →
+        OnOk result (AreAdded span.now conds.now f rows.old.items rows.new.items) }
+    ensures front { Extends rows.old.items rows.new.items }
+    ensures reads { Reads B.View leaves.old leaves.new }
+    ensures ends { Ends B.View
+        (B.whole leaves.old × HasFile file.now (tree_of node.now) (B.working leaves.old))
+        leaves.old leaves.new result }
+    ensures block { (n : ℕ) → IsErrOf result (Stop.Damaged n) → B.whole leaves.old → n ≡ 0 }
+    ensures not_full { ¬ IsErrOf result Stop.Full }
+{
+    for place in places {
+        add_at(alloc, file, node, *place, span, conds, leaves, rows)?;
+    }
+    Ok(())
+}
+
+// Appends those in one leaf, in the order of their keys.
+fn add_at<B: Leaves>(
+    alloc: Global,
+    file: &FileDef,
+    node: &Node<AnyMapping>,
+    place: Place,
+    span: &Span,
+    conds: &[Cond],
+    leaves: &mut B,
+    rows: &mut Vec<Row>,
+) -> Result<(), Stop>
+    requires place { IsPlaceOf (tree_of node.now) place }
+    requires tree { IsTreeFor file.now (tree_of node.now) (length (B.working leaves.old)) }
+    requires storable { IsStorable file.now }
+    ensures rows { (f : FileMap) → B.whole leaves.old →
+        IsInternal file.now (tree_of node.now) (B.working leaves.old) f → OnOk result
+        (rows.new.items
+        ≡ rows.old.items ++ filter (is_within span.now conds.now)
+        (rows_at (tree_of node.now) place.leaf f)) }
+    ensures front { Extends rows.old.items rows.new.items }
+    ensures reads { Reads B.View leaves.old leaves.new }
+    ensures ends { Ends B.View
+        (B.whole leaves.old × HasFile file.now (tree_of node.now) (B.working leaves.old))
+        leaves.old leaves.new result }
+    ensures block { (n : ℕ) → IsErrOf result (Stop.Damaged n) → B.whole leaves.old → n ≡ 0 }
+    ensures not_full { ¬ IsErrOf result Stop.Full }
+{
+    node.internal_is_union();
+    let mut entries = Entries::new(alloc);
+    leaves.select(alloc, place.leaf, span, &mut entries)?;
+    if add_chosen_rows(alloc, file, place.lengths, conds, &entries, rows)? {
+        Ok(())
+    } else {
+        Err(Stop::Damaged(NO_BLOCK))
+    }
+}

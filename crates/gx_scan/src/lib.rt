@@ -1,0 +1,13 @@
+//! Finding: the records of a file within a span that meet conditions, and the record at a key, in the
+//! leaves of the file's node.
+#![tactic(auto)]
+
+mod by_entries;
+mod by_records;
+mod places;
+mod records;
+mod scan;
+mod within;
+
+pub use records::find_record;
+pub use within::{rows_within, whole_span};

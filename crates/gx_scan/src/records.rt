@@ -1,0 +1,82 @@
+// The record at a key of a file.
+ghost use Rattle.std.specs.Prelude.{◌≡◌, ◌<◌, ◌≤◌, ℕ, length, IfOk, IfSome, IsErrOf, Option};
+ghost use Rattle.gx_values.specs.Values.{Fits};
+ghost use Rattle.gx_values.specs.Keys.{bytes_of};
+ghost use Rattle.gx_values.specs.declared.records.Rec.{Rec as Record};
+ghost use Rattle.gx_schema.specs.Lookups.{key_kind, data_fields};
+ghost use Rattle.gx_ports.specs.Calls.{Reads, Ends};
+ghost use Rattle.gx_ports.specs.declared.leaves.TheConstants.{MAX_KEY_LEN};
+ghost use Rattle.gx_values.specs.declared.records.Form.{Form as TheForm};
+ghost use Rattle.gx_mapping.specs.Rule.{In, IsOf};
+ghost use Rattle.gx_stack.specs.Seen.{tree_of};
+ghost use Rattle.gx_typing.specs.Dues.{file_form};
+ghost use Rattle.gx_model.specs.States.{File as FileMap};
+ghost use Rattle.gx_scan.specs.Files.{IsInternal, HasFile, IsStorable, IsTreeFor};
+ghost use Rattle.gx_scan.specs.Records.{record_at, list_of_one};
+
+use gx_ports::{Leaves, Stop};
+use gx_schema::FileDef;
+use gx_stack::{Node, Recs};
+use gx_types::AnyMapping;
+use gx_values::{Field, Rec, Span, Value, value_key};
+use std::alloc::Global;
+
+// Records see no blocks: damage that they show is said of block 0.
+pub(crate) const NO_BLOCK: u32 = 0;
+
+/// The fields of a file other than its key.
+pub(crate) fn data_fields(file: &FileDef) -> &[Field]
+    requires { 0 < length file.now.fields }
+    ensures { result.now ≡ data_fields file.now }
+{
+    &file.fields.0[1..]
+}
+
+// The span of one key.
+fn key_span(key: &Value) -> Span
+    requires { length (bytes_of key.now) ≤ MAX_KEY_LEN }
+    ensures lo { result.lo ≡ bytes_of key.now }
+    ensures hi { result.hi ≡ bytes_of key.now }
+{
+    Span {
+        lo: value_key(key),
+        hi: value_key(key),
+    }
+}
+
+/// The record with this key, where there is one.
+pub fn find_record<B: Leaves>(
+    alloc: Global,
+    file: &FileDef,
+    node: &Node<AnyMapping>,
+    key: &Value,
+    leaves: &mut B,
+) -> Result<Option<Rec>, Stop>
+    requires tree { IsTreeFor file.now (tree_of node.now) (length (B.working leaves.old)) }
+    requires storable { IsStorable file.now }
+    requires key { Fits (key_kind file.now) key.now }
+    ensures found { (f : FileMap) → B.whole leaves.old →
+        IsInternal file.now (tree_of node.now) (B.working leaves.old) f →
+        IfOk result (λ found. found ≡ record_at f key.now) }
+    ensures fits { IfOk result (λ found. IfSome found (IsOf (file_form file.now))) }
+    ensures reads { Reads B.View leaves.old leaves.new }
+    ensures ends { Ends B.View
+        (B.whole leaves.old × HasFile file.now (tree_of node.now) (B.working leaves.old))
+        leaves.old leaves.new result }
+    ensures block { (n : ℕ) → IsErrOf result (Stop.Damaged n) → B.whole leaves.old → n ≡ 0 }
+    ensures not_full { ¬ IsErrOf result Stop.Full }
+{
+    let _file = file;
+    let mut found = Recs::new(alloc);
+    node.select(alloc, leaves, &key_span(key), &mut found)?;
+    Ok(last_record(found))
+}
+
+fn last_record(found: Recs) -> Option<Rec>
+    ensures last { (one : Option Record) → found ≡ list_of_one one → result ≡ one }
+    ensures fits { (form : TheForm) → ((r : Record) → In r found → IsOf form r) →
+        IfSome result (IsOf form) }
+{
+    let mut found = found.0;
+    found.pop()
+}

@@ -1,0 +1,71 @@
+// The records of a file within a span that meet conditions.
+ghost use Rattle.std.specs.Prelude.{◌≡◌, ℕ, List, length, true, OnOk, IsErrOf};
+ghost use Rattle.gx_values.specs.declared.records.Form.{Form as TheForm};
+ghost use Rattle.gx_values.specs.Keys.{is_inside};
+ghost use Rattle.gx_ports.specs.Calls.{Reads, Ends};
+ghost use Rattle.gx_ports.specs.LeafMaps.{Extends};
+ghost use Rattle.gx_stack.specs.Selected.{IsKeySpan};
+ghost use Rattle.gx_stack.specs.Seen.{tree_of};
+ghost use Rattle.gx_typing.specs.Dues.{file_form};
+ghost use Rattle.gx_model.specs.States.{File as FileMap};
+ghost use Rattle.gx_scan.specs.Files.{IsInternal, HasFile, IsStorable, IsTreeFor};
+ghost use Rattle.gx_scan.specs.Within.{AreAdded};
+
+use crate::by_entries::add_by_entries;
+use crate::by_records::add_by_records;
+use crate::places::places_of;
+use gx_ports::{Leaves, Stop};
+use gx_rows::Row;
+use gx_schema::FileDef;
+use gx_script::Cond;
+use gx_stack::Node;
+use gx_types::AnyMapping;
+use gx_values::{KeyBuf, Span};
+use std::alloc::Global;
+
+/// Appends the records of the file within the span that meet the conditions, in any order. Where each
+/// layer of the node passes its records whole, the conditions are tested on the bytes of leaf entries,
+/// and no other record is made.
+///
+/// After an error `rows` may have more at its end. `Damaged`: some leaf's stored form isn't whole, or the
+/// leaves hold no file, which is said of block 0. `Fault`: the count of faults rose; with any other answer
+/// it stays. `NoMemory`: there was none.
+pub fn rows_within<B: Leaves>(
+    alloc: Global,
+    file: &FileDef,
+    node: &Node<AnyMapping>,
+    span: &Span,
+    conds: &[Cond],
+    leaves: &mut B,
+    rows: &mut Vec<Row>,
+) -> Result<(), Stop>
+    requires tree { IsTreeFor file.now (tree_of node.now) (length (B.working leaves.old)) }
+    requires storable { IsStorable file.now }
+    requires span { IsKeySpan (file_form file.now) span.now }
+    ensures rows { (f : FileMap) → B.whole leaves.old →
+        IsInternal file.now (tree_of node.now) (B.working leaves.old) f →
+        OnOk result (AreAdded span.now conds.now f rows.old.items rows.new.items) }
+    ensures front { Extends rows.old.items rows.new.items }
+    ensures reads { Reads B.View leaves.old leaves.new }
+    ensures ends { Ends B.View
+        (B.whole leaves.old × HasFile file.now (tree_of node.now) (B.working leaves.old))
+        leaves.old leaves.new result }
+    ensures block { (n : ℕ) → IsErrOf result (Stop.Damaged n) → B.whole leaves.old → n ≡ 0 }
+    ensures not_full { ¬ IsErrOf result Stop.Full }
+{
+    match places_of(alloc, node)? {
+        Some(places) => add_by_entries(alloc, file, node, &places, span, conds, leaves, rows),
+        None => add_by_records(alloc, file, node, span, conds, leaves, rows),
+    }
+}
+
+/// The span of all keys.
+pub fn whole_span() -> Span
+    ensures all { (key : List ℕ) → is_inside result.lo result.hi key ≡ true }
+    ensures keys { (form : TheForm) → IsKeySpan form result }
+{
+    Span {
+        lo: KeyBuf::from_slice(&[]),
+        hi: KeyBuf::from_slice(&[]),
+    }
+}
