@@ -269,7 +269,7 @@ fn calls_fail(rt: HostRuntime) -> Result<(), Fail> {
 const TEXTS: [(&str, &str); 9] = [
     ("keyed", "file f (k text 101)\n"),
     ("linked", "file f (k int)\nlink l (f, f)\n"),
-    ("E2", "f = encode(t rle, actual(heap))\n"),
+    ("E2", "f = index(t, actual(heap), heap)\n"),
     (
         "wide",
         "file g (k int, a text 200, b text 200, c text 200, d text 200, e text 200)\n",
@@ -277,7 +277,10 @@ const TEXTS: [(&str, &str); 9] = [
     ("E3", "g = actual(heap)\n"),
     ("unended", "f =\nactual(heap"),
     ("pieces", "f = divide(64, actual(heap))"),
-    ("linear", "f = actual(divide(64, heap))"),
+    (
+        "nested",
+        "f = partition(k 5, actual(heap), index(t, actual(heap), heap))",
+    ),
     ("ring", "f = heap l = ring(actual(heap), actual(heap))"),
 ];
 
@@ -316,7 +319,7 @@ const REFUSED: [(&str, &str); 22] = [
     ("check S1 pieces", "refused: type line 1: one bytes\n"),
     ("try wide E3", "refused: type line 1: entry too long\n"),
     ("try S1 E2", "refused: not built\n"),
-    ("try S1 linear", "refused: not built\n"),
+    ("try S1 nested", "refused: not built\n"),
     ("try linked ring", "refused: not built\n"),
 ];
 

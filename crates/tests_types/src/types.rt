@@ -316,7 +316,7 @@ fn builds_a_node_for_each_file(rt: HostRuntime) -> Result<(), Fail> {
 fn builds_no_other_heads(rt: HostRuntime) -> Result<(), Fail> {
     let alloc = rt.alloc();
     let schema = b"file f (k int, v int)".as_slice();
-    let other = build_texts(alloc, schema, b"f = actual(divide(64, heap))")?;
+    let other = build_texts(alloc, schema, b"f = index(v, actual(heap), heap)")?;
     assert!(rt; other.is_none());
     let error = build_texts(alloc, schema, b"f = partition(v 10, actual(heap), heap)")
         .err()
