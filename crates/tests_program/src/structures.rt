@@ -137,7 +137,7 @@ struct Case {
     entries: &'static str,
 }
 
-const CASES: [Case; 6] = [
+const CASES: [Case; 9] = [
     // Parts by the key: each bound is the least key of its part.
     Case {
         schema: "file f (k int)",
@@ -211,6 +211,51 @@ none
 committed 1
 "#,
         entries: "0 8000000000000007=03616e6e\n",
+    },
+    // Eight bytes in pieces of four: the last piece of a full multiple is empty.
+    Case {
+        schema: "file f (k int, v int)",
+        equation: "f = actual(divide(4, heap))",
+        script: "begin
+insert f 1 7
+get f 1",
+        answers: "begun
+ok
+f 1 7
+",
+        entries: "0 80000000000000018000000000000000=00000000
+0 80000000000000018000000000000001=00000007
+0 80000000000000018000000000000002=
+",
+    },
+    // The second part of a record stands only where a field of it isn't its default.
+    Case {
+        schema: "file f (k int, a int, b text 3)",
+        equation: "f = segment(a, actual(heap), actual(heap))",
+        script: r#"begin
+insert f 1 5 ""
+update f 1 b "x""#,
+        answers: "begun
+ok
+ok
+",
+        entries: "0 8000000000000001=0000000000000005
+1 8000000000000001=0178
+",
+    },
+    Case {
+        schema: "file f (k int, a int, b text 3)",
+        equation: "f = segment(a, actual(heap), actual(heap))",
+        script: r#"begin
+insert f 1 5 ""
+update f 1 b "x"
+update f 1 b """#,
+        answers: "begun
+ok
+ok
+ok
+",
+        entries: "0 8000000000000001=0000000000000005\n",
     },
     // A body within a body, whose length is in two bytes.
     Case {
