@@ -27,6 +27,7 @@ WORK = {
     "100,000 gets": [f"get part {it}" for it in range(RECORDS)],
     "100,000 updates": ["begin", *(f"update part {it} quantity {it % 777}" for it in range(RECORDS)), "commit"],
     "20 finds of 100": ["find part where quantity = 5"] * 20,
+    "3 scans of 100,000": ["find part"] * 3,
 }
 
 

@@ -7,6 +7,7 @@ ghost use Rattle.gx_schema.specs.Rules.{IsSchema};
 ghost use Rattle.gx_equation.specs.Printing.{AreWritten};
 ghost use Rattle.gx_equation.specs.Seen.{definitions_of};
 
+use crate::texts::{build_texts, read_texts};
 use gx_actual::actual;
 use gx_equation::{Equation, read_equation};
 use gx_mapping::Mapping;
@@ -29,37 +30,11 @@ fn leaves(alloc: Global, typing: &Typing) -> Result<String, Fail> {
     Ok(text)
 }
 
-fn read_texts(alloc: Global, schema: &[u8], equation: &[u8]) -> Result<(Schema, Equation), Untyped>
-    ensures schema { IfOk result (λ texts. IsSchema texts.0) }
-    ensures equation { IfOk result (λ texts. AreWritten (definitions_of texts.1.definitions)) }
-{
-    if schema.len() >= 4_294_967_295 || equation.len() >= 4_294_967_295 {
-        return Err(Untyped::NoMemory);
-    }
-    let Ok(schema) = read_schema(alloc, schema) else {
-        return Err(Untyped::NoMemory);
-    };
-    let Ok(equation) = read_equation(alloc, equation) else {
-        return Err(Untyped::NoMemory);
-    };
-    Ok((schema, equation))
-}
-
 fn type_texts(alloc: Global, schema: &[u8], equation: &[u8]) -> Result<Typing, Untyped>
     ensures { IfOk result (λ typing. length typing.specs ≤ 255) }
 {
     let (schema, equation) = read_texts(alloc, schema, equation)?;
     typed(alloc, &schema, &equation)
-}
-
-// What is built of the texts, or none where the equation has other heads.
-fn build_texts(alloc: Global, schema: &[u8], equation: &[u8]) -> Result<Option<Built>, Untyped> {
-    let (schema, equation) = read_texts(alloc, schema, equation)?;
-    if !heads_built(&equation) {
-        return Ok(None);
-    }
-    let typing = typed(alloc, &schema, &equation)?;
-    Ok(Some(build(alloc, &schema, &equation, typing)?))
 }
 
 const DEPARTMENTS: &str = "file dept (dno int, dname text 12)

@@ -1,0 +1,12 @@
+# Completes the words of ./genesis in bash: source tools/completion.bash
+
+_genesis() {
+    local word=${COMP_WORDS[COMP_CWORD]}
+    COMPREPLY=()
+    case $COMP_CWORD in
+        1) mapfile -t COMPREPLY < <(compgen -W 'check try --prove --version --help' -- "$word") ;;
+        2 | 3) [[ ${COMP_WORDS[1]} == @(check|try) ]] &&
+            mapfile -t COMPREPLY < <(compgen -f -- "$word") ;;
+    esac
+}
+complete -o filenames -F _genesis genesis ./genesis
