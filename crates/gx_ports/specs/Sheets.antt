@@ -1,5 +1,5 @@
 -- Pages and their owners.
-use Rattle.std.specs.Prelude.{◌≡◌, ◌≢◌, ℕ, ◌<◌, ◌≤◌, List, length, slice_set, slice_get, Some}
+use Rattle.std.specs.Prelude.{◌≡◌, ◌≢◌, ℕ, ◌<◌, ◌≤◌, List, slice_set, slice_get, Some}
 
 -- for each page the number of its owner, 0 where it is free, and its bytes
 pub record Sheets : Type 0 where
