@@ -11,7 +11,7 @@ pub fn quoted_value(alloc: Global, text: &[u8]) -> Result<Vec<u8>, AllocError>
     ensures meant { IfOk result (λ value. IsQuoted false text.now → doubled value.items ≡ text.now) }
     ensures value { IfOk result (λ value. value.items ≡ unquoted false text.now) }
 {
-    let mut value = Vec::new(alloc);
+    let mut value = Vec::with_capacity(alloc, text.len())?;
     let mut second = false;
     let mut rest = text;
     while let [byte, after @ ..] = rest {
