@@ -1,10 +1,13 @@
 // Entries in leaves, and whether they are those of a set of records.
-ghost use Rattle.std.specs.Prelude.{◌≡◌, length};
-ghost use Rattle.gx_ports.specs.Plain.{working_of};
+ghost use Rattle.std.specs.Prelude.{◌≤◌, length, IfOk};
+ghost use Rattle.gx_types.specs.Nodes.{AreNodes};
 
-use crate::texts::build_texts;
+use crate::texts::read_texts;
 use gx_device::MemoryMachine;
 use gx_ports::{Leaves, MAX_ENTRY_LEN, MAX_KEY_LEN, PlainLeaves};
+use gx_schema::Schema;
+use gx_types::{Built, build, heads_built};
+use gx_typing::typed;
 use std::alloc::Global;
 use std::process::Abort;
 use std::test::Fail;
@@ -110,9 +113,12 @@ const CASES: [Case; 7] = [
 ];
 
 // Puts the entries of a text into the leaves.
-fn put_all(rt: &impl Abort, alloc: Global, entries: &str, leaves: &mut InMemory) -> Result<(), Fail>
-    ensures leaves { length (working_of leaves.new) ≡ length (working_of leaves.old) }
-{
+fn put_all(
+    rt: &impl Abort,
+    alloc: Global,
+    entries: &str,
+    leaves: &mut InMemory,
+) -> Result<(), Fail> {
     for line in entries.lines() {
         let (leaf, entry) = line.split_once(' ').ok_or("a leaf")?;
         let (key, body) = entry.split_once('=').ok_or("a key")?;
@@ -136,22 +142,35 @@ fn put(
     key: &[u8],
     body: &[u8],
     leaves: &mut InMemory,
-) -> Result<(), Fail>
-    ensures leaves { length (working_of leaves.new) ≡ length (working_of leaves.old) }
-{
+) -> Result<(), Fail> {
     assert!(rt; leaf < leaves.leaves());
     assert!(rt; key.len() <= MAX_KEY_LEN && body.len() <= MAX_ENTRY_LEN - key.len());
     leaves.put(alloc, leaf, key, body)?;
     Ok(())
 }
 
+// The file's schema, and how it is stored.
+fn stored(rt: &impl Abort, alloc: Global, equation: &str) -> Result<(Schema, Built), Fail>
+    ensures nodes { IfOk result
+        (λ texts. AreNodes texts.0 texts.1.files (length texts.1.specs)) }
+    ensures few { IfOk result (λ texts. length texts.1.specs ≤ 255) }
+{
+    let (schema, equation) = read_texts(alloc, SCHEMA.as_bytes(), equation.as_bytes())?;
+    assert!(rt; heads_built(&equation));
+    let typing = typed(alloc, &schema, &equation)?;
+    let built = build(alloc, &schema, &equation, typing)?;
+    Ok((schema, built))
+}
+
 fn is_sound(rt: &impl Abort, alloc: Global, equation: &str, entries: &str) -> Result<bool, Fail> {
-    let built = build_texts(alloc, SCHEMA.as_bytes(), equation.as_bytes())?.ok_or("nodes")?;
+    let (_, built) = stored(rt, alloc, equation)?;
+    let count = built.specs.0.len() as u32;
     let machine = MemoryMachine::new(alloc)?;
-    let Ok(mut leaves) = PlainLeaves::make(alloc, machine, built.specs.0.len() as u32) else {
+    let Ok(mut leaves) = PlainLeaves::make(alloc, machine, count) else {
         return Err("memory")?;
     };
     put_all(rt, alloc, entries, &mut leaves)?;
+    assert!(rt; leaves.leaves() == count);
     let node = built.files.0.first().ok_or("a node")?;
     Ok(node.sound(alloc, &mut leaves)?)
 }
