@@ -52,7 +52,7 @@ fn type_texts(alloc: Global, schema: &[u8], equation: &[u8]) -> Result<Typing, U
     typed(alloc, &schema, &equation)
 }
 
-// What is built of the texts, or none where the equation has other heads.
+// What is built of the texts, or none where the schema has links.
 fn build_texts(alloc: Global, schema: &[u8], equation: &[u8]) -> Result<Option<Built>, Untyped> {
     let (schema, equation) = read_texts(alloc, schema, equation)?;
     if !heads_built(&equation) {
@@ -295,7 +295,7 @@ fn builds_a_node_for_each_file(rt: HostRuntime) -> Result<(), Fail> {
     let built = build_texts(
         alloc,
         b"file f (k int, v int) file g (k text 7)",
-        b"f = partition(v 10, actual(heap), actual(heap)) g = bplus",
+        b"f = index(v, actual(heap), heap) g = bplus",
     )?
     .ok_or("nodes")?;
     let mut leaves = Vec::new(alloc);
@@ -313,11 +313,16 @@ fn builds_a_node_for_each_file(rt: HostRuntime) -> Result<(), Fail> {
 }
 
 #[test]
-fn builds_no_other_heads(rt: HostRuntime) -> Result<(), Fail> {
+fn builds_no_links(rt: HostRuntime) -> Result<(), Fail> {
     let alloc = rt.alloc();
+    let schema = b"file f (k int) link l (f, f)".as_slice();
+    let linked = build_texts(
+        alloc,
+        schema,
+        b"f = heap l = ring(actual(heap), actual(heap))",
+    )?;
+    assert!(rt; linked.is_none());
     let schema = b"file f (k int, v int)".as_slice();
-    let other = build_texts(alloc, schema, b"f = index(v, actual(heap), heap)")?;
-    assert!(rt; other.is_none());
     let error = build_texts(alloc, schema, b"f = partition(v 10, actual(heap), heap)")
         .err()
         .ok_or("an error")?;
