@@ -16,6 +16,7 @@ use Rattle.gx_values.specs.declared.records.Form.{Form}
 use Rattle.gx_mapping.specs.Rule.{is_field, first_in}
 use Rattle.gx_encode.specs.Codes.{coded_kind as kind_by_code}
 use Rattle.gx_encode.specs.Forms.{changed, coded_field as field_by_code}
+use Rattle.gx_index.specs.Forms.{entry_form}
 use Rattle.gx_split.specs.Groups.{marks, chosen}
 use Rattle.gx_partition.specs.Places.{no_field}
 use Rattle.gx_partition.specs.declared.place.Where.{Where}
@@ -228,7 +229,7 @@ rule_kid_form (heads.Divide size) form kids met names c = refl
 rule_kid_form (heads.Index name) form kids met names zero = refl
 rule_kid_form (heads.Index name) form kids met names (suc c) =
     let here = indexed_field form.fields name met.kind met.field.is met.key_kind in
-    λ i. record { keys = here i ∷ form.keys; fields = [] }
+    cond-false (nat_eq (suc c) 0) form (entry_form (first_in form.fields name) form) (earlier 0 (suc c) (omega arith)) ∙ (λ i. record { keys = here i ∷ form.keys; fields = [] })
 
 pub rule_kids : (top : Head) (form : Form) (kids : Trees) → IsLayer top → IsCount (arity top) (list_of kids) → IsMet top form (count kids) → count kids ≡ (head_rule top form).kids
 rule_kids (heads.Leaf kind) form kids is many met = absurd is

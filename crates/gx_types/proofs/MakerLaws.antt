@@ -269,21 +269,6 @@ one_bytes [] is = absurd is
 one_bytes (f ∷ []) is = (ap is_bytes is.1, subst (λ (k : Kind). most_of k ≤ room_of k + 0) (sym is.1) (omega arith))
 one_bytes (f ∷ g ∷ fs) is = absurd is
 
--- the second child of an index is a term
-second : (form : Form) (name : List ℕ) (levels : ℕ) (kids : Trees) → IsCount (arity (heads.Index name)) (list_of kids) → AllByRecursion (IsTerm levels) (list_of kids) → AreTypedTerms (kid_form (heads.Index name) form) 0 kids
-    → widths (kid_form (heads.Index name) form 1).keys ≤ 400
-second form name levels none many terms typed = absurd (omega (arith, many))
-second form name levels (kid t none) many terms typed = absurd (omega (arith, many))
-second form name levels (kid t (kid u us)) many terms typed = keys_narrow levels (kid_form (heads.Index name) form 1) u terms.1.0 typed.1.0
-
-index_narrow : (form : Form) (name : List ℕ) (kind : Kind) → kind_of form.fields (first_in form.fields name) ≡ kind → kind_in form.fields name ≡ Some kind → IsKeyKind kind → widths (kid_form (heads.Index name) form 1).keys ≤ 400
-    → width_of (kind_of form.fields (first_in form.fields name)) + widths form.keys ≤ 400
-index_narrow form name kind here is key le =
-    let same : index_kind (kind_in form.fields name) ≡ kind = ap index_kind is ∙ key_kind kind key in
-    let first : width_of (kind_of form.fields (first_in form.fields name)) ≡ width_of kind = ap width_of here in
-    let second : width_of (index_kind (kind_in form.fields name)) ≡ width_of kind = ap width_of same in
-    omega (arith, le)
-
 pub can_make : (levels : ℕ) (top : Head) (form : Form) (kids : Trees) → IsFileForm (suc levels) form → IsTerm (suc levels) (node top kids) → IsTypedTerm form (node top kids) → leaf_counts kids ≤ 255 → CanMake top form
 can_make levels (heads.Leaf kind) form kids fits term typed few = tt
 can_make levels heads.Actual form kids fits term typed few = record {
@@ -302,13 +287,7 @@ can_make levels (heads.Divide size) form kids fits term typed few =
     record { bytes = one.0; narrow = omega (arith, one.1, fits.room); some = term.0.0 }
 can_make levels (heads.Index name) form kids fits term typed few =
     let at = typed_kind form.fields name typed.0.kind typed.0.field.is in
-    let key : IsKeyKind (kind_of form.fields (first_in form.fields name)) = subst IsKeyKind (sym at.1) typed.0.key_kind in
-    record {
-      texts = fits.texts;
-      place = at.0;
-      kind = key;
-      narrow = index_narrow form name typed.0.kind at.1 typed.0.field.is typed.0.key_kind (second form name levels kids term.1 term.2 typed.1);
-    }
+    record { place = at.0; kind = subst IsKeyKind (sym at.1) typed.0.key_kind }
 
 pub ready_can : (n : ℕ) (form : Form) (top : Head) (kids : Trees) → IsReady n form (node top kids) → CanMake top form
 ready_can n form top kids r = go r.levels r.term r.records

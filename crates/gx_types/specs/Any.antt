@@ -13,6 +13,8 @@ use Rattle.gx_split.specs.TransposeRules.{rule_of as columns_of}
 use Rattle.gx_split.specs.TransposeLaws.{transpose_laws}
 use Rattle.gx_divide.specs.Rules.{rule_of as pieces_of}
 use Rattle.gx_divide.specs.Laws.{divide_laws}
+use Rattle.gx_index.specs.Rules.{rule_of as entries_of}
+use Rattle.gx_index.specs.Laws.{index_laws}
 use Rattle.gx_types.specs.declared.any.AnyMapping.{AnyMapping}
 use Rattle.gx_types.specs.declared.any.AnyMapping.TheVariants as any
 
@@ -23,6 +25,7 @@ any_rule (any.Segment m) = groups_of m
 any_rule (any.Transpose m) = columns_of m
 any_rule (any.Partition m) = rule_of m
 any_rule (any.Divide m) = pieces_of m
+any_rule (any.Index m) = entries_of m
 
 pub any_laws : (m : AnyMapping) → MappingLaws (any_rule m)
 any_laws (any.Actual m) = actual_laws m.form m.short
@@ -31,3 +34,4 @@ any_laws (any.Segment m) = segment_laws m.form m.mask m.long
 any_laws (any.Transpose m) = transpose_laws m.form m.some
 any_laws (any.Partition m) = partition_laws m.form m.at m.bounds m.sound
 any_laws (any.Divide m) = divide_laws m.form m.size m.sound
+any_laws (any.Index m) = index_laws m.form m.field m.sound

@@ -35,7 +35,7 @@ is_built_head (heads.Segment names) kids = kids == 2
 is_built_head heads.Transpose kids = true
 is_built_head (heads.Partition name bounds) kids = true
 is_built_head (heads.Divide size) kids = kids == 1
-is_built_head other kids = false
+is_built_head (heads.Index name) kids = kids == 2
 
 abbrev mutual
   pub is_built_term : Tree → Bool

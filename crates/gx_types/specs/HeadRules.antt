@@ -1,17 +1,15 @@
 -- The rule of each head over the records of a form.
-use Rattle.std.specs.Prelude.{ℕ, zero, suc, Bool, true, false, ◌&&◌, List, [], ◌∷◌, map, Some, None, nat_eq, slice_index_or, if◌then◌else◌}
-use Rattle.gx_values.specs.declared.values.Value.{Value}
+use Rattle.std.specs.Prelude.{ℕ, suc, Bool, true, false, List, [], ◌∷◌, map, None, if◌then◌else◌}
 use Rattle.gx_values.specs.declared.records.Field.{Field}
 use Rattle.gx_values.specs.declared.records.Form.{Form}
-use Rattle.gx_mapping.specs.declared.parts.Part.{Part}
 use Rattle.gx_mapping.specs.Rule.{Rule, is_field, first_in}
 use Rattle.gx_actual.specs.Rules.{actual_rule}
 use Rattle.gx_divide.specs.Rules.{divide_rule}
+use Rattle.gx_index.specs.Rules.{index_rule}
 use Rattle.gx_encode.specs.Rules.{encode_rule}
 use Rattle.gx_split.specs.SegmentRules.{segment_rule}
 use Rattle.gx_split.specs.TransposeRules.{transpose_rule}
 use Rattle.gx_partition.specs.Rules.{partition_rule}
-use Rattle.gx_partition.specs.Places.{no_field, no_value}
 use Rattle.gx_partition.specs.declared.place.Where.{Where}
 use Rattle.gx_partition.specs.declared.place.Where.TheVariants.{Key, Rest}
 use Rattle.gx_equation.specs.declared.heads.Head.{Head}
@@ -38,30 +36,6 @@ abbrev pub place_in : Form → List ℕ → Where
 place_in form name = if is_field form.keys name then Key (first_in form.keys name) else Rest (first_in form.fields name)
 
 -- ---- the rules of the layers
-
-abbrev pub part : ℕ → List Value → List Value → Part
-part child key fields = record { child = child; rec = record { key = key; fields = fields } }
-
-abbrev pub is_first : ℕ → Bool
-is_first zero = true
-is_first (suc i) = false
-
-abbrev pub entries_form : Form → ℕ → ℕ → Form
-entries_form form i zero = form
-entries_form form i (suc child) = record { keys = slice_index_or form.fields i no_field ∷ form.keys; fields = [] }
-
--- the records, and an entry for each under the value of field i
-abbrev pub index_rule : Form → ℕ → Rule
-index_rule form i = record {
-  kids = 2;
-  form = form;
-  kid_form = entries_form form i;
-  holds_rest = is_first;
-  parts = λ r. part 0 r.key r.fields ∷ part 1 (slice_index_or r.fields i no_value ∷ r.key) [] ∷ [];
-  skips = λ child span. false;
-  indexes = λ name. if is_field form.fields name && nat_eq (first_in form.fields name) i then Some 1 else None;
-  carries = λ child name. is_first child && is_field form.fields name;
-}
 
 -- a leaf is no layer; this stands in its place
 abbrev pub no_rule : Form → Rule

@@ -1,6 +1,5 @@
 -- What the makers of mappings ask of the form and of the head's arguments.
-use Rattle.std.specs.Prelude.{ℕ, ◌+◌, ◌<◌, ◌≤◌, List, length, slice_index_or}
-use Rattle.gx_values.specs.Keys.{width_of, widths, IsKeyKind}
+use Rattle.std.specs.Prelude.{ℕ, ◌<◌, ◌≤◌, List, length, slice_index_or}
 use Rattle.gx_values.specs.declared.values.Kind.{Kind}
 use Rattle.gx_values.specs.declared.records.Field.{Field}
 use Rattle.gx_values.specs.declared.records.Form.{Form}
@@ -8,11 +7,11 @@ use Rattle.gx_mapping.specs.Rule.{first_in}
 use Rattle.gx_actual.specs.Bodies.{field_widths, AreShortTexts}
 use Rattle.gx_divide.specs.Forms.{IsDivide}
 use Rattle.gx_encode.specs.Forms.{IsEncode}
+use Rattle.gx_index.specs.Forms.{CanIndex}
 use Rattle.gx_partition.specs.Places.{no_field}
 use Rattle.gx_partition.specs.Bounds.{IsPartition}
 use Rattle.gx_equation.specs.declared.heads.Head.{Head}
 use Rattle.gx_equation.specs.declared.heads.Head.TheVariants as heads
-use Rattle.gx_types.specs.FileForms.{AreLimited}
 use Rattle.gx_types.specs.HeadRules.{place_in}
 
 -- the kind of the data field with the number
@@ -26,12 +25,6 @@ pub record CanActual (form : Form) : Type 0 where
 pub record CanTranspose (form : Form) : Type 0 where
   pub some : 0 < length form.fields
   pub few : length form.fields ≤ 65535
-
-pub record CanIndex (form : Form) (i : ℕ) : Type 0 where
-  pub texts : AreLimited form.fields
-  pub place : i < length form.fields
-  pub kind : IsKeyKind (kind_of form.fields i)
-  pub narrow : width_of (kind_of form.fields i) + widths form.keys ≤ 400
 
 abbrev pub CanMake : Head → Form → Type 0
 CanMake (heads.Leaf kind) form = Unit {0}

@@ -4,6 +4,7 @@ ghost use Rattle.std.specs.Prelude.{◌≡◌};
 use gx_actual::Actual;
 use gx_divide::Divide;
 use gx_encode::Encode;
+use gx_index::Index;
 use gx_mapping::{Mapping, Parts};
 use gx_partition::Partition;
 use gx_split::{Segment, Transpose};
@@ -25,6 +26,8 @@ pub enum AnyMapping {
     Partition(Partition),
     /// the bytes of the one data field, in pieces
     Divide(Divide),
+    /// whole records, and an entry for each under the value of one field
+    Index(Index),
 }
 
 impl Mapping for AnyMapping {
@@ -42,6 +45,7 @@ impl Mapping for AnyMapping {
             AnyMapping::Transpose(mapping) => mapping.kids(),
             AnyMapping::Partition(mapping) => mapping.kids(),
             AnyMapping::Divide(mapping) => mapping.kids(),
+            AnyMapping::Index(mapping) => mapping.kids(),
         }
     }
 
@@ -53,6 +57,7 @@ impl Mapping for AnyMapping {
             AnyMapping::Transpose(mapping) => mapping.form(),
             AnyMapping::Partition(mapping) => mapping.form(),
             AnyMapping::Divide(mapping) => mapping.form(),
+            AnyMapping::Index(mapping) => mapping.form(),
         }
     }
 
@@ -64,6 +69,7 @@ impl Mapping for AnyMapping {
             AnyMapping::Transpose(mapping) => mapping.kid_form(child),
             AnyMapping::Partition(mapping) => mapping.kid_form(child),
             AnyMapping::Divide(mapping) => mapping.kid_form(child),
+            AnyMapping::Index(mapping) => mapping.kid_form(child),
         }
     }
 
@@ -75,6 +81,7 @@ impl Mapping for AnyMapping {
             AnyMapping::Transpose(mapping) => mapping.holds_rest(child),
             AnyMapping::Partition(mapping) => mapping.holds_rest(child),
             AnyMapping::Divide(mapping) => mapping.holds_rest(child),
+            AnyMapping::Index(mapping) => mapping.holds_rest(child),
         }
     }
 
@@ -86,6 +93,7 @@ impl Mapping for AnyMapping {
             AnyMapping::Transpose(mapping) => mapping.parts(alloc, rec),
             AnyMapping::Partition(mapping) => mapping.parts(alloc, rec),
             AnyMapping::Divide(mapping) => mapping.parts(alloc, rec),
+            AnyMapping::Index(mapping) => mapping.parts(alloc, rec),
         }
     }
 
@@ -97,6 +105,7 @@ impl Mapping for AnyMapping {
             AnyMapping::Transpose(mapping) => mapping.gather(alloc, key, parts),
             AnyMapping::Partition(mapping) => mapping.gather(alloc, key, parts),
             AnyMapping::Divide(mapping) => mapping.gather(alloc, key, parts),
+            AnyMapping::Index(mapping) => mapping.gather(alloc, key, parts),
         }
     }
 
@@ -108,6 +117,7 @@ impl Mapping for AnyMapping {
             AnyMapping::Transpose(mapping) => mapping.skips(child, span),
             AnyMapping::Partition(mapping) => mapping.skips(child, span),
             AnyMapping::Divide(mapping) => mapping.skips(child, span),
+            AnyMapping::Index(mapping) => mapping.skips(child, span),
         }
     }
 
@@ -119,6 +129,7 @@ impl Mapping for AnyMapping {
             AnyMapping::Transpose(mapping) => mapping.indexes(field),
             AnyMapping::Partition(mapping) => mapping.indexes(field),
             AnyMapping::Divide(mapping) => mapping.indexes(field),
+            AnyMapping::Index(mapping) => mapping.indexes(field),
         }
     }
 
@@ -130,6 +141,7 @@ impl Mapping for AnyMapping {
             AnyMapping::Transpose(mapping) => mapping.carries(child, field),
             AnyMapping::Partition(mapping) => mapping.carries(child, field),
             AnyMapping::Divide(mapping) => mapping.carries(child, field),
+            AnyMapping::Index(mapping) => mapping.carries(child, field),
         }
     }
 }
@@ -159,7 +171,8 @@ impl AnyMapping {
             AnyMapping::Encode(_)
             | AnyMapping::Segment(_)
             | AnyMapping::Transpose(_)
-            | AnyMapping::Divide(_) => Passing::Apart,
+            | AnyMapping::Divide(_)
+            | AnyMapping::Index(_) => Passing::Apart,
         }
     }
 }

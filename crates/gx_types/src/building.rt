@@ -35,9 +35,10 @@ fn term_built(term: &Term) -> bool
     match term {
         Term::Leaf(_) => true,
         Term::Actual(kid) | Term::Encode(_, _, kid) | Term::Divide(_, kid) => term_built(kid),
-        Term::Segment(_, first, second) => term_built(first) && term_built(second),
+        Term::Segment(_, first, second) | Term::Index(_, first, second) => {
+            term_built(first) && term_built(second)
+        }
         Term::Transpose(kids) | Term::Partition(_, _, kids) => terms_built(kids),
-        _ => false,
     }
 }
 
@@ -50,7 +51,7 @@ fn side_built(side: &Side) -> bool
     }
 }
 
-/// Whether each side is that of a file, of the heads that nodes are built of: all but `index`.
+/// Whether each side is that of a file.
 pub fn heads_built(equation: &Equation) -> bool
     ensures { result ≡ heads_built (definitions_of equation.now.definitions) }
 {

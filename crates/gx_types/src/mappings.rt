@@ -3,6 +3,7 @@ ghost use Rattle.std.specs.Prelude.{◌≡◌, ◌<◌, ◌≤◌, ℕ, length, 
 ghost use Rattle.gx_actual.specs.Bodies.{field_widths, AreShortTexts};
 ghost use Rattle.gx_divide.specs.Forms.{IsDivide};
 ghost use Rattle.gx_encode.specs.Forms.{IsEncode};
+ghost use Rattle.gx_index.specs.Forms.{CanIndex};
 ghost use Rattle.gx_mapping.specs.Rule.{first_in};
 ghost use Rattle.gx_partition.specs.Bounds.{IsPartition};
 ghost use Rattle.gx_values.specs.declared.values.Kind.{Kind as KindOf};
@@ -20,6 +21,7 @@ use gx_actual::actual;
 use gx_divide::divide;
 use gx_encode::encode;
 use gx_equation::{Names, Term};
+use gx_index::index;
 use gx_partition::{Where, partition};
 use gx_split::{segment, transpose};
 use gx_typing::has_name;
@@ -133,6 +135,18 @@ fn divide_of(alloc: Global, form: &Form, size: u16) -> Result<AnyMapping, NoMemo
     Ok(AnyMapping::Divide(divide(alloc, form, size)?))
 }
 
+// The mapping of `index` by the field of the name, for the records of the form.
+fn index_of(alloc: Global, form: &Form, name: &Name) -> Result<AnyMapping, NoMemory>
+    requires few_fields { length form.now.fields ≤ 65535 }
+    requires can { CanIndex form.now (first_in form.now.fields name.now) }
+    ensures { IfOk result (IsMappingOf (heads.Index name.now) form.now) }
+{
+    match position(&form.fields.0, name.as_slice()) {
+        Some(field) => Ok(AnyMapping::Index(index(alloc, form, field)?)),
+        None => unreachable!(),
+    }
+}
+
 /// The mapping of the head of a term, for the records of the form. `NoMemory`: there was none for it.
 pub(crate) fn mapping_of(alloc: Global, form: &Form, term: &Term) -> Result<AnyMapping, NoMemory>
     requires ready { (next : ℕ) × IsReady next form.now (tree_of term.now) }
@@ -146,6 +160,7 @@ pub(crate) fn mapping_of(alloc: Global, form: &Form, term: &Term) -> Result<AnyM
         Term::Transpose(_) => transpose_of(alloc, form),
         Term::Partition(name, bounds, _) => partition_of(alloc, form, name, bounds),
         Term::Divide(size, _) => divide_of(alloc, form, *size),
+        Term::Index(name, _, _) => index_of(alloc, form, name),
         _ => unreachable!(),
     }
 }

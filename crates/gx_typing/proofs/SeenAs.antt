@@ -5,7 +5,7 @@ use Rattle.gx_values.specs.declared.values.Value.{Value}
 use Rattle.gx_equation.specs.declared.heads.Head.TheVariants as heads
 use Rattle.gx_equation.specs.declared.equation.Term.{Term}
 use Rattle.gx_equation.specs.declared.equation.Term.TheVariants as terms
-use Rattle.gx_equation.specs.declared.equation.Term.TheOpen.{Actual, Encode, Transpose, Partition, Divide}
+use Rattle.gx_equation.specs.declared.equation.Term.TheOpen.{Actual, Encode, Transpose, Partition, Divide, Index}
 use Rattle.gx_equation.specs.declared.equation.Term.TheFolds.{fold-roll-Term}
 use Rattle.gx_equation.specs.Trees.{Tree, node, none, kid as one, kids_from}
 use Rattle.gx_equation.specs.Seen.{seen_step, tree_of, trees_of}
@@ -28,3 +28,6 @@ seen_divide t size kid is = ap tree_of (is ∙ sym (terms.rolls-Divide size kid)
 -- the term has this child alone
 abbrev pub IsOver : Term → Box Term Global → Type 0
 IsOver t kid = (t ≡ terms.Actual kid) ⊎ (((name : List ℕ) × (code : Code) × (t ≡ terms.Encode name code kid)) ⊎ ((size : ℕ) × (t ≡ terms.Divide size kid)))
+
+pub seen_index : (t : Term) (name : List ℕ) (first second : Box Term Global) → t ≡ terms.Index name first second → tree_of t ≡ node (heads.Index name) (one (tree_of first.value) (one (tree_of second.value) none))
+seen_index t name first second is = ap tree_of (is ∙ sym (terms.rolls-Index name first second)) ∙ fold-roll-Term Tree seen_step (Index name first second)

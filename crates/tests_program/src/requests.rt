@@ -266,10 +266,9 @@ fn calls_fail(rt: HostRuntime) -> Result<(), Fail> {
 }
 
 // Texts by their names.
-const TEXTS: [(&str, &str); 9] = [
+const TEXTS: [(&str, &str); 7] = [
     ("keyed", "file f (k text 101)\n"),
     ("linked", "file f (k int)\nlink l (f, f)\n"),
-    ("E2", "f = index(t, actual(heap), heap)\n"),
     (
         "wide",
         "file g (k int, a text 200, b text 200, c text 200, d text 200, e text 200)\n",
@@ -277,10 +276,6 @@ const TEXTS: [(&str, &str); 9] = [
     ("E3", "g = actual(heap)\n"),
     ("unended", "f =\nactual(heap"),
     ("pieces", "f = divide(64, actual(heap))"),
-    (
-        "nested",
-        "f = partition(k 5, actual(heap), index(t, actual(heap), heap))",
-    ),
     ("ring", "f = heap l = ring(actual(heap), actual(heap))"),
 ];
 
@@ -298,7 +293,7 @@ fn with_texts(alloc: Global) -> Result<MemoryMachine, Fail> {
 
 // Words that are no request, and texts that aren't there, too long, not accepted, or that can't be
 // carried out.
-const REFUSED: [(&str, &str); 22] = [
+const REFUSED: [(&str, &str); 20] = [
     ("", "refused: words\n"),
     ("try", "refused: words\n"),
     ("try S1", "refused: words\n"),
@@ -318,8 +313,6 @@ const REFUSED: [(&str, &str); 22] = [
     ("try linked E1", "refused: type line 1: definition\n"),
     ("check S1 pieces", "refused: type line 1: one bytes\n"),
     ("try wide E3", "refused: type line 1: entry too long\n"),
-    ("try S1 E2", "refused: not built\n"),
-    ("try S1 nested", "refused: not built\n"),
     ("try linked ring", "refused: not built\n"),
 ];
 

@@ -30,7 +30,7 @@ pub(crate) fn read_texts(
     Ok((schema, equation))
 }
 
-// What is built of the texts, or none where the equation has other heads.
+// What is built of the texts, or none where the schema has links.
 pub(crate) fn build_texts(
     alloc: Global,
     schema: &[u8],

@@ -270,7 +270,7 @@ fn builds_a_node_for_each_file(rt: HostRuntime) -> Result<(), Fail> {
     let built = build_texts(
         alloc,
         b"file f (k int, v int) file g (k text 7)",
-        b"f = partition(v 10, actual(heap), actual(heap)) g = bplus",
+        b"f = index(v, actual(heap), heap) g = bplus",
     )?
     .ok_or("nodes")?;
     let mut leaves = Vec::new(alloc);
@@ -288,11 +288,16 @@ fn builds_a_node_for_each_file(rt: HostRuntime) -> Result<(), Fail> {
 }
 
 #[test]
-fn builds_no_other_heads(rt: HostRuntime) -> Result<(), Fail> {
+fn builds_no_links(rt: HostRuntime) -> Result<(), Fail> {
     let alloc = rt.alloc();
+    let schema = b"file f (k int) link l (f, f)".as_slice();
+    let linked = build_texts(
+        alloc,
+        schema,
+        b"f = heap l = ring(actual(heap), actual(heap))",
+    )?;
+    assert!(rt; linked.is_none());
     let schema = b"file f (k int, v int)".as_slice();
-    let other = build_texts(alloc, schema, b"f = index(v, actual(heap), heap)")?;
-    assert!(rt; other.is_none());
     let error = build_texts(alloc, schema, b"f = partition(v 10, actual(heap), heap)")
         .err()
         .ok_or("an error")?;

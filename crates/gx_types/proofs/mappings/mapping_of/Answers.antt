@@ -2,7 +2,7 @@ use Rattle.std.proofs.Common.{subst}
 use Rattle.gx_equation.specs.declared.heads.Head.TheVariants as heads
 use Rattle.gx_types.specs.Build.{IsReady}
 use Rattle.gx_types.proofs.MakerLaws.{limited_short, ready_can, ready_keys}
-use Rattle.gx_typing.proofs.SeenAs.{seen_actual, seen_partition, seen_divide, seen_encode}
+use Rattle.gx_typing.proofs.SeenAs.{seen_actual, seen_partition, seen_divide, seen_encode, seen_index}
 use Rattle.gx_types.proofs.mappings.mapping_of.Goals as goal
 
 pub actual_of-requires-clause-texts : goal.actual_of-requires-clause-texts
@@ -32,3 +32,9 @@ encode_of-requires-clause-can c =
     let ready = c.requires.ready in
     let seen = seen_encode c.args.term.now c.in-Encode.name c.in-Encode.code c.in-Encode.field-2 c.in-Encode.is in
     ready_can ready.0 c.args.form.now (heads.Encode c.in-Encode.name c.in-Encode.code) _ (subst (IsReady ready.0 c.args.form.now) seen ready.1)
+
+pub index_of-requires-clause-can : goal.index_of-requires-clause-can
+index_of-requires-clause-can c =
+    let ready = c.requires.ready in
+    let seen = seen_index c.args.term.now c.in-Index.name c.in-Index.field-1 c.in-Index.field-2 c.in-Index.is in
+    ready_can ready.0 c.args.form.now (heads.Index c.in-Index.name) _ (subst (IsReady ready.0 c.args.form.now) seen ready.1)
