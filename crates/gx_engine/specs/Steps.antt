@@ -1,11 +1,11 @@
 -- What one command does to an engine, over any leaves.
-use Rattle.std.specs.Prelude.{◌≡◌, ℕ, ◌+◌, ◌≤◌, List, length, slice_get, Bool, true, false, Option, Some, None, Result, Ok, Err, OnOk, OnErr}
+use Rattle.std.specs.Prelude.{◌≡◌, ℕ, ◌+◌, ◌^◌, ◌<◌, ◌≤◌, List, length, slice_get, Bool, true, false, Option, Some, None, Result, Ok, Err, OnOk, OnErr}
 use Rattle.gx_device.specs.Content.{Silent}
 use Rattle.gx_device.specs.Faults.{Rose}
 use Rattle.gx_schema.specs.declared.schema.Schema.{Schema}
 use Rattle.gx_script.specs.declared.command.Command.{Command}
 use Rattle.gx_script.specs.declared.command.Command.TheVariants as command
-use Rattle.gx_script.specs.Commands.{inside_after, place_reason, IsOfSchema}
+use Rattle.gx_script.specs.Commands.{conds_of, inside_after, place_reason, IsOfSchema}
 use Rattle.gx_ports.specs.Stops.{is_outside, is_fault, HasStopCause}
 use Rattle.gx_ports.specs.declared.stop.Stop.{Stop}
 use Rattle.gx_ports.specs.declared.stop.Stop.TheVariants as stop
@@ -60,9 +60,10 @@ pub record AreFor (schema : Schema) (built : Built) (leaves : ℕ) : Type 0 wher
 abbrev pub IsReady : {S : Type 0} → Ghosts S → Engine S → Type 0
 IsReady g e = AreFor (schema_of e) (built_of e) (length (g.working (leaves_of e)))
 
--- the command is of the schema, and may stand where the engine is
+-- the command is of the schema, may stand where the engine is, and has conditions that a plan can number
 pub record IsDue {S : Type 0} (e : Engine S) (c : Command) : Type 0 where
   pub of_schema : IsOfSchema (schema_of e) c
+  pub few : length (conds_of c) < 2 ^ 16
   pub allowed : place_reason (is_open e) c ≡ None
 
 -- the engine's leaves stand for a moment of the play

@@ -3,6 +3,7 @@
 
 mod engine;
 mod listing;
+mod planned;
 mod records;
 
 pub use engine::{Engine, StepStop};

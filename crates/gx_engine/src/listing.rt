@@ -1,5 +1,9 @@
 // The answer of a `find`.
-ghost use Rattle.std.specs.Prelude.{◌≡◌, ℕ, length, IfOk, IsErrOf};
+ghost use Rattle.std.specs.Prelude.{◌≡◌, ◌^◌, ◌<◌, [], ℕ, length, filter, IfOk, OnOk, IsErrOf};
+ghost use Rattle.std.specs.FinMap as fin;
+ghost use Rattle.std.specs.List.{AllByRecursion};
+ghost use Rattle.std.specs.List.Sorted.{IsPermutation};
+ghost use Rattle.gx_script.specs.Commands.{IsCondOf};
 ghost use Rattle.gx_ports.specs.Calls.{Reads, Ends};
 ghost use Rattle.gx_stack.specs.Seen.{tree_of};
 ghost use Rattle.gx_model.specs.States.{File as FileMap};
@@ -7,9 +11,10 @@ ghost use Rattle.gx_model.specs.Found.{meets_conds};
 ghost use Rattle.gx_model.specs.Commands.{IsListText};
 ghost use Rattle.gx_scan.specs.Files.{IsInternal, HasFile, IsStorable, IsTreeFor};
 
+use crate::planned::planned_span;
 use gx_ports::{Leaves, Stop};
-use gx_rows::{records_text, sort_rows};
-use gx_scan::{rows_within, whole_span};
+use gx_rows::{Row, records_text, sort_rows};
+use gx_scan::rows_within;
 use gx_schema::FileDef;
 use gx_script::Find;
 use gx_stack::Node;
@@ -27,6 +32,8 @@ pub(crate) fn found_text<B: Leaves>(
 ) -> Result<Octets, Stop>
     requires tree { IsTreeFor file.now (tree_of node.now) (length (B.working leaves.old)) }
     requires storable { IsStorable file.now }
+    requires conds { AllByRecursion (IsCondOf file.now) find.now.conds }
+    requires few { length find.now.conds < 2 ^ 16 }
     ensures listed { (f : FileMap) → B.whole leaves.old →
         IsInternal file.now (tree_of node.now) (B.working leaves.old) f →
         IfOk result (IsListText file.now f (meets_conds find.now.conds) find.now.order) }
@@ -37,9 +44,39 @@ pub(crate) fn found_text<B: Leaves>(
     ensures block { (n : ℕ) → IsErrOf result (Stop.Damaged n) → B.whole leaves.old → n ≡ 0 }
     ensures not_full { ¬ IsErrOf result Stop.Full }
 {
-    let conds = &find.conds.0;
     let mut rows = Vec::new(alloc);
-    rows_within(alloc, file, node, &whole_span(), conds, leaves, &mut rows)?;
+    add_found(alloc, file, node, find, leaves, &mut rows)?;
     sort_rows(&mut rows, find.order)?;
     Ok(records_text(alloc, file, &rows)?)
+}
+
+// Appends the records that meet the conditions to none, in any order. The plan says which keys are looked
+// at, and each record there is tested for all conditions.
+fn add_found<B: Leaves>(
+    alloc: Global,
+    file: &FileDef,
+    node: &Node<AnyMapping>,
+    find: &Find,
+    leaves: &mut B,
+    rows: &mut Vec<Row>,
+) -> Result<(), Stop>
+    requires tree { IsTreeFor file.now (tree_of node.now) (length (B.working leaves.old)) }
+    requires storable { IsStorable file.now }
+    requires conds { AllByRecursion (IsCondOf file.now) find.now.conds }
+    requires few { length find.now.conds < 2 ^ 16 }
+    requires none { rows.old.items ≡ [] }
+    ensures those { (f : FileMap) → B.whole leaves.old →
+        IsInternal file.now (tree_of node.now) (B.working leaves.old) f → OnOk result
+        (IsPermutation (filter (meets_conds find.now.conds) (fin.entries f)) rows.new.items) }
+    ensures reads { Reads B.View leaves.old leaves.new }
+    ensures ends { Ends B.View
+        (B.whole leaves.old × HasFile file.now (tree_of node.now) (B.working leaves.old))
+        leaves.old leaves.new result }
+    ensures block { (n : ℕ) → IsErrOf result (Stop.Damaged n) → B.whole leaves.old → n ≡ 0 }
+    ensures not_full { ¬ IsErrOf result Stop.Full }
+{
+    match planned_span(file, find) {
+        Some(span) => rows_within(alloc, file, node, &span, &find.conds.0, leaves, rows),
+        None => Ok(()),
+    }
 }

@@ -1,5 +1,5 @@
 -- The records that a node's selection finds, as rows of the file.
-use Rattle.std.proofs.Common.{[], ◌≡◌, ℕ, List, ◌∷◌, ◌++◌, map, true, refl, sym, ap, subst, ◌∙◌, append-nil}
+use Rattle.std.proofs.Common.{[], ◌≡◌, ℕ, List, ◌∷◌, ◌++◌, map, Bool, true, false, refl, sym, ap, subst, ◌∙◌, append-nil}
 use Rattle.std.specs.Prelude.{filter, ◌&&◌}
 use Rattle.std.specs.List.{AllByRecursion}
 use Rattle.std.specs.List.Sorted.{IsPermutation}
@@ -88,9 +88,23 @@ ends_empty form span l h = record {
   hi_whole = λ key rest fits e. nothing_left (key_of key) rest (sym h ∙ e);
 }
 
--- within the span of all keys are all that meet the conditions
-pub all_added : (span : Span) (conds : List Cond) (f : File) (before now : List Row) → ((key : List ℕ) → is_inside span.lo span.hi key ≡ true) → before ≡ [] → AreAdded span conds f before now → IsPermutation (filter (meets_conds conds) (fin.entries f)) now
-all_added span conds f before now all none is =
+-- where the span has all records that meet the conditions, those within it are all that meet them
+pub covered_added : (span : Span) (conds : List Cond) (f : File) (before now : List Row) → ((r : Row) → In r (fin.entries f) → meets_conds conds r ≡ true → is_inside span.lo span.hi (bytes_of r.0) ≡ true) → before ≡ [] → AreAdded span conds f before now → IsPermutation (filter (meets_conds conds) (fin.entries f)) now
+covered_added span conds f before now covers none is =
     let items : now ≡ is.added = is.appended ∙ ap (λ (l : List Row). l ++ is.added) none in
-    let same = same_filter (is_within span conds) (meets_conds conds) (fin.entries f) (λ r h. ap (λ b. b && meets_conds conds r) (all (bytes_of r.0))) in
+    let same = same_filter (is_within span conds) (meets_conds conds) (fin.entries f) (λ r h. second (is_inside span.lo span.hi (bytes_of r.0)) (meets_conds conds r) (covers r h)) in
     subst (λ (l : List Row). IsPermutation l now) same (subst (IsPermutation (filter (is_within span conds) (fin.entries f))) (sym items) is.those)
+  where
+    second : (a b : Bool) → (b ≡ true → a ≡ true) → (a && b) ≡ b
+    second a true h = ap (λ (x : Bool). x && true) (h refl)
+    second true false h = refl
+    second false false h = refl
+
+-- where no record meets the conditions, none is all of them
+pub none_added : (test : Row → Bool) (f : File) (now : List Row) → ((r : Row) → In r (fin.entries f) → test r ≡ false) → now ≡ [] → IsPermutation (filter test (fin.entries f)) now
+none_added test f now unmet none =
+    subst (IsPermutation (filter test (fin.entries f))) (same_filter test (λ _. false) (fin.entries f) unmet ∙ nothing (fin.entries f) ∙ sym none) (IsPermutation-refl (filter test (fin.entries f)))
+  where
+    nothing : (xs : List Row) → filter (λ _. false) xs ≡ []
+    nothing [] = refl
+    nothing (x ∷ xs) = nothing xs

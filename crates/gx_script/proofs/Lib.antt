@@ -12,3 +12,4 @@ pub mod LocalWords
 pub mod LocalParts
 pub mod LocalLoops
 pub mod LocalClauses
+pub mod FewConds

@@ -66,6 +66,11 @@ IsOfSchema schema (command.ReorganizeFile file) = file < length schema.files
 IsOfSchema schema (command.ReorganizeLink link) = link < length schema.links
 IsOfSchema schema _ = Unit {0}
 
+-- the conditions of a command
+abbrev pub conds_of : Command → List Cond
+conds_of (command.Find q) = q.conds
+conds_of _ = []
+
 -- ---- the transaction rule
 
 -- whether a command stands outside a transaction alone, inside one alone, or in both places

@@ -1,8 +1,8 @@
 // The lines of a script.
-ghost use Rattle.std.specs.Prelude.{◌≡◌, ◌+◌, ◌<◌, ◌≤◌, false, length, take, slice_index, ◌==◌, option_map};
+ghost use Rattle.std.specs.Prelude.{◌≡◌, ◌+◌, ◌<◌, ◌≤◌, false, length, take, slice_index, ◌==◌, option_map, IfOk, IfSome};
 ghost use Rattle.std.specs.List.{AllByRecursion};
 ghost use Rattle.gx_tokens.specs.Reading.{map_ok};
-ghost use Rattle.gx_script.specs.Lines.{longest_script, ArePartsOf, parts_of, without_cr, script_lines, IsNext};
+ghost use Rattle.gx_script.specs.Lines.{longest_line, longest_script, ArePartsOf, parts_of, without_cr, script_lines, IsNext};
 
 use crate::command::LineWhy;
 use std::marker::Model;
@@ -44,7 +44,8 @@ fn line_len(text: &[u8]) -> usize
 
 // The line without a CR at its end.
 fn without_cr(line: &[u8]) -> &[u8]
-    ensures { result.now ≡ without_cr line.now }
+    ensures value { result.now ≡ without_cr line.now }
+    ensures within { length result.now ≤ length line.now }
 {
     let len = line.len();
     if len > 0 && line[len - 1] == b'\r' {
@@ -74,7 +75,8 @@ impl<'a> ScriptLines<'a> {
     /// end counted and its LF not. `ScriptTooLong`: exactly where it has not, and in it stands the byte by which the script
     /// is too long. After an error, or where there are no more lines, the next call answers the same.
     pub fn next_line(&mut self) -> Result<Option<&'a [u8]>, LineWhy>
-        ensures { IsNext self.old self.new (map_ok (λ line. option_map (λ bytes. bytes.now) line) result) }
+        ensures next { IsNext self.old self.new (map_ok (λ line. option_map (λ bytes. bytes.now) line) result) }
+        ensures short { IfOk result (λ line. IfSome line (λ bytes. length bytes.now ≤ longest_line)) }
     {
         let seen = &self.rest[..self.rest.len().min(self.most)];
         let len = line_len(seen);

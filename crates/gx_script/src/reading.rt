@@ -1,11 +1,11 @@
 // Lines and the commands that they mean.
-ghost use Rattle.std.specs.Prelude.{◌≡◌, ◌↔◌, Ok, Result, IfOk, IfErr};
+ghost use Rattle.std.specs.Prelude.{◌≡◌, ◌≤◌, ◌↔◌, Ok, Result, IfOk, IfErr, length};
 ghost use Rattle.gx_schema.specs.WellFormed.{IsWellFormed};
 ghost use Rattle.gx_script.specs.Cutting.{words_in};
 ghost use Rattle.gx_script.specs.Reading.{Gives, insert_at, update_at, connect_at, members_at, find_at, arguments_at, reading, IsReading, AnswersUnlessNoMemory};
 ghost use Rattle.gx_script.specs.Faults.{IsBad};
 ghost use Rattle.gx_script.specs.Grammar.{IsLineOf};
-ghost use Rattle.gx_script.specs.Commands.{IsOfSchema};
+ghost use Rattle.gx_script.specs.Commands.{IsOfSchema, conds_of};
 ghost use Rattle.gx_script.specs.declared.command.Command.{Command};
 ghost use Rattle.gx_script.specs.declared.command.LineWhy.{LineWhy};
 
@@ -194,6 +194,8 @@ pub fn read_command(alloc: Global, schema: &Schema, line: &[u8]) -> Result<Comma
     // A line means one command at most, or has one first reason.
     ensures one { (given other : Result Command LineWhy) → IsReading schema.now line.now given → IsReading schema.now line.now other → given ≡ other }
     ensures of_schema { IfOk result (λ c. IsOfSchema schema.now c) }
+    // It has at most as many conditions as the line has bytes.
+    ensures few { IfOk result (λ c. length (conds_of c) ≤ length line.now) }
 {
     read_line(alloc, schema, line)
 }

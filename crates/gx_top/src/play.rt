@@ -4,7 +4,7 @@ ghost use Rattle.gx_schema.specs.WellFormed.{IsWellFormed};
 ghost use Rattle.gx_ports.specs.Stops.{is_fault};
 ghost use Rattle.gx_engine.specs.Steps.{IsReady, IsAt, IsDue, schema_of, is_open, stop_of, leaves_of};
 ghost use Rattle.gx_model.specs.Play.{Playing};
-ghost use Rattle.gx_script.specs.Lines.{script_lines, IsNext};
+ghost use Rattle.gx_script.specs.Lines.{longest_line, script_lines, IsNext};
 ghost use Rattle.gx_script.specs.Grammar.{IsLineOf};
 ghost use Rattle.gx_top.specs.Plays.{IsLinePlayed, IsCommandPlayed, IsLineCut, IsCommandCut, HasPlayCause, IsBadAt, IsPlayedTo, IsLineEnd, is_play_fault};
 ghost use Rattle.gx_top.specs.Say.{OnlySays};
@@ -45,6 +45,7 @@ fn play_line<B: Leaves + Drop>(
     requires ready { IsReady B.View engine.old }
     requires well_formed { IsWellFormed (schema_of engine.old) }
     requires going { stop_of engine.old ≡ None }
+    requires short { length line.now ≤ longest_line }
     ensures played { (p : Playing) → IsAt B.View p engine.old →
         OnOk result (IsLinePlayed B.View p line.now engine.old engine.new) }
     ensures bad { (n : ℕ) (why : LineWhy) → result ≡ Err (PlayEnd.Line n why) →
@@ -74,13 +75,15 @@ fn play_line<B: Leaves + Drop>(
 }
 
 // The command of the line of this number, which may stand where the engine is.
+#[tactic(auto, unfolding(gx_script::specs::Lines::longest_line))]
 fn placed_command<B: Leaves + Drop>(
     alloc: Global,
     number: u32,
     line: &[u8],
     engine: &Engine<B>,
 ) -> Result<Command, PlayEnd>
-    requires { IsWellFormed (schema_of engine.now) }
+    requires well_formed { IsWellFormed (schema_of engine.now) }
+    requires short { length line.now ≤ longest_line }
     ensures read { IfOk result (IsLineOf (schema_of engine.now) line.now) }
     ensures due { IfOk result (IsDue engine.now) }
     ensures bad { (n : ℕ) (why : LineWhy) → result ≡ Err (PlayEnd.Line n why) →
@@ -177,6 +180,8 @@ fn next_line<'a>(lines: &mut ScriptLines<'a>, number: u32) -> Result<Option<&'a 
     requires { number < 2 ^ 32 - 1 }
     ensures next { IfOk result
         (λ line. IsNext lines.old lines.new (Ok (option_map (λ bytes. bytes.now) line))) }
+    ensures short { IfOk result
+        (λ line. IfSome line (λ bytes. length bytes.now ≤ longest_line)) }
     ensures shorter { IfOk result
         (λ line. IfSome line (λ _. length lines.new.lines < length lines.old.lines)) }
     ensures none { IfErr result (IsLineEnd lines.old number) }

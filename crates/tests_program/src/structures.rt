@@ -9,7 +9,7 @@ use gx_engine::Engine;
 use gx_equation::read_equation;
 use gx_ports::{Entries, Leaves, PlainLeaves};
 use gx_schema::{Schema, read_schema};
-use gx_script::{allowed, read_command};
+use gx_script::{LONGEST_LINE, LineWhy, allowed, read_command};
 use gx_types::{Built, build, heads_built};
 use gx_typing::typed;
 use gx_values::{KeyBuf, Octets, Span};
@@ -68,6 +68,9 @@ fn carry_out<B: Leaves + Drop>(
     ensures ready { IsReady B.View engine.new }
     ensures schema { schema_of engine.new ≡ schema_of engine.old }
 {
+    if line.len() > LONGEST_LINE {
+        return Err(LineWhy::TooLong)?;
+    }
     let command = read_command(alloc, engine.schema(), line)?;
     allowed(engine.inside(), &command)?;
     engine.step(alloc, &command, answers)?;

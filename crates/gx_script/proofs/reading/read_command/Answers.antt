@@ -1,4 +1,5 @@
 use Rattle.gx_script.proofs.ReadingLaws.{is_found, is_only, line_found, reading_of_line, one_reading, is_of_schema}
+use Rattle.gx_script.proofs.FewConds.{few_conds}
 use Rattle.gx_script.proofs.LocalClauses.{is_bad}
 use Rattle.gx_script.proofs.reading.read_command.Goals as goal
 
@@ -19,3 +20,6 @@ returns-clause-of_schema c = is_of_schema c.args.schema.now c.args.line.now c.re
 
 pub returns-clause-fault : goal.returns-clause-fault
 returns-clause-fault c = is_bad c.args.schema.now c.args.line.now c.read_line.result c.requires c.read_line.ensures
+
+pub returns-clause-few : goal.returns-clause-few
+returns-clause-few c = few_conds c.args.schema.now c.args.line.now c.read_line.result (is_found c.args.schema.now c.args.line.now c.read_line.result c.requires c.read_line.ensures)

@@ -1,5 +1,7 @@
 use Rattle.std.proofs.Common.{rules, ◌∙◌, ◌++◌, ℕ, List, length, sym, ap, subst}
 use Rattle.gx_schema.specs.declared.schema.FileDef.{FileDef}
+use Rattle.std.specs.List.{AllByRecursion}
+use Rattle.gx_script.specs.Commands.{IsCondOf}
 use Rattle.gx_stack.specs.Seen.{tree_of}
 use Rattle.gx_scan.specs.Files.{IsTreeFor}
 use Rattle.gx_engine.proofs.StepLemmas.{internal_at, file_cause, find_carried}
@@ -8,6 +10,10 @@ use Rattle.gx_engine.proofs.engine.Engine.find.Goals as goal
 pub found_text-requires-clause-tree : goal.found_text-requires-clause-tree
 found_text-requires-clause-tree g c =
     subst (λ (file : FileDef). IsTreeFor file (tree_of c.file_node-node.result.now) (length (g.B.View.working c.args.self.now.leaves))) (sym c.file_def-def.ensures) (c.file_node-node.ensures.fit c.args.self.now.schema _ c.requires.ready.nodes)
+
+pub found_text-requires-clause-conds : goal.found_text-requires-clause-conds
+found_text-requires-clause-conds g c =
+    subst (λ (file : FileDef). AllByRecursion (IsCondOf file) c.args.find.now.conds) (sym c.file_def-def.ensures) c.requires.due.of_schema.conds
 
 pub returns : goal.returns
 returns g c =

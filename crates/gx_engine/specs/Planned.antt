@@ -1,0 +1,18 @@
+-- The keys that a `find` looks at.
+use Rattle.std.specs.Prelude.{◌≡◌, true, List}
+use Rattle.gx_values.specs.declared.keys.Span.{Span}
+use Rattle.gx_values.specs.Values.{Fits}
+use Rattle.gx_values.specs.Keys.{bytes_of, is_inside}
+use Rattle.gx_schema.specs.declared.schema.FileDef.{FileDef}
+use Rattle.gx_schema.specs.Lookups.{key_kind}
+use Rattle.gx_script.specs.declared.command.Cond.{Cond}
+use Rattle.gx_model.specs.States.{Row}
+use Rattle.gx_model.specs.Found.{meets_cond, meets_conds}
+
+-- the keys of all records of the file that meet the conditions are inside the span
+abbrev pub Covers : FileDef → List Cond → Span → Type 0
+Covers file conds span = (r : Row) → Fits (key_kind file) r.0 → meets_conds conds r ≡ true → is_inside span.lo span.hi (bytes_of r.0) ≡ true
+
+-- the keys inside the span are those that meet the condition
+abbrev pub HoldsKeysMet : FileDef → Cond → Span → Type 0
+HoldsKeysMet file cond span = (r : Row) → Fits (key_kind file) r.0 → is_inside span.lo span.hi (bytes_of r.0) ≡ meets_cond r cond
