@@ -3,3 +3,4 @@ pub mod BitLemmas
 pub mod CalmLemmas
 pub mod CommitLemmas
 pub mod RecoverLemmas
+pub mod ReplayLemmas

@@ -3,3 +3,4 @@ pub mod Calm
 pub mod PhaseLaws
 pub mod CalmLaws
 pub mod Recovered
+pub mod Head

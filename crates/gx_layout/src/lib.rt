@@ -3,6 +3,7 @@
 
 mod bitmap;
 mod gate;
+mod head;
 mod recovery;
 
 pub use bitmap::write_bitmap;
