@@ -1,9 +1,11 @@
--- The pages that recovery finds, by index.
-use Rattle.std.proofs.Common.{◌≡◌, ℕ, ◌+◌, ◌*◌, ◌<◌, ◌≤◌, List, [], length, get_or, take, drop, refl, sym, ◌∙◌, ap, arith, length-take, length-drop}
+-- The pages that recovery finds, and calm at rest.
+use Rattle.std.proofs.Common.{◌≡◌, ℕ, ◌+◌, ◌*◌, ◌<◌, ◌≤◌, false, subst, List, [], length, get_or, take, drop, refl, sym, ◌∙◌, ap, arith, length-take, length-drop}
 use Rattle.std.proofs.lemmas.List.{same_lists, get_or-take, get_or-drop, get_or_default}
 use Rattle.std.proofs.lemmas.List.FromFn.{get_or-map-range_with_len, length-map-range_with_len}
-use Rattle.gx_device.specs.Content.{Moment, Content}
-use Rattle.gx_layout.specs.Layout.{View, Replays, ReadsAs, AtRest, pages_of, replayed, home}
+use Rattle.gx_device.specs.Content.{Moment, Content, NonePending, block_of}
+use Rattle.gx_layout.specs.Layout.{View, Replays, ReadsAs, Fits, AtRest, IsFirm, pages_of, replayed, home, head_of, is_open, with_said}
+use Rattle.gx_layout.specs.Calm.{Calm, kept_view}
+use Rattle.gx_layout.specs.CalmLaws.{calm_now}
 use Rattle.gx_layout.specs.Recovered.{replayed_pages, view_now}
 
 pub length-replayed : (blocks : List (List ℕ)) → length (replayed_pages blocks) ≡ pages_of (length blocks)
@@ -34,3 +36,38 @@ rest_homes m v P count room rest =
     ∙ ap (λ (n : ℕ). get_or m.blocks (home n k) []) (sym count)
     ∙ (rest.homes k (omega (arith, under, count))).reads
     ∙ get_or_default v.pages k [] d (omega (arith, under, count)))
+
+-- where it is at rest with some pages, it is calm from now on with the pages at home
+pub rest_calm : (c : Content) (v : View) (P : ℕ) → length v.pages ≡ P → 7 + 2 * P ≤ length c.now.blocks → AtRest c.now v → Calm c (kept_view P c) c
+rest_calm c v P count room rest =
+    let own : Fits c.now (record { pages = v.pages; head = head_of c.now.blocks; said = c.now.said; shelf = c.now.shelf }) = record {
+      count = rest.fits.count;
+      room = rest.fits.room;
+      head_kept = rest.fits.head_kept;
+      head = refl;
+      said = refl;
+      shelf = refl;
+    } in
+    calm_now (kept_view P c) c
+    (subst (λ (pages : List (List ℕ)). AtRest c.now (record { pages = pages; head = head_of c.now.blocks; said = c.now.said; shelf = c.now.shelf }))
+    (sym (rest_homes c.now v P count room rest))
+    (record { fits = own; gate_kept = rest.gate_kept; gate = rest.gate; homes = rest.homes }))
+    refl
+
+homes_long : (P : ℕ) (blocks : List (List ℕ)) → 7 + 2 * P ≤ length blocks → length (take P (drop (7 + P) blocks)) ≡ P
+homes_long P blocks room = omega (arith, length-take P (drop (7 + P) blocks), length-drop (7 + P) blocks, room)
+
+-- where nothing is pending, behind a closed gate
+pub closed_calm : (c : Content) (P : ℕ) → P ≡ pages_of (length c.now.blocks) → 7 ≤ length c.now.blocks → NonePending c → is_open (block_of c.now 1) ≡ false → Calm c (kept_view P c) c
+closed_calm c P count room none closed =
+    let long : length (kept_view P c).pages ≡ P = homes_long P c.now.blocks (omega (arith, count, room)) in
+    calm_now (kept_view P c) c (record {
+      fits = record { count = long ∙ count; room = room; head_kept = λ n is. none n; head = refl; said = refl; shelf = refl };
+      gate_kept = none 1;
+      gate = closed;
+      homes = λ p below. record {
+        kept = none (home (length (kept_view P c).pages) p);
+        reads = ap (λ (n : ℕ). get_or c.now.blocks (home n p) []) long
+            ∙ sym (get_or-take P (drop (7 + P) c.now.blocks) p [] (omega (arith, below, long)) ∙ get_or-drop (7 + P) c.now.blocks p []);
+      };
+    }) refl
