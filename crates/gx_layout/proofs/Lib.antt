@@ -4,3 +4,4 @@ pub mod CalmLemmas
 pub mod CommitLemmas
 pub mod RecoverLemmas
 pub mod ReplayLemmas
+pub mod FormatLemmas

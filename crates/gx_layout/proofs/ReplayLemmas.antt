@@ -3,7 +3,7 @@ use Rattle.std.proofs.Common.{◌≡◌, ℕ, ◌+◌, ◌*◌, ◌<◌, ◌≤�
 use Rattle.std.proofs.lemmas.List.{same_lists, get_or-take, get_or-drop, get_or_default}
 use Rattle.std.proofs.lemmas.List.FromFn.{get_or-map-range_with_len, length-map-range_with_len}
 use Rattle.gx_device.specs.Content.{Moment, Content, NonePending, block_of}
-use Rattle.gx_layout.specs.Layout.{View, Replays, ReadsAs, Fits, AtRest, IsFirm, pages_of, replayed, home, head_of, is_open, with_said}
+use Rattle.gx_layout.specs.Layout.{View, Replays, ReadsAs, Fits, AtRest, pages_of, replayed, home, head_of, is_open}
 use Rattle.gx_layout.specs.Calm.{Calm, kept_view}
 use Rattle.gx_layout.specs.CalmLaws.{calm_now}
 use Rattle.gx_layout.specs.Recovered.{replayed_pages, view_now}
@@ -54,7 +54,7 @@ rest_calm c v P count room rest =
     (record { fits = own; gate_kept = rest.gate_kept; gate = rest.gate; homes = rest.homes }))
     refl
 
-homes_long : (P : ℕ) (blocks : List (List ℕ)) → 7 + 2 * P ≤ length blocks → length (take P (drop (7 + P) blocks)) ≡ P
+pub homes_long : (P : ℕ) (blocks : List (List ℕ)) → 7 + 2 * P ≤ length blocks → length (take P (drop (7 + P) blocks)) ≡ P
 homes_long P blocks room = omega (arith, length-take P (drop (7 + P) blocks), length-drop (7 + P) blocks, room)
 
 -- where nothing is pending, behind a closed gate
@@ -71,3 +71,17 @@ closed_calm c P count room none closed =
             ∙ sym (get_or-take P (drop (7 + P) c.now.blocks) p [] (omega (arith, below, long)) ∙ get_or-drop (7 + P) c.now.blocks p []);
       };
     }) refl
+
+-- the homes stay where the blocks past the head do
+pub homes_apart : (P : ℕ) (xs ys : List (List ℕ)) → length ys ≡ length xs → ((n : ℕ) → 7 ≤ n → get_or ys n [] ≡ get_or xs n []) → take P (drop (7 + P) ys) ≡ take P (drop (7 + P) xs)
+homes_apart P xs ys count same =
+    let long = length-take P (drop (7 + P) ys) in
+    let wide = length-take P (drop (7 + P) xs) in
+    let down = length-drop (7 + P) ys in
+    let over = length-drop (7 + P) xs in
+    same_lists (take P (drop (7 + P) ys)) (take P (drop (7 + P) xs)) (omega (arith, long, wide, down, over, count)) (λ k d lt.
+    let under : k < P = omega (arith, long, lt) in
+    let within : 7 + P + k < length ys = omega (arith, long, down, lt) in
+    get_or-take P (drop (7 + P) ys) k d under ∙ get_or-drop (7 + P) ys k d ∙ get_or_default ys (7 + P + k) d [] within
+    ∙ same (7 + P + k) (omega arith)
+    ∙ get_or_default xs (7 + P + k) [] d (omega (arith, within, count)) ∙ sym (get_or-drop (7 + P) xs k d) ∙ sym (get_or-take P (drop (7 + P) xs) k d under))

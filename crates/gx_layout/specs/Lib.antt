@@ -4,3 +4,4 @@ pub mod PhaseLaws
 pub mod CalmLaws
 pub mod Recovered
 pub mod Head
+pub mod Besides
