@@ -1,9 +1,11 @@
 // Pages over a device, with the working ones in a few frames.
-ghost use Rattle.std.specs.Prelude.{◌≡◌, ◌↔◌, ◌<◌, ◌≤◌, ◌+◌, ◌*◌, ◌/◌, ◌-◌, [], false, length, replicate, slice_set, slice_index_or, vec_capacity, IsTrue, IfOk, IfErr, OnOk, OnErr};
+ghost use Rattle.std.specs.Prelude.{◌≡◌, ◌↔◌, ◌<◌, ◌≤◌, ◌+◌, ◌*◌, ◌/◌, ◌-◌, ◌≢◌, ◌∷◌, [], false, length, replicate, slice_set, slice_index_or, vec_capacity, IsTrue, IfOk, IfErr, OnOk, OnErr};
 ghost use Rattle.gx_device.specs.Content.{Silent, Hears, Listens, Says, Speaks, block_of};
+ghost use Rattle.gx_device.specs.Crash.{LeavesOnly};
 ghost use Rattle.gx_device.specs.Faults.{Rose, HasCause, Counted, IsCounted};
 ghost use Rattle.gx_layout.specs.Layout.{OnlyBlocks, home, pages_of};
-ghost use Rattle.gx_layout.specs.Head.{HasMagic};
+ghost use Rattle.gx_layout.specs.Head.{HasMagic, IsFormatted, text_blocks};
+ghost use Rattle.gx_layout.specs.Besides.{IsImageBesides};
 ghost use Rattle.gx_layout.specs.Recovered.{Recovers, IsSettled, replayed_pages, view_now};
 ghost use Rattle.gx_journal.specs.Sources.{IsCached, IsListed};
 
@@ -13,7 +15,7 @@ use crate::forget::forget;
 use crate::opening::{Room, Unopened};
 use gx_device::{Device, Failed};
 use gx_frames::Frames;
-use gx_layout::recover;
+use gx_layout::{format, recover};
 use std::alloc::Global;
 
 /// Pages that are committed all at once.
@@ -38,7 +40,7 @@ pub struct Journal<D: Device> {
 impl<D: Device> Journal<D> {
     ghost use Rattle.gx_journal.specs.Journal.{device_of, content_of, size_of, working_of, kept_of, head_blocks, IsSteady, IsCalm, Keeps};
     ghost use Rattle.gx_journal.specs.Opening.{device_left, content_left, has_no_fault};
-    ghost use Rattle.gx_journal.specs.State.{head_told};
+    ghost use Rattle.gx_journal.specs.State.{homes_told, head_told};
 
     // A journal of which nothing is resident.
     fn over(device: D, room: Room) -> Journal<D>
@@ -97,6 +99,47 @@ impl<D: Device> Journal<D> {
         match recover(&mut device, room.pages()) {
             Ok(true) => Ok(Journal::over(device, room)),
             Ok(false) => Err((device, Unopened::NoDatabase)),
+            Err(Failed) => Err((device, Unopened::Fault)),
+        }
+    }
+
+    /// Lays out a device with two texts, with 8 to 1,024 frames. Block 0 and the pages stay as they are,
+    /// so that there is no database before a `seal` if there was none.
+    ///
+    /// Else the device is handed back. `NoMemory`: it wasn't called. `Fault`: a call of it failed, and
+    /// some of the blocks 1 to 6 may have been written.
+    pub fn format(
+        alloc: Global,
+        mut device: D,
+        frames: u32,
+        schema: &[u8],
+        equation: &[u8],
+    ) -> Result<Journal<D>, (D, Unopened)>
+        requires least { 8 ≤ frames }
+        requires most { frames ≤ 1024 }
+        requires blocks { 7 ≤ D.size device }
+        requires limit { D.size device ≤ 65543 }
+        requires texts { length schema.now + length equation.now ≤ 16380 }
+        ensures kept { IfOk result (λ j. kept_of j ≡ homes_told D.tells (size_of j) (D.content device)) }
+        ensures working { IfOk result (λ j. working_of j ≡ kept_of j) }
+        ensures head { IsTrue D.tells → IfOk result (λ j. head_blocks j
+            ≡ block_of (D.content device).now 0 ∷ text_blocks schema.now equation.now) }
+        ensures size { IfOk result (λ j. size_of j ≡ pages_of (D.size device)) }
+        ensures steady { IfOk result (λ j. IsSteady j) }
+        ensures calm { IsTrue D.tells → IfOk result (λ j. IsCalm j (content_of j)) }
+        ensures database { IfErr result (λ e. e.1 ≢ Unopened.NoDatabase) }
+        ensures uncalled { IfErr result (λ e. e.1 ≡ Unopened.NoMemory → e.0 ≡ device) }
+        ensures images { LeavesOnly (IsImageBesides IsFormatted (D.content device).now)
+            (D.content device) (content_left result) }
+        ensures touched { OnlyBlocks IsFormatted (D.content device) (content_left result) }
+        ensures blocks { D.size (device_left result) ≡ D.size device }
+        ensures faults { Counted (has_no_fault result) (D.faults device) (D.faults (device_left result)) }
+    {
+        let Ok(room) = Room::make(alloc, frames, device.blocks()) else {
+            return Err((device, Unopened::NoMemory));
+        };
+        match format(&mut device, schema, equation) {
+            Ok(()) => Ok(Journal::over(device, room)),
             Err(Failed) => Err((device, Unopened::Fault)),
         }
     }
