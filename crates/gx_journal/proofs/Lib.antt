@@ -6,3 +6,4 @@ pub mod PageLemmas
 pub mod CleanLemmas
 pub mod PublishLemmas
 pub mod OpenLemmas
+pub mod CommitLemmas

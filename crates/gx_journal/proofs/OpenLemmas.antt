@@ -83,3 +83,7 @@ calm_rest tells failed P start c is =
 -- block 0 is the first of the head
 pub head_first : (tells : Bool) (c : Content) → IsTrue tells → get_or (head_told tells c) 0 [] ≡ block_of c.now 0
 head_first tells c told = ap (λ (b : Bool). get_or (head_told b c) 0 []) told
+
+-- the pages of calm
+pub calm_count : (tells failed : Bool) (P : ℕ) (start c : Content) → CalmSince tells failed P start c → length (homes_told tells P c) ≡ P
+calm_count tells failed P start c is = ap (λ (b : Bool). length (homes_told b P c)) is.told ∙ is.count

@@ -2,8 +2,9 @@
 ghost use Rattle.std.specs.Prelude.{◌≡◌, ◌↔◌, ◌<◌, ◌≤◌, ◌+◌, ◌*◌, ◌/◌, ◌-◌, ◌≢◌, ◌∷◌, [], false, length, replicate, drop, slice_set, slice_index_or, vec_capacity, IsTrue, IfOk, IfErr, OnOk, OnErr};
 ghost use Rattle.gx_device.specs.Content.{Content, Silent, Hears, Listens, Says, Speaks, block_of};
 ghost use Rattle.gx_device.specs.Crash.{LeavesOnly};
+ghost use Rattle.gx_device.specs.Quiet.{IsOldOrNew};
 ghost use Rattle.gx_device.specs.Faults.{Rose, HasCause, Counted, IsCounted};
-ghost use Rattle.gx_layout.specs.Layout.{OnlyBlocks, home, pages_of};
+ghost use Rattle.gx_layout.specs.Layout.{OnlyBlocks, Shows, home, pages_of};
 ghost use Rattle.gx_layout.specs.Head.{HasMagic, IsFormatted, text_blocks};
 ghost use Rattle.gx_layout.specs.Besides.{IsImageBesides, IsUnsealed};
 ghost use Rattle.gx_layout.specs.Recovered.{Recovers, IsSettled, replayed_pages, view_now};
@@ -226,6 +227,11 @@ impl<D: Device> Journal<D> {
         ensures head { head_blocks self.new ≡ head_blocks self.old }
         ensures size { size_of self.new ≡ size_of self.old }
         ensures steady { OnOk result (IsSteady self.old ↔ IsSteady self.new) }
+        ensures images { (start : Content) → IsCalm self.old start → LeavesOnly
+            (IsOldOrNew (Shows (head_blocks self.old) (kept_of self.old)) (Shows (head_blocks self.old) (working_of self.old))
+            (content_of self.old).now)
+            (content_of self.old) (content_of self.new) }
+        ensures calm { (start : Content) → IsCalm self.old start → OnOk result (IsCalm self.new (content_of self.new)) }
         ensures silent { Silent (content_of self.old) (content_of self.new) }
         ensures faults { IsCounted (D.faults (device_of self.old)) (D.faults (device_of self.new)) result }
     {

@@ -6,3 +6,4 @@ pub mod RecoverLemmas
 pub mod ReplayLemmas
 pub mod FormatLemmas
 pub mod SealLemmas
+pub mod FlushLemmas
