@@ -5,7 +5,7 @@ ghost use Rattle.gx_device.specs.Crash.{LeavesOnly};
 ghost use Rattle.gx_device.specs.Quiet.{IsOldOrNew};
 ghost use Rattle.gx_device.specs.Faults.{Rose, HasCause, Counted, IsCounted};
 ghost use Rattle.gx_layout.specs.Layout.{OnlyBlocks, Shows, home, pages_of};
-ghost use Rattle.gx_layout.specs.Head.{HasMagic, IsFormatted, text_blocks};
+ghost use Rattle.gx_layout.specs.Head.{HasMagic, IsFormatted, DifferFirst, text_at, text_area, text_blocks};
 ghost use Rattle.gx_layout.specs.Besides.{IsImageBesides, IsUnsealed};
 ghost use Rattle.gx_layout.specs.Recovered.{Recovers, IsSettled, replayed_pages, view_now};
 ghost use Rattle.gx_journal.specs.Sources.{IsCached, IsListed};
@@ -16,7 +16,7 @@ use crate::forget::forget;
 use crate::opening::{Room, Unopened};
 use gx_device::{Device, Failed};
 use gx_frames::Frames;
-use gx_layout::{format, recover, seal};
+use gx_layout::{format, recover, seal, texts_differ};
 use std::alloc::Global;
 
 /// Pages that are committed all at once.
@@ -162,6 +162,21 @@ impl<D: Device> Journal<D> {
         ensures faults { IsCounted (D.faults (device_of self.old)) (D.faults (device_of self.new)) result }
     {
         seal(&mut self.device)
+    }
+
+    /// The first place of the text area, counted from 0, in which the device differs from these texts;
+    /// None where it has them. The text area is the bytes of the text blocks: the lengths of the texts,
+    /// the texts, and zeros.
+    pub fn texts_differ(&mut self, schema: &[u8], equation: &[u8]) -> Result<Option<u16>, Failed>
+        requires { length schema.now + length equation.now ≤ 16380 }
+        ensures place { IsTrue D.tells → IfOk result (DifferFirst (text_at (head_blocks self.old))
+            (λ q. slice_index_or (text_area schema.now equation.now) q 0)) }
+        ensures working { working_of self.new ≡ working_of self.old }
+        ensures keeps { Keeps self.old self.new }
+        ensures silent { Silent (content_of self.old) (content_of self.new) }
+        ensures faults { IsCounted (D.faults (device_of self.old)) (D.faults (device_of self.new)) result }
+    {
+        texts_differ(&mut self.device, schema, equation)
     }
 
     /// The number of pages.

@@ -7,3 +7,4 @@ pub mod ReplayLemmas
 pub mod FormatLemmas
 pub mod SealLemmas
 pub mod FlushLemmas
+pub mod TextLemmas

@@ -1,5 +1,5 @@
 -- The head of a device: the block of the magic, and those of the texts.
-use Rattle.std.specs.Prelude.{◌≤◌, ◌<◌, ◌*◌, ◌-◌, ℕ, List, [], ◌∷◌, ◌++◌, length, take, drop, replicate, codes}
+use Rattle.std.specs.Prelude.{◌≡◌, ◌≢◌, ◌≤◌, ◌<◌, ◌+◌, ◌*◌, ◌-◌, ◌/◌, ◌%◌, ℕ, List, [], ◌∷◌, ◌++◌, length, take, drop, replicate, get_or, codes, Option, MatchOption}
 use Rattle.std.specs.Int.{w16, to_be_bytes}
 use Rattle.gx_device.specs.Quiet.{IsPrefix}
 
@@ -34,3 +34,11 @@ IsText n = (3 ≤ n) × (n < 7)
 -- a block that is written where a device is laid out: the gate, the bitmap, or a text block
 abbrev pub IsFormatted : ℕ → Type 0
 IsFormatted n = (1 ≤ n) × (n < 7)
+
+-- byte q of the text blocks of a head
+abbrev pub text_at : List (List ℕ) → ℕ → ℕ
+text_at head q = get_or (get_or head (1 + q / 4096) []) (q % 4096) 0
+
+-- the first place of the text area in which the bytes differ, or none
+abbrev pub DifferFirst : (ℕ → ℕ) → (ℕ → ℕ) → Option ℕ → Type 0
+DifferFirst xs ys found = MatchOption found ((q : ℕ) → q < 16384 → xs q ≡ ys q) (λ q. (q < 16384) × (xs q ≢ ys q) × ((p : ℕ) → p < q → xs p ≡ ys p))

@@ -13,13 +13,13 @@ use crate::gate::set_gate;
 use gx_bytes::overwrite;
 use gx_device::{Device, Failed};
 
-const BLOCK_LEN: usize = 4096;
+pub(crate) const BLOCK_LEN: usize = 4096;
 
 const TEXT_AREA_LEN: usize = 16384;
 
-const FIRST_TEXT_BLOCK: u32 = 3;
+pub(crate) const FIRST_TEXT_BLOCK: u32 = 3;
 
-const TEXT_BLOCKS: u32 = 4;
+pub(crate) const TEXT_BLOCKS: u32 = 4;
 
 const LENGTH_LEN: usize = 2;
 
