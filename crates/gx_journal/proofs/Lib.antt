@@ -5,3 +5,5 @@ pub mod ForgetLemmas
 pub mod PageLemmas
 pub mod CleanLemmas
 pub mod PublishLemmas
+pub mod OpenLemmas
+pub mod CommitLemmas

@@ -1,9 +1,12 @@
 -- Pages are written home.
-use Rattle.std.proofs.Common.{◌≡◌, ◌⊎◌, inl, inr, ℕ, ◌+◌, ◌<◌, Bool, true, false, List, [], length, get_or, sym, ◌∙◌, ap, arith, Result, Ok, Err, zero, suc, ◌∷◌}
+use Rattle.std.proofs.Common.{◌≡◌, ◌⊎◌, inl, inr, ℕ, ◌+◌, ◌<◌, Bool, true, false, List, [], length, get_or, sym, ◌∙◌, ap, subst, arith, Result, Ok, Err, zero, suc, ◌∷◌}
 use Rattle.std.specs.Prelude.{OnOk, if◌then◌else◌}
 use Rattle.std.proofs.lemmas.Bool.Decides.{eqb_tells}
-use Rattle.gx_device.specs.Content.{Content, block_of}
-use Rattle.gx_layout.specs.Layout.{OnlyBlocks, home}
+use Rattle.gx_device.specs.Content.{Moment, Content, block_of}
+use Rattle.gx_layout.specs.Layout.{OnlyBlocks, IsIn, Holds, home}
+use Rattle.gx_device.specs.Crash.{Through, Outside}
+use Rattle.gx_device.proofs.RunLemmas.{outside_joined}
+use Rattle.gx_layout.proofs.FormatLemmas.{run_more}
 use Rattle.gx_layout.proofs.BlockLemmas.{blocks_twice, blocks_more}
 use Rattle.std.proofs.lemmas.Bool.{true≢false, cases_Bool, cases_lt}
 use Rattle.std.proofs.lemmas.List.{get_or_past}
@@ -20,6 +23,10 @@ always (Err e) a = tt
 module _ (P : ℕ) (listed : List ℕ) (i p : ℕ) (at : p ≡ get_or listed i 0) (lt : i < length listed) (below : p < P) (before mid after : Content) (rest : OnlyBlocks (IsHomeOf P listed) before mid) (more : OnlyBlocks (λ n. n ≡ home P p) mid after) where
   pub more_rest : OnlyBlocks (IsHomeOf P listed) before after
   more_rest = blocks_twice (IsHomeOf P listed) before mid after rest (blocks_more (λ n. n ≡ home P p) (IsHomeOf P listed) (λ n is. record { place = i; below = lt; is = is ∙ ap (home P) at }) mid after more)
+
+  pub more_run : Through (Outside (IsHomeOf P listed) before.now) before mid → Through (Outside (λ n. n ≡ home P p) mid.now) mid after → Through (Outside (IsHomeOf P listed) before.now) before after
+  more_run so_far next = outside_joined (IsHomeOf P listed) before mid after so_far
+      (run_more (λ n. n ≡ home P p) (IsHomeOf P listed) (λ n is. record { place = i; below = lt; is = is ∙ ap (home P) at }) mid after next)
 
   slot_same : block_of mid.now (7 + p) ≡ block_of before.now (7 + p)
   slot_same = rest.blocks (7 + p) (λ (x : IsHomeOf P listed (7 + p)). (let e = x.is in absurd (omega (arith, e, below))))
@@ -122,3 +129,15 @@ pub committed_body : (P : ℕ) (listed : List ℕ) (n : ℕ) → IsCommitted P l
 committed_body P listed n (inl e) = inl e
 committed_body P listed n (inr (inl e)) = inr (inl e)
 committed_body P listed n (inr (inr x)) = (let e = x.is in inr (inr (omega (arith, e))))
+
+-- the homes of the listed pages are those of the spilled ones
+pub home_in : (P : ℕ) (spilled : List Bool) (listed : List ℕ) → IsListed spilled listed → (n : ℕ) → IsHomeOf P listed n → IsIn (7 + P) spilled n
+home_in P spilled listed h n is = record { page = get_or listed is.place 0; below = h.within is.place is.below; is = is.is; changes = h.flagged is.place is.below }
+
+-- the pages in the slots stand at home
+pub homes_hold : (pages : List (List ℕ)) (spilled : List Bool) (listed : List ℕ) → IsListed spilled listed → (a d : Moment)
+    → ((i : ℕ) → i < length listed → block_of d (home (length pages) (get_or listed i 0)) ≡ block_of a (7 + get_or listed i 0))
+    → ((p : ℕ) → p < length pages → get_or spilled p false ≡ true → block_of a (7 + p) ≡ get_or pages p []) → Holds (7 + length pages) pages spilled d
+homes_hold pages spilled listed h a d brought slots p below on =
+    let f = found listed p (h.every p on) in
+    subst (λ (q : ℕ). block_of d (home (length pages) q) ≡ block_of a (7 + q)) f.is (brought f.place f.below) ∙ slots p below on

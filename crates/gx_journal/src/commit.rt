@@ -1,8 +1,10 @@
 // The first step of a commit: the changed pages go to their slots.
 ghost use Rattle.std.specs.Prelude.{◌≡◌, ◌<◌, ◌≤◌, ◌+◌, ◌*◌, ℕ, false, [], length, slice_index_or, vec_capacity, IsTrue, OnOk};
+ghost use Rattle.gx_device.specs.Crash.{LeavesOnly};
 ghost use Rattle.gx_device.specs.Faults.{IsCounted};
 ghost use Rattle.gx_frames.specs.Pool.{IsChanged};
-ghost use Rattle.gx_layout.specs.Layout.{OnlyBlocks, home};
+ghost use Rattle.gx_layout.specs.Layout.{View, AtRest, Either, OnlyBlocks, with_pages, home};
+ghost use Rattle.gx_journal.specs.State.{pages_told};
 ghost use Rattle.gx_journal.specs.Sources.{stored, page_of, IsCached, SamePages, IsListed, OnlySlots, IsBody};
 
 use crate::publish::publish;
@@ -105,6 +107,10 @@ pub(crate) fn commit<D: Device>(
     requires cached { IsTrue D.tells → IsCached (length spilled.old.items) (D.content device.old).now.blocks spilled.old.items frames.old.resident }
     ensures home { IsTrue D.tells → OnOk result ((q : ℕ) → page_of (length spilled.old.items) (D.content device.new).now.blocks spilled.new.items frames.new.resident q ≡ slice_index_or (D.content device.new).now.blocks (home (length spilled.old.items) q) []) }
     ensures same { IsTrue D.tells → OnOk result (SamePages (page_of (length spilled.old.items) (D.content device.old).now.blocks spilled.old.items frames.old.resident) (page_of (length spilled.old.items) (D.content device.new).now.blocks spilled.new.items frames.new.resident)) }
+    ensures images { IsTrue D.tells → (kept : View) → length kept.pages ≡ length spilled.old.items → AtRest (D.content device.old).now kept
+        → LeavesOnly (Either kept (with_pages kept (pages_told D.tells (length spilled.old.items) (D.content device.old) spilled.old.items frames.old.resident))) (D.content device.old) (D.content device.new) }
+    ensures at_rest { IsTrue D.tells → (kept : View) → length kept.pages ≡ length spilled.old.items → AtRest (D.content device.old).now kept
+        → OnOk result (AtRest (D.content device.new).now (with_pages kept (pages_told D.tells (length spilled.old.items) (D.content device.old) spilled.old.items frames.old.resident))) }
     ensures cached { IsTrue D.tells → IsCached (length spilled.old.items) (D.content device.new).now.blocks spilled.new.items frames.new.resident }
     ensures body { OnlyBlocks IsBody (D.content device.old) (D.content device.new) }
     ensures pages { frames.new.pages ≡ frames.old.pages }

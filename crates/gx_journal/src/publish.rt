@@ -1,14 +1,16 @@
 // The second half of a commit: what stands in the slots goes home behind an open gate.
-ghost use Rattle.std.specs.Prelude.{◌≡◌, ◌<◌, ◌≤◌, ◌+◌, ◌*◌, ℕ, true, false, Some, [], length, slice_index_or, IsTrue, OnOk};
-ghost use Rattle.gx_device.specs.Content.{block_of};
+ghost use Rattle.std.specs.Prelude.{◌≡◌, ◌<◌, ◌≤◌, ◌+◌, ◌*◌, ℕ, List, true, false, Some, [], length, slice_index_or, IsTrue, OnOk};
+ghost use Rattle.gx_device.specs.Content.{NonePending, block_of};
+ghost use Rattle.gx_device.specs.Crash.{Through, Outside, LeavesOnly};
 ghost use Rattle.gx_device.specs.Faults.{IsCounted};
 ghost use Rattle.gx_frames.specs.Pool.{Resident, find_page};
-ghost use Rattle.gx_layout.specs.Layout.{OnlyBlocks, home};
+ghost use Rattle.gx_layout.specs.Layout.{View, OnlyBlocks, Names, Holds, AtRest, SameButChanged, Either, with_pages, home};
+ghost use Rattle.gx_layout.specs.Besides.{Flushes};
 ghost use Rattle.gx_journal.specs.Sources.{IsHomeOf, IsCommitted, IsListed};
 
 use gx_device::{Device, Failed};
 use gx_frames::Frames;
-use gx_layout::{set_gate, write_bitmap};
+use gx_layout::{close_gate, open_gate, write_bitmap};
 
 // Copies a page from its slot to its home.
 fn copy_home<D: Device>(device: &mut D, pages: u32, p: u32) -> Result<(), Failed>
@@ -16,6 +18,7 @@ fn copy_home<D: Device>(device: &mut D, pages: u32, p: u32) -> Result<(), Failed
     requires few { pages ≤ 32768 }
     requires room { 7 + 2 * pages ≤ D.size device.old }
     ensures home { IsTrue D.tells → OnOk result (block_of (D.content device.new).now (home pages p) ≡ block_of (D.content device.old).now (7 + p)) }
+    ensures run { Through (Outside (λ n. n ≡ home pages p) (D.content device.old).now) (D.content device.old) (D.content device.new) }
     ensures rest { OnlyBlocks (λ n. n ≡ home pages p) (D.content device.old) (D.content device.new) }
     ensures size { D.size device.new ≡ D.size device.old }
     ensures faults { IsCounted (D.faults device.old) (D.faults device.new) result }
@@ -40,6 +43,7 @@ fn write_home<D: Device>(
     ensures home { IsTrue D.tells → OnOk result (block_of (D.content device.new).now (home pages p) ≡ block_of (D.content device.old).now (7 + p)) }
     ensures order { (q : ℕ) → find_page q frames.new.resident ≡ find_page q frames.old.resident }
     ensures pages { frames.new.pages ≡ frames.old.pages }
+    ensures run { Through (Outside (λ n. n ≡ home pages p) (D.content device.old).now) (D.content device.old) (D.content device.new) }
     ensures rest { OnlyBlocks (λ n. n ≡ home pages p) (D.content device.old) (D.content device.new) }
     ensures size { D.size device.new ≡ D.size device.old }
     ensures faults { IsCounted (D.faults device.old) (D.faults device.new) result }
@@ -66,6 +70,7 @@ fn write_homes<D: Device>(
     ensures homes { IsTrue D.tells → OnOk result ((i : ℕ) → i < length listed.now.items → block_of (D.content device.new).now (home pages (slice_index_or listed.now.items i 0)) ≡ block_of (D.content device.old).now (7 + slice_index_or listed.now.items i 0)) }
     ensures order { (q : ℕ) → find_page q frames.new.resident ≡ find_page q frames.old.resident }
     ensures pages { frames.new.pages ≡ frames.old.pages }
+    ensures run { Through (Outside (IsHomeOf pages listed.now.items) (D.content device.old).now) (D.content device.old) (D.content device.new) }
     ensures rest { OnlyBlocks (IsHomeOf pages listed.now.items) (D.content device.old) (D.content device.new) }
     ensures size { D.size device.new ≡ D.size device.old }
     ensures faults { IsCounted (D.faults device.old) (D.faults device.new) result }
@@ -80,22 +85,14 @@ fn write_homes<D: Device>(
 fn log<D: Device>(device: &mut D, spilled: &Vec<bool>) -> Result<(), Failed>
     requires few { length spilled.now.items ≤ 32768 }
     requires room { 2 < D.size device.old }
+    ensures names { IsTrue D.tells → OnOk result (Names spilled.now.items (block_of (D.content device.new).now 2) (length spilled.now.items)) }
+    ensures none_pending { IsTrue D.tells → OnOk result (NonePending (D.content device.new)) }
+    ensures flushes { Flushes (λ n. n ≡ 2) (D.content device.old) (D.content device.new) }
     ensures rest { OnlyBlocks (λ n. n ≡ 2) (D.content device.old) (D.content device.new) }
     ensures size { D.size device.new ≡ D.size device.old }
     ensures faults { IsCounted (D.faults device.old) (D.faults device.new) result }
 {
     write_bitmap(device, spilled)?;
-    device.sync()
-}
-
-// The gate stands so, whatever happens.
-fn turn_gate<D: Device>(device: &mut D, opened: bool) -> Result<(), Failed>
-    requires { 1 < D.size device.old }
-    ensures rest { OnlyBlocks (λ n. n ≡ 1) (D.content device.old) (D.content device.new) }
-    ensures size { D.size device.new ≡ D.size device.old }
-    ensures faults { IsCounted (D.faults device.old) (D.faults device.new) result }
-{
-    set_gate(device, opened)?;
     device.sync()
 }
 
@@ -114,6 +111,8 @@ fn bring_home<D: Device>(
     ensures homes { IsTrue D.tells → OnOk result ((i : ℕ) → i < length listed.now.items → block_of (D.content device.new).now (home pages (slice_index_or listed.now.items i 0)) ≡ block_of (D.content device.old).now (7 + slice_index_or listed.now.items i 0)) }
     ensures order { (q : ℕ) → find_page q frames.new.resident ≡ find_page q frames.old.resident }
     ensures pages { frames.new.pages ≡ frames.old.pages }
+    ensures flushes { Flushes (IsHomeOf pages listed.now.items) (D.content device.old) (D.content device.new) }
+    ensures none_pending { IsTrue D.tells → OnOk result (NonePending (D.content device.new)) }
     ensures rest { OnlyBlocks (IsHomeOf pages listed.now.items) (D.content device.old) (D.content device.new) }
     ensures size { D.size device.new ≡ D.size device.old }
     ensures faults { IsCounted (D.faults device.old) (D.faults device.new) result }
@@ -136,6 +135,12 @@ pub(crate) fn publish<D: Device>(
     requires listed { IsListed spilled.now.items listed.now.items }
     requires slots { IsTrue D.tells → (p : ℕ) (r : Resident) → find_page p frames.old.resident ≡ Some r → slice_index_or spilled.now.items p false ≡ true → r.bytes ≡ block_of (D.content device.old).now (7 + p) }
     ensures homes { IsTrue D.tells → OnOk result ((p : ℕ) → slice_index_or spilled.now.items p false ≡ true → block_of (D.content device.new).now (home (length spilled.now.items) p) ≡ block_of (D.content device.old).now (7 + p)) }
+    ensures images { IsTrue D.tells → (kept : View) (pages : List (List ℕ)) → length kept.pages ≡ length pages → length spilled.now.items ≡ length pages
+        → AtRest (D.content device.old).now kept → SameButChanged spilled.now.items kept.pages pages → Holds 7 pages spilled.now.items (D.content device.old).now
+        → LeavesOnly (Either kept (with_pages kept pages)) (D.content device.old) (D.content device.new) }
+    ensures at_rest { IsTrue D.tells → (kept : View) (pages : List (List ℕ)) → length kept.pages ≡ length pages → length spilled.now.items ≡ length pages
+        → AtRest (D.content device.old).now kept → SameButChanged spilled.now.items kept.pages pages → Holds 7 pages spilled.now.items (D.content device.old).now
+        → OnOk result (AtRest (D.content device.new).now (with_pages kept pages)) }
     ensures order { (q : ℕ) → find_page q frames.new.resident ≡ find_page q frames.old.resident }
     ensures pages { frames.new.pages ≡ frames.old.pages }
     ensures rest { OnlyBlocks (IsCommitted (length spilled.now.items) listed.now.items) (D.content device.old) (D.content device.new) }
@@ -143,7 +148,7 @@ pub(crate) fn publish<D: Device>(
     ensures faults { IsCounted (D.faults device.old) (D.faults device.new) result }
 {
     log(device, spilled)?;
-    turn_gate(device, true)?;
+    open_gate(device)?;
     bring_home(device, frames, spilled.len() as u32, listed)?;
-    turn_gate(device, false)
+    close_gate(device)
 }

@@ -3,3 +3,8 @@ pub mod BitLemmas
 pub mod CalmLemmas
 pub mod CommitLemmas
 pub mod RecoverLemmas
+pub mod ReplayLemmas
+pub mod FormatLemmas
+pub mod SealLemmas
+pub mod FlushLemmas
+pub mod TextLemmas

@@ -2,9 +2,15 @@
 #![tactic(auto)]
 
 mod bitmap;
+mod formatting;
 mod gate;
+mod head;
 mod recovery;
+mod texts;
 
 pub use bitmap::write_bitmap;
+pub use formatting::format;
 pub use gate::{close_gate, open_gate, set_gate};
+pub use head::seal;
 pub use recovery::recover;
+pub use texts::texts_differ;

@@ -1,6 +1,6 @@
 use Rattle.std.proofs.Common.{◌≡◌, ◌<◌, ℕ, rules, get_or, length, subst, sym, ◌∙◌}
 use Rattle.std.proofs.lemmas.List.{get_or_default}
-use Rattle.gx_journal.proofs.PublishLemmas.{more_rest, more_homes}
+use Rattle.gx_journal.proofs.PublishLemmas.{more_rest, more_run, more_homes}
 use Rattle.gx_journal.proofs.publish.write_homes.Goals as goal
 
 pub loop-i-preserved : goal.loop-i-preserved
@@ -20,5 +20,16 @@ loop-i-preserved g c =
       pages = e.pages ∙ inv.pages;
       order = λ q. e.order q ∙ inv.order q;
       rest = more_rest c.args.pages listed c.loop-i.i c.index.result.now at lt below before mid after inv.rest e.rest;
+      run = more_run c.args.pages listed c.loop-i.i c.index.result.now at lt below before mid after inv.rest e.rest inv.run e.run;
       homes = λ told. more_homes c.args.pages listed c.loop-i.i c.index.result.now at lt below before mid after inv.rest e.rest (c.in_ok-write_home.ensures.home told) (inv.homes told);
     }
+
+pub returns-in_err-write_home-clause-run : goal.returns-in_err-write_home-clause-run
+returns-in_err-write_home-clause-run g c =
+    let inv = c.loop-i.invariant in
+    let e = c.write_home.ensures in
+    let listed = c.args.listed.now.items in
+    let lt : c.loop-i.i < length listed = search rules in
+    let at : c.index.result.now ≡ get_or listed c.loop-i.i 0 = c.index.ensures ∙ get_or_default listed c.loop-i.i c.index.result.now 0 lt in
+    let below = subst (λ (k : ℕ). k < c.args.pages) (sym at) (c.requires.within c.loop-i.i lt) in
+    more_run c.args.pages listed c.loop-i.i c.index.result.now at lt below (g.D.Device.content c.args.device.now) (g.D.Device.content c.loop-i.device) (g.D.Device.content c.write_home.new.device) inv.rest e.rest inv.run e.run

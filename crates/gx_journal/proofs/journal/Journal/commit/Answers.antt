@@ -1,4 +1,9 @@
-use Rattle.std.proofs.Common.{length, arith}
+use Rattle.std.proofs.Common.{◌≡◌, ◌+◌, ◌*◌, ◌≤◌, false, length, refl, arith}
+use Rattle.std.proofs.lemmas.Result.{on_ok_weaker}
+use Rattle.gx_layout.specs.Recovered.{view_now}
+use Rattle.gx_journal.specs.State.{pages_told, homes_told}
+use Rattle.gx_journal.proofs.OpenLemmas.{calm_count, calm_rest, opened_calm}
+use Rattle.gx_journal.proofs.CommitLemmas.{either_images, pages_many, calm_committed}
 use Rattle.gx_journal.proofs.PageLemmas.{body_head, committed, committed_pages}
 use Rattle.gx_journal.proofs.journal.Journal.commit.Goals as goal
 
@@ -17,3 +22,29 @@ returns-clause-working g c =
     let old = c.args.self.now in
     let new = c.commit-committed.new in
     committed_pages c.commit-committed.result g.D.Device.tells (length old.spilled.items) (length new.spilled.items) (g.D.Device.content old.device) (g.D.Device.content new.device) old.spilled.items new.spilled.items old.frames.resident new.frames.resident c.commit-committed.ensures.long c.commit-committed.ensures.same
+
+pub returns-clause-images : goal.returns-clause-images
+returns-clause-images g c start is =
+    let old = c.args.self.now in
+    let tells = g.D.Device.tells in
+    let P = length old.spilled.items in
+    let before = g.D.Device.content old.device in
+    let kept = homes_told tells P before in
+    either_images tells is.told kept (pages_told tells P before old.spilled.items old.frames.resident) before _
+    (c.commit-committed.ensures.images is.told (view_now kept before) (calm_count tells old.failed P start before is) (calm_rest tells old.failed P start before is))
+
+pub returns-clause-calm : goal.returns-clause-calm
+returns-clause-calm g c start is =
+    let old = c.args.self.now in
+    let tells = g.D.Device.tells in
+    let P = length old.spilled.items in
+    let Q = length c.commit-committed.new.spilled.items in
+    let before = g.D.Device.content old.device in
+    let after = g.D.Device.content c.commit-committed.new.device in
+    let e = c.commit-committed.ensures in
+    let pages = pages_told tells P before old.spilled.items old.frames.resident in
+    let count : length pages ≡ Q = omega (arith, pages_many tells is.told P before old.spilled.items old.frames.resident, e.long) in
+    let room : 7 + 2 * Q ≤ length after.now.blocks = omega (arith, old.room, e.size, e.long, g.met.D.Device.sized c.commit-committed.new.device is.told) in
+    calm_committed c.commit-committed.result tells old.failed c.is_err.result Q after is.steady c.is_err.ensures.value
+    (on_ok_weaker c.commit-committed.result (λ rest. opened_calm tells is.told Q after (view_now pages before) count room rest false refl)
+    (e.at_rest is.told (view_now (homes_told tells P before) before) (calm_count tells old.failed P start before is) (calm_rest tells old.failed P start before is)))
