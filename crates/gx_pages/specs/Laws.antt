@@ -1,0 +1,31 @@
+-- What holds of all pages.
+use Rattle.std.proofs.Common.{◌≡◌, ℕ, Bool, true, false, List, [], length, ◌∙◌}
+use Rattle.std.proofs.lemmas.List.{length-replicate}
+use Rattle.std.proofs.lemmas.List.FromFn.{length-map-range_with_len}
+use Rattle.gx_device.specs.declared.device.Device as device
+use Rattle.gx_device.specs.Content.{Content}
+use Rattle.gx_ports.specs.Calm.{QuietSince}
+use Rattle.gx_journal.specs.Sources.{page_of}
+use Rattle.gx_journal.specs.State.{pages_told, CalmSince}
+use Rattle.gx_journal.specs.StateLaws.{calm_shows}
+use Rattle.gx_journal.specs.declared.journal.Journal.{Journal}
+use Rattle.gx_journal.specs.Journal.{size_of, working_of, content_of}
+use Rattle.gx_pages.specs.Owners.{owner_at, owners_of}
+
+pub count_owners : (pages : List (List ℕ)) → length (owners_of pages) ≡ length pages
+count_owners pages = length-map-range_with_len (owner_at pages) 0 (length pages)
+
+module _ {D : Type 0} {g : device.Ghosts D} where
+  count_told : (j : Journal D g) (tells : Bool) → length (pages_told tells (size_of j) (content_of j) j.spilled.items j.frames.resident) ≡ size_of j
+  count_told j true = length-map-range_with_len (page_of (size_of j) (content_of j).now.blocks j.spilled.items j.frames.resident) 0 (size_of j)
+  count_told j false = length-replicate (size_of j) []
+
+  pub count_pages : (j : Journal D g) → length (working_of j) ≡ size_of j
+  count_pages j = count_told j g.tells
+
+  -- each page has an owner and bytes
+  pub many_pages : (j : Journal D g) → (length (owners_of (working_of j)) ≡ size_of j) × (length (working_of j) ≡ size_of j)
+  many_pages j = (count_owners (working_of j) ∙ count_pages j, count_pages j)
+
+pub calm_quiet : (tells failed : Bool) (P : ℕ) (start c : Content) → CalmSince tells failed P start c → QuietSince start c
+calm_quiet tells failed P start c is = record { begun = (calm_shows tells failed P start c is).begun }
