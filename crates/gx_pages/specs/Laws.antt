@@ -6,10 +6,10 @@ use Rattle.gx_device.specs.declared.device.Device as device
 use Rattle.gx_device.specs.Content.{Content}
 use Rattle.gx_ports.specs.Calm.{QuietSince}
 use Rattle.gx_journal.specs.Sources.{page_of}
-use Rattle.gx_journal.specs.State.{pages_told, CalmSince}
-use Rattle.gx_journal.specs.StateLaws.{calm_shows}
+use Rattle.gx_journal.specs.State.{pages_told}
+use Rattle.gx_journal.specs.StateLaws.{calm_shows, calm_again}
 use Rattle.gx_journal.specs.declared.journal.Journal.{Journal}
-use Rattle.gx_journal.specs.Journal.{size_of, working_of, content_of}
+use Rattle.gx_journal.specs.Journal.{size_of, working_of, content_of, IsCalm}
 use Rattle.gx_pages.specs.Owners.{owner_at, owners_of}
 
 pub count_owners : (pages : List (List ℕ)) → length (owners_of pages) ≡ length pages
@@ -27,5 +27,10 @@ module _ {D : Type 0} {g : device.Ghosts D} where
   pub many_pages : (j : Journal D g) → (length (owners_of (working_of j)) ≡ size_of j) × (length (working_of j) ≡ size_of j)
   many_pages j = (count_owners (working_of j) ∙ count_pages j, count_pages j)
 
-pub calm_quiet : (tells failed : Bool) (P : ℕ) (start c : Content) → CalmSince tells failed P start c → QuietSince start c
-calm_quiet tells failed P start c is = record { begun = (calm_shows tells failed P start c is).begun }
+  -- what calm means for what was said
+  pub calm_quiet : (j : Journal D g) (start : Content) → IsCalm j start → QuietSince start (content_of j)
+  calm_quiet j start is = record { begun = (calm_shows g.tells j.failed (size_of j) start (content_of j) is).begun }
+
+  -- what is calm since an earlier content is calm from now on
+  pub calm_later : (j : Journal D g) (start : Content) → IsCalm j start → IsCalm j (content_of j)
+  calm_later j start is = calm_again g.tells j.failed (size_of j) start (content_of j) is

@@ -20,13 +20,14 @@ owners_of pages = map (owner_at pages) (range_with_len 0 (length pages))
 abbrev pub sheets_of : List (List ℕ) → Sheets
 sheets_of pages = record { owners = owners_of pages; bytes = pages }
 
--- the first of the pages in a range that has no owner; none has where none is found
-abbrev pub IsFirstFree : List ℕ → ℕ → ℕ → Option ℕ → Type 0
-IsFirstFree table from end found = MatchOption found
+-- the page that was found is in the range and has no owner; where none was found, each in it has one
+abbrev pub IsFreeBetween : List ℕ → ℕ → ℕ → Option ℕ → Type 0
+IsFreeBetween table from end found = MatchOption found
     ((page : ℕ) → from ≤ page → page < end → number_of table page ≢ 0)
     (λ page. (from ≤ page) × (page < end) × (number_of table page ≡ 0))
 
--- a page is free; where none is found, none is whose number stands on these pages of the table
+-- The page that was found has no owner. Where none was found, each page past the table has one whose number
+-- stands on these pages of the table.
 abbrev pub IsFoundFree : ℕ → ℕ → Ground → List (List ℕ) → Option ℕ → Type 0
 IsFoundFree from end base pages found = MatchOption found
     ((page : ℕ) → from ≤ page / 2048 → page / 2048 < end → IsPast base page → owner_at pages page ≢ 0)

@@ -25,8 +25,8 @@ module _ {D : Type 0} {g : device.Ghosts D} where
   abbrev pub ground_of : Journal D g → Ground
   ground_of j = record { size = size_of j; tables = 16; blocks = 7 + 2 * size_of j; head = head_blocks j }
 
-  -- a call that leaves what `commit` alone changes
-  pub record IsCall {T E : Type 0} (old new : Journal D g) (result : Result T E) : Type 0 where
+  -- what a call keeps of the journal, and how it counts faults
+  pub record KeepsJournal {T E : Type 0} (old new : Journal D g) (result : Result T E) : Type 0 where
     pub keeps : Keeps old new
     pub silent : Silent (content_of old) (content_of new)
     pub faults : IsCounted (g.faults (device_of old)) (g.faults (device_of new)) result

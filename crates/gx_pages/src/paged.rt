@@ -7,29 +7,35 @@ use gx_device::{Device, Failed};
 use gx_journal::Journal;
 use gx_ports::{PageView, Pages, Stop};
 
-/// Pages with owners, over a journal. The first 16 pages are the table of the owners.
+/// Pages with owners, over a journal.
+///
+/// The first 16 pages are the table of the owners: the number of page p stands in two bytes, big
+/// endian, at byte 2 (p % 2048) of page p / 2048. A call that reads or changes an owner reads one
+/// page of the table. `claim` looks for a free page where the last one was claimed or freed, and
+/// reads each page of the table once at most.
 #[derive(Drop)]
 pub struct Paged<D: Device> {
     journal: Journal<D>,
-    // where the next free page is looked for first
+    // where a free page is looked for first
     hint: u32,
 }
 
 impl<D: Device> Paged<D> {
     ghost use Rattle.gx_journal.specs.Journal.{working_of};
     ghost use Rattle.gx_pages.specs.Owners.{IsAllFree};
-    ghost use Rattle.gx_pages.specs.Paged.{working_sheets, ground_of, IsCall};
+    ghost use Rattle.gx_pages.specs.Paged.{working_sheets, ground_of, KeepsJournal};
     ghost use Rattle.gx_pages.specs.View.{journal_of, journal_left};
 
-    /// Pages of which none past the table has an owner; the bytes of those are as the journal has them.
-    /// The table is written, and to be committed yet. `Failed` hands the journal back, and it is to be
-    /// opened again.
+    /// Pages of which none past the table has an owner, with the bytes that the journal has for
+    /// them. The table has been written, and not been committed. `Failed` hands the journal back,
+    /// which is to be opened again.
     pub fn make(mut journal: Journal<D>) -> Result<Paged<D>, (Journal<D>, Failed)>
         ensures free { IsTrue D.tells → IfOk result
             (λ p. IsAllFree (ground_of journal) (working_sheets (journal_of p))) }
         ensures bytes { IsTrue D.tells → (other : ℕ) → 16 ≤ other →
-            slice_get (working_of (journal_left result)) other ≡ slice_get (working_of journal) other }
-        ensures call { IsCall journal (journal_left result) result }
+            slice_get (working_of (journal_left result)) other
+            ≡ slice_get (working_of journal) other }
+        ensures keeps { KeepsJournal journal (journal_left result) result }
     {
         match clear_owners(&mut journal) {
             Ok(()) => Ok(Paged::adopt(journal)),
@@ -37,7 +43,7 @@ impl<D: Device> Paged<D> {
         }
     }
 
-    /// The pages of a journal, as they stand there.
+    /// The pages of a journal, working and kept, with the owners that its first 16 pages tell.
     pub fn adopt(journal: Journal<D>) -> Paged<D>
         ensures { journal_of result ≡ journal }
     {
@@ -76,9 +82,7 @@ impl<D: Device> PageView for Paged<D> {
 }
 
 impl<D: Device> Pages for Paged<D> {
-    ghost use Rattle.gx_journal.specs.Journal.{content_of, size_of};
-    ghost use Rattle.gx_journal.specs.StateLaws.{calm_again};
-    ghost use Rattle.gx_pages.specs.Laws.{many_pages, calm_quiet};
+    ghost use Rattle.gx_pages.specs.Laws.{many_pages, calm_quiet, calm_later};
 
     fn pages(&self) -> u32 {
         self.journal.pages()
@@ -137,7 +141,7 @@ impl<D: Device> Pages for Paged<D> {
 
     ghost many = { λ p told. many_pages p.journal };
 
-    ghost calm_means = { λ p s told calm. calm_quiet D.tells p.journal.failed (size_of p.journal) s (content_of p.journal) calm };
+    ghost calm_means = { λ p s told calm. calm_quiet p.journal s calm };
 
-    ghost calm_now = { λ p s calm. calm_again D.tells p.journal.failed (size_of p.journal) s (content_of p.journal) calm };
+    ghost calm_now = { λ p s calm. calm_later p.journal s calm };
 }

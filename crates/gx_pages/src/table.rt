@@ -3,7 +3,7 @@ ghost use Rattle.std.specs.Prelude.{◌≡◌, ◌*◌, ◌%◌, ◌≤◌, leng
 ghost use Rattle.std.specs.Int.{w16, to_be_bytes};
 ghost use Rattle.gx_bytes.specs.Parts.{overwritten};
 ghost use Rattle.gx_ports.specs.declared.pages.TheConstants.{PAGE_LEN};
-ghost use Rattle.gx_pages.specs.Owners.{number_of, IsFirstFree, IsClear};
+ghost use Rattle.gx_pages.specs.Owners.{number_of, IsFreeBetween, IsClear};
 
 use gx_bytes::overwrite;
 use gx_ports::PAGE_LEN;
@@ -46,10 +46,10 @@ pub(crate) fn set_number(table: &mut [u8], page: u32, number: u16)
     overwrite(table, place_of(page), &number.to_be_bytes());
 }
 
-/// The first page from `from` on and before `end` that has no owner.
-pub(crate) fn first_free(table: &[u8], from: u32, end: u32) -> Option<u32>
+/// A page without an owner, from `from` on and before `end`. `None`: each of them has one.
+pub(crate) fn free_between(table: &[u8], from: u32, end: u32) -> Option<u32>
     requires { length table.now ≡ PAGE_LEN }
-    ensures { IsFirstFree table.now from end result }
+    ensures { IsFreeBetween table.now from end result }
 {
     for page in from..end {
         if number(table, page) == FREE {
@@ -59,7 +59,7 @@ pub(crate) fn first_free(table: &[u8], from: u32, end: u32) -> Option<u32>
     None
 }
 
-// The first page of the table, where no page past the table has an owner.
+// The first page of the table while no page past the table has an owner.
 fn first_clear() -> [u8; PAGE_LEN]
     ensures { IsClear 0 result }
 {
@@ -70,7 +70,7 @@ fn first_clear() -> [u8; PAGE_LEN]
     numbers
 }
 
-/// A page of the table, where no page past the table has an owner.
+/// A page of the table while no page past the table has an owner.
 pub(crate) fn clear_page(table: u32) -> [u8; PAGE_LEN]
     ensures { IsClear table result }
 {
