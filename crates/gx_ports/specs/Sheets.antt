@@ -1,5 +1,5 @@
 -- Pages and their owners.
-use Rattle.std.specs.Prelude.{◌≡◌, ◌≢◌, ℕ, ◌<◌, ◌≤◌, List, length, slice_set, slice_get, Some}
+use Rattle.std.specs.Prelude.{◌≡◌, ◌≢◌, ℕ, ◌<◌, ◌≤◌, List, slice_set, slice_get, Some}
 
 -- for each page the number of its owner, 0 where it is free, and its bytes
 pub record Sheets : Type 0 where
@@ -11,7 +11,7 @@ pub record Ground : Type 0 where
   -- how many pages there are, and how many of them are the table of the owners
   pub size : ℕ
   pub tables : ℕ
-  -- the blocks of the device
+  -- how many blocks of the device hold them, from the first one on
   pub blocks : ℕ
   -- those that tell which database it is
   pub head : List (List ℕ)
