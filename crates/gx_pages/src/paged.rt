@@ -82,7 +82,7 @@ impl<D: Device> PageView for Paged<D> {
 }
 
 impl<D: Device> Pages for Paged<D> {
-    ghost use Rattle.gx_pages.specs.Laws.{many_pages, calm_quiet, calm_later};
+    ghost use Rattle.gx_pages.specs.Laws.{many_pages, calm_stands, calm_later};
 
     fn pages(&self) -> u32 {
         self.journal.pages()
@@ -141,7 +141,7 @@ impl<D: Device> Pages for Paged<D> {
 
     ghost many = { λ p told. many_pages p.journal };
 
-    ghost calm_means = { λ p s told calm. calm_quiet p.journal s calm };
+    ghost calm_means = { λ p s told calm. calm_stands p.journal s calm };
 
     ghost calm_now = { λ p s calm. calm_later p.journal s calm };
 }
