@@ -5,3 +5,4 @@ pub mod ForgetLemmas
 pub mod PageLemmas
 pub mod CleanLemmas
 pub mod PublishLemmas
+pub mod OpenLemmas

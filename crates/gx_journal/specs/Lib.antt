@@ -2,3 +2,4 @@ pub mod Sources
 pub mod State
 pub mod StateLaws
 pub mod Journal
+pub mod Opening

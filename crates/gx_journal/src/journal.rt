@@ -1,15 +1,21 @@
 // Pages over a device, with the working ones in a few frames.
-ghost use Rattle.std.specs.Prelude.{◌≡◌, ◌↔◌, ◌<◌, ◌≤◌, ◌+◌, ◌*◌, ◌/◌, ◌-◌, [], false, length, replicate, slice_set, slice_index_or, vec_capacity, IsTrue, IfOk, IfErr, OnOk, OnErr};
-ghost use Rattle.gx_device.specs.Content.{Silent, Hears, Listens, Says, Speaks};
-ghost use Rattle.gx_device.specs.Faults.{Rose, HasCause, IsCounted};
-ghost use Rattle.gx_layout.specs.Layout.{home, pages_of};
+ghost use Rattle.std.specs.Prelude.{◌≡◌, ◌↔◌, ◌<◌, ◌≤◌, ◌+◌, ◌*◌, ◌/◌, ◌-◌, ◌≢◌, ◌∷◌, [], false, length, replicate, slice_set, slice_index_or, vec_capacity, IsTrue, IfOk, IfErr, OnOk, OnErr};
+ghost use Rattle.gx_device.specs.Content.{Silent, Hears, Listens, Says, Speaks, block_of};
+ghost use Rattle.gx_device.specs.Crash.{LeavesOnly};
+ghost use Rattle.gx_device.specs.Faults.{Rose, HasCause, Counted, IsCounted};
+ghost use Rattle.gx_layout.specs.Layout.{OnlyBlocks, home, pages_of};
+ghost use Rattle.gx_layout.specs.Head.{HasMagic, IsFormatted, text_blocks};
+ghost use Rattle.gx_layout.specs.Besides.{IsImageBesides};
+ghost use Rattle.gx_layout.specs.Recovered.{Recovers, IsSettled, replayed_pages, view_now};
 ghost use Rattle.gx_journal.specs.Sources.{IsCached, IsListed};
 
 use crate::access::{read, write};
 use crate::commit::commit;
 use crate::forget::forget;
-use gx_device::{Device, Failed, NoMemory};
+use crate::opening::{Room, Unopened};
+use gx_device::{Device, Failed};
 use gx_frames::Frames;
+use gx_layout::{format, recover};
 use std::alloc::Global;
 
 /// Pages that are committed all at once.
@@ -31,56 +37,110 @@ pub struct Journal<D: Device> {
     ghost cached: { IsTrue D.tells → IsCached (length spilled.items) (D.content device).now.blocks spilled.items frames.resident },
 }
 
-// All the memory of a journal: its frames, a flag for each page, and a list with room for each page.
-#[derive(Drop)]
-struct Room {
-    frames: Frames,
-    spilled: Vec<bool>,
-    listed: Vec<u32>,
-}
-
-impl Room {
-    fn make(alloc: Global, count: u32, pages: u32) -> Result<Room, NoMemory>
-        requires least { 8 ≤ count }
-        requires most { count ≤ 1024 }
-        ensures frames { IfOk result (λ room. room.frames ≡ record { frames = count; pages = pages; resident = [] }) }
-        ensures spilled { IfOk result (λ room. room.spilled.items ≡ replicate pages false) }
-        ensures listed { IfOk result (λ room. room.listed.items ≡ []) }
-        ensures space { IfOk result (λ room. pages ≤ vec_capacity room.listed) }
-    {
-        Ok(Room {
-            frames: Frames::make(alloc, count, pages)?,
-            spilled: vec![in alloc; false; pages as usize]?,
-            listed: Vec::with_capacity(alloc, pages as usize)?,
-        })
-    }
-}
-
 impl<D: Device> Journal<D> {
-    ghost use Rattle.gx_journal.specs.Journal.{device_of, content_of, size_of, working_of, kept_of, head_blocks, IsSteady, Keeps};
+    ghost use Rattle.gx_journal.specs.Journal.{device_of, content_of, size_of, working_of, kept_of, head_blocks, IsSteady, IsCalm, Keeps};
+    ghost use Rattle.gx_journal.specs.Opening.{device_left, content_left, has_no_fault};
+    ghost use Rattle.gx_journal.specs.State.{homes_told, head_told};
 
-    // A journal of which nothing is resident. `NoMemory` hands the device back.
-    fn make(alloc: Global, device: D, count: u32) -> Result<Journal<D>, (D, NoMemory)>
-        requires least { 8 ≤ count }
-        requires most { count ≤ 1024 }
+    // A journal of which nothing is resident.
+    fn over(device: D, room: Room) -> Journal<D>
+        requires few { length room.spilled.items ≤ 32768 }
+        requires blocks { 7 + 2 * length room.spilled.items ≤ D.size device }
+        ensures size { size_of result ≡ length room.spilled.items }
+        ensures device { device_of result ≡ device }
+        ensures steady { IsSteady result }
+        ensures working { working_of result ≡ kept_of result }
+    {
+        Journal {
+            device,
+            frames: room.frames,
+            spilled: room.spilled,
+            listed: room.listed,
+            failed: false,
+        }
+    }
+
+    /// Opens the database on a device, with 8 to 1,024 frames, and settles what a crash left there.
+    /// The kept pages are those of the last commit, and so are the working ones.
+    ///
+    /// Else the device is handed back. `NoMemory`: it wasn't called. `NoDatabase`: the magic isn't
+    /// there, and no block was written. `Fault`: a call of it failed; it holds the same database as
+    /// before, and may be opened again.
+    pub fn recover(alloc: Global, mut device: D, frames: u32) -> Result<Journal<D>, (D, Unopened)>
+        requires least { 8 ≤ frames }
+        requires most { frames ≤ 1024 }
         requires blocks { 7 ≤ D.size device }
         requires limit { D.size device ≤ 65543 }
-        ensures size { IfOk result (λ j. size_of j ≡ pages_of (D.size device)) }
-        ensures device { IfOk result (λ j. device_of j ≡ device) }
-        ensures steady { IfOk result (λ j. IsSteady j) }
+        ensures kept { IsTrue D.tells → IfOk result (λ j. kept_of j ≡ replayed_pages (D.content device).now.blocks) }
         ensures working { IfOk result (λ j. working_of j ≡ kept_of j) }
-        ensures back { IfErr result (λ e. e.0 ≡ device) }
+        ensures head { IfOk result (λ j. head_blocks j ≡ head_told D.tells (D.content device)) }
+        ensures size { IfOk result (λ j. size_of j ≡ pages_of (D.size device)) }
+        ensures steady { IfOk result (λ j. IsSteady j) }
+        ensures calm { IsTrue D.tells → IfOk result (λ j. IsCalm j (content_of j)) }
+        ensures magic { IsTrue D.tells → OnOk result (HasMagic (block_of (D.content device).now 0)) }
+        ensures no_magic { IsTrue D.tells → IfErr result
+            (λ e. e.1 ≡ Unopened.NoDatabase → ¬ HasMagic (block_of (D.content device).now 0)) }
+        ensures unwritten { IfErr result (λ e. e.1 ≡ Unopened.NoDatabase →
+            (D.content e.0).now.blocks ≡ (D.content device).now.blocks) }
+        ensures uncalled { IfErr result (λ e. e.1 ≡ Unopened.NoMemory → e.0 ≡ device) }
+        ensures images { IsTrue D.tells → Recovers
+            (view_now (replayed_pages (D.content device).now.blocks) (D.content device))
+            (D.content device) (content_left result) }
+        ensures touched { IsTrue D.tells → OnlyBlocks
+            (IsSettled (pages_of (D.size device)) (D.content device).now.blocks)
+            (D.content device) (content_left result) }
+        ensures silent { Silent (D.content device) (content_left result) }
+        ensures blocks { D.size (device_left result) ≡ D.size device }
+        ensures faults { Counted (has_no_fault result) (D.faults device) (D.faults (device_left result)) }
     {
-        let pages = (device.blocks() - 7) / 2;
-        match Room::make(alloc, count, pages) {
-            Ok(room) => Ok(Journal {
-                device,
-                frames: room.frames,
-                spilled: room.spilled,
-                listed: room.listed,
-                failed: false,
-            }),
-            Err(NoMemory) => Err((device, NoMemory)),
+        let Ok(room) = Room::make(alloc, frames, device.blocks()) else {
+            return Err((device, Unopened::NoMemory));
+        };
+        match recover(&mut device, room.pages()) {
+            Ok(true) => Ok(Journal::over(device, room)),
+            Ok(false) => Err((device, Unopened::NoDatabase)),
+            Err(Failed) => Err((device, Unopened::Fault)),
+        }
+    }
+
+    /// Lays out a device with two texts, with 8 to 1,024 frames. Block 0 and the pages stay as they are,
+    /// so that there is no database before a `seal` if there was none.
+    ///
+    /// Else the device is handed back. `NoMemory`: it wasn't called. `Fault`: a call of it failed, and
+    /// some of the blocks 1 to 6 may have been written.
+    pub fn format(
+        alloc: Global,
+        mut device: D,
+        frames: u32,
+        schema: &[u8],
+        equation: &[u8],
+    ) -> Result<Journal<D>, (D, Unopened)>
+        requires least { 8 ≤ frames }
+        requires most { frames ≤ 1024 }
+        requires blocks { 7 ≤ D.size device }
+        requires limit { D.size device ≤ 65543 }
+        requires texts { length schema.now + length equation.now ≤ 16380 }
+        ensures kept { IfOk result (λ j. kept_of j ≡ homes_told D.tells (size_of j) (D.content device)) }
+        ensures working { IfOk result (λ j. working_of j ≡ kept_of j) }
+        ensures head { IsTrue D.tells → IfOk result (λ j. head_blocks j
+            ≡ block_of (D.content device).now 0 ∷ text_blocks schema.now equation.now) }
+        ensures size { IfOk result (λ j. size_of j ≡ pages_of (D.size device)) }
+        ensures steady { IfOk result (λ j. IsSteady j) }
+        ensures calm { IsTrue D.tells → IfOk result (λ j. IsCalm j (content_of j)) }
+        ensures database { IfErr result (λ e. e.1 ≢ Unopened.NoDatabase) }
+        ensures uncalled { IfErr result (λ e. e.1 ≡ Unopened.NoMemory → e.0 ≡ device) }
+        ensures images { LeavesOnly (IsImageBesides IsFormatted (D.content device).now)
+            (D.content device) (content_left result) }
+        ensures touched { OnlyBlocks IsFormatted (D.content device) (content_left result) }
+        ensures blocks { D.size (device_left result) ≡ D.size device }
+        ensures faults { Counted (has_no_fault result) (D.faults device) (D.faults (device_left result)) }
+    {
+        let Ok(room) = Room::make(alloc, frames, device.blocks()) else {
+            return Err((device, Unopened::NoMemory));
+        };
+        match format(&mut device, schema, equation) {
+            Ok(()) => Ok(Journal::over(device, room)),
+            Err(Failed) => Err((device, Unopened::Fault)),
         }
     }
 

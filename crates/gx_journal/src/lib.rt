@@ -5,7 +5,9 @@ mod access;
 mod commit;
 mod forget;
 mod journal;
+mod opening;
 mod publish;
 mod room;
 
 pub use journal::Journal;
+pub use opening::Unopened;

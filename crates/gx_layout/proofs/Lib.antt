@@ -3,3 +3,5 @@ pub mod BitLemmas
 pub mod CalmLemmas
 pub mod CommitLemmas
 pub mod RecoverLemmas
+pub mod ReplayLemmas
+pub mod FormatLemmas

@@ -2,9 +2,11 @@
 use Rattle.std.proofs.Common.{◌≡◌, inl, inr, ℕ, zero, suc, ◌+◌, ◌*◌, ◌<◌, ◌≤◌, Bool, true, false, List, [], ◌∷◌, ◌++◌, length, get_or, refl, sym, ◌∙◌, ap, subst, arith, length-append}
 use Rattle.std.proofs.lemmas.Bool.{cases_eq}
 use Rattle.gx_device.specs.Content.{Shelf, Moment, Content, block_of, is_pending, OnlyTime, Syncs, NonePending}
-use Rattle.gx_device.specs.Crash.{Image, EachImage, Through, LeavesOnly, Outside}
+use Rattle.gx_device.specs.Crash.{Image, IsImage, EachImage, Through, LeavesOnly, Outside}
 use Rattle.gx_device.proofs.RunLemmas.{ticked, joined, weakened, synced, outside_same, outside_joined, outside_more}
-use Rattle.gx_layout.specs.Layout.{is_open, has_bit, View, StandsFor, ReadsAs, flags, CopiedBelow, IsIn, Holds, Fits, AtRest, IsReady, IsOpened, home}
+use Rattle.gx_layout.specs.Layout.{is_open, has_bit, View, StandsFor, ReadsAs, flags, CopiedBelow, IsIn, Holds, Fits, AtRest, IsReady, IsOpened, OnlyBlocks, home}
+use Rattle.gx_layout.specs.Recovered.{Recovers, IsSettled}
+use Rattle.gx_layout.proofs.BlockLemmas.{blocks_twice, blocks_more, blocks_read, blocks_sync}
 use Rattle.gx_layout.specs.PhaseLaws.{bool_cases, shut, set_bit, no_bit, opened_leaves, opened_homes, rest_leaves}
 use Rattle.gx_layout.proofs.CommitLemmas.{home_images, homes_ready}
 
@@ -44,6 +46,11 @@ module _ (P : ℕ) (bitmap : List ℕ) where
   more_copied_run i old mid new below bit_on run w =
       outside_joined (IsIn (7 + P) (flags bitmap P)) old mid new run (weakened (Outside (λ n. n ≡ 7 + P + i) mid.now) (Outside (IsIn (7 + P) (flags bitmap P)) mid.now)
       (λ m o. outside_more (λ n. n ≡ 7 + P + i) (IsIn (7 + P) (flags bitmap P)) (λ n is. record { page = i; below = omega (arith, length-flags bitmap P); is = is; changes = get_or-flags bitmap P i below ∙ bit_on }) mid.now m o) mid new w)
+
+  pub more_touched : (i : ℕ) (old mid new : Content) → i < P → has_bit bitmap i ≡ true → OnlyBlocks (IsIn (7 + P) (flags bitmap P)) old mid → OnlyBlocks (λ n. n ≡ 7 + P + i) mid new → OnlyBlocks (IsIn (7 + P) (flags bitmap P)) old new
+  more_touched i old mid new below bit_on so_far w =
+      blocks_twice (IsIn (7 + P) (flags bitmap P)) old mid new so_far
+      (blocks_more (λ n. n ≡ 7 + P + i) (IsIn (7 + P) (flags bitmap P)) (λ n is. record { page = i; below = omega (arith, length-flags bitmap P); is = is; changes = get_or-flags bitmap P i below ∙ bit_on }) mid new w)
 
   pub more_copied : (i : ℕ) (old mid new : Content) → i < P → CopiedBelow i P bitmap old.now mid.now → Through (Outside (IsIn (7 + P) (flags bitmap P)) old.now) old mid
       → Through (Outside (λ n. n ≡ 7 + P + i) mid.now) mid new → block_of new.now (7 + P + i) ≡ block_of mid.now (7 + i) → CopiedBelow (i + 1) P bitmap old.now new.now
@@ -162,3 +169,45 @@ reads_same v old mid s reads =
     subst (λ (h : Shelf). StandsFor v (record { blocks = mid.now.blocks; said = mid.now.said; shelf = h })) (sym s.shelf)
     (subst (λ (bs : List (List ℕ)). StandsFor v (record { blocks = bs; said = mid.now.said; shelf = old.now.shelf })) (sym s.blocks)
     (subst (λ (t : List ℕ). StandsFor v (record { blocks = old.now.blocks; said = t; shelf = old.now.shelf })) (sym s.said) reads))
+
+-- the bitmap was read, and pages that it names were copied
+pub back_touched : (P : ℕ) (a b d : Content) (bitmap : List ℕ) → OnlyTime a b → bitmap ≡ block_of a.now 2 → OnlyBlocks (IsIn (7 + P) (flags bitmap P)) b d → OnlyBlocks (IsIn (7 + P) (flags (block_of a.now 2) P)) a d
+back_touched P a b d bitmap r is touched =
+    blocks_twice (IsIn (7 + P) (flags (block_of a.now 2) P)) a b d (blocks_read (IsIn (7 + P) (flags (block_of a.now 2) P)) a b r)
+    (subst (λ (x : List ℕ). OnlyBlocks (IsIn (7 + P) (flags x P)) b d) is touched)
+
+-- behind an open gate pages were copied, and the gate was written
+module _ (P : ℕ) (a b d : Content) (r : OnlyTime a b) (opened : is_open (block_of b.now 1) ≡ true) where
+  pub settled_home : OnlyBlocks (IsIn (7 + P) (flags (block_of b.now 2) P)) b d → OnlyBlocks (IsSettled P a.now.blocks) a d
+  settled_home touched =
+      blocks_twice (IsSettled P a.now.blocks) a b d (blocks_read (IsSettled P a.now.blocks) a b r)
+      (subst (λ (m : Moment). OnlyBlocks (IsSettled P m.blocks) b d) r.now
+      (blocks_more (IsIn (7 + P) (flags (block_of b.now 2) P)) (IsSettled P b.now.blocks) (λ n is. (opened, inr is)) b d touched))
+
+  pub settled_gate : (e : Content) → OnlyBlocks (IsIn (7 + P) (flags (block_of b.now 2) P)) b d → OnlyBlocks (λ n. n ≡ 1) d e → OnlyBlocks (IsSettled P a.now.blocks) a e
+  settled_gate e touched gate =
+      blocks_twice (IsSettled P a.now.blocks) a d e (settled_home touched)
+      (blocks_more (λ n. n ≡ 1) (IsSettled P a.now.blocks) (λ n is. (ap (λ (m : Moment). is_open (block_of m 1)) (sym r.now) ∙ opened, inl is)) d e gate)
+
+-- a sync and a read come before
+pub settled_after : (P : ℕ) (a b c d : Content) → Syncs a b → OnlyTime b c → OnlyBlocks (IsSettled P c.now.blocks) c d → OnlyBlocks (IsSettled P a.now.blocks) a d
+settled_after P a b c d s r touched =
+    let free = IsSettled P a.now.blocks in
+    blocks_twice free a b d (blocks_sync free a b s) (blocks_twice free b c d (blocks_read free b c r)
+    (subst (λ (bs : List (List ℕ)). OnlyBlocks (IsSettled P bs) c d) (ap (λ (m : Moment). m.blocks) r.now ∙ s.blocks) touched))
+
+-- the magic was read after a sync
+module _ (v : View) (a b c : Content) (s : Syncs a b) (r : OnlyTime b c) (room : 7 ≤ length a.now.blocks) (none : NonePending b) (reads : ReadsAs a.now v) where
+  magic_images : LeavesOnly (StandsFor v) b c
+  magic_images = read_images (StandsFor v) b c r (found_leaves b v (omega (arith, room, ap (λ (l : List (List ℕ)). length l) s.blocks)) none (reads_same v a b s reads))
+
+  pub recovers_read : Recovers v a c
+  recovers_read = inr (record { mid = b; first = synced (IsImage a.now) a b s (λ image is. is); none_pending = none; then = magic_images })
+
+  pub recovers_settled : (d : Content) → (NonePending c → ReadsAs c.now v → LeavesOnly (StandsFor v) c d) → Recovers v a d
+  recovers_settled d settled = inr (record {
+    mid = b;
+    first = synced (IsImage a.now) a b s (λ image is. is);
+    none_pending = none;
+    then = joined (EachImage (StandsFor v)) b c d magic_images (settled (still_none b c r none) (still_reads b c v r (reads_same v a b s reads)));
+  })

@@ -1,6 +1,7 @@
 // The bitmap: which pages count in their slots.
 ghost use Rattle.std.specs.Prelude.{◌≡◌, ◌≢◌, ◌<◌, ◌≤◌, ◌+◌, ℕ, IsTrue, true, false, length, get_or, OnOk};
 ghost use Rattle.gx_device.specs.Content.{block_of};
+ghost use Rattle.gx_device.specs.Crash.{Through, Outside};
 ghost use Rattle.gx_device.specs.Faults.{IsCounted};
 ghost use Rattle.gx_layout.specs.Layout.{OnlyBlocks, Names, has_bit};
 
@@ -33,6 +34,7 @@ pub fn write_bitmap<D: Device>(device: &mut D, changed: &[bool]) -> Result<(), F
     requires room { 2 < D.size device.old }
     requires limit { length changed.now ≤ 32768 }
     ensures written { IsTrue D.tells → OnOk result (Names changed.now (block_of (D.content device.new).now 2) (length changed.now)) }
+    ensures run { Through (Outside (λ n. n ≡ 2) (D.content device.old).now) (D.content device.old) (D.content device.new) }
     ensures rest { OnlyBlocks (λ n. n ≡ 2) (D.content device.old) (D.content device.new) }
     ensures size { D.size device.new ≡ D.size device.old }
     ensures faults { IsCounted (D.faults device.old) (D.faults device.new) result }

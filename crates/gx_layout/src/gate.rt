@@ -28,6 +28,7 @@ pub fn open_gate<D: Device>(device: &mut D) -> Result<(), Failed>
         → LeavesOnly (Either kept new) (D.content device.old) (D.content device.new) }
     ensures opened { IsTrue D.tells → (kept new : View) (changed : List Bool) → IsReady (D.content device.old).now kept new changed
         → OnOk result (IsOpened (D.content device.new).now new changed) }
+    ensures rest { OnlyBlocks (λ n. n ≡ 1) (D.content device.old) (D.content device.new) }
     ensures size { D.size device.new ≡ D.size device.old }
     ensures faults { IsCounted (D.faults device.old) (D.faults device.new) result }
 {
@@ -42,6 +43,7 @@ pub fn close_gate<D: Device>(device: &mut D) -> Result<(), Failed>
         → LeavesOnly (StandsFor v) (D.content device.old) (D.content device.new) }
     ensures at_rest { IsTrue D.tells → (v : View) (changed : List Bool) → IsReady (D.content device.old).now v v changed
         → OnOk result (AtRest (D.content device.new).now v) }
+    ensures rest { OnlyBlocks (λ n. n ≡ 1) (D.content device.old) (D.content device.new) }
     ensures size { D.size device.new ≡ D.size device.old }
     ensures faults { IsCounted (D.faults device.old) (D.faults device.new) result }
 {

@@ -2,9 +2,12 @@
 #![tactic(auto)]
 
 mod bitmap;
+mod formatting;
 mod gate;
+mod head;
 mod recovery;
 
 pub use bitmap::write_bitmap;
+pub use formatting::format;
 pub use gate::{close_gate, open_gate, set_gate};
 pub use recovery::recover;

@@ -1,12 +1,14 @@
 // What a crash left is settled.
-ghost use Rattle.std.specs.Prelude.{◌≡◌, ◌<◌, ◌≤◌, ◌+◌, ◌*◌, ℕ, true, false, Bool, List, length, IsTrue, IfOk, OnOk};
-ghost use Rattle.gx_device.specs.Content.{OnlyTime, NonePending, block_of};
+ghost use Rattle.std.specs.Prelude.{◌≡◌, ◌↔◌, ◌<◌, ◌≤◌, ◌+◌, ◌*◌, ℕ, true, false, Bool, List, length, IsTrue, IfOk, OnOk};
+ghost use Rattle.gx_device.specs.Content.{OnlyTime, NonePending, Silent, block_of};
 ghost use Rattle.gx_device.specs.Faults.{IsCounted};
 ghost use Rattle.gx_device.specs.Crash.{Through, Outside, LeavesOnly};
-ghost use Rattle.gx_layout.specs.Layout.{View, is_open, has_bit, IsIn, flags, StandsFor, ReadsAs, AtRest, IsReady, IsOpened, CopiedBelow};
-ghost use Rattle.gx_layout.specs.Recovered.{Recovers};
+ghost use Rattle.gx_layout.specs.Layout.{View, is_open, has_bit, IsIn, flags, StandsFor, ReadsAs, AtRest, IsReady, IsOpened, CopiedBelow, OnlyBlocks};
+ghost use Rattle.gx_layout.specs.Head.{HasMagic};
+ghost use Rattle.gx_layout.specs.Recovered.{Recovers, IsSettled};
 
 use crate::gate::close_gate;
+use crate::head::has_magic;
 use gx_device::{Device, Failed};
 
 fn bit_of(bitmap: &[u8], p: usize) -> bool
@@ -34,6 +36,7 @@ fn copy_page<D: Device>(device: &mut D, slot: u32, home: u32) -> Result<(), Fail
     requires home { home < D.size device.old }
     ensures copied { IsTrue D.tells → OnOk result (block_of (D.content device.new).now home ≡ block_of (D.content device.old).now slot) }
     ensures rest { Through (Outside (λ n. n ≡ home) (D.content device.old).now) (D.content device.old) (D.content device.new) }
+    ensures touched { OnlyBlocks (λ n. n ≡ home) (D.content device.old) (D.content device.new) }
     ensures size { D.size device.new ≡ D.size device.old }
     ensures faults { IsCounted (D.faults device.old) (D.faults device.new) result }
 {
@@ -48,6 +51,7 @@ fn copy_home<D: Device>(device: &mut D, bitmap: &[u8], pages: u32) -> Result<(),
     requires bits { length bitmap.now ≡ 4096 }
     ensures copied { IsTrue D.tells → OnOk result (CopiedBelow pages pages bitmap.now (D.content device.old).now (D.content device.new).now) }
     ensures rest { Through (Outside (IsIn (7 + pages) (flags bitmap.now pages)) (D.content device.old).now) (D.content device.old) (D.content device.new) }
+    ensures touched { OnlyBlocks (IsIn (7 + pages) (flags bitmap.now pages)) (D.content device.old) (D.content device.new) }
     ensures size { D.size device.new ≡ D.size device.old }
     ensures faults { IsCounted (D.faults device.old) (D.faults device.new) result }
 {
@@ -68,6 +72,8 @@ fn bring_back<D: Device>(device: &mut D, pages: u32) -> Result<(), Failed>
     ensures ready { IsTrue D.tells → (v : View) → length v.pages ≡ pages → NonePending (D.content device.old) → ReadsAs (D.content device.old).now v
         → is_open (block_of (D.content device.old).now 1) ≡ true
         → OnOk result (IsReady (D.content device.new).now v v (flags (block_of (D.content device.old).now 2) pages)) }
+    ensures touched { IsTrue D.tells → OnlyBlocks (IsIn (7 + pages) (flags (block_of (D.content device.old).now 2) pages)) (D.content device.old) (D.content device.new) }
+    ensures silent { Silent (D.content device.old) (D.content device.new) }
     ensures size { D.size device.new ≡ D.size device.old }
     ensures faults { IsCounted (D.faults device.old) (D.faults device.new) result }
 {
@@ -77,15 +83,17 @@ fn bring_back<D: Device>(device: &mut D, pages: u32) -> Result<(), Failed>
     device.sync()
 }
 
-/// Settles what a crash left, after a sync: the gate is closed over the pages that the blocks stand for.
+// Settles what a crash left, after a sync: the gate is closed over the pages that the blocks stand for.
 /// A crash at any moment leaves the same pages.
-pub fn settle<D: Device>(device: &mut D, pages: u32) -> Result<(), Failed>
+fn settle<D: Device>(device: &mut D, pages: u32) -> Result<(), Failed>
     requires room { 7 + 2 * pages ≤ D.size device.old }
     requires limit { pages ≤ 32768 }
     ensures images { IsTrue D.tells → (v : View) → length v.pages ≡ pages → NonePending (D.content device.old) → ReadsAs (D.content device.old).now v
         → LeavesOnly (StandsFor v) (D.content device.old) (D.content device.new) }
     ensures at_rest { IsTrue D.tells → (v : View) → length v.pages ≡ pages → NonePending (D.content device.old) → ReadsAs (D.content device.old).now v
         → OnOk result (AtRest (D.content device.new).now v) }
+    ensures touched { IsTrue D.tells → OnlyBlocks (IsSettled pages (D.content device.old).now.blocks) (D.content device.old) (D.content device.new) }
+    ensures silent { Silent (D.content device.old) (D.content device.new) }
     ensures size { D.size device.new ≡ D.size device.old }
     ensures faults { IsCounted (D.faults device.old) (D.faults device.new) result }
 {
@@ -96,18 +104,28 @@ pub fn settle<D: Device>(device: &mut D, pages: u32) -> Result<(), Failed>
     Ok(())
 }
 
-/// Recovers what a crash left. Until the first sync a crash leaves what one right before the call could have left; from then
-/// on it leaves the same pages.
-pub fn recover<D: Device>(device: &mut D, pages: u32) -> Result<(), Failed>
+/// Recovers what a crash left, where the device has the magic, and tells whether it has. Until the first
+/// sync a crash leaves what one right before the call could have left; from then on it leaves the
+/// same pages. Without the magic no block is written.
+pub fn recover<D: Device>(device: &mut D, pages: u32) -> Result<bool, Failed>
     requires room { 7 + 2 * pages ≤ D.size device.old }
     requires limit { pages ≤ 32768 }
+    ensures magic { IsTrue D.tells → IfOk result
+        (λ found. IsTrue found ↔ HasMagic (block_of (D.content device.old).now 0)) }
     ensures images { IsTrue D.tells → (v : View) → length v.pages ≡ pages → ReadsAs (D.content device.old).now v → Recovers v (D.content device.old) (D.content device.new) }
     ensures at_rest { IsTrue D.tells → (v : View) → length v.pages ≡ pages → ReadsAs (D.content device.old).now v
-        → OnOk result (AtRest (D.content device.new).now v) }
+        → IfOk result (λ found. found ≡ true → AtRest (D.content device.new).now v) }
+    ensures unwritten { IfOk result (λ found. found ≡ false →
+        (D.content device.new).now.blocks ≡ (D.content device.old).now.blocks) }
+    ensures touched { IsTrue D.tells → OnlyBlocks (IsSettled pages (D.content device.old).now.blocks) (D.content device.old) (D.content device.new) }
+    ensures silent { Silent (D.content device.old) (D.content device.new) }
     ensures size { D.size device.new ≡ D.size device.old }
     ensures faults { IsCounted (D.faults device.old) (D.faults device.new) result }
 {
     device.sync()?;
-    settle(device, pages)?;
-    Ok(())
+    let found = has_magic(device)?;
+    if found {
+        settle(device, pages)?;
+    }
+    Ok(found)
 }

@@ -1,4 +1,6 @@
+use Rattle.std.proofs.Common.{◌≡◌}
 use Rattle.std.proofs.lemmas.Result.{on_ok_weaker}
+use Rattle.gx_layout.proofs.BlockLemmas.{blocks_twice, blocks_sync}
 use Rattle.gx_layout.proofs.CommitLemmas.{gate_images, gate_synced, gate_closed, only_one}
 use Rattle.gx_layout.specs.PhaseLaws.{ready_gate}
 use Rattle.gx_layout.proofs.gate.close_gate.Goals as goal
@@ -16,3 +18,7 @@ returns-clause-at_rest g c told v changed ready =
     let after_gate = ready_gate (content c.args.device.now).now (content c.set_gate.new.device).now v v changed (c.set_gate.ensures.run).now ready in
     on_ok_weaker c.sync.result (λ none. gate_closed (content c.set_gate.new.device) (content c.sync.new.self) (c.sync.ensures.rest) none v changed after_gate (c.in_ok-set_gate.ensures.written told))
     (c.sync.ensures.none_pending told)
+
+pub returns-clause-rest : goal.returns-clause-rest
+returns-clause-rest g c =
+    blocks_twice (λ n. n ≡ 1) _ _ _ c.set_gate.ensures.rest (blocks_sync (λ n. n ≡ 1) _ _ c.sync.ensures.rest)

@@ -1,5 +1,5 @@
 use Rattle.std.proofs.Common.{sym, ◌∙◌}
-use Rattle.gx_layout.proofs.RecoverLemmas.{more_copied_run, more_copied, more_passed}
+use Rattle.gx_layout.proofs.RecoverLemmas.{more_copied_run, more_touched, more_copied, more_passed}
 use Rattle.gx_layout.proofs.recovery.copy_home.Goals as goal
 use Rattle.gx_layout.proofs.recovery.copy_home.Goals.{then-bit_of+in_ok-copy_page, else-bit_of}
 
@@ -8,6 +8,12 @@ returns-in_err-copy_page-clause-rest g c =
     let content = g.D.Device.content in
     more_copied_run c.args.pages c.args.bitmap.now c.loop-p.p (content c.args.device.now) (content c.loop-p.device) (content c.copy_page.new.device) c.loop-p-test.true
     (sym c.bit_of.ensures ∙ c.if-bit_of.true) (c.loop-p.invariant.run) (c.copy_page.ensures.rest)
+
+pub returns-in_err-copy_page-clause-touched : goal.returns-in_err-copy_page-clause-touched
+returns-in_err-copy_page-clause-touched g c =
+    let content = g.D.Device.content in
+    more_touched c.args.pages c.args.bitmap.now c.loop-p.p (content c.args.device.now) (content c.loop-p.device) (content c.copy_page.new.device) c.loop-p-test.true
+    (sym c.bit_of.ensures ∙ c.if-bit_of.true) (c.loop-p.invariant.touched) (c.copy_page.ensures.touched)
 
 pub loop-p-preserved : goal.loop-p-preserved
 loop-p-preserved g c =
@@ -19,6 +25,8 @@ loop-p-preserved g c =
         faults = w.in_ok-copy_page.ensures.faults.same ∙ so_far.faults;
         run = more_copied_run c.args.pages c.args.bitmap.now c.loop-p.p (content c.args.device.now) (content c.loop-p.device) (content w.copy_page.new.device) c.loop-p-test.true
             (sym c.bit_of.ensures ∙ w.if-bit_of.true) (so_far.run) (w.copy_page.ensures.rest);
+        touched = more_touched c.args.pages c.args.bitmap.now c.loop-p.p (content c.args.device.now) (content c.loop-p.device) (content w.copy_page.new.device) c.loop-p-test.true
+            (sym c.bit_of.ensures ∙ w.if-bit_of.true) (so_far.touched) (w.copy_page.ensures.touched);
         copied = λ told. more_copied c.args.pages c.args.bitmap.now c.loop-p.p (content c.args.device.now) (content c.loop-p.device) (content w.copy_page.new.device) c.loop-p-test.true
             (so_far.copied told) (so_far.run) (w.copy_page.ensures.rest) (w.in_ok-copy_page.ensures.copied told);
       })
@@ -26,6 +34,7 @@ loop-p-preserved g c =
         size = so_far.size;
         faults = so_far.faults;
         run = so_far.run;
+        touched = so_far.touched;
         copied = λ told. more_passed c.args.pages c.args.bitmap.now c.loop-p.p (content c.args.device.now).now (content c.loop-p.device).now (so_far.copied told) (sym c.bit_of.ensures ∙ w.if-bit_of.false);
       })
     ]

@@ -1,6 +1,6 @@
 use Rattle.std.proofs.Common.{◌≡◌, ◌+◌, IsTrue}
 use Rattle.gx_device.specs.Crash.{Through, Outside}
-use Rattle.gx_layout.specs.Layout.{IsIn, flags, CopiedBelow}
+use Rattle.gx_layout.specs.Layout.{IsIn, flags, CopiedBelow, OnlyBlocks}
 use Rattle.gx_layout.proofs.recovery.copy_home.Given as goal
 
 abbrev pub invariant-loop-p : goal.invariant-loop-p
@@ -10,5 +10,6 @@ invariant-loop-p g l =
       size : g.D.Device.size l.device ≡ g.D.Device.size l.fn.device;
       faults : g.D.Device.faults l.device ≡ g.D.Device.faults l.fn.device;
       run : Through (Outside (IsIn (7 + l.pages) (flags l.bitmap l.pages)) (content l.fn.device).now) (content l.fn.device) (content l.device);
+      touched : OnlyBlocks (IsIn (7 + l.pages) (flags l.bitmap l.pages)) (content l.fn.device) (content l.device);
       copied : IsTrue g.D.Device.tells → CopiedBelow l.p l.pages l.bitmap (content l.fn.device).now (content l.device).now;
     }

@@ -3,7 +3,8 @@ use Rattle.gx_device.specs.Content.{block_of}
 use Rattle.gx_device.specs.Crash.{EachImage}
 use Rattle.gx_device.proofs.RunLemmas.{joined}
 use Rattle.gx_layout.specs.Layout.{StandsFor, flags}
-use Rattle.gx_layout.proofs.RecoverLemmas.{read_images, found_leaves, still_none, still_reads, still_gate, room_of}
+use Rattle.gx_layout.proofs.BlockLemmas.{silent_twice, blocks_read}
+use Rattle.gx_layout.proofs.RecoverLemmas.{settled_home, settled_gate, read_images, found_leaves, still_none, still_reads, still_gate, room_of}
 use Rattle.gx_layout.proofs.recovery.settle.Goals as goal
 
 pub returns-in_err-is_gate_open-clause-images : goal.returns-in_err-is_gate_open-clause-images
@@ -68,3 +69,45 @@ returns-in_ok-close_gate-clause-at_rest g c told v counts none reads =
     let gate_b = still_gate a b true r (c.in_ok-is_gate_open.ensures.gate told ∙ c.if-branch.true) in
     let ready = c.in_ok-bring_back.ensures.ready told v counts none_b reads_b gate_b in
     c.in_ok-close_gate.ensures.at_rest told v (flags (block_of b.now 2) c.args.pages) ready
+
+pub returns-in_err-is_gate_open-clause-touched : goal.returns-in_err-is_gate_open-clause-touched
+returns-in_err-is_gate_open-clause-touched g c told = blocks_read _ _ _ c.is_gate_open.ensures.rest
+
+pub returns-else-branch-clause-touched : goal.returns-else-branch-clause-touched
+returns-else-branch-clause-touched g c told = blocks_read _ _ _ c.is_gate_open.ensures.rest
+
+pub returns-in_err-bring_back-clause-touched : goal.returns-in_err-bring_back-clause-touched
+returns-in_err-bring_back-clause-touched g c told =
+    let content = g.D.Device.content in
+    let a = content c.args.device.now in
+    let b = content c.is_gate_open.new.device in
+    let r = c.is_gate_open.ensures.rest in
+    settled_home c.args.pages a b _ r (still_gate a b true r (c.in_ok-is_gate_open.ensures.gate told ∙ c.if-branch.true)) (c.bring_back.ensures.touched told)
+
+pub returns-in_err-close_gate-clause-touched : goal.returns-in_err-close_gate-clause-touched
+returns-in_err-close_gate-clause-touched g c told =
+    let content = g.D.Device.content in
+    let a = content c.args.device.now in
+    let b = content c.is_gate_open.new.device in
+    let r = c.is_gate_open.ensures.rest in
+    settled_gate c.args.pages a b _ r (still_gate a b true r (c.in_ok-is_gate_open.ensures.gate told ∙ c.if-branch.true)) _ (c.bring_back.ensures.touched told) c.close_gate.ensures.rest
+
+pub returns-in_ok-close_gate-clause-touched : goal.returns-in_ok-close_gate-clause-touched
+returns-in_ok-close_gate-clause-touched g c told =
+    let content = g.D.Device.content in
+    let a = content c.args.device.now in
+    let b = content c.is_gate_open.new.device in
+    let r = c.is_gate_open.ensures.rest in
+    settled_gate c.args.pages a b _ r (still_gate a b true r (c.in_ok-is_gate_open.ensures.gate told ∙ c.if-branch.true)) _ (c.bring_back.ensures.touched told) c.close_gate.ensures.rest
+
+pub returns-in_err-bring_back-clause-silent : goal.returns-in_err-bring_back-clause-silent
+returns-in_err-bring_back-clause-silent g c =
+    silent_twice _ _ _ (blocks_read (λ n. Unit {0}) _ _ c.is_gate_open.ensures.rest).silent c.bring_back.ensures.silent
+
+pub returns-in_err-close_gate-clause-silent : goal.returns-in_err-close_gate-clause-silent
+returns-in_err-close_gate-clause-silent g c =
+    silent_twice _ _ _ (silent_twice _ _ _ (blocks_read (λ n. Unit {0}) _ _ c.is_gate_open.ensures.rest).silent c.bring_back.ensures.silent) c.close_gate.ensures.rest.silent
+
+pub returns-in_ok-close_gate-clause-silent : goal.returns-in_ok-close_gate-clause-silent
+returns-in_ok-close_gate-clause-silent g c =
+    silent_twice _ _ _ (silent_twice _ _ _ (blocks_read (λ n. Unit {0}) _ _ c.is_gate_open.ensures.rest).silent c.bring_back.ensures.silent) c.close_gate.ensures.rest.silent

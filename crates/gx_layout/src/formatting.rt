@@ -1,0 +1,108 @@
+// A device is laid out: a closed gate, an empty bitmap, and the texts.
+ghost use Rattle.std.specs.Prelude.{◌≡◌, ◌<◌, ◌≤◌, ◌+◌, ◌∷◌, ℕ, false, length, IsTrue, OnOk};
+ghost use Rattle.std.specs.Int.{w16, to_be_bytes};
+ghost use Rattle.gx_device.specs.Content.{NonePending, block_of};
+ghost use Rattle.gx_device.specs.Crash.{Through, Outside, LeavesOnly};
+ghost use Rattle.gx_device.specs.Faults.{IsCounted};
+ghost use Rattle.gx_layout.specs.Layout.{OnlyBlocks, head_of, is_open};
+ghost use Rattle.gx_layout.specs.Head.{text_area, text_blocks, block_in, IsText, IsFormatted};
+ghost use Rattle.gx_layout.specs.Besides.{IsImageBesides};
+
+use crate::bitmap::write_bitmap;
+use crate::gate::set_gate;
+use gx_bytes::overwrite;
+use gx_device::{Device, Failed};
+
+const BLOCK_LEN: usize = 4096;
+
+const TEXT_AREA_LEN: usize = 16384;
+
+const FIRST_TEXT_BLOCK: u32 = 3;
+
+const TEXT_BLOCKS: u32 = 4;
+
+const LENGTH_LEN: usize = 2;
+
+// The length of a text, as it is written.
+fn length_bytes(text: &[u8]) -> [u8; LENGTH_LEN]
+    requires { length text.now < 65536 }
+    ensures { result ≡ to_be_bytes w16 (length text.now) }
+{
+    (text.len() as u16).to_be_bytes()
+}
+
+// The bytes of the text blocks.
+pub(crate) fn text_area(schema: &[u8], equation: &[u8]) -> [u8; TEXT_AREA_LEN]
+    requires { length schema.now + length equation.now ≤ 16380 }
+    ensures { result ≡ text_area schema.now equation.now }
+{
+    let mut area = [0; TEXT_AREA_LEN];
+    overwrite(&mut area, 0, &length_bytes(schema));
+    overwrite(&mut area, LENGTH_LEN, &length_bytes(equation));
+    overwrite(&mut area, 2 * LENGTH_LEN, schema);
+    overwrite(&mut area, 2 * LENGTH_LEN + schema.len(), equation);
+    area
+}
+
+/// One of the text blocks.
+pub(crate) fn text_block(area: &[u8], i: u32) -> &[u8]
+    requires below { i < 4 }
+    requires bytes { length area.now ≡ 16384 }
+    ensures is { result.now ≡ block_in area.now i }
+    ensures long { length result.now ≡ 4096 }
+{
+    let at = BLOCK_LEN * i as usize;
+    &area[at..at + BLOCK_LEN]
+}
+
+fn write_texts<D: Device>(device: &mut D, area: &[u8]) -> Result<(), Failed>
+    requires room { 7 ≤ D.size device.old }
+    requires bytes { length area.now ≡ 16384 }
+    ensures texts { IsTrue D.tells → OnOk result
+        ((i : ℕ) → i < 4 → block_of (D.content device.new).now (3 + i) ≡ block_in area.now i) }
+    ensures run { Through (Outside IsText (D.content device.old).now) (D.content device.old) (D.content device.new) }
+    ensures rest { OnlyBlocks IsText (D.content device.old) (D.content device.new) }
+    ensures size { D.size device.new ≡ D.size device.old }
+    ensures faults { IsCounted (D.faults device.old) (D.faults device.new) result }
+{
+    for i in 0..TEXT_BLOCKS {
+        device.write_block(FIRST_TEXT_BLOCK + i, text_block(area, i))?;
+    }
+    Ok(())
+}
+
+// Writes all blocks of an empty layout.
+fn lay_out<D: Device>(device: &mut D, schema: &[u8], equation: &[u8]) -> Result<(), Failed>
+    requires room { 7 ≤ D.size device.old }
+    requires texts { length schema.now + length equation.now ≤ 16380 }
+    ensures head { IsTrue D.tells → OnOk result (head_of (D.content device.new).now.blocks
+        ≡ block_of (D.content device.old).now 0 ∷ text_blocks schema.now equation.now) }
+    ensures closed { IsTrue D.tells → OnOk result (is_open (block_of (D.content device.new).now 1) ≡ false) }
+    ensures run { Through (Outside IsFormatted (D.content device.old).now) (D.content device.old) (D.content device.new) }
+    ensures rest { OnlyBlocks IsFormatted (D.content device.old) (D.content device.new) }
+    ensures size { D.size device.new ≡ D.size device.old }
+    ensures faults { IsCounted (D.faults device.old) (D.faults device.new) result }
+{
+    set_gate(device, false)?;
+    write_bitmap(device, &[])?;
+    write_texts(device, &text_area(schema, equation))
+}
+
+/// Lays out a device: the gate is closed, the bitmap is empty, and the text blocks hold the texts. The
+/// block of the magic and the pages stay as they are.
+pub fn format<D: Device>(device: &mut D, schema: &[u8], equation: &[u8]) -> Result<(), Failed>
+    requires room { 7 ≤ D.size device.old }
+    requires texts { length schema.now + length equation.now ≤ 16380 }
+    ensures head { IsTrue D.tells → OnOk result (head_of (D.content device.new).now.blocks
+        ≡ block_of (D.content device.old).now 0 ∷ text_blocks schema.now equation.now) }
+    ensures closed { IsTrue D.tells → OnOk result (is_open (block_of (D.content device.new).now 1) ≡ false) }
+    ensures none_pending { IsTrue D.tells → OnOk result (NonePending (D.content device.new)) }
+    ensures images { LeavesOnly (IsImageBesides IsFormatted (D.content device.old).now)
+        (D.content device.old) (D.content device.new) }
+    ensures rest { OnlyBlocks IsFormatted (D.content device.old) (D.content device.new) }
+    ensures size { D.size device.new ≡ D.size device.old }
+    ensures faults { IsCounted (D.faults device.old) (D.faults device.new) result }
+{
+    lay_out(device, schema, equation)?;
+    device.sync()
+}
