@@ -13,7 +13,7 @@ pub record Ground : Type 0 where
   pub tables : ℕ
   -- how many blocks of the device hold them, from the first one on
   pub blocks : ℕ
-  -- those that tell which database it is
+  -- the blocks that tell which database it is
   pub head : List (List ℕ)
 
 -- a page past the table
