@@ -1,11 +1,11 @@
 // Pages over a device, with the working ones in a few frames.
-ghost use Rattle.std.specs.Prelude.{◌≡◌, ◌↔◌, ◌<◌, ◌≤◌, ◌+◌, ◌*◌, ◌/◌, ◌-◌, ◌≢◌, ◌∷◌, [], false, length, replicate, slice_set, slice_index_or, vec_capacity, IsTrue, IfOk, IfErr, OnOk, OnErr};
-ghost use Rattle.gx_device.specs.Content.{Silent, Hears, Listens, Says, Speaks, block_of};
+ghost use Rattle.std.specs.Prelude.{◌≡◌, ◌↔◌, ◌<◌, ◌≤◌, ◌+◌, ◌*◌, ◌/◌, ◌-◌, ◌≢◌, ◌∷◌, [], false, length, replicate, drop, slice_set, slice_index_or, vec_capacity, IsTrue, IfOk, IfErr, OnOk, OnErr};
+ghost use Rattle.gx_device.specs.Content.{Content, Silent, Hears, Listens, Says, Speaks, block_of};
 ghost use Rattle.gx_device.specs.Crash.{LeavesOnly};
 ghost use Rattle.gx_device.specs.Faults.{Rose, HasCause, Counted, IsCounted};
 ghost use Rattle.gx_layout.specs.Layout.{OnlyBlocks, home, pages_of};
 ghost use Rattle.gx_layout.specs.Head.{HasMagic, IsFormatted, text_blocks};
-ghost use Rattle.gx_layout.specs.Besides.{IsImageBesides};
+ghost use Rattle.gx_layout.specs.Besides.{IsImageBesides, IsUnsealed};
 ghost use Rattle.gx_layout.specs.Recovered.{Recovers, IsSettled, replayed_pages, view_now};
 ghost use Rattle.gx_journal.specs.Sources.{IsCached, IsListed};
 
@@ -15,7 +15,7 @@ use crate::forget::forget;
 use crate::opening::{Room, Unopened};
 use gx_device::{Device, Failed};
 use gx_frames::Frames;
-use gx_layout::{format, recover};
+use gx_layout::{format, recover, seal};
 use std::alloc::Global;
 
 /// Pages that are committed all at once.
@@ -142,6 +142,25 @@ impl<D: Device> Journal<D> {
             Ok(()) => Ok(Journal::over(device, room)),
             Err(Failed) => Err((device, Unopened::Fault)),
         }
+    }
+
+    /// Writes the magic: from then on there is a database on the device. After `Failed` block 0 may hold
+    /// anything.
+    pub fn seal(&mut self) -> Result<(), Failed>
+        ensures magic { IsTrue D.tells → OnOk result (HasMagic (slice_index_or (head_blocks self.new) 0 [])) }
+        ensures texts { drop 1 (head_blocks self.new) ≡ drop 1 (head_blocks self.old) }
+        ensures working { working_of self.new ≡ working_of self.old }
+        ensures kept { kept_of self.new ≡ kept_of self.old }
+        ensures size { size_of self.new ≡ size_of self.old }
+        ensures steady { IsSteady self.old ↔ IsSteady self.new }
+        ensures calm { (start : Content) → IsCalm self.old start → OnOk result (IsCalm self.new (content_of self.new)) }
+        ensures images { (start : Content) → IsCalm self.old start → LeavesOnly
+            (IsUnsealed (view_now (kept_of self.old) (content_of self.old)))
+            (content_of self.old) (content_of self.new) }
+        ensures touched { OnlyBlocks (λ n. n ≡ 0) (content_of self.old) (content_of self.new) }
+        ensures faults { IsCounted (D.faults (device_of self.old)) (D.faults (device_of self.new)) result }
+    {
+        seal(&mut self.device)
     }
 
     /// The number of pages.

@@ -5,3 +5,4 @@ pub mod CommitLemmas
 pub mod RecoverLemmas
 pub mod ReplayLemmas
 pub mod FormatLemmas
+pub mod SealLemmas

@@ -1,9 +1,13 @@
-// The head of a device: the block of the magic, and those of the texts.
-ghost use Rattle.std.specs.Prelude.{◌≡◌, ◌↔◌, ◌<◌, length, IsTrue, IfOk};
-ghost use Rattle.gx_device.specs.Content.{OnlyTime, block_of};
+// The block of the magic.
+ghost use Rattle.std.specs.Prelude.{◌≡◌, ◌↔◌, ◌<◌, length, IsTrue, IfOk, OnOk};
+ghost use Rattle.gx_device.specs.Content.{OnlyTime, NonePending, block_of};
+ghost use Rattle.gx_device.specs.Crash.{LeavesOnly};
 ghost use Rattle.gx_device.specs.Faults.{IsCounted};
+ghost use Rattle.gx_layout.specs.Layout.{View, AtRest, OnlyBlocks};
 ghost use Rattle.gx_layout.specs.Head.{HasMagic};
+ghost use Rattle.gx_layout.specs.Besides.{IsUnsealed};
 
+use gx_bytes::overwrite;
 use gx_device::{Device, Failed};
 
 // The bytes that the first block of a database begins with.
@@ -27,4 +31,27 @@ pub(crate) fn has_magic<D: Device>(device: &mut D) -> Result<bool, Failed>
     let mut block = [0; 4096];
     device.read_block(0, &mut block)?;
     Ok(begins_with_magic(&block))
+}
+
+fn magic_block() -> [u8; 4096]
+    ensures { HasMagic result }
+{
+    let mut block = [0; 4096];
+    overwrite(&mut block, 0, MAGIC);
+    block
+}
+
+/// Writes the magic. After `Failed` block 0 may read as anything, and may be pending.
+pub fn seal<D: Device>(device: &mut D) -> Result<(), Failed>
+    requires { 0 < D.size device.old }
+    ensures magic { IsTrue D.tells → OnOk result (HasMagic (block_of (D.content device.new).now 0)) }
+    ensures none_pending { IsTrue D.tells → OnOk result (NonePending (D.content device.new)) }
+    ensures images { (v : View) → AtRest (D.content device.old).now v
+        → LeavesOnly (IsUnsealed v) (D.content device.old) (D.content device.new) }
+    ensures rest { OnlyBlocks (λ n. n ≡ 0) (D.content device.old) (D.content device.new) }
+    ensures size { D.size device.new ≡ D.size device.old }
+    ensures faults { IsCounted (D.faults device.old) (D.faults device.new) result }
+{
+    device.write_block(0, &magic_block())?;
+    device.sync()
 }

@@ -10,4 +10,5 @@ mod recovery;
 pub use bitmap::write_bitmap;
 pub use formatting::format;
 pub use gate::{close_gate, open_gate, set_gate};
+pub use head::seal;
 pub use recovery::recover;

@@ -6,7 +6,7 @@ use Rattle.gx_layout.specs.Layout.{OnlyBlocks, is_open, head_of}
 use Rattle.gx_layout.specs.Head.{IsFormatted}
 use Rattle.gx_layout.specs.Besides.{IsImageBesides}
 use Rattle.gx_journal.specs.State.{head_told}
-use Rattle.gx_journal.proofs.OpenLemmas.{formatted_kept, formatted_calm}
+use Rattle.gx_journal.proofs.OpenLemmas.{formatted_kept, closed_since}
 use Rattle.gx_journal.proofs.journal.Journal.format.Goals as goal
 
 pub returns-in-Ok-format-clause-kept : goal.returns-in-Ok-format-clause-kept
@@ -23,8 +23,7 @@ returns-in-Ok-format-clause-calm g c told =
     let same = sym (ap content c.over.ensures.device) in
     let sized = g.met.D.Device.sized j.device told in
     let size = ap (λ (d : _). g.D.Device.size d) c.over.ensures.device in
-    formatted_calm g.D.Device.tells (length j.spilled.items) (content c.args.device) (content j.device)
-    (subst (λ (x : Content). OnlyBlocks IsFormatted (content c.args.device) x) same c.format.ensures.rest) told
+    closed_since g.D.Device.tells (length j.spilled.items) (content j.device) told
     (omega (arith, sized, size, c.over.ensures.size, c.in-Ok.ensures, c.blocks-2.ensures, c.format.ensures.size))
     (omega (arith, sized, size, c.requires.blocks, c.format.ensures.size))
     (subst (λ (x : Content). NonePending x) same (c.in-Ok-format.ensures.none_pending told))
