@@ -19,20 +19,27 @@ pub count_owners : (pages : List (List ℕ)) → length (owners_of pages) ≡ le
 count_owners pages = length-map-range_with_len (owner_at pages) 0 (length pages)
 
 module _ {D : Type 0} {g : device.Ghosts D} where
-  count_told : (j : Journal D g) (tells : Bool) → length (pages_told tells (size_of j) (content_of j) j.spilled.items j.frames.resident) ≡ size_of j
-  count_told j true = length-map-range_with_len (page_of (size_of j) (content_of j).now.blocks j.spilled.items j.frames.resident) 0 (size_of j)
+  count_told : (j : Journal D g) (tells : Bool)
+      → length (pages_told tells (size_of j) (content_of j) j.spilled.items j.frames.resident) ≡ size_of j
+  count_told j true =
+      length-map-range_with_len (page_of (size_of j) (content_of j).now.blocks j.spilled.items j.frames.resident) 0 (size_of j)
   count_told j false = length-replicate (size_of j) []
 
   pub count_pages : (j : Journal D g) → length (working_of j) ≡ size_of j
   count_pages j = count_told j g.tells
 
   -- each page has an owner and bytes
-  pub many_pages : (j : Journal D g) → (length (owners_of (working_of j)) ≡ size_of j) × (length (working_of j) ≡ size_of j)
+  pub many_pages : (j : Journal D g)
+      → (length (owners_of (working_of j)) ≡ size_of j) × (length (working_of j) ≡ size_of j)
   many_pages j = (count_owners (working_of j) ∙ count_pages j, count_pages j)
 
   -- what calm means for blocks
-  pub calm_stands : (j : Journal D g) (start : Content) → IsCalm j start → QuietSince (StandsFor (head_blocks j) (kept_sheets j)) start (content_of j)
-  calm_stands j start is = quiet_weaker (Shows (head_blocks j) (kept_of j)) (StandsFor (head_blocks j) (kept_sheets j)) (λ blocks shows. record { shows = shows; owners = refl }) start (content_of j) (calm_shows g.tells j.failed (size_of j) start (content_of j) is)
+  pub calm_stands : (j : Journal D g) (start : Content) → IsCalm j start
+      → QuietSince (StandsFor (head_blocks j) (kept_sheets j)) start (content_of j)
+  calm_stands j start is =
+      let quiet = calm_shows g.tells j.failed (size_of j) start (content_of j) is in
+      quiet_weaker (Shows (head_blocks j) (kept_of j)) (StandsFor (head_blocks j) (kept_sheets j))
+      (λ blocks shows. record { shows = shows; owners = refl }) start (content_of j) quiet
 
   -- what is calm since an earlier content is calm from now on
   pub calm_later : (j : Journal D g) (start : Content) → IsCalm j start → IsCalm j (content_of j)

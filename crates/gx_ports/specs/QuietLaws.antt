@@ -5,7 +5,8 @@ use Rattle.gx_device.specs.Content.{Content}
 use Rattle.gx_device.specs.Crash.{Image, EachImage}
 use Rattle.gx_device.specs.Quiet.{IsQuiet, QuietSince}
 
-pub quiet_weaker : (a b : List (List ℕ) → Type 0) → ((blocks : List (List ℕ)) → a blocks → b blocks) → (start now : Content) → QuietSince a start now → QuietSince b start now
+pub quiet_weaker : (a b : List (List ℕ) → Type 0) → ((blocks : List (List ℕ)) → a blocks → b blocks)
+    → (start now : Content) → QuietSince a start now → QuietSince b start now
 quiet_weaker a b weaker start now quiet = record {
   since = quiet.since;
   past = quiet.past;

@@ -134,8 +134,8 @@ pub trait Pages: PageView {
         (length (Self.working p).owners ≡ (Self.ground p).size)
         × (length (Self.working p).bytes ≡ (Self.ground p).size) };
 
-    /// What calm means: since that content a crash leaves blocks that stand for the kept pages, with
-    /// what had been said then and a front of what has been said since.
+    /// What calm means: since that content a crash leaves blocks that stand for the kept pages,
+    /// with what had been said then and a front of what has been said since.
     ghost calm_means: { (p : Self) (s : Content) → IsTrue Self.tells → Self.calm p s →
         QuietSince (Self.stands (Self.ground p).head (Self.kept p)) s (Self.content p) };
 
