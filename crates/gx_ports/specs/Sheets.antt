@@ -11,9 +11,9 @@ pub record Ground : Type 0 where
   -- how many pages there are, and how many of them are the table of the owners
   pub size : ℕ
   pub tables : ℕ
-  -- the blocks of the device
+  -- how many blocks of the device hold them, from the first one on
   pub blocks : ℕ
-  -- those that tell which database it is
+  -- the blocks that tell which database it is
   pub head : List (List ℕ)
 
 -- a page past the table

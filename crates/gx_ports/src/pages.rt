@@ -4,7 +4,7 @@ ghost use Rattle.gx_device.specs.Content.{Content};
 ghost use Rattle.gx_ports.specs.Sheets.{Sheets, IsPast, IsClaimed, IsOwnedAnew, HasNone};
 ghost use Rattle.gx_ports.specs.PageCalls.{KeepsPages, ReadsPages, TalksPages, SettlesPages, CountsPageFaults, PagesHear, PagesSay};
 ghost use Rattle.gx_ports.specs.Stops.{HasStopCause};
-ghost use Rattle.gx_ports.specs.Calm.{QuietSince};
+ghost use Rattle.gx_device.specs.Quiet.{QuietSince};
 ghost use Rattle.gx_ports.specs.declared.pages.TheConstants.{PAGE_LEN, MAX_OWNER};
 
 use crate::{LeafSpec, PageView, Stop};
@@ -134,9 +134,10 @@ pub trait Pages: PageView {
         (length (Self.working p).owners ≡ (Self.ground p).size)
         × (length (Self.working p).bytes ≡ (Self.ground p).size) };
 
-    /// What calm means for what is said.
+    /// What calm means: since that content a crash leaves blocks that stand for the kept pages,
+    /// with what had been said then and a front of what has been said since.
     ghost calm_means: { (p : Self) (s : Content) → IsTrue Self.tells → Self.calm p s →
-        QuietSince s (Self.content p) };
+        QuietSince (Self.stands (Self.ground p).head (Self.kept p)) s (Self.content p) };
 
     /// What is calm since an earlier content is calm from now on.
     ghost calm_now: { (p : Self) (s : Content) → Self.calm p s → Self.calm p (Self.content p) };

@@ -1,5 +1,5 @@
-//! Tests of pages, byte for byte, and of the frames that hold them, by their public calls. There is
-//! no code here beside them.
+//! Tests of pages, byte for byte, of the frames that hold them, and of their owners on a device, by
+//! their public calls. There is no code here beside them.
 #![tactic(auto)]
 
 #[cfg(test)]
@@ -10,3 +10,5 @@ mod entry_pages;
 mod frames;
 #[cfg(test)]
 mod inner_pages;
+#[cfg(test)]
+mod owned_pages;

@@ -1,0 +1,4 @@
+pub mod Owners
+pub mod Paged
+pub mod View
+pub mod Laws

@@ -1,0 +1,81 @@
+// The numbers on a page of the table of owners.
+ghost use Rattle.std.specs.Prelude.{◌≡◌, ◌*◌, ◌%◌, ◌≤◌, length};
+ghost use Rattle.std.specs.Int.{w16, to_be_bytes};
+ghost use Rattle.gx_bytes.specs.Parts.{overwritten};
+ghost use Rattle.gx_ports.specs.declared.pages.TheConstants.{PAGE_LEN};
+ghost use Rattle.gx_pages.specs.Owners.{number_of, IsFreeBetween, IsClear};
+
+use gx_bytes::overwrite;
+use gx_ports::PAGE_LEN;
+
+/// How many pages the table has.
+pub(crate) const TABLE_PAGES: u32 = 16;
+
+/// The owner of a page of the table.
+pub(crate) const TABLE: u16 = 65535;
+
+/// The number of a page without an owner.
+pub(crate) const FREE: u16 = 0;
+
+/// How many numbers a page of the table has.
+pub(crate) const NUMBERS: u32 = 2048;
+
+const NUMBER_LEN: usize = 2;
+
+// Where the number of a page begins on its page of the table.
+fn place_of(page: u32) -> usize
+    ensures { result ≡ 2 * (page % 2048) }
+{
+    (page % NUMBERS) as usize * NUMBER_LEN
+}
+
+/// The number of a page.
+pub(crate) fn number(table: &[u8], page: u32) -> u16
+    requires { length table.now ≡ PAGE_LEN }
+    ensures { result ≡ number_of table.now page }
+{
+    let place = place_of(page);
+    u16::from_be_bytes([table[place], table[place + 1]])
+}
+
+/// Writes the number of a page.
+pub(crate) fn set_number(table: &mut [u8], page: u32, number: u16)
+    requires { length table.old ≡ PAGE_LEN }
+    ensures { table.new ≡ overwritten table.old (2 * (page % 2048)) (to_be_bytes w16 number) }
+{
+    overwrite(table, place_of(page), &number.to_be_bytes());
+}
+
+/// A page without an owner, from `from` on and before `end`. `None`: each of them has one.
+pub(crate) fn free_between(table: &[u8], from: u32, end: u32) -> Option<u32>
+    requires { length table.now ≡ PAGE_LEN }
+    ensures { IsFreeBetween table.now from end result }
+{
+    for page in from..end {
+        if number(table, page) == FREE {
+            return Some(page);
+        }
+    }
+    None
+}
+
+// The first page of the table while no page past the table has an owner.
+fn first_clear() -> [u8; PAGE_LEN]
+    ensures { IsClear 0 result }
+{
+    let mut numbers = [0; PAGE_LEN];
+    for page in 0..TABLE_PAGES {
+        set_number(&mut numbers, page, TABLE);
+    }
+    numbers
+}
+
+/// A page of the table while no page past the table has an owner.
+pub(crate) fn clear_page(table: u32) -> [u8; PAGE_LEN]
+    ensures { IsClear table result }
+{
+    if table == 0 {
+        return first_clear();
+    }
+    [0; PAGE_LEN]
+}
