@@ -1,0 +1,4 @@
+//! Chains of entry pages: each page has the number of the next one.
+#![tactic(auto)]
+
+mod read;
