@@ -1,1 +1,5 @@
 pub mod ListLemmas
+pub mod EntryLemmas
+pub mod ChainLemmas
+pub mod WriteLemmas
+pub mod WalkLemmas

@@ -1,5 +1,5 @@
 -- Members of lists, and lists whose elements are all different.
-use Rattle.std.proofs.Common.{◌≡◌, ◌≢◌, ◌⊎◌, inl, inr, ℕ, zero, suc, ◌+◌, ◌<◌, ◌≤◌, List, [], ◌∷◌, ◌++◌, length, get_or, refl, sym, ap, ◌∙◌, arith}
+use Rattle.std.proofs.Common.{◌≡◌, ◌≢◌, ◌⊎◌, inl, inr, ℕ, zero, suc, ◌+◌, ◌<◌, ◌≤◌, List, [], ◌∷◌, ◌++◌, length, get_or, refl, sym, ap, subst, ◌∙◌, arith}
 use Rattle.std.specs.List.{AllPairs, Contains}
 use Rattle.std.proofs.lemmas.Bool.{cases_eq}
 use Rattle.std.proofs.lemmas.List.{get_or_default}
@@ -55,3 +55,38 @@ pairs_cons x xs off once zero zero d less below = absurd (omega arith)
 pairs_cons x xs off once zero (suc j) d less below = let lt : j < length xs = omega arith in λ e. off (j, lt, get_or_default xs j x d lt ∙ sym e)
 pairs_cons x xs off once (suc i) zero d less below = absurd (omega arith)
 pairs_cons x xs off once (suc i) (suc j) d less below = once i j d (omega arith) (omega arith)
+
+-- ---- different numbers below n are at most n
+
+record IsWithout (x : ℕ) (xs : List ℕ) : Type 0 where
+  rest : List ℕ
+  shorter : length xs ≤ length rest + 1
+  once : AllPairs (λ a b. a ≢ b) rest
+  members : (y : ℕ) → Contains rest y → Contains xs y × (y ≢ x)
+
+take_out : (x : ℕ) (xs : List ℕ) → AllPairs (λ a b. a ≢ b) xs → IsWithout x xs
+take_out x [] u = record { rest = []; shorter = omega arith; once = u; members = λ y i. absurd (contains_none y i) }
+take_out x (z ∷ xs) u = elim (cases_eq z x) [
+  | inl e ↦ record { rest = xs; shorter = omega arith; once = pairs_tail z xs u; members = λ y i. (contains_later z y xs i, λ f. pairs_head z xs u (subst (Contains xs) (f ∙ sym e) i)) }
+  | inr d ↦ (let w = take_out x xs (pairs_tail z xs u) in record {
+    rest = z ∷ w.rest;
+    shorter = (let s = w.shorter in omega (arith, s));
+    once = pairs_cons z w.rest (λ i. pairs_head z xs u (w.members z i).0) w.once;
+    members = λ y i. elim (contains_cases z y w.rest i) [
+      | inl e ↦ (subst (Contains (z ∷ xs)) e (contains_here z xs), λ f. d (e ∙ f))
+      | inr j ↦ (let m = w.members y j in (contains_later z y xs m.0, m.1))
+    ];
+  })
+]
+
+less_of : (x n : ℕ) → x < suc n → x ≢ n → x < n
+less_of x n b d = omega (arith, b, d)
+
+pub few : (n : ℕ) (xs : List ℕ) → AllPairs (λ a b. a ≢ b) xs → ((x : ℕ) → Contains xs x → x < n) → length xs ≤ n
+few zero [] u below = omega arith
+few zero (x ∷ xs) u below = let h = below x (contains_here x xs) in omega (arith, h)
+few (suc n) xs u below =
+    let w = take_out n xs u in
+    let h = few n w.rest w.once (λ x i. (let m = w.members x i in less_of x n (below x m.0) m.1)) in
+    let s = w.shorter in
+    omega (arith, h, s)

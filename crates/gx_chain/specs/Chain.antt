@@ -1,5 +1,5 @@
 -- Chains of entry pages.
-use Rattle.std.specs.Prelude.{◌≡◌, ◌≢◌, ℕ, List, [], ◌∷◌, slice_get, slice_index_or, Some, IsTrue}
+use Rattle.std.specs.Prelude.{◌≡◌, ◌≢◌, ◌⊎◌, ℕ, List, [], ◌∷◌, slice_get, slice_index_or, Option, Some, MatchOption, IsTrue}
 use Rattle.std.specs.List.{AllPairs, Contains}
 use Rattle.gx_ports.specs.declared.page_view.PageView.{Ghosts}
 use Rattle.gx_ports.specs.Sheets.{Sheets, Ground, IsPast}
@@ -45,3 +45,15 @@ pub record IsChain (ground : Ground) (owner : ℕ) (sheets : Sheets) (first : �
 -- the pages tell what the device holds, and an entry page stands there
 abbrev pub IsEntryAt : {S : Type 0} → Ghosts S → S → ℕ → Type 0
 IsEntryAt g p page = IsTrue g.tells × IsEntryPage (bytes_at (g.working p) page)
+
+-- the number leads to a page past the table, or to none
+abbrev pub LeadsOn : Ground → ℕ → Type 0
+LeadsOn ground next = (next ≡ NONE) ⊎ IsPast ground next
+
+-- the page that a number leads to
+abbrev pub IsBehind : Ground → ℕ → Option ℕ → Type 0
+IsBehind ground next found = MatchOption found (next ≡ NONE) (λ page. (next ≡ page) × IsPast ground page)
+
+-- the pages tell what the device holds, and a chain begins there
+abbrev pub HasChain : {S : Type 0} → Ghosts S → S → ℕ → Type 0
+HasChain g p first = IsTrue g.tells × (owner : ℕ) × (pages : List ℕ) × IsChain (g.ground p) owner (g.working p) first pages

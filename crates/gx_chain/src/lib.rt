@@ -2,3 +2,5 @@
 #![tactic(auto)]
 
 mod read;
+mod walk;
+mod write;

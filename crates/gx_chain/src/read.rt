@@ -1,14 +1,14 @@
 // Pages of a chain are read.
-ghost use Rattle.std.specs.Prelude.{◌≡◌, length, IsTrue, OnOk, IsErrOf};
+ghost use Rattle.std.specs.Prelude.{◌≡◌, length, IsTrue, OnOk, IfOk, IsErrOf};
 ghost use Rattle.gx_ports.specs.declared.pages.TheConstants.{PAGE_LEN};
 ghost use Rattle.gx_ports.specs.Files.{EndsFile};
 ghost use Rattle.gx_ports.specs.PageCalls.{ReadsPages};
 ghost use Rattle.gx_ports.specs.Sheets.{IsPast};
-ghost use Rattle.gx_slots.specs.Page.{IsEntryPage};
-ghost use Rattle.gx_chain.specs.Chain.{bytes_at, IsEntryAt};
+ghost use Rattle.gx_slots.specs.Page.{IsEntryPage, next_of};
+ghost use Rattle.gx_chain.specs.Chain.{bytes_at, IsEntryAt, IsBehind, LeadsOn};
 
 use gx_ports::{PAGE_LEN, Pages, Stop};
-use gx_slots::is_entries;
+use gx_slots::{NONE, is_entries, next};
 
 /// Reads an entry page. `Damaged`: the bytes of the page are none.
 pub(crate) fn read_entries<P: Pages>(
@@ -33,4 +33,25 @@ pub(crate) fn read_entries<P: Pages>(
         return Err(Stop::Damaged(pages.block(number)));
     }
     Ok(())
+}
+
+/// The page behind this one, None where it is the last. `Damaged`: the number is that of no page past the
+/// table.
+pub(crate) fn behind<P: Pages>(pages: &P, number: u32, page: &[u8]) -> Result<Option<u32>, Stop>
+    requires number { IsPast (P.ground pages.now) number }
+    requires page { IsEntryPage page.now }
+    ensures behind { IfOk result (IsBehind (P.ground pages.now) (next_of page.now)) }
+    ensures ends { EndsFile P.PageView (LeadsOn (P.ground pages.now) (next_of page.now))
+        pages.now pages.now result }
+    ensures not_full { ¬ IsErrOf result Stop.Full }
+    ensures frugal { ¬ IsErrOf result Stop.NoMemory }
+{
+    let next = next(page);
+    if next == NONE {
+        return Ok(None);
+    }
+    if next < pages.tables() || next >= pages.pages() {
+        return Err(Stop::Damaged(pages.block(number)));
+    }
+    Ok(Some(next))
 }
