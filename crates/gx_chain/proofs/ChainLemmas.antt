@@ -35,7 +35,7 @@ linked_page s first (r ∷ rs) q l c = elim (contains_cases r q rs c) [
 ]
 
 -- one page more at the end
-linked_push : (s t : Sheets) (first : ℕ) (front : List ℕ) (last fresh : ℕ)
+pub linked_push : (s t : Sheets) (first : ℕ) (front : List ℕ) (last fresh : ℕ)
     → ((q : ℕ) → Contains front q → IsEntryPage (bytes_at s q) → IsEntryPage (bytes_at t q) × (next_at t q ≡ next_at s q))
     → IsEntryPage (bytes_at t last) → next_at t last ≡ fresh → IsEntryPage (bytes_at t fresh) → next_at t fresh ≡ NONE
     → AreLinked s first (front ++ last ∷ []) → AreLinked t first ((front ++ last ∷ []) ++ fresh ∷ [])
@@ -44,6 +44,26 @@ linked_push s t first (q ∷ qs) last fresh each page hung new_page none l =
     let here = each q (contains_here q (qs)) l.1 in
     (l.0, here.0, subst (λ n. AreLinked t n ((qs ++ last ∷ []) ++ fresh ∷ [])) (sym here.1)
     (linked_push s t (next_at s q) qs last fresh (λ r c. each r (contains_later q r qs c)) page hung new_page none l.2))
+
+-- a chain stays where its pages do
+module _ (ground : Ground) (owner first : ℕ) (s t : Sheets) (pages : List ℕ) (same : (q : ℕ) → Contains pages q → bytes_at t q ≡ bytes_at s q) where
+  pub same_on : (k b : List ℕ) → IsOn s pages k b → IsOn t pages k b
+  same_on k b on = record { page = on.page; among = on.among; here = subst (λ (x : List ℕ). Contains (entries_of x) (record { key = k; body = b })) (sym (same on.page on.among)) on.here }
+
+  pub same_on_back : (k b : List ℕ) → IsOn t pages k b → IsOn s pages k b
+  same_on_back k b on = record { page = on.page; among = on.among; here = subst (λ (x : List ℕ). Contains (entries_of x) (record { key = k; body = b })) (same on.page on.among) on.here }
+
+  pub same_chain : ((q : ℕ) → Contains pages q → slice_get t.owners q ≡ Some owner) → IsChain ground owner s first pages → IsChain ground owner t first pages
+  same_chain owned chain = record {
+    linked = relink s t first pages (λ q c page. (subst IsEntryPage (sym (same q c)) page, ap next_of (same q c))) chain.linked;
+    once = chain.once;
+    past = chain.past;
+    owned = owned;
+    filled = λ q c d none. chain.filled q c d (sym (ap entries_of (same q c)) ∙ none);
+    apart = λ q r k b c in_q in_r at_q at_r. chain.apart q r k b c in_q in_r
+        (subst (λ (x : List ℕ). Contains (entries_of x) (record { key = k; body = b })) (same q in_q) at_q)
+        (subst (λ (x : List ℕ). Contains (entries_of x) (record { key = k; body = c })) (same r in_r) at_r);
+  }
 
 -- ---- one page is written anew
 module _ (ground : Ground) (owner : ℕ) (s t : Sheets) (first : ℕ) (pages : List ℕ) (p : ℕ) (es : List Entry) (chain : IsChain ground owner s first pages) (among : Contains pages p) (w : IsRewritten p (next_at s p) es s t) where

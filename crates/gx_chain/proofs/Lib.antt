@@ -3,3 +3,4 @@ pub mod EntryLemmas
 pub mod ChainLemmas
 pub mod WriteLemmas
 pub mod WalkLemmas
+pub mod PutLemmas

@@ -56,6 +56,14 @@ pairs_cons x xs off once zero (suc j) d less below = let lt : j < length xs = om
 pairs_cons x xs off once (suc i) zero d less below = absurd (omega arith)
 pairs_cons x xs off once (suc i) (suc j) d less below = once i j d (omega arith) (omega arith)
 
+-- the last one is none of those before it
+pub pairs_last : (front : List ℕ) (x : ℕ) → AllPairs (λ a b. a ≢ b) (front ++ x ∷ []) → Contains front x → ⊥
+pairs_last [] x once c = contains_none x c
+pairs_last (y ∷ ys) x once c = elim (contains_cases y x ys c) [
+  | inl e ↦ pairs_head y (ys ++ x ∷ []) once (subst (Contains (ys ++ x ∷ [])) (sym e) (contains_middle ys x []))
+  | inr later ↦ pairs_last ys x (pairs_tail y (ys ++ x ∷ []) once) later
+]
+
 -- ---- different numbers below n are at most n
 
 record IsWithout (x : ℕ) (xs : List ℕ) : Type 0 where

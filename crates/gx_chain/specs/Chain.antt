@@ -57,3 +57,9 @@ IsBehind ground next found = MatchOption found (next ≡ NONE) (λ page. (next �
 -- the pages tell what the device holds, and a chain begins there
 abbrev pub HasChain : {S : Type 0} → Ghosts S → S → ℕ → Type 0
 HasChain g p first = IsTrue g.tells × (owner : ℕ) × (pages : List ℕ) × IsChain (g.ground p) owner (g.working p) first pages
+
+-- the same of a chain of this owner
+pub record HasChainOf {S : Type 0} (g : Ghosts S) (p : S) (owner first : ℕ) : Type 0 where
+  pub told : IsTrue g.tells
+  pub pages : List ℕ
+  pub chain : IsChain (g.ground p) owner (g.working p) first pages

@@ -1,6 +1,7 @@
 -- Where an entry is to be put.
-use Rattle.std.specs.Prelude.{◌≡◌, ◌≢◌, ℕ, ◌<◌, List, [], ◌∷◌, ◌++◌, length, Option, Some, None, is_some, if◌then◌else◌, MatchOption}
+use Rattle.std.specs.Prelude.{◌≡◌, ◌≢◌, ◌↔◌, ℕ, ◌<◌, List, [], ◌∷◌, ◌++◌, length, slice_get, Option, Some, None, is_some, if◌then◌else◌, IsTrue, MatchOption}
 use Rattle.std.specs.List.{All, Contains, HoldsAt, insert, remove}
+use Rattle.gx_ports.specs.declared.page_view.PageView.{Ghosts}
 use Rattle.gx_ports.specs.Sheets.{Sheets, Ground, IsPast}
 use Rattle.gx_slots.specs.Entries.{Entry}
 use Rattle.gx_slots.specs.Page.{IsEntryPage, entries_of, next_of}
@@ -9,8 +10,8 @@ use Rattle.gx_chain.specs.declared.walk.Trial.TheVariants.{Replaced, Crowded, Ro
 use Rattle.gx_chain.specs.declared.walk.Away.{Away}
 use Rattle.gx_chain.specs.declared.walk.Spot.{Spot}
 use Rattle.gx_chain.specs.declared.walk.Spot.TheVariants as spot
-use Rattle.gx_chain.specs.Chain.{entries_at, next_at}
-use Rattle.gx_chain.specs.Changes.{HasKey, HasRoomFor, HasRoom}
+use Rattle.gx_chain.specs.Chain.{bytes_at, entries_at, next_at, IsChain, IsOn}
+use Rattle.gx_chain.specs.Changes.{HasRoomFor}
 
 -- the entry with the key has another body
 pub record IsExchanged (old new : List Entry) (key body : List ℕ) : Type 0 where
@@ -70,3 +71,37 @@ pub record IsAwayPast (ground : Ground) (away : Away) : Type 0 where
 abbrev pub AreSpots : Ground → Spot → Type 0
 AreSpots ground (spot.Here page) = IsPast ground page
 AreSpots ground (spot.Away away) = IsAwayPast ground away
+
+-- The entry with a key was taken from a chain, if it had one. Pages that lacked the key stay.
+pub record IsDropped (ground : Ground) (owner first : ℕ) (key : List ℕ) (old new : Sheets) (pages : List ℕ) : Type 0 where
+  pub chain : IsChain ground owner new first pages
+  pub entries : (k b : List ℕ) → IsOn new pages k b ↔ ((k ≢ key) × IsOn old pages k b)
+  pub owners : new.owners ≡ old.owners
+  pub same : (page : ℕ) → All (λ entry. entry.key ≢ key) (entries_at old page) → bytes_at new page ≡ bytes_at old page
+  pub beside : (page : ℕ) → ¬ Contains pages page → slice_get new.bytes page ≡ slice_get old.bytes page
+
+-- an old entry on these pages
+abbrev pub HasOld : Sheets → List ℕ → List ℕ → Option ℕ → Type 0
+HasOld sheets key pages old = MatchOption old (LackKey sheets pages key) (λ page. Contains pages page × IsCrowded (entries_at sheets page) key)
+
+-- the pages tell what the device holds, and a chain of the owner has this old entry
+pub record IsReadyToDrop {S : Type 0} (g : Ghosts S) (p : S) (key : List ℕ) (old : Option ℕ) : Type 0 where
+  pub told : IsTrue g.tells
+  pub owner : ℕ
+  pub first : ℕ
+  pub pages : List ℕ
+  pub chain : IsChain (g.ground p) owner (g.working p) first pages
+  pub has : HasOld (g.working p) key pages old
+
+-- a chain of the owner on which an entry goes to where it was noted
+pub record IsReady (ground : Ground) (owner : ℕ) (sheets : Sheets) (first : ℕ) (key body : List ℕ) (away : Away) (pages : List ℕ) : Type 0 where
+  pub chain : IsChain ground owner sheets first pages
+  pub noted : AreNoted sheets key body pages away.old away.room
+  pub front : List ℕ
+  pub ended : pages ≡ front ++ away.last ∷ []
+
+pub record IsReadyToPut {S : Type 0} (g : Ghosts S) (p : S) (owner : ℕ) (key body : List ℕ) (away : Away) : Type 0 where
+  pub told : IsTrue g.tells
+  pub first : ℕ
+  pub pages : List ℕ
+  pub ready : IsReady (g.ground p) owner (g.working p) first key body away pages

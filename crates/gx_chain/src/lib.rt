@@ -1,6 +1,9 @@
 //! Chains of entry pages: each page has the number of the next one.
 #![tactic(auto)]
 
+mod put;
 mod read;
 mod walk;
 mod write;
+
+pub use put::put_in;

@@ -48,3 +48,16 @@ pub ends_handed_on : {S T U : Type 0} (g : Ghosts S) (sound other : Type 0) (sta
 ends_handed_on g sound other start now new why (Ok x) faults ground to ends same = absurd same
 ends_handed_on {T = T} {U = U} g sound other start now new why (Err s) faults ground to ends same =
     subst (λ x. EndsFile {T = U} g sound start new (Err x)) (sym same) (ends_err {T = T} g sound other start now new why faults ground to ends)
+
+-- a call ends as the last one in it
+pub ends_as : {S T : Type 0} (g : Ghosts S) (sound other : Type 0) (start now new : S) (result : Result T Stop) → g.faults now ≡ g.faults start → g.ground now ≡ g.ground start → (sound → other)
+    → EndsFile g other now new result → EndsFile g sound start new result
+ends_as g sound other start now new result faults ground to ends = record {
+  cause = record {
+    later = subst (λ n. n ≤ g.faults new) faults ends.cause.later;
+    fault = λ is. subst (λ n. Rose n (g.faults new)) faults (ends.cause.fault is);
+    counted = λ is. ends.cause.counted is ∙ faults;
+    damaged = λ block is whole. ends.cause.damaged block is (to whole);
+  };
+  bound = λ block is. subst (λ x. block < x.blocks) ground (ends.bound block is);
+}
