@@ -41,9 +41,12 @@ pub linked_push : (s t : Sheets) (first : ℕ) (front : List ℕ) (last fresh : 
     → AreLinked s first (front ++ last ∷ []) → AreLinked t first ((front ++ last ∷ []) ++ fresh ∷ [])
 linked_push s t first [] last fresh each page hung new_page none l = (l.0, page, (hung, new_page, none))
 linked_push s t first (q ∷ qs) last fresh each page hung new_page none l =
-    let here = each q (contains_here q (qs)) l.1 in
-    (l.0, here.0, subst (λ n. AreLinked t n ((qs ++ last ∷ []) ++ fresh ∷ [])) (sym here.1)
-    (linked_push s t (next_at s q) qs last fresh (λ r c. each r (contains_later q r qs c)) page hung new_page none l.2))
+    let here = each q (contains_here q (qs)) l.1 in (
+      l.0,
+      here.0,
+      subst (λ n. AreLinked t n ((qs ++ last ∷ []) ++ fresh ∷ [])) (sym here.1)
+          (linked_push s t (next_at s q) qs last fresh (λ r c. each r (contains_later q r qs c)) page hung new_page none l.2),
+    )
 
 -- a chain stays where its pages do
 module _ (ground : Ground) (owner first : ℕ) (s t : Sheets) (pages : List ℕ) (same : (q : ℕ) → Contains pages q → bytes_at t q ≡ bytes_at s q) where
@@ -88,7 +91,7 @@ module _ (ground : Ground) (owner : ℕ) (s t : Sheets) (first : ℕ) (pages : L
   -- Each key of the new entries stood on the page before, or on none: then it is a chain again.
   pub rewritten_chain : (p ≢ first → es ≢ [])
       → ((k b : List ℕ) → Contains es (record { key = k; body = b })
-        → ((c : List ℕ) × Contains (entries_at s p) (record { key = k; body = c })) ⊎ ((q : ℕ) (c : List ℕ) → Contains pages q → Contains (entries_at s q) (record { key = k; body = c }) → ⊥))
+      → ((c : List ℕ) × Contains (entries_at s p) (record { key = k; body = c })) ⊎ ((q : ℕ) (c : List ℕ) → Contains pages q → Contains (entries_at s q) (record { key = k; body = c }) → ⊥))
       → IsChain ground owner t first pages
   rewritten_chain full keys = record {
     linked = relink s t first pages (λ q c. linked_anew q) chain.linked;
@@ -101,19 +104,19 @@ module _ (ground : Ground) (owner : ℕ) (s t : Sheets) (first : ℕ) (pages : L
     ];
     apart = λ q r k b c in_q in_r at_q at_r. elim (cases_eq q p) [
       | inl e ↦ elim (cases_eq r p) [
-          | inl f ↦ e ∙ sym f
-          | inr f ↦ elim (keys k b (to_these q _ e at_q)) [
-              | inl old ↦ e ∙ chain.apart p r k old.0 c among in_r old.1 (to_old r _ f at_r)
-              | inr none ↦ absurd (none r c in_r (to_old r _ f at_r))
-            ]
+        | inl f ↦ e ∙ sym f
+        | inr f ↦ elim (keys k b (to_these q _ e at_q)) [
+          | inl old ↦ e ∙ chain.apart p r k old.0 c among in_r old.1 (to_old r _ f at_r)
+          | inr none ↦ absurd (none r c in_r (to_old r _ f at_r))
         ]
+      ]
       | inr d ↦ elim (cases_eq r p) [
-          | inl f ↦ elim (keys k c (to_these r _ f at_r)) [
-              | inl old ↦ chain.apart q p k b old.0 in_q among (to_old q _ d at_q) old.1 ∙ sym f
-              | inr none ↦ absurd (none q b in_q (to_old q _ d at_q))
-            ]
-          | inr f ↦ chain.apart q r k b c in_q in_r (to_old q _ d at_q) (to_old r _ f at_r)
+        | inl f ↦ elim (keys k c (to_these r _ f at_r)) [
+          | inl old ↦ chain.apart q p k b old.0 in_q among (to_old q _ d at_q) old.1 ∙ sym f
+          | inr none ↦ absurd (none q b in_q (to_old q _ d at_q))
         ]
+        | inr f ↦ chain.apart q r k b c in_q in_r (to_old q _ d at_q) (to_old r _ f at_r)
+      ]
     ];
   }
 
@@ -126,18 +129,18 @@ module _ (ground : Ground) (owner : ℕ) (s t : Sheets) (first : ℕ) (pages : L
   rewritten_on Put key to from absent k b = (
     λ on. elim (cases_eq on.page p) [
       | inl e ↦ elim (to k b (to_these on.page _ e on.here)) [
-          | inl put ↦ inl put
-          | inr old ↦ inr (old.0, record { page = p; among = among; here = old.1 })
-        ]
+        | inl put ↦ inl put
+        | inr old ↦ inr (old.0, record { page = p; among = among; here = old.1 })
+      ]
       | inr d ↦ (let here = to_old on.page _ d on.here in
-        inr (λ same. absent on.page b d on.among (subst (λ (x : List ℕ). Contains (entries_at s on.page) (record { key = x; body = b })) same here), record { page = on.page; among = on.among; here = here }))
+          inr (λ same. absent on.page b d on.among (subst (λ (x : List ℕ). Contains (entries_at s on.page) (record { key = x; body = b })) same here), record { page = on.page; among = on.among; here = here }))
     ],
     λ put. elim put [
       | inl here ↦ record { page = p; among = among; here = subst (λ (x : List Entry). Contains x (record { key = k; body = b })) (sym w.entries_are) (from k b (inl here)) }
       | inr old ↦ elim (cases_eq old.1.page p) [
-          | inl e ↦ record { page = p; among = among; here = subst (λ (x : List Entry). Contains x (record { key = k; body = b })) (sym w.entries_are) (from k b (inr (old.0, subst (λ (n : ℕ). Contains (entries_at s n) (record { key = k; body = b })) e old.1.here))) }
-          | inr d ↦ record { page = old.1.page; among = old.1.among; here = to_new old.1.page _ d old.1.here }
-        ]
+        | inl e ↦ record { page = p; among = among; here = subst (λ (x : List Entry). Contains x (record { key = k; body = b })) (sym w.entries_are) (from k b (inr (old.0, subst (λ (n : ℕ). Contains (entries_at s n) (record { key = k; body = b })) e old.1.here))) }
+        | inr d ↦ record { page = old.1.page; among = old.1.among; here = to_new old.1.page _ d old.1.here }
+      ]
     ],
   )
 

@@ -4,3 +4,4 @@ pub mod ChainLemmas
 pub mod WriteLemmas
 pub mod WalkLemmas
 pub mod PutLemmas
+pub mod CountLemmas

@@ -37,9 +37,9 @@ contains_or_not [] x = inr (contains_none x)
 contains_or_not (y ∷ xs) x = elim (cases_eq y x) [
   | inl e ↦ inl (0, omega arith, e)
   | inr d ↦ elim (contains_or_not xs x) [
-      | inl i ↦ inl (contains_later y x xs i)
-      | inr off ↦ inr (λ c. elim (contains_cases y x xs c) [ inl e ↦ d e | inr i ↦ off i ])
-    ]
+    | inl i ↦ inl (contains_later y x xs i)
+    | inr off ↦ inr (λ c. elim (contains_cases y x xs c) [ inl e ↦ d e | inr i ↦ off i ])
+  ]
 ]
 
 -- ---- elements that are all different

@@ -38,7 +38,7 @@ module _ (ground : Ground) (owner first : ℕ) (key : List ℕ) (s t : Sheets) (
     chain = subst (λ x. IsChain ground owner x first pages) (sym same) chain;
     entries = λ k b. (
       λ on. (let here = subst (λ x. IsOn x pages k b) same on in
-        (λ e. no_entry (entries_at s here.page) key b (lack here.page here.among) (subst (λ (n : List ℕ). Contains (entries_at s here.page) (record { key = n; body = b })) e here.here), here)),
+          (λ e. no_entry (entries_at s here.page) key b (lack here.page here.among) (subst (λ (n : List ℕ). Contains (entries_at s here.page) (record { key = n; body = b })) e here.here), here)),
       λ on. subst (λ x. IsOn x pages k b) (sym same) on.1,
     );
     owners = ap (λ x. x.owners) same;
@@ -55,9 +55,9 @@ module _ (ground : Ground) (owner first : ℕ) (key : List ℕ) (s t : Sheets) (
       let more = crowded.more in
       let held = entry_there es taken.place key taken.within taken.there in
       let on = rewritten_on ground owner s t first pages p (remove es taken.place) chain among w (λ _ _. ⊥) key
-          (λ k b c. inr (less_to es taken.place key distinct taken.within taken.there (record { key = k; body = b }) c))
-          (λ k b c. elim c [ inl never ↦ absurd never | inr old ↦ less_from es taken.place key distinct taken.within taken.there (record { key = k; body = b }) old ])
-          (λ q b d in_q c. d (chain.apart q p key b held.0 in_q among c held.1)) in
+      (λ k b c. inr (less_to es taken.place key distinct taken.within taken.there (record { key = k; body = b }) c))
+      (λ k b c. elim c [ inl never ↦ absurd never | inr old ↦ less_from es taken.place key distinct taken.within taken.there (record { key = k; body = b }) old ])
+      (λ q b d in_q c. d (chain.apart q p key b held.0 in_q among c held.1)) in
       record {
         chain = rewritten_chain ground owner s t first pages p (remove es taken.place) chain among w (λ _. not_empty (remove es taken.place) (omega (arith, short, more)))
             (λ k b c. inl (b, (less_to es taken.place key distinct taken.within taken.there (record { key = k; body = b }) c).1));
@@ -84,10 +84,10 @@ put_here ground owner first key body s t pages p es chain among ex w =
     let short = length-remove old ex.place ex.within in
     let within : ex.place ≤ length (remove old ex.place) = (let i = ex.within in omega (arith, short, i)) in
     let to : (k b : List ℕ) → Contains es (record { key = k; body = b }) → ((k ≡ key) × (b ≡ body)) ⊎ ((k ≢ key) × Contains old (record { key = k; body = b })) =
-        λ k b c. elim (more_to (remove old ex.place) ex.place e (record { key = k; body = b }) (subst (λ (x : List Entry). Contains x (record { key = k; body = b })) ex.is c)) [
-          | inl same ↦ inl (sym (ap (λ (x : Entry). x.key) same), sym (ap (λ (x : Entry). x.body) same))
-          | inr less ↦ inr (less_to old ex.place key distinct ex.within ex.there (record { key = k; body = b }) less)
-        ] in
+    λ k b c. elim (more_to (remove old ex.place) ex.place e (record { key = k; body = b }) (subst (λ (x : List Entry). Contains x (record { key = k; body = b })) ex.is c)) [
+      | inl same ↦ inl (sym (ap (λ (x : Entry). x.key) same), sym (ap (λ (x : Entry). x.body) same))
+      | inr less ↦ inr (less_to old ex.place key distinct ex.within ex.there (record { key = k; body = b }) less)
+    ] in
     record {
       pages = pages;
       chain = rewritten_chain ground owner s t first pages p es chain among w (λ _ none. inserted (remove old ex.place) ex.place e within (sym ex.is ∙ none))
@@ -124,16 +124,16 @@ module _ (ground : Ground) (owner first : ℕ) (key body : List ℕ) (s u t : Sh
       let e : Entry = record { key = key; body = body } in
       let es = insert old (length old) e in
       let to : (k b : List ℕ) → Contains es (record { key = k; body = b }) → ((k ≡ key) × (b ≡ body)) ⊎ ((k ≢ key) × Contains old (record { key = k; body = b })) =
-          λ k b c. elim (more_to old (length old) e (record { key = k; body = b }) c) [
-            | inl same ↦ inl (sym (ap (λ (x : Entry). x.key) same), sym (ap (λ (x : Entry). x.body) same))
-            | inr there ↦ inr (other_key p k b among there, there)
-          ] in
+      λ k b c. elim (more_to old (length old) e (record { key = k; body = b }) c) [
+        | inl same ↦ inl (sym (ap (λ (x : Entry). x.key) same), sym (ap (λ (x : Entry). x.body) same))
+        | inr there ↦ inr (other_key p k b among there, there)
+      ] in
       let on = rewritten_on ground owner u t first pages p es d.chain among w (λ k b. (k ≡ key) × (b ≡ body)) key to
-          (λ k b c. more_from old (length old) e (record { key = k; body = b }) (elim c [
-            | inl same ↦ inl (λ j. record { key = sym same.0 j; body = sym same.1 j })
-            | inr there ↦ inr there.1
-          ]))
-          (λ q b _ in_q c. gone q b in_q c) in
+      (λ k b c. more_from old (length old) e (record { key = k; body = b }) (elim c [
+        | inl same ↦ inl (λ j. record { key = sym same.0 j; body = sym same.1 j })
+        | inr there ↦ inr there.1
+      ]))
+      (λ q b _ in_q c. gone q b in_q c) in
       record {
         pages = pages;
         chain = rewritten_chain ground owner u t first pages p es d.chain among w (λ _. inserted old (length old) e (omega arith))
@@ -227,10 +227,10 @@ module _ (ground : Ground) (owner first : ℕ) (s u : Sheets) (pages : List ℕ)
       linked = subst (λ (x : List ℕ). AreLinked t first (x ++ fresh ∷ [])) (sym ended)
           (linked_push v t first front last fresh
           (λ q c page. (
-            let off : q ≢ last = λ e. pairs_last front last (subst (AllPairs (λ a b. a ≢ b)) ended chain.once) (subst (Contains front) e c) in
-            let new : q ≢ fresh = λ e. fresh_off (subst (Contains pages) e (subst (λ (x : List ℕ). Contains x q) (sym ended) (Contains-append_left front (last ∷ []) q c))) in
-            let same = at_other v t q (bytes_stay q off new) in
-            (subst IsEntryPage (sym same) page, ap next_of same)))
+          let off : q ≢ last = λ e. pairs_last front last (subst (AllPairs (λ a b. a ≢ b)) ended chain.once) (subst (Contains front) e c) in
+          let new : q ≢ fresh = λ e. fresh_off (subst (Contains pages) e (subst (λ (x : List ℕ). Contains x q) (sym ended) (Contains-append_left front (last ∷ []) q c))) in
+          let same = at_other v t q (bytes_stay q off new) in
+          (subst IsEntryPage (sym same) page, ap next_of same)))
           a.hung.is_page a.hung.next_is fresh_page.0 fresh_page.1
           (subst (AreLinked v first) ended d.chain.linked));
       once = all_pairs_push (λ a b. a ≢ b) pages fresh chain.once (λ k d below e. fresh_off (subst (Contains pages) e (Contains-get_or pages k d below)));
@@ -245,13 +245,13 @@ module _ (ground : Ground) (owner first : ℕ) (s u : Sheets) (pages : List ℕ)
       ];
       apart = λ q r k b c in_q in_r at_q at_r. elim (Contains-push_cases pages fresh q in_q) [
         | inl old_q ↦ elim (Contains-push_cases pages fresh r in_r) [
-            | inl old_r ↦ d.chain.apart q r k b c old_q old_r (to_old q _ old_q at_q) (to_old r _ old_r at_r)
-            | inr e ↦ absurd (absent q k b old_q (on_fresh r k c e at_r).0 at_q)
-          ]
+          | inl old_r ↦ d.chain.apart q r k b c old_q old_r (to_old q _ old_q at_q) (to_old r _ old_r at_r)
+          | inr e ↦ absurd (absent q k b old_q (on_fresh r k c e at_r).0 at_q)
+        ]
         | inr e ↦ elim (Contains-push_cases pages fresh r in_r) [
-            | inl old_r ↦ absurd (absent r k c old_r (on_fresh q k b e at_q).0 at_r)
-            | inr f ↦ sym e ∙ f
-          ]
+          | inl old_r ↦ absurd (absent r k c old_r (on_fresh q k b e at_q).0 at_r)
+          | inr f ↦ sym e ∙ f
+        ]
       ];
     }
 
@@ -267,7 +267,7 @@ module _ (ground : Ground) (owner first : ℕ) (s u : Sheets) (pages : List ℕ)
         λ o. elim o [
           | inl put ↦ record { page = fresh; among = Contains-push pages fresh; here = subst (λ (x : List Entry). Contains x (record { key = k; body = b })) (sym at_fresh) (0, omega arith, λ j. record { key = sym put.0 j; body = sym put.1 j }) }
           | inr r ↦ (let was = (d.entries k b).1 (r.0, same_on ground owner first s u pages claimed_same k b r.1) in
-            record { page = was.page; among = Contains-append_left pages (fresh ∷ []) was.page was.among; here = subst (λ (x : List Entry). Contains x (record { key = k; body = b })) (sym (at_page was.page was.among)) was.here })
+              record { page = was.page; among = Contains-append_left pages (fresh ∷ []) was.page was.among; here = subst (λ (x : List Entry). Contains x (record { key = k; body = b })) (sym (at_page was.page was.among)) was.here })
         ],
       );
       beside = record {

@@ -33,13 +33,16 @@ HasFirst sheets all first = (h : IsAtHand sheets all 0 first) × (h.front ≡ []
 
 pub hand_first : (sheets : Sheets) (first : ℕ) (all : List ℕ) → first ≢ NONE → AreLinked sheets first all → HasFirst sheets all first
 hand_first sheets first [] some l = absurd (some l)
-hand_first sheets first (q ∷ qs) some l = (record {
-  front = [];
-  rest = qs;
-  is = ap (λ n. n ∷ qs) (sym l.0);
-  linked = (refl, subst (λ n. IsEntryPage (bytes_at sheets n)) (sym l.0) l.1, subst (λ n. AreLinked sheets (next_at sheets n) qs) (sym l.0) l.2);
-  steps = refl;
-}, refl)
+hand_first sheets first (q ∷ qs) some l = (
+  record {
+    front = [];
+    rest = qs;
+    is = ap (λ n. n ∷ qs) (sym l.0);
+    linked = (refl, subst (λ n. IsEntryPage (bytes_at sheets n)) (sym l.0) l.1, subst (λ n. AreLinked sheets (next_at sheets n) qs) (sym l.0) l.2);
+    steps = refl;
+  },
+  refl,
+)
 
 pub hand_in : (sheets : Sheets) (all : List ℕ) (done number : ℕ) → IsAtHand sheets all done number → Contains all number
 hand_in sheets all done number h = subst (λ (x : List ℕ). Contains x number) (sym h.is) (contains_middle h.front number h.rest)
@@ -51,13 +54,16 @@ HasNext sheets all done number front next = (k : IsAtHand sheets all (done + 1) 
 hand_moved : (sheets : Sheets) (all front rest : List ℕ) (done number next : ℕ) → next ≢ NONE → all ≡ front ++ number ∷ rest → length front ≡ done → AreLinked sheets next rest
     → HasNext sheets all done number front next
 hand_moved sheets all front [] done number next some is steps l = absurd (some l)
-hand_moved sheets all front (q ∷ qs) done number next some is steps l = (record {
-  front = front ++ number ∷ [];
-  rest = qs;
-  is = is ∙ sym (append_assoc front (number ∷ []) (q ∷ qs)) ∙ ap (λ n. (front ++ number ∷ []) ++ n ∷ qs) (sym l.0);
-  linked = (refl, subst (λ n. IsEntryPage (bytes_at sheets n)) (sym l.0) l.1, subst (λ n. AreLinked sheets (next_at sheets n) qs) (sym l.0) l.2);
-  steps = omega (arith, length-append front (number ∷ []), steps);
-}, refl)
+hand_moved sheets all front (q ∷ qs) done number next some is steps l = (
+  record {
+    front = front ++ number ∷ [];
+    rest = qs;
+    is = is ∙ sym (append_assoc front (number ∷ []) (q ∷ qs)) ∙ ap (λ n. (front ++ number ∷ []) ++ n ∷ qs) (sym l.0);
+    linked = (refl, subst (λ n. IsEntryPage (bytes_at sheets n)) (sym l.0) l.1, subst (λ n. AreLinked sheets (next_at sheets n) qs) (sym l.0) l.2);
+    steps = omega (arith, length-append front (number ∷ []), steps);
+  },
+  refl,
+)
 
 pub hand_next : (sheets : Sheets) (all : List ℕ) (done number next : ℕ) (h : IsAtHand sheets all done number) → next ≢ NONE → next_at sheets number ≡ next → HasNext sheets all done number h.front next
 hand_next sheets all done number next h some is = hand_moved sheets all h.front h.rest done number next some h.is h.steps (subst (λ n. AreLinked sheets n h.rest) is h.linked.2)
@@ -71,7 +77,7 @@ pub hand_last : (ground : Ground) (owner : ℕ) (sheets : Sheets) (first : ℕ) 
     → all ≡ h.front ++ number ∷ []
 hand_last ground owner sheets first all done number chain few_pages h none =
     let ended : h.rest ≡ [] = none_behind ground sheets h.rest (next_at sheets number) none few_pages
-        (λ q c. chain.past q (subst (λ (x : List ℕ). Contains x q) (sym h.is) (Contains-append_right h.front (number ∷ h.rest) q (contains_later number q h.rest c)))) h.linked.2 in
+    (λ q c. chain.past q (subst (λ (x : List ℕ). Contains x q) (sym h.is) (Contains-append_right h.front (number ∷ h.rest) q (contains_later number q h.rest c)))) h.linked.2 in
     h.is ∙ ap (λ (x : List ℕ). h.front ++ number ∷ x) ended
 
 -- so many pages can't be on the way

@@ -3,7 +3,7 @@ use Rattle.std.specs.Prelude.{◌≡◌, ◌≢◌, ◌↔◌, ◌⊎◌, ℕ, �
 use Rattle.std.specs.List.{All, Contains, HoldsAt, insert, remove}
 use Rattle.gx_bytes.specs.declared.page.TheConstants.{NONE}
 use Rattle.gx_ports.specs.declared.page_view.PageView.{Ghosts}
-use Rattle.gx_ports.specs.Sheets.{Sheets, Ground, IsOwnedAnew}
+use Rattle.gx_ports.specs.Sheets.{Sheets, Ground, IsClaimed, IsOwnedAnew}
 use Rattle.gx_slots.specs.Entries.{Entry}
 use Rattle.gx_slots.specs.Page.{IsEntryPage, used_by}
 use Rattle.gx_chain.specs.Chain.{bytes_at, entries_at, next_at, IsChain, IsOn}
@@ -90,3 +90,9 @@ HasKeyAt g p page key = IsTrue g.tells × HasKey (g.working p) page key
 
 abbrev pub HasRoomAt : {S : Type 0} → Ghosts S → S → ℕ → List ℕ → List ℕ → Type 0
 HasRoomAt g p page key body = IsTrue g.tells × HasRoom (g.working p) page key body
+
+-- a free page was given to the owner, and is an empty entry page
+pub record IsMade (ground : Ground) (owner first : ℕ) (old new : Sheets) : Type 0 where
+  pub between : Sheets
+  pub claimed : IsClaimed first owner ground old between
+  pub written : IsRewritten first NONE [] between new

@@ -57,10 +57,18 @@ fn try_entry(page: &mut [u8], key: &[u8], body: &[u8]) -> Trial
     ensures next { next_of page.new ≡ next_of page.old }
 {
     let Some(place) = find(page, key) else {
-        return if add_last(page, key, body) { Trial::Room } else { Trial::Other };
+        return if add_last(page, key, body) {
+            Trial::Room
+        } else {
+            Trial::Other
+        };
     };
     take(page, place);
-    if add(page, place, key, body) { Trial::Replaced } else { Trial::Crowded }
+    if add(page, place, key, body) {
+        Trial::Replaced
+    } else {
+        Trial::Crowded
+    }
 }
 
 // What a page adds to what is known.
@@ -68,8 +76,14 @@ fn note(away: Away, trial: Trial) -> Away
     ensures { result ≡ noted away trial }
 {
     match trial {
-        Trial::Crowded => Away { old: Some(away.last), ..away },
-        Trial::Room if away.room.is_none() => Away { room: Some(away.last), ..away },
+        Trial::Crowded => Away {
+            old: Some(away.last),
+            ..away
+        },
+        Trial::Room if away.room.is_none() => Away {
+            room: Some(away.last),
+            ..away
+        },
         _ => away,
     }
 }

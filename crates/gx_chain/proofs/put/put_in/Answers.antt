@@ -33,7 +33,7 @@ returns-in-Away-clause-put g c told before chain =
     let reads = c.find_spot.ensures.reads in
     let spot = subst (IsSpot s c.args.key.now c.args.body.now before c.find_spot.new.page) c.in-Away.is (c.in_ok-number.ensures.found told c.args.owner before chain) in
     let ready : IsReady (g.P.PageView.ground p) c.args.owner s c.args.first c.args.key.now c.args.body.now c.in-Away.away before =
-        record { chain = chain; noted = spot.0; front = spot.1.0; ended = spot.1.1 } in
+    record { chain = chain; noted = spot.0; front = spot.1.0; ended = spot.1.1 } in
     subst (λ (x : Ground). OnOk c.put_away.result (IsPutIn x c.args.owner c.args.first c.args.key.now c.args.body.now s t before)) reads.keeps.ground
     (subst (λ (x : Sheets). OnOk c.put_away.result (IsPutIn (g.P.PageView.ground q) c.args.owner c.args.first c.args.key.now c.args.body.now x t before)) reads.working
     (c.put_away.ensures.put told c.args.first before

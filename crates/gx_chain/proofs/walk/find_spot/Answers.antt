@@ -41,12 +41,14 @@ returns-in-Replaced-clause-found g c told owner all chain =
     let i = c.loop.invariant in
     let s = g.P.PageView.working c.args.pages.now in
     let n = i.way told owner all chain in
-    let read = c.in_ok-read_entries.ensures.bytes told ∙ ap (λ x. bytes_at x c.loop.away.last) i.reads.working in
-    (hand_in s all c.loop.counter c.loop.away.last n.hand, record {
-      is_page = c.try_entry-trial.ensures.page;
-      entries_are = subst (λ b. IsExchanged (entries_of b) (entries_of c.try_entry-trial.new.page) c.args.key.now c.args.body.now) read c.in-Replaced.ensures.trial;
-      next_is = c.try_entry-trial.ensures.next ∙ ap next_of read;
-    })
+    let read = c.in_ok-read_entries.ensures.bytes told ∙ ap (λ x. bytes_at x c.loop.away.last) i.reads.working in (
+      hand_in s all c.loop.counter c.loop.away.last n.hand,
+      record {
+        is_page = c.try_entry-trial.ensures.page;
+        entries_are = subst (λ b. IsExchanged (entries_of b) (entries_of c.try_entry-trial.new.page) c.args.key.now c.args.body.now) read c.in-Replaced.ensures.trial;
+        next_is = c.try_entry-trial.ensures.next ∙ ap next_of read;
+      },
+    )
 
 pub returns-in_err-behind-clause-ends : goal.returns-in_err-behind-clause-ends
 returns-in_err-behind-clause-ends g c =
@@ -58,10 +60,10 @@ returns-in_err-behind-clause-ends g c =
     ends_handed_on g.P.PageView (HasChain g.P.PageView c.args.pages.now c.args.first) (LeadsOn (g.P.PageView.ground now) (next_of c.try_entry-trial.new.page)) c.args.pages.now now now _ c.from_residual-in_err-behind.result
     (c.in_ok-read_entries.ensures.ends.cause.counted refl ∙ i.faults) reads.keeps.ground
     (λ has. (let n = i.way has.0 has.1 has.2 has.3 in
-      let read = c.in_ok-read_entries.ensures.bytes has.0 ∙ ap (λ x. bytes_at x c.loop.away.last) i.reads.working in
-      let next = c.try_entry-trial.ensures.next ∙ ap next_of read in
-      subst (λ x. LeadsOn x (next_of c.try_entry-trial.new.page)) (sym reads.keeps.ground)
-      (subst (LeadsOn ground) (sym next) (hand_leads ground has.1 s c.args.first has.2 c.loop.counter c.loop.away.last has.3 n.hand))))
+    let read = c.in_ok-read_entries.ensures.bytes has.0 ∙ ap (λ x. bytes_at x c.loop.away.last) i.reads.working in
+    let next = c.try_entry-trial.ensures.next ∙ ap next_of read in
+    subst (λ x. LeadsOn x (next_of c.try_entry-trial.new.page)) (sym reads.keeps.ground)
+    (subst (LeadsOn ground) (sym next) (hand_leads ground has.1 s c.args.first has.2 c.loop.counter c.loop.away.last has.3 n.hand))))
     c.in_err-behind.ensures.ends c.from_residual-in_err-behind.ensures.1
 
 pub returns-in-None-clause-found : goal.returns-in-None-clause-found
@@ -76,10 +78,9 @@ returns-in-None-clause-found g c told owner all chain =
     let none : next_of c.try_entry-trial.new.page ≡ NONE = MatchOption-at_none _ _ c.in-None.is c.in_ok-behind.ensures.behind in
     let all_is = hand_last ground owner s c.args.first all c.loop.counter c.loop.away.last chain few_pages n.hand (sym next ∙ none) in
     let trial = subst (λ b. IsTrial c.try_entry-trial.result (entries_of b) (entries_of c.try_entry-trial.new.page) c.args.key.now c.args.body.now) read c.try_entry-trial.ensures.trial in
-    let more = noted_more s c.args.key.now c.args.body.now n.hand.front c.loop.away.last c.loop.away c.try_entry-trial.result (entries_of c.try_entry-trial.new.page) refl c.in_default.not-Replaced trial n.noted in
-    (
+    let more = noted_more s c.args.key.now c.args.body.now n.hand.front c.loop.away.last c.loop.away c.try_entry-trial.result (entries_of c.try_entry-trial.new.page) refl c.in_default.not-Replaced trial n.noted in (
       subst (λ (a : Away). AreNoted s c.args.key.now c.args.body.now all a.old a.room) (sym c.note-away.ensures)
-      (subst (λ (x : List ℕ). AreNoted s c.args.key.now c.args.body.now x (noted c.loop.away c.try_entry-trial.result).old (noted c.loop.away c.try_entry-trial.result).room) (sym all_is) more),
+          (subst (λ (x : List ℕ). AreNoted s c.args.key.now c.args.body.now x (noted c.loop.away c.try_entry-trial.result).old (noted c.loop.away c.try_entry-trial.result).room) (sym all_is) more),
       (n.hand.front, all_is ∙ ap (λ q. n.hand.front ++ q ∷ []) (sym (ap (λ (a : Away). a.last) c.note-away.ensures ∙ noted_last c.loop.away c.try_entry-trial.result))),
     )
 
@@ -98,16 +99,16 @@ loop-preserved g c =
       faults = c.in_ok-read_entries.ensures.ends.cause.counted refl ∙ i.faults;
       past = record { old = past.old; room = past.room; last = past_next };
       way = λ told owner all chain. (let n = i.way told owner all chain in
-        let read = c.in_ok-read_entries.ensures.bytes told ∙ ap (λ x. bytes_at x c.loop.away.last) i.reads.working in
-        let next = c.try_entry-trial.ensures.next ∙ ap next_of read in
-        let trial = subst (λ b. IsTrial c.try_entry-trial.result (entries_of b) (entries_of c.try_entry-trial.new.page) c.args.key.now c.args.body.now) read c.try_entry-trial.ensures.trial in
-        let more = noted_more s c.args.key.now c.args.body.now n.hand.front c.loop.away.last c.loop.away c.try_entry-trial.result (entries_of c.try_entry-trial.new.page) refl c.in_default.not-Replaced trial n.noted in
-        let h = hand_next s all c.loop.counter c.loop.away.last c.in-Some.next n.hand (is_some_page ground c.in-Some.next few_pages past_next) (sym next ∙ led.0) in
-        record {
-          hand = h.0;
-          noted = subst (λ (f : List ℕ). AreNoted s c.args.key.now c.args.body.now f c.note-away.result.old c.note-away.result.room) (sym h.1)
-              (subst (λ (a : Away). AreNoted s c.args.key.now c.args.body.now (n.hand.front ++ c.loop.away.last ∷ []) a.old a.room) (sym c.note-away.ensures) more);
-        });
+          let read = c.in_ok-read_entries.ensures.bytes told ∙ ap (λ x. bytes_at x c.loop.away.last) i.reads.working in
+          let next = c.try_entry-trial.ensures.next ∙ ap next_of read in
+          let trial = subst (λ b. IsTrial c.try_entry-trial.result (entries_of b) (entries_of c.try_entry-trial.new.page) c.args.key.now c.args.body.now) read c.try_entry-trial.ensures.trial in
+          let more = noted_more s c.args.key.now c.args.body.now n.hand.front c.loop.away.last c.loop.away c.try_entry-trial.result (entries_of c.try_entry-trial.new.page) refl c.in_default.not-Replaced trial n.noted in
+          let h = hand_next s all c.loop.counter c.loop.away.last c.in-Some.next n.hand (is_some_page ground c.in-Some.next few_pages past_next) (sym next ∙ led.0) in
+          record {
+            hand = h.0;
+            noted = subst (λ (f : List ℕ). AreNoted s c.args.key.now c.args.body.now f c.note-away.result.old c.note-away.result.room) (sym h.1)
+                (subst (λ (a : Away). AreNoted s c.args.key.now c.args.body.now (n.hand.front ++ c.loop.away.last ∷ []) a.old a.room) (sym c.note-away.ensures) more);
+          });
     }
 
 pub returns-clause-ends : goal.returns-clause-ends
@@ -120,10 +121,10 @@ returns-clause-ends g c =
         fault = λ is. absurd (cc);
         counted = λ is. i.faults;
         damaged = λ block is has. (let n = i.way has.0 has.1 has.2 has.3 in
-          let less = hand_ends ground has.1 (g.P.PageView.working c.args.pages.now) c.args.first has.2 c.loop.counter c.loop.away.last has.3 n.hand in
-          let over = c.loop-test.false in
-          omega (arith, less, over, c.pages-end.ensures));
+            let less = hand_ends ground has.1 (g.P.PageView.working c.args.pages.now) c.args.first has.2 c.loop.counter c.loop.away.last has.3 n.hand in
+            let over = c.loop-test.false in
+            omega (arith, less, over, c.pages-end.ensures));
       };
       bound = λ block is. (let same : c.block.result ≡ block = cc in
-        subst (λ n. n < ground.blocks) same (subst (λ x. c.block.result < x.blocks) i.reads.keeps.ground c.block.ensures.below));
+          subst (λ n. n < ground.blocks) same (subst (λ x. c.block.result < x.blocks) i.reads.keeps.ground c.block.ensures.below));
     }
