@@ -5,3 +5,4 @@ pub mod WriteLemmas
 pub mod WalkLemmas
 pub mod PutLemmas
 pub mod CountLemmas
+pub mod RemoveLemmas

@@ -3,7 +3,7 @@ use Rattle.std.proofs.Common.{◌≡◌, ◌≢◌, ◌⊎◌, inl, inr, ℕ, ze
 use Rattle.std.specs.List.{AllPairs, Contains}
 use Rattle.std.proofs.lemmas.Bool.{cases_eq}
 use Rattle.std.proofs.lemmas.List.{get_or_default}
-use Rattle.std.proofs.lemmas.List.Elements.{Contains-append_cases, Contains-append_right}
+use Rattle.std.proofs.lemmas.List.Elements.{Contains-append_cases, Contains-append_left, Contains-append_right}
 
 pub contains_here : {X : Type 0} (x : X) (xs : List X) → Contains (x ∷ xs) x
 contains_here x xs = (0, omega arith, refl)
@@ -64,6 +64,44 @@ pairs_last (y ∷ ys) x once c = elim (contains_cases y x ys c) [
   | inr later ↦ pairs_last ys x (pairs_tail y (ys ++ x ∷ []) once) later
 ]
 
+-- those of a front are different
+pub pairs_front : (front rest : List ℕ) → AllPairs (λ a b. a ≢ b) (front ++ rest) → AllPairs (λ a b. a ≢ b) front
+pairs_front [] rest once = λ i j d less below. absurd (omega arith)
+pairs_front (y ∷ ys) rest once = pairs_cons y ys (λ c. pairs_head y (ys ++ rest) once (Contains-append_left ys rest y c)) (pairs_front ys rest (pairs_tail y (ys ++ rest) once))
+
+-- and none of them stands behind
+pub pairs_across : (others : List ℕ) (q : ℕ) (rest : List ℕ) → AllPairs (λ a b. a ≢ b) ((others ++ q ∷ []) ++ rest) → Contains rest q → ⊥
+pairs_across [] q rest once c = pairs_head q rest once c
+pairs_across (y ∷ ys) q rest once c = pairs_across ys q rest (pairs_tail y ((ys ++ q ∷ []) ++ rest) once) c
+
+-- ---- one of different numbers is left out
+
+pub without_to : (front : List ℕ) (x : ℕ) (rest : List ℕ) (y : ℕ) → Contains (front ++ rest) y → Contains (front ++ x ∷ rest) y
+without_to front x rest y c = elim (Contains-append_cases front rest y c) [
+  | inl i ↦ Contains-append_left front (x ∷ rest) y i
+  | inr i ↦ Contains-append_right front (x ∷ rest) y (contains_later x y rest i)
+]
+
+pub without_from : (front : List ℕ) (x : ℕ) (rest : List ℕ) (y : ℕ) → y ≢ x → Contains (front ++ x ∷ rest) y → Contains (front ++ rest) y
+without_from front x rest y d c = elim (middle_cases front x rest y c) [
+  | inl i ↦ Contains-append_left front rest y i
+  | inr i ↦ elim i [
+      | inl e ↦ absurd (d (sym e))
+      | inr j ↦ Contains-append_right front rest y j
+    ]
+]
+
+pub without_once : (front : List ℕ) (x : ℕ) (rest : List ℕ) → AllPairs (λ a b. a ≢ b) (front ++ x ∷ rest) → AllPairs (λ a b. a ≢ b) (front ++ rest)
+without_once [] x rest once = pairs_tail x rest once
+without_once (y ∷ ys) x rest once = pairs_cons y (ys ++ rest) (λ c. pairs_head y (ys ++ x ∷ rest) once (without_to ys x rest y c)) (without_once ys x rest (pairs_tail y (ys ++ x ∷ rest) once))
+
+pub without_off : (front : List ℕ) (x : ℕ) (rest : List ℕ) → AllPairs (λ a b. a ≢ b) (front ++ x ∷ rest) → Contains (front ++ rest) x → ⊥
+without_off [] x rest once c = pairs_head x rest once c
+without_off (y ∷ ys) x rest once c = elim (contains_cases y x (ys ++ rest) c) [
+  | inl e ↦ pairs_head y (ys ++ x ∷ rest) once (subst (Contains (ys ++ x ∷ rest)) (sym e) (contains_middle ys x rest))
+  | inr later ↦ without_off ys x rest (pairs_tail y (ys ++ x ∷ rest) once) later
+]
+
 -- ---- different numbers below n are at most n
 
 record IsWithout (x : ℕ) (xs : List ℕ) : Type 0 where
@@ -98,3 +136,7 @@ few (suc n) xs u below =
     let h = few n w.rest w.once (λ x i. (let m = w.members x i in less_of x n (below x m.0) m.1)) in
     let s = w.shorter in
     omega (arith, h, s)
+
+pub no_length : {X : Type 0} (xs : List X) → length xs ≡ 0 → xs ≡ []
+no_length [] e = refl
+no_length (x ∷ xs) e = absurd (omega arith)

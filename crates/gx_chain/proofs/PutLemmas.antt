@@ -46,26 +46,30 @@ module _ (ground : Ground) (owner first : ℕ) (key : List ℕ) (s t : Sheets) (
     beside = λ q _. ap (λ x. slice_get x.bytes q) same;
   }
 
-  pub dropped_some : (p : ℕ) → Contains pages p → IsCrowded (entries_at s p) key → IsTaken p key s t → IsDropped ground owner first key s t pages
-  dropped_some p among crowded taken =
+  pub dropped_at : (p : ℕ) → Contains pages p → (taken : IsTaken p key s t) → (p ≢ first → remove (entries_at s p) taken.place ≢ []) → IsDropped ground owner first key s t pages
+  dropped_at p among taken full =
       let w = taken.rewritten in
       let es = entries_at s p in
       let distinct = page_distinct s p (linked_page s first pages p chain.linked among) in
-      let short = length-remove es taken.place taken.within in
-      let more = crowded.more in
       let held = entry_there es taken.place key taken.within taken.there in
       let on = rewritten_on ground owner s t first pages p (remove es taken.place) chain among w (λ _ _. ⊥) key
       (λ k b c. inr (less_to es taken.place key distinct taken.within taken.there (record { key = k; body = b }) c))
       (λ k b c. elim c [ inl never ↦ absurd never | inr old ↦ less_from es taken.place key distinct taken.within taken.there (record { key = k; body = b }) old ])
       (λ q b d in_q c. d (chain.apart q p key b held.0 in_q among c held.1)) in
       record {
-        chain = rewritten_chain ground owner s t first pages p (remove es taken.place) chain among w (λ _. not_empty (remove es taken.place) (omega (arith, short, more)))
+        chain = rewritten_chain ground owner s t first pages p (remove es taken.place) chain among w full
             (λ k b c. inl (b, (less_to es taken.place key distinct taken.within taken.there (record { key = k; body = b }) c).1));
         entries = λ k b. (λ o. elim ((on k b).0 o) [ inl never ↦ absurd never | inr r ↦ r ], λ o. (on k b).1 (inr o));
         owners = w.owners;
         same = λ q lack. at_other s t q (w.others q (λ e. no_entry (entries_at s p) key held.0 (subst (λ n. All (λ (x : Entry). x.key ≢ key) (entries_at s n)) e lack) held.1));
         beside = λ q off. w.others q (λ e. off (subst (Contains pages) (sym e) among));
       }
+
+  pub dropped_some : (p : ℕ) → Contains pages p → IsCrowded (entries_at s p) key → IsTaken p key s t → IsDropped ground owner first key s t pages
+  dropped_some p among crowded taken =
+      let short = length-remove (entries_at s p) taken.place taken.within in
+      let more = crowded.more in
+      dropped_at p among taken (λ _. not_empty (remove (entries_at s p) taken.place) (omega (arith, short, more)))
 
 pub has_key : (ground : Ground) (owner first : ℕ) (key : List ℕ) (s : Sheets) (pages : List ℕ) → IsChain ground owner s first pages → (p : ℕ) (old : Option ℕ) → old ≡ Some p → HasOld s key pages old → HasKey s p key
 has_key ground owner first key s pages chain p old is has =

@@ -14,6 +14,7 @@ use Rattle.gx_chain.specs.declared.walk.Trial.TheVariants.{Replaced, Crowded, Ro
 use Rattle.gx_chain.specs.declared.walk.Away.{Away}
 use Rattle.gx_chain.specs.Chain.{bytes_at, entries_at, next_at, AreLinked, IsChain, LeadsOn, HasChain, IsEntryAt}
 use Rattle.gx_chain.specs.Changes.{HasRoomFor}
+use Rattle.gx_chain.specs.Seek.{IsPrevious}
 use Rattle.gx_chain.specs.Walk.{IsTrial, IsCrowded, IsAwayPast, AreNoted, LackKey, noted}
 use Rattle.gx_chain.proofs.ListLemmas.{contains_here, contains_later, contains_middle, contains_none, few}
 
@@ -102,10 +103,10 @@ is_some_page ground page few_pages past same = let below = past.below in omega (
 
 -- ---- what is noted on the way
 
-lack_none : (sheets : Sheets) (key : List ℕ) → LackKey sheets [] key
+pub lack_none : (sheets : Sheets) (key : List ℕ) → LackKey sheets [] key
 lack_none sheets key q c = absurd (contains_none q c)
 
-lack_more : (sheets : Sheets) (key : List ℕ) (front : List ℕ) (last : ℕ) → LackKey sheets front key → All (λ entry. entry.key ≢ key) (entries_at sheets last) → LackKey sheets (front ++ last ∷ []) key
+pub lack_more : (sheets : Sheets) (key : List ℕ) (front : List ℕ) (last : ℕ) → LackKey sheets front key → All (λ entry. entry.key ≢ key) (entries_at sheets last) → LackKey sheets (front ++ last ∷ []) key
 lack_more sheets key front last lack here q c = elim (Contains-push_cases front last q c) [
   | inl before ↦ lack q before
   | inr same ↦ subst (λ n. All (λ (e : Entry). e.key ≢ key) (entries_at sheets n)) same here
@@ -182,3 +183,18 @@ noted_past ground away Replaced p = p
 noted_past ground away Crowded p = record { old = p.last; room = p.room; last = p.last }
 noted_past ground away Room p = room_past ground away.old away.room away.last p
 noted_past ground away Other p = p
+
+-- ---- a walk to an entry
+
+-- the page at hand, and none before it has the key
+pub record IsSoughtSo (sheets : Sheets) (key : List ℕ) (all : List ℕ) (done number : ℕ) (previous : Option ℕ) : Type 0 where
+  pub hand : IsAtHand sheets all done number
+  pub lacks : LackKey sheets hand.front key
+  pub before : IsPrevious hand.front previous
+
+pub record IsSeeking {S : Type 0} (g : Ghosts S) (first : ℕ) (key : List ℕ) (start now : S) (done number : ℕ) (previous : Option ℕ) : Type 0 where
+  pub reads : ReadsPages g start now
+  pub faults : g.faults now ≡ g.faults start
+  pub past : IsPast (g.ground start) number
+  pub past_before : MatchOption previous (Unit {0}) (IsPast (g.ground start))
+  pub way : IsTrue g.tells → (owner : ℕ) (all : List ℕ) → IsChain (g.ground start) owner (g.working start) first all → IsSoughtSo (g.working start) key all done number previous

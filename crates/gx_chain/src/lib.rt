@@ -4,8 +4,11 @@
 mod make;
 mod put;
 mod read;
+mod remove;
+mod seek;
 mod walk;
 mod write;
 
 pub use make::make_first;
 pub use put::put_in;
+pub use remove::remove_from;

@@ -11,14 +11,16 @@ use Rattle.gx_ports.specs.declared.pages.Place.{Place}
 use Rattle.gx_ports.specs.declared.page_view.PageView.{Ghosts}
 use Rattle.gx_ports.specs.declared.stop.Stop.{Stop}
 use Rattle.gx_ports.specs.declared.stop.Stop.TheVariants as stop
-use Rattle.gx_ports.specs.Files.{SameFor, OthersStay, EndsFile, IsVacant, page_count}
+use Rattle.gx_ports.specs.Files.{SameFor, OthersStay, EndsFile, IsVacant, ClaimsRoots, page_count}
+use Rattle.gx_ports.specs.Roots.{roots_of, roots_of_kind}
+use Rattle.gx_ports.specs.declared.kinds.LeafKind.TheVariants as kinds
 use Rattle.gx_ports.specs.LeafMaps.{LeafMap}
 use Rattle.gx_ports.specs.Sheets.{Sheets, Ground, IsPast}
 use Rattle.gx_ports.specs.Versions.{key_cmp}
 use Rattle.gx_ports.proofs.KeyLemmas.{same_key, tied, only_equal}
 use Rattle.gx_slots.specs.Entries.{Entry}
 use Rattle.gx_chain.specs.Chain.{entries_at, IsChain, IsOn}
-use Rattle.gx_chain.specs.Changes.{IsPutIn, IsMade, StaysBeside}
+use Rattle.gx_chain.specs.Changes.{IsPutIn, IsRemovedFrom, IsMade, StaysBeside}
 use Rattle.gx_chain.proofs.ChainLemmas.{at_other, same_on, same_on_back, same_chain}
 use Rattle.gx_chain.proofs.CountLemmas.{count_listed, chain_few}
 use Rattle.gx_chain.proofs.ListLemmas.{contains_here, contains_cases, contains_none, contains_or_not}
@@ -117,6 +119,37 @@ module _ (ground : Ground) (place : Place) (s t : Sheets) (map : LeafMap) (key b
   pub heap_put_others : OthersStay ground place.owner s t
   heap_put_others = others_beside ground place.owner place.root s t h.pages p.pages some h.chain p.chain p.beside
 
+-- ---- the pair at a key is taken away
+
+module _ (ground : Ground) (place : Place) (s t : Sheets) (map : LeafMap) (key : List ℕ) (some : 1 ≤ place.owner) (h : IsHeap ground place s map) (p : IsRemovedFrom ground place.owner place.root key s t h.pages) where
+  get_less : (k : List ℕ) → fin.get (fin.remove map key) k ≡ cond (eq_by_cmp key_cmp k key) None (fin.get map k)
+  get_less k = fin.get-remove nat_list_cmp_total map key k
+
+  other_key : (k : List ℕ) → eq_by_cmp key_cmp k key ≡ false → k ≢ key
+  other_key k e same = true≢false (sym (tied key) ∙ ap (λ x. eq_by_cmp key_cmp x key) (sym same) ∙ e)
+
+  less_to : (k b : List ℕ) (q : Bool) → eq_by_cmp key_cmp k key ≡ q → cond q None (fin.get map k) ≡ Some b → IsOn t p.pages k b
+  less_to k b true e is = absurd (none-some b is)
+  less_to k b false e is = (p.entries k b).1 (other_key k e, (h.map_is k b).0 is)
+
+  less_from : (k b : List ℕ) (q : Bool) → eq_by_cmp key_cmp k key ≡ q → (k ≢ key) × IsOn s h.pages k b → cond q None (fin.get map k) ≡ Some b
+  less_from k b true e old = absurd (old.0 (same_key k key e))
+  less_from k b false e old = (h.map_is k b).1 old.1
+
+  pub heap_removed : IsHeap ground place t (fin.remove map key)
+  heap_removed = record {
+    pages = p.pages;
+    chain = p.chain;
+    owned = owned_beside ground place.owner place.root s t h.pages p.pages some h.chain p.chain p.beside h.owned;
+    map_is = λ k b. (
+      λ is. less_to k b (eq_by_cmp key_cmp k key) refl (sym (get_less k) ∙ is),
+      λ on. get_less k ∙ less_from k b (eq_by_cmp key_cmp k key) refl ((p.entries k b).0 on),
+    );
+  }
+
+  pub heap_removed_others : OthersStay ground place.owner s t
+  heap_removed_others = others_beside ground place.owner place.root s t h.pages p.pages some h.chain p.chain p.beside
+
 -- ---- its pages are few, and decide
 
 pub heap_few : (ground : Ground) (place : Place) (s : Sheets) (map : LeafMap) → IsHeap ground place s map → page_count place.owner s ≤ 1 + fin.len map
@@ -173,6 +206,9 @@ module _ (ground : Ground) (place : Place) (s t : Sheets) (some : 1 ≤ place.ow
       λ on. absurd (contains_none (record { key = k; body = b }) (subst (λ (x : List Entry). Contains x (record { key = k; body = b })) (ap (entries_at t) (sym (only on.page on.among)) ∙ made.written.entries_are) on.here)),
     );
   }
+
+  pub heap_made_roots : place.spec.kind ≡ kinds.Heap → ClaimsRoots place s t
+  heap_made_roots heap q off = other_owned q (λ e. (let one : roots_of place.spec ≡ 1 = ap roots_of_kind heap in off (omega (arith, e), omega (arith, e, one))))
 
   pub heap_made_others : OthersStay ground place.owner s t
   heap_made_others other d z =
