@@ -1,0 +1,4 @@
+pub mod Chain
+pub mod Changes
+pub mod Walk
+pub mod Seek

@@ -1,0 +1,14 @@
+//! Chains of entry pages: each page has the number of the next one.
+#![tactic(auto)]
+
+mod make;
+mod put;
+mod read;
+mod remove;
+mod seek;
+mod walk;
+mod write;
+
+pub use make::make_first;
+pub use put::put_in;
+pub use remove::remove_from;

@@ -1,0 +1,57 @@
+// Pages of a chain are read.
+ghost use Rattle.std.specs.Prelude.{◌≡◌, length, IsTrue, OnOk, IfOk, IsErrOf};
+ghost use Rattle.gx_ports.specs.declared.pages.TheConstants.{PAGE_LEN};
+ghost use Rattle.gx_ports.specs.Files.{EndsFile};
+ghost use Rattle.gx_ports.specs.PageCalls.{ReadsPages};
+ghost use Rattle.gx_ports.specs.Sheets.{IsPast};
+ghost use Rattle.gx_slots.specs.Page.{IsEntryPage, next_of};
+ghost use Rattle.gx_chain.specs.Chain.{bytes_at, IsEntryAt, IsBehind, LeadsOn};
+
+use gx_ports::{PAGE_LEN, Pages, Stop};
+use gx_slots::{NONE, is_entries, next};
+
+/// Reads an entry page. `Damaged`: the bytes of the page are none.
+pub(crate) fn read_entries<P: Pages>(
+    pages: &mut P,
+    number: u32,
+    page: &mut [u8],
+) -> Result<(), Stop>
+    requires number { IsPast (P.ground pages.old) number }
+    requires bytes { length page.old ≡ PAGE_LEN }
+    ensures read { OnOk result (IsEntryPage page.new) }
+    ensures bytes { IsTrue P.tells →
+        OnOk result (page.new ≡ bytes_at (P.working pages.old) number) }
+    ensures len { length page.new ≡ PAGE_LEN }
+    ensures reads { ReadsPages P.PageView pages.old pages.new }
+    ensures ends { EndsFile P.PageView (IsEntryAt P.PageView pages.old number)
+        pages.old pages.new result }
+    ensures not_full { ¬ IsErrOf result Stop.Full }
+    ensures frugal { ¬ IsErrOf result Stop.NoMemory }
+{
+    pages.read(number, page)?;
+    if !is_entries(page) {
+        return Err(Stop::Damaged(pages.block(number)));
+    }
+    Ok(())
+}
+
+/// The page behind this one, None where it is the last. `Damaged`: the number is that of no page past the
+/// table.
+pub(crate) fn behind<P: Pages>(pages: &P, number: u32, page: &[u8]) -> Result<Option<u32>, Stop>
+    requires number { IsPast (P.ground pages.now) number }
+    requires page { IsEntryPage page.now }
+    ensures behind { IfOk result (IsBehind (P.ground pages.now) (next_of page.now)) }
+    ensures ends { EndsFile P.PageView (LeadsOn (P.ground pages.now) (next_of page.now))
+        pages.now pages.now result }
+    ensures not_full { ¬ IsErrOf result Stop.Full }
+    ensures frugal { ¬ IsErrOf result Stop.NoMemory }
+{
+    let next = next(page);
+    if next == NONE {
+        return Ok(None);
+    }
+    if next < pages.tables() || next >= pages.pages() {
+        return Err(Stop::Damaged(pages.block(number)));
+    }
+    Ok(Some(next))
+}

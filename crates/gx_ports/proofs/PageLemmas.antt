@@ -1,0 +1,63 @@
+-- What calls of pages keep, one after the other, and how a call ends that hands on how another one ended.
+use Rattle.std.proofs.Common.{◌≡◌, ℕ, ◌≤◌, ◌<◌, Ok, Err, refl, sym, ap, subst, ◌∙◌}
+use Rattle.std.specs.Prelude.{Result}
+use Rattle.std.specs.Result.{IsErrAnd}
+use Rattle.gx_device.specs.Faults.{Rose}
+use Rattle.gx_ports.specs.declared.page_view.PageView.{Ghosts}
+use Rattle.gx_ports.specs.declared.stop.Stop.{Stop}
+use Rattle.gx_ports.specs.Files.{EndsFile}
+use Rattle.gx_ports.specs.PageCalls.{KeepsPages, ReadsPages}
+
+module _ {S : Type 0} (g : Ghosts S) where
+  pub pages_keep_themselves : (a : S) → KeepsPages g a a
+  pages_keep_themselves a = record { ground = refl; kept = refl; steady = (λ h. h, λ h. h); calm = λ s h. h; silent = record { said = refl; shelf = refl; script = refl; aside = refl } }
+
+  pub kept_pages_joined : {a b c : S} → KeepsPages g a b → KeepsPages g b c → KeepsPages g a c
+  kept_pages_joined x y = record {
+    ground = y.ground ∙ x.ground;
+    kept = y.kept ∙ x.kept;
+    steady = (λ h. y.steady.0 (x.steady.0 h), λ h. x.steady.1 (y.steady.1 h));
+    calm = λ s h. y.calm s (x.calm s h);
+    silent = record { said = y.silent.said ∙ x.silent.said; shelf = y.silent.shelf ∙ x.silent.shelf; script = y.silent.script ∙ x.silent.script; aside = y.silent.aside ∙ x.silent.aside };
+  }
+
+  pub pages_read_themselves : (a : S) → ReadsPages g a a
+  pages_read_themselves a = record { working = refl; keeps = pages_keep_themselves a }
+
+  pub read_pages_joined : {a b c : S} → ReadsPages g a b → ReadsPages g b c → ReadsPages g a c
+  read_pages_joined x y = record { working = y.working ∙ x.working; keeps = kept_pages_joined x.keeps y.keeps }
+
+same_stop : {T U : Type 0} (e why : Stop) → ◌≡◌ {A = Result T Stop} (Err e) (Err why) → ◌≡◌ {A = Result U Stop} (Err e) (Err why)
+same_stop e why is = let same : e ≡ why = cc in ap Err same
+
+ends_err : {S T U : Type 0} (g : Ghosts S) (sound other : Type 0) (start now new : S) (e : Stop) → g.faults now ≡ g.faults start → g.ground now ≡ g.ground start → (sound → other)
+    → EndsFile {T = T} g other now new (Err e) → EndsFile {T = U} g sound start new (Err e)
+ends_err {T = T} {U = U} g sound other start now new e faults ground to ends = record {
+  cause = record {
+    later = subst (λ n. n ≤ g.faults new) faults ends.cause.later;
+    fault = λ is. subst (λ n. Rose n (g.faults new)) faults (ends.cause.fault (same_stop e _ is));
+    counted = λ is. ends.cause.counted is ∙ faults;
+    damaged = λ block is whole. ends.cause.damaged block (same_stop e _ is) (to whole);
+  };
+  bound = λ block is. subst (λ x. block < x.blocks) ground (ends.bound block (same_stop e _ is));
+}
+
+-- a refusal is handed on
+pub ends_handed_on : {S T U : Type 0} (g : Ghosts S) (sound other : Type 0) (start now new : S) (why : Stop) (result : Result U Stop) → g.faults now ≡ g.faults start → g.ground now ≡ g.ground start → (sound → other)
+    → EndsFile {T = T} g other now new (Err why) → IsErrAnd result (λ s. s ≡ why) → EndsFile {T = U} g sound start new result
+ends_handed_on g sound other start now new why (Ok x) faults ground to ends same = absurd same
+ends_handed_on {T = T} {U = U} g sound other start now new why (Err s) faults ground to ends same =
+    subst (λ x. EndsFile {T = U} g sound start new (Err x)) (sym same) (ends_err {T = T} g sound other start now new why faults ground to ends)
+
+-- a call ends as the last one in it
+pub ends_as : {S T : Type 0} (g : Ghosts S) (sound other : Type 0) (start now new : S) (result : Result T Stop) → g.faults now ≡ g.faults start → g.ground now ≡ g.ground start → (sound → other)
+    → EndsFile g other now new result → EndsFile g sound start new result
+ends_as g sound other start now new result faults ground to ends = record {
+  cause = record {
+    later = subst (λ n. n ≤ g.faults new) faults ends.cause.later;
+    fault = λ is. subst (λ n. Rose n (g.faults new)) faults (ends.cause.fault is);
+    counted = λ is. ends.cause.counted is ∙ faults;
+    damaged = λ block is whole. ends.cause.damaged block is (to whole);
+  };
+  bound = λ block is. subst (λ x. block < x.blocks) ground (ends.bound block is);
+}
