@@ -1,0 +1,9 @@
+use Rattle.std.proofs.Common.{subst}
+use Rattle.gx_ports.specs.Files.{EndsFile, IsWhole}
+use Rattle.gx_leaves.proofs.KindLemmas.{heap_is}
+use Rattle.gx_leaves.proofs.files.select_in_file.Goals as goal
+
+pub returns-clause-ends : goal.returns-clause-ends
+returns-clause-ends g c =
+    let old = c.args.pages.now in let place = c.args.place.now in
+    subst (λ F. EndsFile g.P.PageView (IsWhole g.P.PageView F old) old c.select.new.pages c.select.result) (heap_is (g.P.PageView.ground old) place c.in-Heap.is) c.select.ensures.ends
