@@ -1,5 +1,8 @@
 use Rattle.std.proofs.Common.{subst}
-use Rattle.gx_ports.specs.Files.{SparesOthers, EndsFile, IsWhole}
+use Rattle.std.specs.Prelude.{OnOk}
+use Rattle.std.specs.FinMap.{remove}
+use Rattle.gx_ports.specs.LeafMaps.{LeafMap}
+use Rattle.gx_ports.specs.Files.{Holds, SparesOthers, EndsFile, IsWhole}
 use Rattle.gx_leaves.proofs.KindLemmas.{heap_is}
 use Rattle.gx_leaves.proofs.files.remove_from_file.Goals as goal
 
@@ -12,3 +15,8 @@ pub returns-clause-ends : goal.returns-clause-ends
 returns-clause-ends g c =
     let old = c.args.pages.now in let place = c.args.place.now in
     subst (λ F. EndsFile g.P.PageView (IsWhole g.P.PageView F old) old c.remove.new.pages c.remove.result) (heap_is (g.P.PageView.ground old) place c.in-Heap.is) c.remove.ensures.ends
+
+pub returns-clause-ok : goal.returns-clause-ok
+returns-clause-ok g c =
+    let old = c.args.pages.now in let place = c.args.place.now in
+    subst (λ F. (m : LeafMap) → Holds g.P.PageView F old m → OnOk c.remove.result (F (g.P.PageView.working c.remove.new.pages) (remove m c.args.key.now))) (heap_is (g.P.PageView.ground old) place c.in-Heap.is) c.remove.ensures.ok
