@@ -1,0 +1,83 @@
+-- What a call on one file does to the leaves.
+use Rattle.std.proofs.Common.{◌≡◌, ℕ, ◌+◌, ◌*◌, ◌<◌, List, length, set, IsTrue, sym, ap, subst, ◌∙◌}
+use Rattle.std.specs.Prelude.{slice_get, Some, Result, Ok, Err, OnOk, IsErrOf, IsErrAnd}
+use Rattle.std.specs.FinMap.{empty}
+use Rattle.std.proofs.lemmas.List.{set-get_or}
+use Rattle.gx_ports.specs.declared.page_view.PageView.{Ghosts}
+use Rattle.gx_ports.specs.declared.pages.Place.{Place}
+use Rattle.gx_ports.specs.declared.stop.Stop.{Stop}
+use Rattle.gx_ports.specs.declared.stop.Stop.TheVariants.{Fault, Full, Damaged}
+use Rattle.gx_ports.specs.Stops.{is_outside, HasStopCause}
+use Rattle.gx_ports.specs.LeafMaps.{LeafMap, map_at, entry_count, SameElsewhere}
+use Rattle.gx_ports.specs.PageCalls.{KeepsPages}
+use Rattle.gx_ports.specs.Sheets.{Ground}
+use Rattle.gx_ports.specs.Files.{Holds, IsWhole, SparesOthers, IsFull, OthersStay}
+use Rattle.gx_leaves.specs.Kinds.{IsFileAt}
+use Rattle.gx_leaves.specs.Places.{IsLaidOut}
+use Rattle.gx_leaves.specs.Wholeness.{maps_of, limits_of, AreWhole, AreLaid}
+use Rattle.gx_leaves.proofs.FrameLemmas.{held_at, elsewhere, maps_set, laid_stays}
+use Rattle.gx_leaves.proofs.CrowdLemmas.{crowded}
+
+module _ {S : Type 0} (g : Ghosts S) (places : List Place) where
+  abbrev pub Whole : S → Type 0
+  Whole p = AreWhole g.tells (g.steady p) (g.ground p) places (g.working p)
+
+  abbrev pub maps : S → List LeafMap
+  maps p = maps_of (g.ground p) places (g.working p)
+
+  module _ (old : S) (laid : IsLaidOut (g.ground old) places) (leaf : ℕ) (place : Place) (at : slice_get places leaf ≡ Some place) where
+    -- the file of this leaf
+    abbrev File : S → Type 0
+    File p = IsWhole g (IsFileAt (g.ground old) place) p
+
+    pub holds : Whole old → Holds g (IsFileAt (g.ground old) place) old (map_at (maps old) leaf)
+    holds whole = record { told = whole.told; file = held_at (g.ground old) places laid (g.working old) whole.laid leaf place at }
+
+    pub file_whole : Whole old → File old
+    file_whole whole = (map_at (maps old) leaf, holds whole)
+
+    module _ (new : S) (keeps : KeepsPages g old new) {T : Type 0} where
+      pub others_stay : (result : Result T Stop) → SparesOthers g (IsFileAt (g.ground old) place) place.owner old new result → Whole old → ¬ IsErrOf result Fault → SameElsewhere (maps old) (maps new) leaf
+      others_stay result spares whole no_fault =
+          subst (λ b. SameElsewhere (maps old) (maps_of b places (g.working new)) leaf) (sym keeps.ground)
+          (elsewhere (g.ground old) places laid (g.working old) (g.working new) leaf place at (spares (file_whole whole) no_fault) whole.laid)
+
+      pub sets : (result : Result T Stop) (m : LeafMap) → SparesOthers g (IsFileAt (g.ground old) place) place.owner old new result → OnOk result (IsFileAt (g.ground old) place (g.working new) m) → Whole old → OnOk result (maps new ≡ set (maps old) leaf m)
+      sets (Ok x) m spares file whole =
+          subst (λ b. maps_of b places (g.working new) ≡ set (maps old) leaf m) (sym keeps.ground)
+          (maps_set (g.ground old) places laid (g.working old) (g.working new) leaf place at (spares (file_whole whole) (λ e. cc)) whole.laid m file)
+      sets (Err e) m spares file whole = tt
+
+      -- the same map again
+      pub stays : (result : Result T Stop) → SparesOthers g (IsFileAt (g.ground old) place) place.owner old new result → OnOk result (IsFileAt (g.ground old) place (g.working new) (map_at (maps old) leaf)) → Whole old → OnOk result (maps new ≡ maps old)
+      stays result spares file whole = subst (λ ms. OnOk result (maps new ≡ ms)) (set-get_or (maps old) leaf empty) (sets result (map_at (maps old) leaf) spares file whole)
+
+      pub stays_whole : (result : Result T Stop) (m : LeafMap) → SparesOthers g (IsFileAt (g.ground old) place) place.owner old new result → (Whole old → OnOk result (IsFileAt (g.ground old) place (g.working new) m)) → OnOk result (Whole old → Whole new)
+      stays_whole (Ok x) m spares file = λ whole. record {
+        told = whole.told;
+        settled = keeps.steady.0 whole.settled;
+        laid = subst (λ b. AreLaid b places (g.working new)) (sym keeps.ground)
+            (laid_stays (g.ground old) places laid (g.working old) (g.working new) leaf place at (spares (file_whole whole) (λ e. cc)) whole.laid m (file whole));
+      }
+      stays_whole (Err e) m spares file = tt
+
+      pub full : (result : Result T Stop) → SparesOthers g (IsFileAt (g.ground old) place) place.owner old new result → IsFull g (IsFileAt (g.ground old) place) place old new result → (IsTrue g.tells → length (g.working new).owners ≡ (g.ground new).size) → Whole old → IsErrOf result Full
+          → (limits_of (g.ground old) places).pages < (limits_of (g.ground old) places).fixed + 2 * entry_count (maps old) + 2
+      full result spares is many whole e =
+          crowded (g.ground old) places laid (g.working old) (g.working new) leaf place at (spares (file_whole whole) (λ f. cc)) whole.laid (is.none whole.told e)
+          (many whole.told ∙ (λ i. (keeps.ground i).size))
+          (λ m file. is.few m (record { told = whole.told; file = file }) e)
+
+-- the same refusal again
+pub same_cause : {T U : Type 0} (before now : ℕ) (sound : Type 0) (result : Result U Stop) (why : Stop) → HasStopCause {T = T} before now sound (Err why) → IsErrAnd result (λ s. s ≡ why) → HasStopCause before now sound result
+same_cause before now sound (Ok x) why cause err = absurd err
+same_cause {T} {U} before now sound (Err s) why cause err = record {
+  later = cause.later;
+  fault = λ f. let same : s ≡ Fault = cc in cause.fault (ap Err (sym err ∙ same));
+  counted = λ c. cause.counted (ap is_outside (sym err) ∙ c);
+  damaged = λ block f whole. let same : s ≡ Damaged block = cc in cause.damaged block (ap Err (sym err ∙ same)) whole;
+}
+
+pub not_ok : {T : Type 0} (result : Result T Stop) (P : Stop → Type 0) (A : Type 0) → IsErrAnd result P → OnOk result A
+not_ok (Ok x) P A err = absurd err
+not_ok (Err s) P A err = tt

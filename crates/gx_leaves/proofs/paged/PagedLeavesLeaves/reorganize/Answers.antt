@@ -1,0 +1,33 @@
+use Rattle.gx_ports.specs.LeafMaps.{map_at}
+use Rattle.gx_leaves.proofs.ChangeLemmas.{maps, holds, file_whole, others_stay, stays_whole, stays, full}
+use Rattle.gx_leaves.proofs.paged.PagedLeavesLeaves.reorganize.Goals as goal
+
+pub returns-clause-ok : goal.returns-clause-ok
+returns-clause-ok g c = λ whole.
+    let l = c.args.self.now in
+    let old = map_at (maps g.P.PageView l.places.items l.pages) c.args.leaf in
+    stays g.P.PageView l.places.items l.pages l.laid_out c.args.leaf c.place-place.result c.place-place.ensures.at c.reorganize_file.new.pages c.reorganize_file.ensures.keeps c.reorganize_file.result c.reorganize_file.ensures.others
+    (c.reorganize_file.ensures.ok old (holds g.P.PageView l.places.items l.pages l.laid_out c.args.leaf c.place-place.result c.place-place.ensures.at whole)) whole
+
+pub returns-clause-others : goal.returns-clause-others
+returns-clause-others g c =
+    let l = c.args.self.now in
+    others_stay g.P.PageView l.places.items l.pages l.laid_out c.args.leaf c.place-place.result c.place-place.ensures.at c.reorganize_file.new.pages c.reorganize_file.ensures.keeps c.reorganize_file.result c.reorganize_file.ensures.others
+
+pub returns-clause-ends : goal.returns-clause-ends
+returns-clause-ends g c =
+    let l = c.args.self.now in
+    let old = map_at (maps g.P.PageView l.places.items l.pages) c.args.leaf in
+    let cause = c.reorganize_file.ensures.ends.cause in record {
+      whole = stays_whole g.P.PageView l.places.items l.pages l.laid_out c.args.leaf c.place-place.result c.place-place.ensures.at c.reorganize_file.new.pages c.reorganize_file.ensures.keeps c.reorganize_file.result old c.reorganize_file.ensures.others
+          (λ whole. c.reorganize_file.ensures.ok old (holds g.P.PageView l.places.items l.pages l.laid_out c.args.leaf c.place-place.result c.place-place.ensures.at whole));
+      later = cause.later;
+      fault = cause.fault;
+      counted = cause.counted;
+      damaged = λ block is whole. cause.damaged block is (file_whole g.P.PageView l.places.items l.pages l.laid_out c.args.leaf c.place-place.result c.place-place.ensures.at whole);
+    }
+
+pub returns-clause-full : goal.returns-clause-full
+returns-clause-full g c =
+    let l = c.args.self.now in
+    full g.P.PageView l.places.items l.pages l.laid_out c.args.leaf c.place-place.result c.place-place.ensures.at c.reorganize_file.new.pages c.reorganize_file.ensures.keeps c.reorganize_file.result c.reorganize_file.ensures.others c.reorganize_file.ensures.full (λ told. (g.met.P.Pages.many c.reorganize_file.new.pages told).0)

@@ -1,0 +1,49 @@
+-- Which kinds of files there are calls for, and what the pages of each hold.
+use Rattle.std.specs.Prelude.{Bool, true, false, List}
+use Rattle.std.specs.List.{list_all}
+use Rattle.std.specs.FinMap.{empty}
+use Rattle.gx_ports.specs.declared.kinds.LeafKind.{LeafKind}
+use Rattle.gx_ports.specs.declared.kinds.LeafKind.TheVariants as kinds
+use Rattle.gx_ports.specs.declared.kinds.LeafSpec.{LeafSpec}
+use Rattle.gx_ports.specs.declared.pages.Place.{Place}
+use Rattle.gx_ports.specs.LeafMaps.{LeafMap}
+use Rattle.gx_ports.specs.Sheets.{Sheets, Ground}
+use Rattle.gx_heap.specs.Heap.{IsHeap}
+use Rattle.gx_heap.specs.Map.{heap_map}
+
+abbrev pub is_built : LeafKind → Bool
+is_built kinds.Heap = true
+is_built (kinds.Hash buckets) = false
+is_built kinds.Isam = false
+is_built kinds.Bplus = false
+
+abbrev pub are_built : List LeafSpec → Bool
+are_built specs = list_all (λ spec. is_built spec.kind) specs
+
+-- the sheets hold a map in a file of this kind
+abbrev pub IsFileOf : LeafKind → Ground → Place → Sheets → LeafMap → Type 0
+IsFileOf kinds.Heap = IsHeap
+IsFileOf (kinds.Hash buckets) = λ base place sheets map. ⊥
+IsFileOf kinds.Isam = λ base place sheets map. ⊥
+IsFileOf kinds.Bplus = λ base place sheets map. ⊥
+
+-- the map that is read in such a file
+abbrev pub map_of : LeafKind → Ground → Place → Sheets → LeafMap
+map_of kinds.Heap = heap_map
+map_of (kinds.Hash buckets) = λ base place sheets. empty
+map_of kinds.Isam = λ base place sheets. empty
+map_of kinds.Bplus = λ base place sheets. empty
+
+-- the same at a place, by its kind
+abbrev pub IsFileAt : Ground → Place → Sheets → LeafMap → Type 0
+IsFileAt base place = IsFileOf place.spec.kind base place
+
+abbrev pub map_in : Ground → Place → Sheets → LeafMap
+map_in base place = map_of place.spec.kind base place
+
+-- a file of this kind is laid out as `reorganize` leaves it
+abbrev pub IsFreshOf : LeafKind → Type 0
+IsFreshOf kinds.Isam = ⊥
+IsFreshOf kinds.Heap = Unit {0}
+IsFreshOf (kinds.Hash buckets) = Unit {0}
+IsFreshOf kinds.Bplus = Unit {0}

@@ -1,0 +1,6 @@
+pub mod Kinds
+pub mod Places
+pub mod Wholeness
+pub mod PagedLaws
+pub mod Paged
+pub mod Making

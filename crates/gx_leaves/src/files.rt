@@ -1,0 +1,139 @@
+// The calls on a file, by the kind of its place.
+ghost use Rattle.std.specs.Prelude.{◌≡◌, ◌+◌, ◌≤◌, ◌++◌, length, IsTrue, OnOk, IsErrOf};
+ghost use Rattle.std.specs.FinMap.{empty, insert, remove};
+ghost use Rattle.gx_ports.specs.declared.leaves.TheConstants.{MAX_KEY_LEN, MAX_ENTRY_LEN};
+ghost use Rattle.gx_ports.specs.Files.{IsPlace, IsVacant, Holds, OthersStay, EndsFile, SparesOthers, IsFull, IsWhole, ClaimsRoots};
+ghost use Rattle.gx_ports.specs.LeafMaps.{LeafMap, Extends, selected};
+ghost use Rattle.gx_ports.specs.PageCalls.{KeepsPages, ReadsPages, CountsPageFaults};
+ghost use Rattle.gx_leaves.specs.Kinds.{is_built, IsFileAt, IsFreshOf};
+
+use gx_device::Failed;
+use gx_heap as heap;
+use gx_ports::{Entries, LeafKind, Pages, Place, Stop};
+use gx_values::Span;
+use std::alloc::Global;
+
+/// Makes an empty file at a place whose roots are free and whose owner has no page. After `Failed` the
+/// pages are to be opened again.
+pub fn make_file<P: Pages>(pages: &mut P, place: &Place) -> Result<(), Failed>
+    requires built { IsTrue (is_built place.now.spec.kind) }
+    requires place { IsPlace (P.ground pages.old) place.now }
+    ensures made { IsTrue P.tells → IsVacant place.now (P.working pages.old) →
+        OnOk result (IsFileAt (P.ground pages.old) place.now (P.working pages.new) empty) }
+    ensures others { IsTrue P.tells → IsVacant place.now (P.working pages.old) →
+        OnOk result
+        (OthersStay (P.ground pages.old) place.now.owner (P.working pages.old) (P.working pages.new)) }
+    ensures roots { IsTrue P.tells → IsVacant place.now (P.working pages.old) →
+        OnOk result (ClaimsRoots place.now (P.working pages.old) (P.working pages.new)) }
+    ensures keeps { KeepsPages P.PageView pages.old pages.new }
+    ensures faults { CountsPageFaults P.PageView pages.old pages.new result }
+{
+    match place.spec.kind {
+        LeafKind::Heap => heap::make(pages, place),
+        LeafKind::Hash(_) | LeafKind::Isam | LeafKind::Bplus => unreachable!(),
+    }
+}
+
+/// Sets one pair. `Full`: no page is free; the pages of this owner may then hold anything.
+pub fn put_in_file<P: Pages>(
+    pages: &mut P,
+    place: &Place,
+    key: &[u8],
+    body: &[u8],
+) -> Result<(), Stop>
+    requires built { IsTrue (is_built place.now.spec.kind) }
+    requires place { IsPlace (P.ground pages.old) place.now }
+    requires key { length key.now ≤ MAX_KEY_LEN }
+    requires entry { length key.now + length body.now ≤ MAX_ENTRY_LEN }
+    ensures ok { (map : LeafMap) →
+        Holds P.PageView (IsFileAt (P.ground pages.old) place.now) pages.old map → OnOk result
+        (IsFileAt (P.ground pages.old) place.now (P.working pages.new)
+        (insert map key.now body.now)) }
+    ensures others { SparesOthers P.PageView (IsFileAt (P.ground pages.old) place.now)
+        place.now.owner pages.old pages.new result }
+    ensures full { IsFull P.PageView (IsFileAt (P.ground pages.old) place.now)
+        place.now pages.old pages.new result }
+    ensures keeps { KeepsPages P.PageView pages.old pages.new }
+    ensures ends { EndsFile P.PageView
+        (IsWhole P.PageView (IsFileAt (P.ground pages.old) place.now) pages.old)
+        pages.old pages.new result }
+    ensures frugal { ¬ IsErrOf result Stop.NoMemory }
+{
+    match place.spec.kind {
+        LeafKind::Heap => heap::put(pages, place, key, body),
+        LeafKind::Hash(_) | LeafKind::Isam | LeafKind::Bplus => unreachable!(),
+    }
+}
+
+/// Takes the pair at a key away; a key that isn't there changes nothing.
+pub fn remove_from_file<P: Pages>(pages: &mut P, place: &Place, key: &[u8]) -> Result<(), Stop>
+    requires built { IsTrue (is_built place.now.spec.kind) }
+    requires place { IsPlace (P.ground pages.old) place.now }
+    requires key { length key.now ≤ MAX_KEY_LEN }
+    ensures ok { (map : LeafMap) →
+        Holds P.PageView (IsFileAt (P.ground pages.old) place.now) pages.old map → OnOk result
+        (IsFileAt (P.ground pages.old) place.now (P.working pages.new) (remove map key.now)) }
+    ensures others { SparesOthers P.PageView (IsFileAt (P.ground pages.old) place.now)
+        place.now.owner pages.old pages.new result }
+    ensures keeps { KeepsPages P.PageView pages.old pages.new }
+    ensures ends { EndsFile P.PageView
+        (IsWhole P.PageView (IsFileAt (P.ground pages.old) place.now) pages.old)
+        pages.old pages.new result }
+    ensures not_full { ¬ IsErrOf result Stop.Full }
+    ensures frugal { ¬ IsErrOf result Stop.NoMemory }
+{
+    match place.spec.kind {
+        LeafKind::Heap => heap::remove(pages, place, key),
+        LeafKind::Hash(_) | LeafKind::Isam | LeafKind::Bplus => unreachable!(),
+    }
+}
+
+/// Appends the entries inside the span, in ascending order of their keys.
+pub fn select_in_file<P: Pages>(
+    alloc: Global,
+    pages: &mut P,
+    place: &Place,
+    span: &Span,
+    out: &mut Entries,
+) -> Result<(), Stop>
+    requires built { IsTrue (is_built place.now.spec.kind) }
+    requires place { IsPlace (P.ground pages.old) place.now }
+    ensures ok { (map : LeafMap) →
+        Holds P.PageView (IsFileAt (P.ground pages.old) place.now) pages.old map →
+        OnOk result (out.new ≡ out.old ++ selected span.now.lo span.now.hi map) }
+    ensures extends { Extends out.old out.new }
+    ensures reads { ReadsPages P.PageView pages.old pages.new }
+    ensures ends { EndsFile P.PageView
+        (IsWhole P.PageView (IsFileAt (P.ground pages.old) place.now) pages.old)
+        pages.old pages.new result }
+    ensures not_full { ¬ IsErrOf result Stop.Full }
+{
+    match place.spec.kind {
+        LeafKind::Heap => heap::select(alloc, pages, place, span, out),
+        LeafKind::Hash(_) | LeafKind::Isam | LeafKind::Bplus => unreachable!(),
+    }
+}
+
+/// Lays the entries out anew.
+pub fn reorganize_file<P: Pages>(pages: &mut P, place: &Place) -> Result<(), Stop>
+    requires built { IsTrue (is_built place.now.spec.kind) }
+    requires place { IsPlace (P.ground pages.old) place.now }
+    ensures ok { (map : LeafMap) →
+        Holds P.PageView (IsFileAt (P.ground pages.old) place.now) pages.old map → OnOk result
+        (IsFileAt (P.ground pages.old) place.now (P.working pages.new) map) }
+    ensures fresh { OnOk result (IsFreshOf place.now.spec.kind) }
+    ensures others { SparesOthers P.PageView (IsFileAt (P.ground pages.old) place.now)
+        place.now.owner pages.old pages.new result }
+    ensures full { IsFull P.PageView (IsFileAt (P.ground pages.old) place.now)
+        place.now pages.old pages.new result }
+    ensures keeps { KeepsPages P.PageView pages.old pages.new }
+    ensures ends { EndsFile P.PageView
+        (IsWhole P.PageView (IsFileAt (P.ground pages.old) place.now) pages.old)
+        pages.old pages.new result }
+{
+    match place.spec.kind {
+        // in no order, as ever
+        LeafKind::Heap => Ok(()),
+        LeafKind::Hash(_) | LeafKind::Isam | LeafKind::Bplus => unreachable!(),
+    }
+}
