@@ -1,0 +1,5 @@
+pub mod OrderLemmas
+pub mod MemberLemmas
+pub mod PageLemmas
+pub mod KidLemmas
+pub mod StepLemmas

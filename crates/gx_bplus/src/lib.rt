@@ -1,0 +1,2 @@
+//! Files that are B+ trees of pages.
+#![tactic(auto)]
