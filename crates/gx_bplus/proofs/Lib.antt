@@ -3,3 +3,5 @@ pub mod MemberLemmas
 pub mod PageLemmas
 pub mod KidLemmas
 pub mod StepLemmas
+pub mod HalfLemmas
+pub mod PutLemmas

@@ -1,3 +1,4 @@
 pub mod Order
 pub mod Tree
 pub mod Hole
+pub mod Changes
