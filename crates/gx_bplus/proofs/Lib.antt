@@ -5,3 +5,4 @@ pub mod KidLemmas
 pub mod StepLemmas
 pub mod HalfLemmas
 pub mod PutLemmas
+pub mod SpreadLemmas
