@@ -6,3 +6,4 @@ pub mod StepLemmas
 pub mod HalfLemmas
 pub mod PutLemmas
 pub mod SpreadLemmas
+pub mod RemoveLemmas
