@@ -35,6 +35,10 @@ pub trait Pages: PageView {
     fn pages(&self) -> u32
         ensures { result ≡ (Self.ground self.now).size };
 
+    /// How many of them, from the first on, are the table of the owners.
+    fn tables(&self) -> u32
+        ensures { result ≡ (Self.ground self.now).tables };
+
     /// Gives a free page past the table to an owner, and answers its number. `Full`: no page past the table
     /// is free. `Fault`: the count of faults rose; after it the pages are to be opened again.
     fn claim(&mut self, owner: u16) -> Result<u32, Stop>
