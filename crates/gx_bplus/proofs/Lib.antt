@@ -1,9 +1,10 @@
-pub mod OrderLemmas
-pub mod MemberLemmas
-pub mod PageLemmas
-pub mod KidLemmas
-pub mod StepLemmas
+pub mod BranchLemmas
 pub mod HalfLemmas
+pub mod KidLemmas
+pub mod MemberLemmas
+pub mod OrderLemmas
+pub mod PageLemmas
 pub mod PutLemmas
-pub mod SpreadLemmas
 pub mod RemoveLemmas
+pub mod SpreadLemmas
+pub mod StepLemmas

@@ -2,3 +2,4 @@ pub mod Order
 pub mod Tree
 pub mod Hole
 pub mod Changes
+pub mod Bplus

@@ -1,2 +1,4 @@
-//! Files that are B+ trees of pages.
+//! Files that are B+ trees of pages: entry pages with ascending keys, under inner pages.
 #![tactic(auto)]
+
+mod reading;
