@@ -6,5 +6,6 @@ pub mod OrderLemmas
 pub mod PageLemmas
 pub mod PutLemmas
 pub mod RemoveLemmas
+pub mod SheetLemmas
 pub mod SpreadLemmas
 pub mod StepLemmas

@@ -3,3 +3,4 @@ pub mod Tree
 pub mod Hole
 pub mod Changes
 pub mod Bplus
+pub mod Search

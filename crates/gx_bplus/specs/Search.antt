@@ -1,0 +1,30 @@
+-- Searches in the pages of a tree.
+use Rattle.std.specs.Prelude.{ℕ, List}
+use Rattle.gx_slots.specs.Entries.{Entry}
+use Rattle.gx_ports.specs.Files.{OthersStay}
+use Rattle.gx_ports.specs.Sheets.{Sheets, Ground, IsPast}
+use Rattle.gx_bplus.specs.Tree.{Tree}
+use Rattle.gx_bplus.specs.Hole.{IsAtHand}
+use Rattle.gx_bplus.specs.Changes.{IsPut, IsRemoved}
+use Rattle.gx_bplus.specs.Bplus.{bytes_at, IsOwned}
+
+-- all pages of the owner lie past the table
+abbrev pub ArePast : Ground → ℕ → Sheets → Type 0
+ArePast ground owner sheets = (page : ℕ) → IsOwned owner sheets page → IsPast ground page
+
+-- The search for a key has come to this page, in a tree that the pages hold.
+pub record IsSearch (ground : Ground) (owner : ℕ) (sheets : Sheets) (root page : ℕ) (key : List ℕ) (old : Tree) (steps : ℕ) : Type 0 where
+  pub hand : IsAtHand (bytes_at sheets) (IsOwned owner sheets) root page key old steps
+  pub past : ArePast ground owner sheets
+
+-- the pages hold the tree without the key, and those of other owners stay
+pub record HasRemoved (ground : Ground) (owner root : ℕ) (key : List ℕ) (old new : Sheets) (tree : Tree) : Type 0 where
+  pub removed : IsRemoved (bytes_at new) (IsOwned owner new) root key tree
+  pub past : ArePast ground owner new
+  pub others : OthersStay ground owner old new
+
+-- the pages hold the tree with the entry, and those of other owners stay
+pub record HasPut (ground : Ground) (owner root : ℕ) (e : Entry) (old new : Sheets) (tree : Tree) : Type 0 where
+  pub put : IsPut (bytes_at new) (IsOwned owner new) root e tree
+  pub past : ArePast ground owner new
+  pub others : OthersStay ground owner old new
