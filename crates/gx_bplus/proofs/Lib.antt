@@ -1,10 +1,12 @@
 pub mod BranchLemmas
+pub mod EntryLemmas
 pub mod HalfLemmas
 pub mod KidLemmas
 pub mod MemberLemmas
 pub mod OrderLemmas
 pub mod PageLemmas
 pub mod PutLemmas
+pub mod RemovalLemmas
 pub mod RemoveLemmas
 pub mod SheetLemmas
 pub mod SpreadLemmas

@@ -1,5 +1,5 @@
 -- Searches in the pages of a tree.
-use Rattle.std.specs.Prelude.{ℕ, List}
+use Rattle.std.specs.Prelude.{◌≡◌, ◌≤◌, ℕ, List}
 use Rattle.gx_slots.specs.Entries.{Entry}
 use Rattle.gx_ports.specs.Files.{OthersStay}
 use Rattle.gx_ports.specs.Sheets.{Sheets, Ground, IsPast}
@@ -28,3 +28,10 @@ pub record HasPut (ground : Ground) (owner root : ℕ) (e : Entry) (old new : Sh
   pub put : IsPut (bytes_at new) (IsOwned owner new) root e tree
   pub past : ArePast ground owner new
   pub others : OthersStay ground owner old new
+
+-- The search has come to an inner page with these bytes, and the child on the way is an entry page with those.
+pub record IsReached (ground : Ground) (owner : ℕ) (sheets : Sheets) (root page child : ℕ) (key : List ℕ) (old : Tree) (steps : ℕ) (bytes below : List ℕ) : Type 0 where
+  pub search : IsSearch ground owner sheets root page key old steps
+  pub least : 1 ≤ owner
+  pub bytes_are : bytes_at sheets page ≡ bytes
+  pub below_are : bytes_at sheets child ≡ below

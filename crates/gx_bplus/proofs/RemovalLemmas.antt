@@ -1,0 +1,89 @@
+-- The pages after a child was taken off its page.
+use Rattle.std.proofs.Common.{◌≡◌, ◌≢◌, ℕ, ◌<◌, ◌≤◌, ◌-◌, List, [], ◌∷◌, length, refl, sym, ap, ◌∙◌, subst, arith}
+use Rattle.std.specs.Prelude.{Result, Ok, Err, OnOk}
+use Rattle.std.specs.List.{remove}
+use Rattle.gx_ports.specs.Sheets.{Sheets, Ground, IsPast, IsOwnedAnew}
+use Rattle.gx_slots.specs.Entries.{Entry}
+use Rattle.gx_slots.specs.Page.{entries_of}
+use Rattle.gx_bnode.specs.Branches.{Branch}
+use Rattle.gx_bnode.specs.Page.{IsInnerPage, first_of, branches_of, separators_of, children_of}
+use Rattle.gx_bplus.specs.declared.reading.Shape.TheVariants as shapes
+use Rattle.gx_bplus.specs.Bplus.{Shows, bytes_at, IsOwned}
+use Rattle.gx_bplus.specs.Changes.{IsTakenFrom, IsRemoved}
+use Rattle.gx_bplus.specs.Hole.{IsAtHand}
+use Rattle.gx_bplus.specs.Search.{IsReached, HasRemoved}
+use Rattle.gx_bplus.specs.Tree.{In, Tree, page_of, pages, kids_pages, ShowsEntries, ShowsInner, child_for, without_branch, first_without}
+use Rattle.gx_bplus.proofs.BranchLemmas.{IsPlaceFor, without_is}
+use Rattle.gx_bplus.proofs.EntryLemmas.{shows_entries, shows_inner}
+use Rattle.gx_bplus.proofs.RemoveLemmas.{dropped, replaced}
+use Rattle.gx_bplus.proofs.SheetLemmas.{IsWritten, others_joined, written_owned, written_other, written_here, written_others, anew_bytes, freed_others, freed_owned}
+use Rattle.gx_bplus.proofs.StepLemmas.{IsAtNode, at_node, top_in}
+
+pub on_ok : {T E : Type 0} {A B : Type 0} (r : Result T E) → (A → B) → OnOk r A → OnOk r B
+on_ok (Ok x) f h = f h
+on_ok (Err e) f h = h
+
+dropped_any : {steps : ℕ} (at new : ℕ → List ℕ) (owned now : ℕ → Type 0) (root p : ℕ) (key : List ℕ) (old : Tree) (first : ℕ) (bs : List Branch) (es : List Entry) → 1 ≤ length bs
+    → ShowsInner (at p) first bs → ShowsEntries (at (child_for first bs key)) es → IsTakenFrom key es []
+    → ShowsInner (new p) (first_without first bs key) (without_branch bs key)
+    → ((q : ℕ) → owned q → q ≢ p → q ≢ child_for first bs key → new q ≡ at q)
+    → ((q : ℕ) → (now q → owned q × (q ≢ child_for first bs key)) × (owned q × (q ≢ child_for first bs key) → now q))
+    → IsAtHand at owned root p key old steps → IsRemoved new now root key old
+dropped_any at new owned now root p key old first [] es some = absurd (omega (arith, some))
+dropped_any at new owned now root p key old first (b ∷ bs) es some = dropped at new owned now root p key old first b bs es
+
+-- the child on the way belongs to the owner, and isn't the page above it
+pub record IsChild (owned : ℕ → Type 0) (p child : ℕ) : Type 0 where
+  pub mine : owned child
+  pub other : child ≢ p
+
+pub child_is : {steps : ℕ} (at : ℕ → List ℕ) (owned : ℕ → Type 0) (root p child : ℕ) (key : List ℕ) (old : Tree) (first : ℕ) (bs : List Branch) (h : IsAtHand at owned root p key old steps) → IsAtNode at owned root p key old first bs h
+    → child ≡ child_for first bs key → IsChild owned p child
+child_is at owned root p child key old first bs h n way =
+    let is : child ≡ page_of n.hole.kid = way ∙ n.goes in
+    let within : In (page_of n.hole.kid) (kids_pages n.kids) = n.in_kids (page_of n.hole.kid) (top_in n.hole.kid) in
+    record {
+      mine = subst owned (sym is) (n.kids_owned (page_of n.hole.kid) within);
+      other = λ e. n.out (subst (λ q. In q (kids_pages n.kids)) (sym is ∙ e) within);
+    }
+
+pub drop_sheets : (ground : Ground) (owner root at child : ℕ) (key : List ℕ) (tree : Tree) (steps : ℕ) (page below page' : List ℕ) (i : ℕ) (a b c : Sheets)
+    → length a.bytes ≡ ground.size → IsPast ground at
+    → IsReached ground owner a root at child key tree steps page below → IsInnerPage page → Shows shapes.Entries below → IsTakenFrom key (entries_of below) []
+    → 2 ≤ length (branches_of page) → child ≡ child_for (first_of page) (branches_of page) key
+    → IsPlaceFor (branches_of page) key i → IsInnerPage page' → separators_of page' ≡ remove (separators_of page) (i - 1) → children_of page' ≡ remove (children_of page) i
+    → IsWritten at page' a b → IsOwnedAnew child 0 ground b c → HasRemoved ground owner root key a c tree
+drop_sheets ground owner root at child key tree steps page below page' i a b c size at_past reached inner shown taken several way place inner' separators children written freed =
+    let first = first_of page in
+    let bs = branches_of page in
+    let h = reached.search.hand in
+    let at_p : ShowsInner (bytes_at a at) first bs = subst (λ d. ShowsInner d first bs) (sym reached.bytes_are) (shows_inner page inner) in
+    let n = at_node (bytes_at a) (IsOwned owner a) root at key tree first bs at_p h in
+    let kid = child_is (bytes_at a) (IsOwned owner a) root at child key tree first bs h n way in
+    let at_c : ShowsEntries (bytes_at a (child_for first bs key)) (entries_of below) = subst (λ q. ShowsEntries (bytes_at a q) (entries_of below)) way (subst (λ d. ShowsEntries d (entries_of below)) (sym reached.below_are) (shows_entries below shown)) in
+    let is = without_is page page' key i place (omega (arith, several)) separators children in
+    let here : bytes_at c at ≡ page' = anew_bytes child 0 ground b c freed at at_past.past ∙ written_here at page' a b written (let l = at_past.below in omega (arith, l, size)) in
+    let new_p : ShowsInner (bytes_at c at) (first_without first bs key) (without_branch bs key) = subst (λ d. ShowsInner d (first_without first bs key) (without_branch bs key)) (sym here)
+    (subst (λ f. ShowsInner page' f (without_branch bs key)) is.0 (subst (ShowsInner page' (first_of page')) is.1 (shows_inner page' inner'))) in
+    let child_b : IsOwned owner b child = (written_owned at page' a b written owner child).1 kid.mine in
+    let owners = freed_owned child owner ground b c reached.least freed child_b in
+    record {
+      removed = dropped_any (bytes_at a) (bytes_at c) (IsOwned owner a) (IsOwned owner c) root at key tree first bs (entries_of below) (omega (arith, several)) at_p at_c taken new_p
+          (λ q o d e. anew_bytes child 0 ground b c freed q (reached.search.past q o).past ∙ written_other at page' a b written q d)
+          (λ q. (
+            (λ o. let f = (owners q).0 o in ((written_owned at page' a b written owner q).0 f.0, λ e. f.1 (e ∙ sym way))),
+            (λ o. (owners q).1 ((written_owned at page' a b written owner q).1 o.0, λ e. o.1 (e ∙ way))),
+          )) h;
+      past = λ q o. reached.search.past q ((written_owned at page' a b written owner q).0 ((owners q).0 o).0);
+      others = others_joined ground owner a b c (written_others ground owner at page' a b written n.top_owned) (freed_others child owner ground b c freed child_b);
+    }
+
+replaced_any : {steps : ℕ} (at new : ℕ → List ℕ) (owned now : ℕ → Type 0) (root p : ℕ) (key : List ℕ) (old : Tree) (first : ℕ) (bs : List Branch) (es : List Entry) → length bs ≡ 1
+    → ShowsInner (at p) first bs → ShowsEntries (at (child_for first bs key)) es → IsTakenFrom key es []
+    → new p ≡ at (first_without first bs key)
+    → ((q : ℕ) → owned q → q ≢ p → q ≢ child_for first bs key → q ≢ first_without first bs key → new q ≡ at q)
+    → ((q : ℕ) → (now q → owned q × (q ≢ child_for first bs key) × (q ≢ first_without first bs key)) × (owned q × (q ≢ child_for first bs key) × (q ≢ first_without first bs key) → now q))
+    → IsAtHand at owned root p key old steps → IsRemoved new now root key old
+replaced_any at new owned now root p key old first [] es some = absurd (omega (arith, some))
+replaced_any at new owned now root p key old first (b ∷ []) es some = replaced at new owned now root p key old first b es
+replaced_any at new owned now root p key old first (b ∷ (d ∷ bs)) es some = absurd (omega (arith, some))
