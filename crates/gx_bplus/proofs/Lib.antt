@@ -8,6 +8,7 @@ pub mod PageLemmas
 pub mod PutLemmas
 pub mod RemovalLemmas
 pub mod RemoveLemmas
+pub mod ShapeLemmas
 pub mod SheetLemmas
 pub mod SpreadLemmas
 pub mod StepLemmas

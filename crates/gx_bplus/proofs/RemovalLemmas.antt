@@ -1,5 +1,5 @@
 -- The pages after a child was taken off its page.
-use Rattle.std.proofs.Common.{◌≡◌, ◌≢◌, ℕ, ◌<◌, ◌≤◌, ◌-◌, List, [], ◌∷◌, length, refl, sym, ap, ◌∙◌, subst, arith}
+use Rattle.std.proofs.Common.{◌≡◌, ◌≢◌, ℕ, ◌<◌, ◌≤◌, ◌-◌, List, [], ◌∷◌, length, inl, inr, refl, sym, ap, ◌∙◌, subst, arith}
 use Rattle.std.specs.Prelude.{Result, Ok, Err, OnOk}
 use Rattle.std.specs.List.{remove}
 use Rattle.gx_ports.specs.Sheets.{Sheets, Ground, IsPast, IsOwnedAnew}
@@ -8,14 +8,16 @@ use Rattle.gx_slots.specs.Page.{entries_of}
 use Rattle.gx_bnode.specs.Branches.{Branch}
 use Rattle.gx_bnode.specs.Page.{IsInnerPage, first_of, branches_of, separators_of, children_of}
 use Rattle.gx_bplus.specs.declared.reading.Shape.TheVariants as shapes
-use Rattle.gx_bplus.specs.Bplus.{Shows, bytes_at, IsOwned}
+use Rattle.gx_bplus.specs.Bplus.{Shows, IsTreePage, bytes_at, IsOwned}
 use Rattle.gx_bplus.specs.Changes.{IsTakenFrom, IsRemoved}
 use Rattle.gx_bplus.specs.Hole.{IsAtHand}
-use Rattle.gx_bplus.specs.Search.{IsReached, HasRemoved}
+use Rattle.gx_bplus.specs.Search.{ArePast, IsReached, HasRemoved}
+use Rattle.gx_bplus.specs.Tree as trees
 use Rattle.gx_bplus.specs.Tree.{In, Tree, page_of, pages, kids_pages, ShowsEntries, ShowsInner, child_for, without_branch, first_without}
 use Rattle.gx_bplus.proofs.BranchLemmas.{IsPlaceFor, without_is}
 use Rattle.gx_bplus.proofs.EntryLemmas.{shows_entries, shows_inner}
-use Rattle.gx_bplus.proofs.RemoveLemmas.{dropped, replaced}
+use Rattle.gx_bplus.proofs.RemoveLemmas.{many_of, dropped, replaced}
+use Rattle.gx_bplus.proofs.ShapeLemmas.{first_in, kids_shape}
 use Rattle.gx_bplus.proofs.SheetLemmas.{IsWritten, others_joined, written_owned, written_other, written_here, written_others, anew_bytes, freed_others, freed_owned}
 use Rattle.gx_bplus.proofs.StepLemmas.{IsAtNode, at_node, top_in}
 
@@ -87,3 +89,74 @@ replaced_any : {steps : ℕ} (at new : ℕ → List ℕ) (owned now : ℕ → Ty
 replaced_any at new owned now root p key old first [] es some = absurd (omega (arith, some))
 replaced_any at new owned now root p key old first (b ∷ []) es some = replaced at new owned now root p key old first b es
 replaced_any at new owned now root p key old first (b ∷ (d ∷ bs)) es some = absurd (omega (arith, some))
+
+-- the one other child
+pub record IsSibling (ground : Ground) (owner : ℕ) (sheets : Sheets) (p child other : ℕ) : Type 0 where
+  pub mine : IsOwned owner sheets other
+  pub not_top : other ≢ p
+  pub not_child : other ≢ child
+  pub page : IsTreePage ground sheets other
+
+sibling : {steps : ℕ} (ground : Ground) (owner : ℕ) (sheets : Sheets) (root p child other : ℕ) (key : List ℕ) (old : Tree) (first : ℕ) (bs : List Branch) (h : IsAtHand (bytes_at sheets) (IsOwned owner sheets) root p key old steps)
+    → IsAtNode (bytes_at sheets) (IsOwned owner sheets) root p key old first bs h → ArePast ground owner sheets → 1 ≤ length bs → child ≡ child_for first bs key → other ≡ first_without first bs key → IsSibling ground owner sheets p child other
+sibling ground owner sheets root p child other key old first [] h n past some way is = absurd (omega (arith, some))
+sibling ground owner sheets root p child other key old first (b ∷ bs) h n past some way is =
+    let k = n.hole in
+    let w = k.gone (bytes_at sheets) (λ q i. refl) (many_of n.kids b bs n.branches_are) in
+    let first_is : trees.first_of w.kids ≡ other = w.first_is ∙ ap (λ f. first_without f (trees.branches_of n.kids) key) n.first_is ∙ ap (λ c. first_without first c key) n.branches_are ∙ sym is in
+    let within : In other k.others = elim ((w.pages_are other).0 (subst (λ q. In q (kids_pages w.kids)) first_is (first_in w.kids))) [ inl a ↦ a | inr z ↦ absurd z ] in
+    let child_in : In child (pages k.kid) = subst (λ q. In q (pages k.kid)) (sym (way ∙ n.goes)) (top_in k.kid) in
+    let mine = n.kids_owned other (n.in_others other within) in
+    let shape = kids_shape (bytes_at sheets) n.kids other n.stand n.ordered (n.in_others other within) in
+    record {
+      mine = mine;
+      not_top = λ e. n.out (subst (λ q. In q (kids_pages n.kids)) e (n.in_others other within));
+      not_child = λ e. k.fits.alone child child_in (subst (λ q. In q k.others) e within);
+      page = record { past = past other mine; shape = shape.shape; shows = shape.shows };
+    }
+
+pub reached_node : (ground : Ground) (owner : ℕ) (sheets : Sheets) (root at child : ℕ) (key : List ℕ) (tree : Tree) (steps : ℕ) (page below : List ℕ) (reached : IsReached ground owner sheets root at child key tree steps page below) → IsInnerPage page
+    → IsAtNode (bytes_at sheets) (IsOwned owner sheets) root at key tree (first_of page) (branches_of page) reached.search.hand
+reached_node ground owner sheets root at child key tree steps page below reached inner =
+    at_node (bytes_at sheets) (IsOwned owner sheets) root at key tree (first_of page) (branches_of page) (subst (λ d. ShowsInner d (first_of page) (branches_of page)) (sym reached.bytes_are) (shows_inner page inner)) reached.search.hand
+
+pub reached_sibling : (ground : Ground) (owner : ℕ) (sheets : Sheets) (root at child other : ℕ) (key : List ℕ) (tree : Tree) (steps : ℕ) (page below : List ℕ) → IsReached ground owner sheets root at child key tree steps page below → IsInnerPage page
+    → 1 ≤ length (branches_of page) → child ≡ child_for (first_of page) (branches_of page) key → other ≡ first_without (first_of page) (branches_of page) key → IsSibling ground owner sheets at child other
+reached_sibling ground owner sheets root at child other key tree steps page below reached inner some way is =
+    sibling ground owner sheets root at child other key tree (first_of page) (branches_of page) reached.search.hand (reached_node ground owner sheets root at child key tree steps page below reached inner) reached.search.past some way is
+
+pub replace_sheets : (ground : Ground) (owner root at child other : ℕ) (key : List ℕ) (tree : Tree) (steps : ℕ) (page below bytes : List ℕ) (a b c d : Sheets)
+    → length a.bytes ≡ ground.size → IsPast ground at
+    → IsReached ground owner a root at child key tree steps page below → IsInnerPage page → Shows shapes.Entries below → IsTakenFrom key (entries_of below) []
+    → length (branches_of page) ≡ 1 → child ≡ child_for (first_of page) (branches_of page) key → other ≡ first_without (first_of page) (branches_of page) key
+    → bytes_at a other ≡ bytes → IsWritten at bytes a b → IsOwnedAnew child 0 ground b c → IsOwnedAnew other 0 ground c d → HasRemoved ground owner root key a d tree
+replace_sheets ground owner root at child other key tree steps page below bytes a b c d size at_past reached inner shown taken one way is read written freed freed_too =
+    let first = first_of page in
+    let bs = branches_of page in
+    let h = reached.search.hand in
+    let at_p : ShowsInner (bytes_at a at) first bs = subst (λ x. ShowsInner x first bs) (sym reached.bytes_are) (shows_inner page inner) in
+    let n = reached_node ground owner a root at child key tree steps page below reached inner in
+    let kid = child_is (bytes_at a) (IsOwned owner a) root at child key tree first bs h n way in
+    let sib = reached_sibling ground owner a root at child other key tree steps page below reached inner (omega (arith, one)) way is in
+    let at_c : ShowsEntries (bytes_at a (child_for first bs key)) (entries_of below) = subst (λ q. ShowsEntries (bytes_at a q) (entries_of below)) way (subst (λ x. ShowsEntries x (entries_of below)) (sym reached.below_are) (shows_entries below shown)) in
+    let here : bytes_at d at ≡ bytes = anew_bytes other 0 ground c d freed_too at at_past.past ∙ anew_bytes child 0 ground b c freed at at_past.past ∙ written_here at bytes a b written (let l = at_past.below in omega (arith, l, size)) in
+    let child_b : IsOwned owner b child = (written_owned at bytes a b written owner child).1 kid.mine in
+    let owners = freed_owned child owner ground b c reached.least freed child_b in
+    let other_c : IsOwned owner c other = (owners other).1 ((written_owned at bytes a b written owner other).1 sib.mine, sib.not_child) in
+    let owners_too = freed_owned other owner ground c d reached.least freed_too other_c in
+    let back : (q : ℕ) → IsOwned owner d q → IsOwned owner a q × (q ≢ child) × (q ≢ other) = λ q o.
+        let f = (owners_too q).0 o in
+        let g = (owners q).0 f.0 in
+        ((written_owned at bytes a b written owner q).0 g.0, g.1, f.1) in
+    record {
+      removed = replaced_any (bytes_at a) (bytes_at d) (IsOwned owner a) (IsOwned owner d) root at key tree first bs (entries_of below) one at_p at_c taken
+          (here ∙ sym read ∙ ap (bytes_at a) is)
+          (λ q o e f g. let p = (reached.search.past q o).past in anew_bytes other 0 ground c d freed_too q p ∙ anew_bytes child 0 ground b c freed q p ∙ written_other at bytes a b written q e)
+          (λ q. (
+            (λ o. let f = back q o in (f.0, (λ e. f.1 (e ∙ sym way)), (λ e. f.2 (e ∙ sym is)))),
+            (λ o. (owners_too q).1 ((owners q).1 ((written_owned at bytes a b written owner q).1 o.0, λ e. o.1 (e ∙ way)), λ e. o.2 (e ∙ is))),
+          )) h;
+      past = λ q o. reached.search.past q (back q o).0;
+      others = others_joined ground owner a b d (written_others ground owner at bytes a b written n.top_owned)
+          (others_joined ground owner b c d (freed_others child owner ground b c freed child_b) (freed_others other owner ground c d freed_too other_c));
+    }

@@ -81,7 +81,7 @@ taken_root at new owned now root key old es fs was is up taken now_is whole owns
       taken = subst (λ (t : Tree). IsTakenFrom key (entries t) fs) (sym old_is) (taken ascending);
     }
 
-many_of : (kids : Kids) (b : Branch) (bs : List Branch) → branches_of kids ≡ b ∷ bs → AreMany kids
+pub many_of : (kids : Kids) (b : Branch) (bs : List Branch) → branches_of kids ≡ b ∷ bs → AreMany kids
 many_of (last t) b bs e = let no : ⊥ = cc in absurd no
 many_of (more t s kids) b bs e = tt
 
