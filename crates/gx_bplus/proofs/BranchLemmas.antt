@@ -21,10 +21,10 @@ pub record IsPlaceFor (branches : List Branch) (key : List ℕ) (i : ℕ) : Type
   pub before : All (λ s. is_le (slice_cmp nat_cmp s key) ≡ true) (take i (separators_in branches))
   pub behind : All (λ s. slice_cmp nat_cmp key s ≡ Less) (drop i (separators_in branches))
 
-first_behind : (b : Branch) (bs : List Branch) (key : List ℕ) → IsPlaceFor (b ∷ bs) key 0 → is_below key b.separator ≡ true
+pub first_behind : (b : Branch) (bs : List Branch) (key : List ℕ) → IsPlaceFor (b ∷ bs) key 0 → is_below key b.separator ≡ true
 first_behind b bs key at = is_below_of key b.separator (All-head (λ s. slice_cmp nat_cmp key s ≡ Less) b.separator (separators_in bs) at.behind)
 
-first_before : (b : Branch) (bs : List Branch) (key : List ℕ) (i : ℕ) → IsPlaceFor (b ∷ bs) key (suc i) → is_below key b.separator ≡ false
+pub first_before : (b : Branch) (bs : List Branch) (key : List ℕ) (i : ℕ) → IsPlaceFor (b ∷ bs) key (suc i) → is_below key b.separator ≡ false
 first_before b bs key i at = not_below_of key b.separator (All-head (λ s. is_le (slice_cmp nat_cmp s key) ≡ true) b.separator (take i (separators_in bs)) at.before)
 
 rest_at : (b : Branch) (bs : List Branch) (key : List ℕ) (i : ℕ) → IsPlaceFor (b ∷ bs) key (suc i) → IsPlaceFor bs key i
@@ -99,7 +99,7 @@ without_is old new key i at some seps kids = go (branches_of old) i at some seps
       let t = tops (first_of new) (first_of old) (map (λ (c : Branch). c.child) (branches_of new)) (remove (map (λ (c : Branch). c.child) (b ∷ bs)) i) kids in (
         t.0 ∙ sym (cond-false (is_below key b.separator) b.child (first_of old) is),
         same_branches (branches_of new) (remove (b ∷ bs) i) (seps ∙ ap (remove (separators_in (b ∷ bs))) less ∙ sym (map-remove (λ (c : Branch). c.separator) (b ∷ bs) i)) (t.1 ∙ sym (map-remove (λ (c : Branch). c.child) (b ∷ bs) i))
-        ∙ from_is b bs key i (rest_at b bs key i at) ∙ sym (cond-false (is_below key b.separator) bs (without_from b bs key) is),
+            ∙ from_is b bs key i (rest_at b bs key i at) ∙ sym (cond-false (is_below key b.separator) bs (without_from b bs key) is),
       )
 
 -- the place that a search among the separators of a page gives

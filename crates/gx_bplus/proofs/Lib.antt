@@ -1,5 +1,8 @@
+pub mod BoundLemmas
 pub mod BranchLemmas
+pub mod CallLemmas
 pub mod EntryLemmas
+pub mod FileLemmas
 pub mod HalfLemmas
 pub mod KidLemmas
 pub mod MemberLemmas

@@ -1,25 +1,29 @@
 -- The pages after a child was taken off its page.
-use Rattle.std.proofs.Common.{◌≡◌, ◌≢◌, ℕ, ◌<◌, ◌≤◌, ◌-◌, List, [], ◌∷◌, length, inl, inr, refl, sym, ap, ◌∙◌, subst, arith}
+use Rattle.std.proofs.Common.{◌≡◌, ◌≢◌, ℕ, zero, suc, ◌+◌, ◌<◌, ◌≤◌, ◌-◌, map, get_or, List, [], ◌∷◌, length, inl, inr, refl, sym, ap, ◌∙◌, subst, arith}
 use Rattle.std.specs.Prelude.{Result, Ok, Err, OnOk}
 use Rattle.std.specs.List.{remove}
+use Rattle.std.proofs.lemmas.Bool.{cond-true, cond-false}
+use Rattle.gx_ports.specs.Files.{OthersStay}
 use Rattle.gx_ports.specs.Sheets.{Sheets, Ground, IsPast, IsOwnedAnew}
 use Rattle.gx_slots.specs.Entries.{Entry}
 use Rattle.gx_slots.specs.Page.{entries_of}
 use Rattle.gx_bnode.specs.Branches.{Branch}
 use Rattle.gx_bnode.specs.Page.{IsInnerPage, first_of, branches_of, separators_of, children_of}
+use Rattle.gx_bnode.proofs.PageLemmas.{page_of as inner_page_of}
 use Rattle.gx_bplus.specs.declared.reading.Shape.TheVariants as shapes
 use Rattle.gx_bplus.specs.Bplus.{Shows, IsTreePage, bytes_at, IsOwned}
-use Rattle.gx_bplus.specs.Changes.{IsTakenFrom, IsRemoved}
+use Rattle.gx_bplus.specs.Changes.{IsSome, IsTakenFrom, IsRemoved}
 use Rattle.gx_bplus.specs.Hole.{IsAtHand}
-use Rattle.gx_bplus.specs.Search.{ArePast, IsReached, HasRemoved}
+use Rattle.gx_bplus.specs.Search.{ArePast, IsSearch, IsReached, HasRemoved}
 use Rattle.gx_bplus.specs.Tree as trees
-use Rattle.gx_bplus.specs.Tree.{In, Tree, page_of, pages, kids_pages, ShowsEntries, ShowsInner, child_for, without_branch, first_without}
-use Rattle.gx_bplus.proofs.BranchLemmas.{IsPlaceFor, without_is}
-use Rattle.gx_bplus.proofs.EntryLemmas.{shows_entries, shows_inner}
-use Rattle.gx_bplus.proofs.RemoveLemmas.{many_of, dropped, replaced}
+use Rattle.gx_bplus.specs.Tree.{In, Tree, page_of, entries, pages, kids_pages, ShowsEntries, ShowsInner, IsFilled, IsWhole, Owns, child_for, without_branch, first_without}
+use Rattle.gx_bplus.specs.Order.{is_below}
+use Rattle.gx_bplus.proofs.BranchLemmas.{IsPlaceFor, first_behind, first_before, without_is}
+use Rattle.gx_bplus.proofs.EntryLemmas.{shows_entries, shows_inner, entries_up}
+use Rattle.gx_bplus.proofs.RemoveLemmas.{many_of, taken_below, taken_root, dropped, replaced}
 use Rattle.gx_bplus.proofs.ShapeLemmas.{first_in, kids_shape}
 use Rattle.gx_bplus.proofs.SheetLemmas.{IsWritten, others_joined, written_owned, written_other, written_here, written_others, anew_bytes, freed_others, freed_owned}
-use Rattle.gx_bplus.proofs.StepLemmas.{IsAtNode, at_node, top_in}
+use Rattle.gx_bplus.proofs.StepLemmas.{IsAtNode, at_node, leaf_is, top_in, descend}
 
 pub on_ok : {T E : Type 0} {A B : Type 0} (r : Result T E) → (A → B) → OnOk r A → OnOk r B
 on_ok (Ok x) f h = f h
@@ -145,9 +149,9 @@ replace_sheets ground owner root at child other key tree steps page below bytes 
     let other_c : IsOwned owner c other = (owners other).1 ((written_owned at bytes a b written owner other).1 sib.mine, sib.not_child) in
     let owners_too = freed_owned other owner ground c d reached.least freed_too other_c in
     let back : (q : ℕ) → IsOwned owner d q → IsOwned owner a q × (q ≢ child) × (q ≢ other) = λ q o.
-        let f = (owners_too q).0 o in
-        let g = (owners q).0 f.0 in
-        ((written_owned at bytes a b written owner q).0 g.0, g.1, f.1) in
+    let f = (owners_too q).0 o in
+    let g = (owners q).0 f.0 in
+    ((written_owned at bytes a b written owner q).0 g.0, g.1, f.1) in
     record {
       removed = replaced_any (bytes_at a) (bytes_at d) (IsOwned owner a) (IsOwned owner d) root at key tree first bs (entries_of below) one at_p at_c taken
           (here ∙ sym read ∙ ap (bytes_at a) is)
@@ -160,3 +164,56 @@ replace_sheets ground owner root at child other key tree steps page below bytes 
       others = others_joined ground owner a b d (written_others ground owner at bytes a b written n.top_owned)
           (others_joined ground owner b c d (freed_others child owner ground b c freed child_b) (freed_others other owner ground c d freed_too other_c));
     }
+
+-- the entry page below keeps an entry, or is as it was
+pub keep_sheets : (ground : Ground) (owner root at child : ℕ) (key : List ℕ) (tree : Tree) (steps : ℕ) (page below new : List ℕ) (a b : Sheets)
+    → IsReached ground owner a root at child key tree steps page below → IsInnerPage page → Shows shapes.Entries below → Shows shapes.Entries new
+    → IsTakenFrom key (entries_of below) (entries_of new) → (IsSome (entries_of below) → IsSome (entries_of new)) → child ≡ child_for (first_of page) (branches_of page) key
+    → bytes_at b child ≡ new → ((q : ℕ) → q ≢ child → bytes_at b q ≡ bytes_at a q) → ((q : ℕ) → (IsOwned owner b q → IsOwned owner a q) × (IsOwned owner a q → IsOwned owner b q))
+    → (IsOwned owner a child → OthersStay ground owner a b)
+    → HasRemoved ground owner root key a b tree
+keep_sheets ground owner root at child key tree steps page below new a b reached inner shown shown' taken some way here elsewhere owners others =
+    let first = first_of page in
+    let bs = branches_of page in
+    let h = reached.search.hand in
+    let at_p : ShowsInner (bytes_at a at) first bs = subst (λ x. ShowsInner x first bs) (sym reached.bytes_are) (shows_inner page inner) in
+    let d : (g : IsAtHand (bytes_at a) (IsOwned owner a) root child key tree (steps + 1)) × IsFilled g.subtree =
+    subst (λ c. (g : IsAtHand (bytes_at a) (IsOwned owner a) root c key tree (steps + 1)) × IsFilled g.subtree) (sym way)
+    (let r = descend (bytes_at a) (IsOwned owner a) root at key tree first bs at_p h in (r.0, r.1)) in
+    let kid = child_is (bytes_at a) (IsOwned owner a) root at child key tree first bs h (reached_node ground owner a root at child key tree steps page below reached inner) way in
+    let was : ShowsEntries (bytes_at a child) (entries_of below) = subst (λ x. ShowsEntries x (entries_of below)) (sym reached.below_are) (shows_entries below shown) in
+    let is : ShowsEntries (bytes_at b child) (entries_of new) = subst (λ x. ShowsEntries x (entries_of new)) (sym here) (shows_entries new shown') in
+    let g = d.0 in
+    let leaf = leaf_is (bytes_at a) g.subtree (entries_of below) (subst (λ q. ShowsEntries (bytes_at a q) (entries_of below)) (sym g.fits.page_is) was) g.fits.stands in
+    let filled : IsSome (entries_of below) = (d.1.0, subst (λ (t : Tree). In d.1.0 (entries t)) leaf d.1.1) in
+    record {
+      removed = taken_below (bytes_at a) (bytes_at b) (IsOwned owner a) (IsOwned owner b) root child key tree (entries_of below) (entries_of new) was is (λ _. entries_up new shown') (λ _. taken) (some filled)
+          (λ q o e. elsewhere q e) owners g;
+      past = λ q o. reached.search.past q ((owners q).0 o);
+      others = others kid.mine;
+    }
+
+pub alone_sheets : (ground : Ground) (owner root : ℕ) (key : List ℕ) (tree : Tree) (page new : List ℕ) (a b : Sheets)
+    → IsWhole (bytes_at a) root tree → Owns (IsOwned owner a) tree → ArePast ground owner a → bytes_at a root ≡ page → Shows shapes.Entries page → Shows shapes.Entries new
+    → IsTakenFrom key (entries_of page) (entries_of new) → bytes_at b root ≡ new → ((q : ℕ) → (IsOwned owner b q → IsOwned owner a q) × (IsOwned owner a q → IsOwned owner b q))
+    → (IsOwned owner a root → OthersStay ground owner a b)
+    → HasRemoved ground owner root key a b tree
+alone_sheets ground owner root key tree page new a b whole owns past bytes_are shown shown' taken here owners others =
+    let root_owned : IsOwned owner a root = (owns root).1 (subst (λ q. In q (pages tree)) whole.root_is (top_in tree)) in
+    let was : ShowsEntries (bytes_at a root) (entries_of page) = subst (λ x. ShowsEntries x (entries_of page)) (sym bytes_are) (shows_entries page shown) in
+    let is : ShowsEntries (bytes_at b root) (entries_of new) = subst (λ x. ShowsEntries x (entries_of new)) (sym here) (shows_entries new shown') in
+    record {
+      removed = taken_root (bytes_at a) (bytes_at b) (IsOwned owner a) (IsOwned owner b) root key tree (entries_of page) (entries_of new) was is (λ _. entries_up new shown') (λ _. taken) owners whole owns;
+      past = λ q o. past q ((owners q).0 o);
+      others = others root_owned;
+    }
+
+-- the other one of two children
+pub other_is : (first : ℕ) (bs : List Branch) (key : List ℕ) (i : ℕ) → IsPlaceFor bs key i → length bs ≡ 1
+    → (i ≡ 0 → get_or (first ∷ map (λ b. b.child) bs) 1 0 ≡ first_without first bs key) × ((i ≡ 0 → ⊥) → first ≡ first_without first bs key)
+other_is first [] key i at one = absurd (omega (arith, one))
+other_is first (b ∷ bs) key zero at one = ((λ _. sym (cond-true (is_below key b.separator) b.child first (first_behind b bs key at))), λ d. absurd (d refl))
+other_is first (b ∷ bs) key (suc i) at one = ((λ e. absurd (omega (arith, e))), λ _. sym (cond-false (is_below key b.separator) b.child first (first_before b bs key i at)))
+
+pub some_branch : (page : List ℕ) → IsInnerPage page → 1 ≤ length (branches_of page)
+some_branch page inner = let s = (inner_page_of page inner).some in omega (arith, s)

@@ -148,8 +148,8 @@ descend {steps = steps} at owned root p key old first branches e h =
               let fit_below : IsFitting new (page_of k.kid) k.low k.high k.others u = record { page_is = fit.page_is; stands = fit.stands; ordered = fit.ordered; apart = fit.apart; bounds = fit.bounds; alone = λ x i j. fit.alone x i (inr (in_left x k.others h.others j)) } in
               let w = k.one new u beside fit_below filled in
               let at_p : ShowsInner (new p) (first_of w.kids) (branches_of w.kids) =
-                  subst (λ b. ShowsInner b (first_of w.kids) (branches_of w.kids)) (sym (same p (inl refl)))
-                  (subst (λ f. ShowsInner (at p) f (branches_of w.kids)) (sym w.first_is) (subst (ShowsInner (at p) (first_of n.kids)) (sym w.branches_are) n.shows)) in
+              subst (λ b. ShowsInner b (first_of w.kids) (branches_of w.kids)) (sym (same p (inl refl)))
+              (subst (λ f. ShowsInner (at p) f (branches_of w.kids)) (sym w.first_is) (subst (ShowsInner (at p) (first_of n.kids)) (sym w.branches_are) n.shows)) in
               let inside : (x : Entry) → In x (kids_entries w.kids) → IsUpTo h.lo x.key × IsUnder x.key h.hi = λ x i. elim ((w.entries_are x).0 i) [
                 | inl a ↦ (let b = fit.bounds x a in (up_to_up_to h.lo k.low x.key k.lower b.0, k.higher.under x.key b.1))
                 | inr a ↦ n.bounds x ((k.entries_are x).1 (inr a))

@@ -35,3 +35,11 @@ pub record IsReached (ground : Ground) (owner : ℕ) (sheets : Sheets) (root pag
   pub least : 1 ≤ owner
   pub bytes_are : bytes_at sheets page ≡ bytes
   pub below_are : bytes_at sheets child ≡ below
+
+-- the same of some tree of some owner
+pub record HasReached (ground : Ground) (sheets : Sheets) (page child : ℕ) (key bytes below : List ℕ) : Type 0 where
+  pub owner : ℕ
+  pub root : ℕ
+  pub tree : Tree
+  pub steps : ℕ
+  pub reached : IsReached ground owner sheets root page child key tree steps bytes below

@@ -1,5 +1,8 @@
 //! Files that are B+ trees of pages: entry pages with ascending keys, under inner pages.
 #![tactic(auto)]
 
+mod bplus;
 mod reading;
 mod removal;
+
+pub use bplus::{make, remove};
