@@ -1,18 +1,18 @@
 -- Places of children, and the child on the way to a key.
-use Rattle.std.proofs.Common.{◌≡◌, ℕ, zero, suc, ◌+◌, ◌-◌, ◌<◌, ◌≤◌, Bool, true, false, List, [], ◌∷◌, ◌++◌, length, map, take, drop, get_or, refl, sym, ap, ap₂, ◌∙◌, subst, arith}
+use Rattle.std.proofs.Common.{◌≡◌, ◌⊎◌, inl, inr, ℕ, zero, suc, ◌+◌, ◌-◌, ◌<◌, ◌≤◌, Bool, true, false, List, [], ◌∷◌, ◌++◌, length, map, take, drop, get_or, Option, Some, refl, sym, ap, ap₂, ◌∙◌, subst, arith}
 use Rattle.std.specs.Cmp.Lexicographic.{slice_cmp}
 use Rattle.std.specs.List.{All, count_by, insert, remove}
 use Rattle.std.specs.Ordering.{nat_cmp, is_le}
 use Rattle.std.specs.declared.cmp.Ordering.TheVariants.{Less}
-use Rattle.std.proofs.lemmas.Bool.{cond-true, cond-false}
-use Rattle.std.proofs.lemmas.List.{length-map}
+use Rattle.std.proofs.lemmas.Bool.{cases_Bool, cond-true, cond-false}
+use Rattle.std.proofs.lemmas.List.{length-map, get_or-map}
 use Rattle.std.proofs.lemmas.List.Elements.{All-head, All-tail}
 use Rattle.std.proofs.lemmas.List.Sums.{count_by-le-length}
 use Rattle.gx_bnode.specs.Branches.{Branch}
-use Rattle.gx_bnode.specs.Page.{separators_in, first_of, branches_of, separators_of, children_of}
-use Rattle.gx_bnode.proofs.PageLemmas.{map-insert, map-remove, children-insert, children-remove}
+use Rattle.gx_bnode.specs.Page.{IsInnerPage, separators_in, first_of, branches_of, separators_of, children_of}
+use Rattle.gx_bnode.proofs.PageLemmas.{page_of as inner_page_of, map-insert, map-remove, children-insert, children-remove}
 use Rattle.gx_bplus.specs.Order.{IsBelow, IsUpTo, is_below}
-use Rattle.gx_bplus.specs.Tree.{child_for, with_branch, without_from, without_branch, first_without}
+use Rattle.gx_bplus.specs.Tree.{In, child_for, bound_for, with_branch, without_from, without_branch, first_without}
 use Rattle.gx_bplus.proofs.OrderLemmas.{is_below_of, not_below_of}
 
 -- the separators before a place are at or below the key, and those behind it are above
@@ -110,3 +110,30 @@ place_for page key i number before behind = record {
   before = before;
   behind = behind;
 }
+
+-- the nearest separator behind the child at the place
+pub bound_is : (bs : List Branch) (key : List ℕ) (i : ℕ) (hi : Option (List ℕ)) → IsPlaceFor bs key i
+    → (i < length (separators_in bs) → Some (get_or (separators_in bs) i []) ≡ bound_for bs key hi) × (length (separators_in bs) ≤ i → hi ≡ bound_for bs key hi)
+bound_is [] key i hi at = ((λ b. absurd (omega (arith, b))), λ _. refl)
+bound_is (b ∷ bs) key zero hi at = ((λ _. sym (cond-true (is_below key b.separator) (Some b.separator) (bound_for bs key hi) (first_behind b bs key at))), λ l. absurd (omega (arith, l)))
+bound_is (b ∷ bs) key (suc i) hi at =
+    let h = bound_is bs key i hi (rest_at b bs key i at) in
+    let e = sym (cond-false (is_below key b.separator) (Some b.separator) (bound_for bs key hi) (first_before b bs key i at)) in
+    ((λ l. h.0 (omega (arith, l)) ∙ e), (λ l. h.1 (omega (arith, l)) ∙ e))
+
+-- it is one of them, or the bound of the page
+pub bound_in : (bs : List Branch) (key : List ℕ) (hi : Option (List ℕ)) (s : List ℕ) → bound_for bs key hi ≡ Some s → (hi ≡ Some s) ⊎ In s (separators_in bs)
+bound_in [] key hi s e = inl e
+bound_in (b ∷ bs) key hi s e = elim (cases_Bool (is_below key b.separator)) [
+  | inl is ↦ (let f : Some b.separator ≡ Some s = sym (cond-true (is_below key b.separator) (Some b.separator) (bound_for bs key hi) is) ∙ e in let g : b.separator ≡ s = cc in inr (inl (sym g)))
+  | inr is ↦ elim (bound_in bs key hi s (sym (cond-false (is_below key b.separator) (Some b.separator) (bound_for bs key hi) is) ∙ e)) [ inl f ↦ inl f | inr i ↦ inr (inr i) ]
+]
+
+-- a separator has at most 400 bytes
+pub separator_short : (page : List ℕ) (i : ℕ) → IsInnerPage page → i < length (separators_of page) → length (get_or (separators_of page) i []) ≤ 400
+separator_short page i inner below =
+    let d : Branch = record { separator = []; child = 0 } in
+    let n = length-map (branches_of page) (λ b. b.separator) in
+    let fit = (inner_page_of page inner).page.holds.fit i d (omega (arith, below, n)) in
+    let s = ap length (get_or-map (λ (b : Branch). b.separator) (branches_of page) i d [] (omega (arith, below, n))) in
+    omega (arith, fit.separator, s)

@@ -3,6 +3,7 @@ pub mod BranchLemmas
 pub mod CallLemmas
 pub mod EntryLemmas
 pub mod FileLemmas
+pub mod FindLemmas
 pub mod HalfLemmas
 pub mod KidLemmas
 pub mod MemberLemmas

@@ -140,3 +140,13 @@ without_branch (b ∷ bs) key = if is_below key b.separator then bs else without
 abbrev pub first_without : ℕ → List Branch → List ℕ → ℕ
 first_without first [] key = first
 first_without first (b ∷ bs) key = if is_below key b.separator then b.child else first
+
+-- the separators
+abbrev mutual
+  pub separators : Tree → List (List ℕ)
+  separators (leaf p es) = []
+  separators (node p kids) = kids_separators kids
+
+  pub kids_separators : Kids → List (List ℕ)
+  kids_separators (last t) = separators t
+  kids_separators (more t s kids) = s ∷ (separators t ++ kids_separators kids)

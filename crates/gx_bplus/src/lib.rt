@@ -4,5 +4,6 @@
 mod bplus;
 mod reading;
 mod removal;
+mod searching;
 
 pub use bplus::{make, remove};
