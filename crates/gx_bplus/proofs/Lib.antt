@@ -4,6 +4,7 @@ pub mod CallLemmas
 pub mod EntryLemmas
 pub mod FileLemmas
 pub mod FindLemmas
+pub mod GiveLemmas
 pub mod HalfLemmas
 pub mod KidLemmas
 pub mod MemberLemmas

@@ -4,3 +4,4 @@ pub mod Hole
 pub mod Changes
 pub mod Bplus
 pub mod Search
+pub mod Selection

@@ -5,5 +5,7 @@ mod bplus;
 mod reading;
 mod removal;
 mod searching;
+mod selection;
 
 pub use bplus::{make, remove};
+pub use selection::select;
