@@ -86,7 +86,7 @@ module _ {S : Type 0} (g : Ghosts S) (place : Place) (key : List ℕ) (start : S
     finding_ends b r e = ends_after g Whole _ start now b r f.faults f.reads.keeps.ground (λ w. (
       w.1.told,
       subst (λ s. IsTreePage (g.ground now) s at) (sym f.reads.working) (subst (λ x. IsTreePage x (g.working start) at) (sym f.reads.keeps.ground)
-      (hand_page (g.ground start) place.owner (g.working start) place.root at key w.1.file.tree (f.way w.0 w.1).hand (past_of (g.ground start) place (g.working start) w.0 w.1.file))),
+          (hand_page (g.ground start) place.owner (g.working start) place.root at key w.1.file.tree (f.way w.0 w.1).hand (past_of (g.ground start) place (g.working start) w.0 w.1.file))),
     )) e
 
     pub finding_goes : (b : S) (page : List ℕ) (next : ℕ) (further : Option (List ℕ)) → ReadsPages g now b → g.faults b ≡ g.faults now → IsPast (g.ground now) at → IsInnerPage page → (IsTrue g.tells → bytes_at (g.working now) at ≡ page)

@@ -20,27 +20,5 @@ pub record IsGiving (before : List LeafEntry) (from lo hi : List ℕ) (es : List
 pub giving_starts : (before : List LeafEntry) (from lo hi : List ℕ) (es left : List Entry) → left ≡ es → IsGiving before from lo hi es before left
 giving_starts before from lo hi es left is = record { gives = ap (λ (xs : List Entry). before ++ given_from from lo hi xs) is; front = ([], sym (append-nil before)) }
 
-given_cons : (from lo hi : List ℕ) (e : Entry) (rest : List Entry) (b : Bool) → map given_entry (cond b (e ∷ filter (is_given from lo hi) rest) (filter (is_given from lo hi) rest)) ≡ cond b (given_entry e ∷ given_from from lo hi rest) (given_from from lo hi rest)
-given_cons from lo hi e rest true = refl
-given_cons from lo hi e rest false = refl
-
-step : (from lo hi : List ℕ) (e : Entry) (left rest : List Entry) → left ≡ e ∷ rest → given_from from lo hi left ≡ cond (is_given from lo hi e) (given_entry e ∷ given_from from lo hi rest) (given_from from lo hi rest)
-step from lo hi e left rest is = ap (given_from from lo hi) is ∙ given_cons from lo hi e rest (is_given from lo hi e)
-
-pub giving_more : (before : List LeafEntry) (from lo hi : List ℕ) (es : List Entry) (out : List LeafEntry) (left : List Entry) (e : Entry) (rest : List Entry) (new : List LeafEntry) → IsGiving before from lo hi es out left → left ≡ e ∷ rest → is_given from lo hi e ≡ true → new ≡ out ++ given_entry e ∷ []
-    → IsGiving before from lo hi es new rest
-giving_more before from lo hi es out left e rest new g is holds new_is = record {
-  gives = ap (λ (xs : List LeafEntry). xs ++ given_from from lo hi rest) new_is ∙ append_assoc out (given_entry e ∷ []) (given_from from lo hi rest)
-      ∙ ap (λ (xs : List LeafEntry). out ++ xs) (sym (step from lo hi e left rest is ∙ ap (λ b. cond b (given_entry e ∷ given_from from lo hi rest) (given_from from lo hi rest)) holds)) ∙ g.gives;
-  front = (g.front.0 ++ given_entry e ∷ [], new_is ∙ ap (λ (xs : List LeafEntry). xs ++ given_entry e ∷ []) g.front.1 ∙ append_assoc before g.front.0 (given_entry e ∷ []));
-}
-
-pub giving_past : (before : List LeafEntry) (from lo hi : List ℕ) (es : List Entry) (out : List LeafEntry) (left : List Entry) (e : Entry) (rest : List Entry) → IsGiving before from lo hi es out left → left ≡ e ∷ rest → is_given from lo hi e ≡ false
-    → IsGiving before from lo hi es out rest
-giving_past before from lo hi es out left e rest g is fails = record {
-  gives = ap (λ (xs : List LeafEntry). out ++ xs) (sym (step from lo hi e left rest is ∙ ap (λ b. cond b (given_entry e ∷ given_from from lo hi rest) (given_from from lo hi rest)) fails)) ∙ g.gives;
-  front = g.front;
-}
-
 pub giving_ended : (before : List LeafEntry) (from lo hi : List ℕ) (es : List Entry) (out : List LeafEntry) (left : List Entry) → IsGiving before from lo hi es out left → left ≡ [] → out ≡ before ++ given_from from lo hi es
 giving_ended before from lo hi es out left g none = sym (append-nil out) ∙ ap (λ (xs : List Entry). out ++ given_from from lo hi xs) (sym none) ∙ g.gives

@@ -13,7 +13,9 @@ pub mod PageLemmas
 pub mod PutLemmas
 pub mod RemovalLemmas
 pub mod RemoveLemmas
+pub mod SelectingLemmas
 pub mod ShapeLemmas
+pub mod SelectLemmas
 pub mod SheetLemmas
 pub mod SpreadLemmas
 pub mod StepLemmas

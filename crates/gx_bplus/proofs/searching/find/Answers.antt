@@ -22,9 +22,11 @@ returns-in-Entries-clause-found g c map holds =
 
 pub loop-preserved : goal.loop-preserved
 loop-preserved g c =
-    let e = c.in_ok-read_page.ensures in
-    (e.bytes, finding_goes g.P.PageView c.args.place.now c.args.key.now c.args.pages.now c.loop.pages c.loop.from c.loop.at c.loop.bound c.loop.invariant.1 c.read_page.new.pages c.read_page.new.into c.child_for-at.result c.bound_for-bound.result e.reads
-    (e.ends.cause.counted refl) e.past (subst (λ s. Shows s c.read_page.new.into) c.in-Inner.is e.shape) e.read c.bound_for-bound.ensures c.child_for-at.ensures)
+    let e = c.in_ok-read_page.ensures in (
+      e.bytes,
+      finding_goes g.P.PageView c.args.place.now c.args.key.now c.args.pages.now c.loop.pages c.loop.from c.loop.at c.loop.bound c.loop.invariant.1 c.read_page.new.pages c.read_page.new.into c.child_for-at.result c.bound_for-bound.result e.reads
+          (e.ends.cause.counted refl) e.past (subst (λ s. Shows s c.read_page.new.into) c.in-Inner.is e.shape) e.read c.bound_for-bound.ensures c.child_for-at.ensures,
+    )
 
 pub returns-clause-ends : goal.returns-clause-ends
 returns-clause-ends g c =

@@ -1,7 +1,7 @@
 use Rattle.std.proofs.Common.{◌∙◌, sym}
 use Rattle.gx_slots.specs.Entries.{lent}
 use Rattle.gx_slots.specs.Page.{entries_of}
-use Rattle.gx_bplus.proofs.GiveLemmas.{giving_starts, giving_more, giving_past, giving_ended}
+use Rattle.gx_bplus.proofs.GiveLemmas.{giving_starts, giving_ended}
 use Rattle.gx_bplus.proofs.selection.give.Goals as goal
 
 pub loop-key-init : goal.loop-key-init
