@@ -6,6 +6,7 @@ pub mod FileLemmas
 pub mod FindLemmas
 pub mod GiveLemmas
 pub mod HalfLemmas
+pub mod InsertLemmas
 pub mod KidLemmas
 pub mod MemberLemmas
 pub mod OrderLemmas

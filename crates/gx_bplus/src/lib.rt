@@ -2,6 +2,7 @@
 #![tactic(auto)]
 
 mod bplus;
+mod insertion;
 mod reading;
 mod removal;
 mod searching;
