@@ -1,4 +1,7 @@
+pub mod AscendingLemmas
 pub mod EntryLemmas
+pub mod OrderLemmas
 pub mod PageLemmas
 pub mod ScanLemmas
 pub mod SearchLemmas
+pub mod SplitLemmas

@@ -1,8 +1,11 @@
 -- Entries: a key and what is stored under it, and how they are written.
-use Rattle.std.specs.Prelude.{◌≢◌, ℕ, ◌+◌, ◌≤◌, List, ◌++◌, length, take, drop}
+use Rattle.std.specs.Prelude.{◌≡◌, ◌≢◌, ℕ, ◌+◌, ◌≤◌, List, ◌++◌, length, take, drop}
 use Rattle.std.specs.Borrow.{Bor}
+use Rattle.std.specs.Cmp.Lexicographic.{slice_cmp}
 use Rattle.std.specs.Int.{w16, to_be_bytes, from_be_bytes}
 use Rattle.std.specs.List.{AllPairs}
+use Rattle.std.specs.Ordering.{nat_cmp}
+use Rattle.std.specs.declared.cmp.Ordering.TheVariants.{Less}
 use Rattle.gx_bytes.specs.Records.{records, HoldsRecordCount}
 
 -- a key and the body stored under it
@@ -41,6 +44,10 @@ HoldsCount = HoldsRecordCount entry_bytes IsFit
 -- no key stands twice
 abbrev pub AreDistinct : List Entry → Type 0
 AreDistinct = AllPairs (λ a b. a.key ≢ b.key)
+
+-- each key stands before those behind it in the order of bytes
+abbrev pub AreAscending : List Entry → Type 0
+AreAscending = AllPairs (λ a b. slice_cmp nat_cmp a.key b.key ≡ Less)
 
 -- an entry as it is lent: its key and its body
 abbrev pub lent : Bor (List ℕ) × Bor (List ℕ) → Entry

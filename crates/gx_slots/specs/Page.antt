@@ -1,7 +1,7 @@
 -- Entry pages: what the bytes of a page say, and which bytes are one.
 use Rattle.std.specs.Prelude.{ℕ, List}
 use Rattle.gx_bytes.specs.Page.{IsRecordPage, records_of, number_of, used}
-use Rattle.gx_slots.specs.Entries.{Entry, IsFit, AreDistinct, entry_bytes, entry_len, first_entry}
+use Rattle.gx_slots.specs.Entries.{Entry, IsFit, AreDistinct, AreAscending, entry_bytes, entry_len, first_entry}
 
 -- the bytes are an entry page with these entries, in their order, and this next page
 pub record IsPageOf (entries : List Entry) (next : ℕ) (bytes : List ℕ) : Type 0 where
@@ -25,3 +25,8 @@ next_of = number_of
 -- how many bytes of a page are taken up to the end of these entries
 abbrev pub used_by : List Entry → ℕ
 used_by = used entry_len
+
+-- the bytes are an entry page whose keys ascend
+pub record IsAscendingPage (bytes : List ℕ) : Type 0 where
+  pub page : IsEntryPage bytes
+  pub ascending : AreAscending (entries_of bytes)

@@ -2,7 +2,7 @@
 use Rattle.std.specs.Prelude.{◌≡◌, ℕ, ◌+◌, ◌*◌, ◌%◌, List, length, Bool, false, true, slice_index_or}
 use Rattle.std.specs.List.{All, fold}
 use Rattle.gx_bytes.specs.Records.{HoldsRecords}
-use Rattle.gx_slots.specs.Entries.{Entry, IsFit, AreDistinct, entry_bytes}
+use Rattle.gx_slots.specs.Entries.{Entry, IsFit, AreDistinct, AreAscending, entry_bytes}
 
 -- the bytes begin with n entries, and no key stands twice among them
 pub record HoldsDistinct (n : ℕ) (bytes : List ℕ) : Type 0 where
@@ -10,6 +10,13 @@ pub record HoldsDistinct (n : ℕ) (bytes : List ℕ) : Type 0 where
   pub count : length entries ≡ n
   pub holds : HoldsRecords entry_bytes IsFit entries bytes
   pub distinct : AreDistinct entries
+
+-- the bytes begin with n entries whose keys ascend
+pub record HoldsAscending (n : ℕ) (bytes : List ℕ) : Type 0 where
+  pub entries : List Entry
+  pub count : length entries ≡ n
+  pub holds : HoldsRecords entry_bytes IsFit entries bytes
+  pub ascending : AreAscending entries
 
 -- a hash of a key, below 4096
 abbrev pub hash_of : List ℕ → ℕ

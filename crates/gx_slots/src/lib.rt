@@ -3,11 +3,15 @@
 
 mod format;
 mod iter;
+mod order;
 mod page;
+mod splitting;
 mod validity;
 
 pub use format::{MAX_ENTRY_LEN, MAX_KEY_LEN};
 pub use gx_bytes::NONE;
 pub use iter::Entries;
+pub use order::{is_ascending, rank};
 pub use page::{add, clear, count, entries, entry, find, next, set_next, take};
+pub use splitting::{middle, split};
 pub use validity::is_entries;

@@ -120,8 +120,8 @@ pub fn take(page: &mut [u8], i: u16)
     set_record_count(page, count - 1);
 }
 
-// Where the entry at place `i` begins, and where the last entry ends.
-fn offsets(page: &[u8], i: u16) -> (usize, usize)
+/// Where the entry at place `i` begins, which is at most the count, and where the last entry ends.
+pub(crate) fn offsets(page: &[u8], i: u16) -> (usize, usize)
     requires page { IsEntryPage page.now }
     requires place { i ≤ length (entries_of page.now) }
     ensures start { result.0 ≡ used_by (take i (entries_of page.now)) }

@@ -1,0 +1,54 @@
+-- Searches in the pages of a tree.
+use Rattle.std.specs.Prelude.{◌≡◌, ◌≤◌, ℕ, List, Option, Some}
+use Rattle.gx_slots.specs.Entries.{Entry}
+use Rattle.gx_ports.specs.Files.{OthersStay}
+use Rattle.gx_ports.specs.Sheets.{Sheets, Ground, IsPast}
+use Rattle.gx_bplus.specs.Order.{IsUpTo, IsUnder}
+use Rattle.gx_bplus.specs.Tree.{In, Tree, entries, separators}
+use Rattle.gx_bplus.specs.Hole.{IsAtHand}
+use Rattle.gx_bplus.specs.Changes.{IsPut, IsRemoved}
+use Rattle.gx_bplus.specs.Bplus.{bytes_at, IsOwned}
+
+-- all pages of the owner lie past the table
+abbrev pub ArePast : Ground → ℕ → Sheets → Type 0
+ArePast ground owner sheets = (page : ℕ) → IsOwned owner sheets page → IsPast ground page
+
+-- The search for a key has come to this page, in a tree that the pages hold.
+pub record IsSearch (ground : Ground) (owner : ℕ) (sheets : Sheets) (root page : ℕ) (key : List ℕ) (old : Tree) (steps : ℕ) : Type 0 where
+  pub hand : IsAtHand (bytes_at sheets) (IsOwned owner sheets) root page key old steps
+  pub past : ArePast ground owner sheets
+
+-- the pages hold the tree without the key, and those of other owners stay
+pub record HasRemoved (ground : Ground) (owner root : ℕ) (key : List ℕ) (old new : Sheets) (tree : Tree) : Type 0 where
+  pub removed : IsRemoved (bytes_at new) (IsOwned owner new) root key tree
+  pub past : ArePast ground owner new
+  pub others : OthersStay ground owner old new
+
+-- the pages hold the tree with the entry, and those of other owners stay
+pub record HasPut (ground : Ground) (owner root : ℕ) (e : Entry) (old new : Sheets) (tree : Tree) : Type 0 where
+  pub put : IsPut (bytes_at new) (IsOwned owner new) root e tree
+  pub past : ArePast ground owner new
+  pub others : OthersStay ground owner old new
+
+-- The search has come to an inner page with these bytes, and the child on the way is an entry page with those.
+pub record IsReached (ground : Ground) (owner : ℕ) (sheets : Sheets) (root page child : ℕ) (key : List ℕ) (old : Tree) (steps : ℕ) (bytes below : List ℕ) : Type 0 where
+  pub search : IsSearch ground owner sheets root page key old steps
+  pub least : 1 ≤ owner
+  pub bytes_are : bytes_at sheets page ≡ bytes
+  pub below_are : bytes_at sheets child ≡ below
+
+-- the same of some tree of some owner
+pub record HasReached (ground : Ground) (sheets : Sheets) (page child : ℕ) (key bytes below : List ℕ) : Type 0 where
+  pub owner : ℕ
+  pub root : ℕ
+  pub tree : Tree
+  pub steps : ℕ
+  pub reached : IsReached ground owner sheets root page child key tree steps bytes below
+
+-- These are the entries of a tree from the page on the way to a key, and the nearest separator behind it.
+pub record IsFound (tree : Tree) (key : List ℕ) (bound : Option (List ℕ)) (es : List Entry) : Type 0 where
+  pub among : (x : Entry) → In x es → In x (entries tree)
+  pub under : (x : Entry) → In x es → IsUnder x.key bound
+  pub all : (x : Entry) → In x (entries tree) → IsUpTo key x.key → IsUnder x.key bound → In x es
+  pub to : IsUnder key bound
+  pub separator : (s : List ℕ) → bound ≡ Some s → In s (separators tree)
