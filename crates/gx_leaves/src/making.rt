@@ -1,13 +1,12 @@
 // Leaves are laid out on pages, and made.
 ghost use Rattle.std.specs.Prelude.{◌≡◌, length, IsTrue, IfOk, OnOk};
 ghost use Rattle.gx_ports.specs.PageCalls.{KeepsPages, CountsPageFaults};
-ghost use Rattle.gx_ports.specs.Roots.{roots_of_kind};
 ghost use Rattle.gx_leaves.specs.Places.{places_of, IsRoomFor, IsLaidOut};
 ghost use Rattle.gx_leaves.specs.Making.{IsAllFree, AreMade};
 
 use crate::files::make_file;
 use gx_device::Failed;
-use gx_ports::{LeafKind, LeafSpec, Pages, Place};
+use gx_ports::{LeafSpec, Pages, Place};
 use std::alloc::{AllocError, Global};
 
 /// The places of leaves: their root pages lie one behind the other, from the first page past the table on.
@@ -29,21 +28,11 @@ pub fn lay_out<P: Pages>(
             root,
             owner,
         })?;
-        root += roots(spec.kind);
+        root += spec.kind.roots();
         owner += 1;
     }
     prove!(root <= end);
     Ok(places)
-}
-
-// How many root pages a leaf of the kind has.
-fn roots(kind: LeafKind) -> u32
-    ensures { result ≡ roots_of_kind kind }
-{
-    match kind {
-        LeafKind::Heap | LeafKind::Isam | LeafKind::Bplus => 1,
-        LeafKind::Hash(buckets) => u32::from(buckets),
-    }
 }
 
 /// Makes an empty file at each place, on pages of which none past the table has an owner.

@@ -2,7 +2,7 @@
 ghost use Rattle.std.specs.Prelude.{◌≡◌, ◌≤◌, ℕ, slice_get, IsTrue, IfOk};
 
 use crate::owners::{clear_owners, find_free, owner, set_owner};
-use crate::table::FREE;
+use crate::table::{FREE, TABLE_PAGES};
 use gx_device::{Device, Failed};
 use gx_journal::Journal;
 use gx_ports::{PageView, Pages, Stop};
@@ -86,6 +86,10 @@ impl<D: Device> Pages for Paged<D> {
 
     fn pages(&self) -> u32 {
         self.journal.pages()
+    }
+
+    fn tables(&self) -> u32 {
+        TABLE_PAGES
     }
 
     fn claim(&mut self, owner: u16) -> Result<u32, Stop> {

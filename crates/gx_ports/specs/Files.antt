@@ -46,14 +46,11 @@ pub record IsVacant (place : Place) (sheets : Sheets) : Type 0 where
   pub free : (page : ℕ) → place.root ≤ page → page < place.root + roots_of place.spec → slice_get sheets.owners page ≡ Some 0
   pub none : (page : ℕ) → slice_get sheets.owners page ≢ Some place.owner
 
-<<<<<<< HEAD
 -- no page but the roots of the place has another owner than before
 abbrev pub ClaimsRoots : Place → Sheets → Sheets → Type 0
 ClaimsRoots place old new =
     (page : ℕ) → ¬ ((place.root ≤ page) × (page < place.root + roots_of place.spec)) → slice_get new.owners page ≡ slice_get old.owners page
 
-=======
->>>>>>> 5cf71ef8cbb2953f7d6e6010c5f02bcaa3acc502
 -- When a call on a file is given up: faults are counted, and damage is found only where something was not sound, at a block of the
 -- device.
 pub record EndsFile {S T : Type 0} (g : Ghosts S) (sound : Type 0) (old new : S) (result : Result T Stop) : Type 0 where

@@ -1,5 +1,5 @@
 -- The pages that leaves have from the start on.
-use Rattle.std.specs.Prelude.{ℕ, List, map, sum}
+use Rattle.std.specs.Prelude.{ℕ, ◌+◌, ◌*◌, List, map, sum}
 use Rattle.gx_ports.specs.declared.kinds.LeafKind.{LeafKind}
 use Rattle.gx_ports.specs.declared.kinds.LeafKind.TheVariants as leaf
 use Rattle.gx_ports.specs.declared.kinds.LeafSpec.{LeafSpec}
@@ -16,3 +16,7 @@ roots_of spec = roots_of_kind spec.kind
 
 abbrev pub root_pages : List LeafSpec → ℕ
 root_pages specs = sum (map roots_of specs)
+
+-- 7 blocks, and two for each page of the table of owners, which has 16, and for each root page
+abbrev pub smallest_device : List LeafSpec → ℕ
+smallest_device specs = 7 + 2 * (16 + root_pages specs)

@@ -1,8 +1,8 @@
 // The leaves of an equation, and the pages that they need from the start on.
 ghost use Rattle.std.specs.Prelude.{◌≡◌, ◌≤◌, ◌<◌, ◌^◌, length};
-ghost use Rattle.gx_typing.specs.Leaves.{roots_of, root_pages, smallest_device};
+ghost use Rattle.gx_typing.specs.Leaves.{root_pages, smallest_device};
 
-use gx_ports::{LeafKind, LeafSpec};
+use gx_ports::LeafSpec;
 use std::marker::Model;
 
 /// What leaves are, seen as a list.
@@ -37,28 +37,13 @@ pub struct Typing {
     pub owners: Owners,
 }
 
-// How many pages the leaf has from the start on.
-fn roots(spec: LeafSpec) -> u32
-    ensures value { result ≡ roots_of spec }
-    ensures small { result < 256 }
-{
-    match spec.kind {
-        LeafKind::Hash(buckets) => u32::from(buckets),
-        LeafKind::Heap | LeafKind::Isam | LeafKind::Bplus => 1,
-    }
-}
-
 /// How many pages the leaves have from the start on: a hashed leaf one for each of its chains, every other leaf one.
 pub fn root_pages(specs: &Specs) -> u32
     requires { length specs.now ≤ 255 }
     ensures value { result ≡ root_pages specs.now }
     ensures small { result < 2 ^ 16 }
 {
-    let mut pages = 0;
-    for spec in specs.0.iter() {
-        pages += roots(*spec);
-    }
-    pages
+    gx_ports::root_pages(&specs.0)
 }
 
 /// The number of blocks of the smallest device that has room for the leaves: 7, and two for each of the 16 pages of the owner
@@ -67,5 +52,5 @@ pub fn smallest_device(specs: &Specs) -> u32
     requires { length specs.now ≤ 255 }
     ensures { result ≡ smallest_device specs.now }
 {
-    7 + 2 * (16 + root_pages(specs))
+    gx_ports::smallest_device(&specs.0)
 }

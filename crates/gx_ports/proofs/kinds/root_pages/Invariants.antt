@@ -1,6 +1,6 @@
 use Rattle.std.proofs.Common.{◌≡◌, ◌≤◌, ◌*◌, sum, map, take}
-use Rattle.gx_typing.specs.Leaves.{roots_of}
-use Rattle.gx_typing.proofs.typing.root_pages.Given as goal
+use Rattle.gx_ports.specs.Roots.{roots_of}
+use Rattle.gx_ports.proofs.kinds.root_pages.Given as goal
 
 abbrev pub invariant-loop-spec : goal.invariant-loop-spec
 invariant-loop-spec l = record {
