@@ -75,8 +75,9 @@ fn add_found<B: Leaves>(
     ensures block { (n : ℕ) → IsErrOf result (Stop.Damaged n) → B.whole leaves.old → n ≡ 0 }
     ensures not_full { ¬ IsErrOf result Stop.Full }
 {
+    let conds = find.conds.0.as_slice();
     match planned_span(file, find) {
-        Some(span) => rows_within(alloc, file, node, &span, &find.conds.0, leaves, rows),
+        Some(span) => rows_within(alloc, file, node, &span, conds, leaves, rows),
         None => Ok(()),
     }
 }
