@@ -50,8 +50,8 @@ pub(crate) fn found_text<B: Leaves>(
     Ok(records_text(alloc, file, &rows)?)
 }
 
-// Appends the records that meet the conditions to none, in any order. The plan says which keys are looked
-// at, and each record there is tested for all conditions.
+// Appends the records that meet the conditions to none, in any order. The plan says which keys are
+// looked at, and each record there is tested for all conditions.
 fn add_found<B: Leaves>(
     alloc: Global,
     file: &FileDef,
