@@ -25,7 +25,7 @@ pub struct PagedLeaves<P: Pages + Drop> {
 }
 
 impl<P: Pages + Drop> PagedLeaves<P> {
-    ghost use Rattle.gx_leaves.specs.Paged.{pages_of, places_in, working_of, kept_of, work_of, head_of, IsWhole};
+    ghost use Rattle.gx_leaves.specs.Paged.{pages_of, places_in, working_of, work_of, IsWhole};
     ghost use Rattle.gx_leaves.specs.Places.{places_of, IsRoomFor};
     ghost use Rattle.gx_leaves.specs.Making.{IsAllFree, HasMakeCause, pages_left};
 
@@ -103,7 +103,7 @@ impl<P: Pages + Drop> PagedLeaves<P> {
 }
 
 impl<P: Pages + Drop> View for PagedLeaves<P> {
-    ghost use Rattle.std.specs.Prelude.{Some, true};
+    ghost use Rattle.std.specs.Prelude.{true};
     ghost use Rattle.gx_leaves.specs.Wholeness.{IsWholeAt, IsFreshAt, limits_of, StandsFor, IsLaid};
     ghost use Rattle.gx_leaves.specs.Paged.{working_of, kept_of, work_of, head_of, IsWhole, WasWhole};
 
