@@ -86,9 +86,9 @@ pub without_from : (front : List ℕ) (x : ℕ) (rest : List ℕ) (y : ℕ) → 
 without_from front x rest y d c = elim (middle_cases front x rest y c) [
   | inl i ↦ Contains-append_left front rest y i
   | inr i ↦ elim i [
-      | inl e ↦ absurd (d (sym e))
-      | inr j ↦ Contains-append_right front rest y j
-    ]
+    | inl e ↦ absurd (d (sym e))
+    | inr j ↦ Contains-append_right front rest y j
+  ]
 ]
 
 pub without_once : (front : List ℕ) (x : ℕ) (rest : List ℕ) → AllPairs (λ a b. a ≢ b) (front ++ x ∷ rest) → AllPairs (λ a b. a ≢ b) (front ++ rest)

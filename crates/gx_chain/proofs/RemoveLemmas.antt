@@ -38,9 +38,12 @@ linked_past : (s t : Sheets) (first : ℕ) (others : List ℕ) (q p : ℕ) (rest
     → AreLinked s first ((others ++ q ∷ []) ++ p ∷ rest) → AreLinked t first ((others ++ q ∷ []) ++ rest)
 linked_past s t first [] q p rest each page next later l = (l.0, page, subst (λ n. AreLinked t n rest) (sym next) (relink s t (next_at s p) rest later l.2.2))
 linked_past s t first (r ∷ rs) q p rest each page next later l =
-    let here = each r (contains_here r rs) l.1 in
-    (l.0, here.0, subst (λ n. AreLinked t n ((rs ++ q ∷ []) ++ rest)) (sym here.1)
-    (linked_past s t (next_at s r) rs q p rest (λ x c. each x (contains_later r x rs c)) page next later l.2))
+    let here = each r (contains_here r rs) l.1 in (
+      l.0,
+      here.0,
+      subst (λ n. AreLinked t n ((rs ++ q ∷ []) ++ rest)) (sym here.1)
+          (linked_past s t (next_at s r) rs q p rest (λ x c. each x (contains_later r x rs c)) page next later l.2),
+    )
 
 module _ (ground : Ground) (owner first : ℕ) (key : List ℕ) (s t : Sheets) (pages others rest : List ℕ) (q p : ℕ) (chain : IsChain ground owner s first pages) (is : pages ≡ (others ++ q ∷ []) ++ p ∷ rest)
     (u : IsUnlinked ground q (next_at s p) p s t) (place : ℕ) (within : place < length (entries_at s p)) (there : HoldsAt (λ entry. entry.key ≡ key) (entries_at s p) place) (alone : remove (entries_at s p) place ≡ []) where
@@ -113,13 +116,14 @@ module _ (ground : Ground) (owner first : ℕ) (key : List ℕ) (s t : Sheets) (
     pages = (others ++ q ∷ []) ++ rest;
     chain = left_chain;
     entries = λ k b. (
-      λ on. (let here = subst (λ (x : List Entry). Contains x (record { key = k; body = b })) (at_page on.page on.among) on.here in
-        (λ e. p_off on.page on.among (chain.apart on.page p key b held.0 (old_in on.page on.among) p_in (subst (λ (x : List ℕ). Contains (entries_at s on.page) (record { key = x; body = b })) e here) held.1),
-          record { page = on.page; among = old_in on.page on.among; here = here })),
+      λ on. (let here = subst (λ (x : List Entry). Contains x (record { key = k; body = b })) (at_page on.page on.among) on.here in (
+        λ e. p_off on.page on.among (chain.apart on.page p key b held.0 (old_in on.page on.among) p_in (subst (λ (x : List ℕ). Contains (entries_at s on.page) (record { key = x; body = b })) e here) held.1),
+        record { page = on.page; among = old_in on.page on.among; here = here },
+      )),
       λ o. elim (cases_eq o.1.page p) [
         | inl e ↦ absurd (only_key k b o.0 (subst (λ n. Contains (entries_at s n) (record { key = k; body = b })) e o.1.here))
         | inr d ↦ (let among = still_in o.1.page d o.1.among in
-          record { page = o.1.page; among = among; here = subst (λ (x : List Entry). Contains x (record { key = k; body = b })) (sym (at_page o.1.page among)) o.1.here })
+            record { page = o.1.page; among = among; here = subst (λ (x : List Entry). Contains x (record { key = k; body = b })) (sym (at_page o.1.page among)) o.1.here })
       ],
     );
     beside = record {

@@ -8,10 +8,10 @@ ghost use Rattle.gx_ports.specs.Sheets.{IsPast};
 ghost use Rattle.gx_chain.specs.Chain.{IsChain, IsEntryAt, HasChainOf};
 ghost use Rattle.gx_chain.specs.Changes.{IsRemovedFrom, IsUnlinked};
 
+use crate::read::read_entries;
 use crate::seek::find_key;
 use gx_ports::{PAGE_LEN, Pages, Stop};
 use gx_slots::{count, next, set_next, take};
-use crate::read::read_entries;
 
 /// Takes the pair at a key from the chain of the owner that begins at `first`; a key that isn't there
 /// changes nothing. A page but the first that empties is left out of the chain, and is free. `Damaged`: no

@@ -50,8 +50,8 @@ pub(crate) fn found_text<B: Leaves>(
     Ok(records_text(alloc, file, &rows)?)
 }
 
-// Appends the records that meet the conditions to none, in any order. The plan says which keys are looked
-// at, and each record there is tested for all conditions.
+// Appends the records that meet the conditions to none, in any order. The plan says which keys are
+// looked at, and each record there is tested for all conditions.
 fn add_found<B: Leaves>(
     alloc: Global,
     file: &FileDef,
@@ -75,8 +75,9 @@ fn add_found<B: Leaves>(
     ensures block { (n : ℕ) → IsErrOf result (Stop.Damaged n) → B.whole leaves.old → n ≡ 0 }
     ensures not_full { ¬ IsErrOf result Stop.Full }
 {
+    let conds = find.conds.0.as_slice();
     match planned_span(file, find) {
-        Some(span) => rows_within(alloc, file, node, &span, &find.conds.0, leaves, rows),
+        Some(span) => rows_within(alloc, file, node, &span, conds, leaves, rows),
         None => Ok(()),
     }
 }

@@ -19,8 +19,8 @@ use gx_schema::FileDef;
 use gx_script::{Cond, Find};
 use gx_values::{Kind, Span, span};
 
-/// The span of the keys of the records that may meet the conditions of a `find`: that of its plan where
-/// it is by the key, and else that of all keys. `None`: no record of the file meets them.
+/// The span of the keys of the records that may meet the conditions of a `find`: that of its plan
+/// where it is by the key, and else that of all keys. `None`: no record of the file meets them.
 pub(crate) fn planned_span(file: &FileDef, find: &Find) -> Option<Span>
     requires storable { IsStorable file.now }
     requires conds { AllByRecursion (IsCondOf file.now) find.now.conds }

@@ -18,9 +18,9 @@ const INDEX_RANGE: u8 = 5;
 
 const SCAN: u8 = 6;
 
-/// The plan of a `find` on a file of which these fields are indexed, field 0 being the key: the first
-/// that applies of `Key`, `Link`, `Index`, `KeyRange`, `IndexRange` and `Scan`, by the first condition
-/// for which it does. `<>` gives no plan. It takes no memory.
+/// The plan of a `find` on a file of which these fields are indexed, field 0 being the key: the
+/// first that applies of `Key`, `Link`, `Index`, `KeyRange`, `IndexRange` and `Scan`, by the first
+/// condition for which it does. `<>` gives no plan. It takes no memory.
 pub fn plan(find: &Find, indexed: &[bool]) -> Plan
     requires { length find.now.conds < 2 ^ 16 }
     ensures plan { result ≡ least_plan find.now indexed.now }

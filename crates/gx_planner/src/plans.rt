@@ -1,6 +1,7 @@
 // The ways to look for the records of a `find`.
 
-/// A way to look for the records of a `find`. A number is that of one of its conditions, counted from 0.
+/// A way to look for the records of a `find`. A number is that of one of its conditions, counted
+/// from 0.
 #[derive(Clone, Copy, Debug, PartialEq, Eq)]
 pub enum Plan {
     /// by the key that the condition gives

@@ -68,7 +68,8 @@ fn push_field(
 ) -> Result<(), AllocError>
     requires { AllByRecursion (IsCondOf file.now) conds.now }
     ensures { OnOk result
-        (text.new.items ≡ text.old.items ++ (word.now ++ field_name file.now (slice_get conds.now number))) }
+        (text.new.items
+        ≡ text.old.items ++ (word.now ++ field_name file.now (slice_get conds.now number))) }
 {
     text.extend_from_slice(word)?;
     match conds.get(usize::from(number)) {

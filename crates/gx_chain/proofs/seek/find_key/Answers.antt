@@ -66,9 +66,9 @@ returns-in_err-behind-clause-ends g c =
     ends_handed_on g.P.PageView (HasChain g.P.PageView c.args.pages.now c.args.first) (LeadsOn (g.P.PageView.ground now) (next_of page)) c.args.pages.now now now _ c.from_residual-in_err-behind.result
     (c.in_ok-read_entries.ensures.ends.cause.counted refl ∙ i.faults) reads.keeps.ground
     (λ has. (let n = i.way has.0 has.1 has.2 has.3 in
-      let read = c.in_ok-read_entries.ensures.bytes has.0 ∙ ap (λ x. bytes_at x c.loop.number) i.reads.working in
-      subst (λ x. LeadsOn x (next_of page)) (sym reads.keeps.ground)
-      (subst (LeadsOn ground) (sym (ap next_of read)) (hand_leads ground has.1 s c.args.first has.2 c.loop.counter c.loop.number has.3 n.hand))))
+    let read = c.in_ok-read_entries.ensures.bytes has.0 ∙ ap (λ x. bytes_at x c.loop.number) i.reads.working in
+    subst (λ x. LeadsOn x (next_of page)) (sym reads.keeps.ground)
+    (subst (LeadsOn ground) (sym (ap next_of read)) (hand_leads ground has.1 s c.args.first has.2 c.loop.counter c.loop.number has.3 n.hand))))
     c.in_err-behind.ensures.ends c.from_residual-in_err-behind.ensures.1
 
 pub returns-in-None-clause-found : goal.returns-in-None-clause-found
@@ -100,14 +100,14 @@ loop-preserved g c =
       past = past_next;
       past_before = i.past;
       way = λ told owner all chain. (let n = i.way told owner all chain in
-        let read = c.in_ok-read_entries.ensures.bytes told ∙ ap (λ x. bytes_at x c.loop.number) i.reads.working in
-        let h = hand_next s all c.loop.counter c.loop.number c.in-Some-2.next n.hand (is_some_page ground c.in-Some-2.next few_pages past_next) (sym (ap next_of read) ∙ led.0) in
-        record {
-          hand = h.0;
-          lacks = subst (λ (f : List ℕ). LackKey s f c.args.key.now) (sym h.1)
-              (lack_more s c.args.key.now n.hand.front c.loop.number n.lacks (subst (λ b. All (λ (e : Entry). e.key ≢ c.args.key.now) (entries_of b)) read c.in_default.ensures.missing));
-          before = (n.hand.front, h.1);
-        });
+          let read = c.in_ok-read_entries.ensures.bytes told ∙ ap (λ x. bytes_at x c.loop.number) i.reads.working in
+          let h = hand_next s all c.loop.counter c.loop.number c.in-Some-2.next n.hand (is_some_page ground c.in-Some-2.next few_pages past_next) (sym (ap next_of read) ∙ led.0) in
+          record {
+            hand = h.0;
+            lacks = subst (λ (f : List ℕ). LackKey s f c.args.key.now) (sym h.1)
+                (lack_more s c.args.key.now n.hand.front c.loop.number n.lacks (subst (λ b. All (λ (e : Entry). e.key ≢ c.args.key.now) (entries_of b)) read c.in_default.ensures.missing));
+            before = (n.hand.front, h.1);
+          });
     }
 
 pub returns-clause-ends : goal.returns-clause-ends
@@ -120,10 +120,10 @@ returns-clause-ends g c =
         fault = λ is. absurd (cc);
         counted = λ is. i.faults;
         damaged = λ block is has. (let n = i.way has.0 has.1 has.2 has.3 in
-          let less = hand_ends ground has.1 (g.P.PageView.working c.args.pages.now) c.args.first has.2 c.loop.counter c.loop.number has.3 n.hand in
-          let over = c.loop-test.false in
-          omega (arith, less, over, c.pages-end.ensures));
+            let less = hand_ends ground has.1 (g.P.PageView.working c.args.pages.now) c.args.first has.2 c.loop.counter c.loop.number has.3 n.hand in
+            let over = c.loop-test.false in
+            omega (arith, less, over, c.pages-end.ensures));
       };
       bound = λ block is. (let same : c.block.result ≡ block = cc in
-        subst (λ n. n < ground.blocks) same (subst (λ x. c.block.result < x.blocks) i.reads.keeps.ground c.block.ensures.below));
+          subst (λ n. n < ground.blocks) same (subst (λ x. c.block.result < x.blocks) i.reads.keeps.ground c.block.ensures.below));
     }

@@ -12,11 +12,11 @@ use Rattle.gx_engine.proofs.listing.add_found.Goals as goal
 
 pub returns-in-Some-clause-those : goal.returns-in-Some-clause-those
 returns-in-Some-clause-those g c = λ f whole is.
-    let conds : c.deref.result.now ≡ c.args.find.now.conds = search rules in
+    let conds : c.as_slice-conds.result.now ≡ c.args.find.now.conds = search rules in
     let test = meets_conds c.args.find.now.conds in
     let before = c.args.rows.now.items in
     let now = c.rows_within.new.rows.items in
-    ok_so c.rows_within.result (AreAdded c.in-Some.span c.deref.result.now f before now) (IsPermutation (filter test (fin.entries f)) now) (c.rows_within.ensures.rows f whole is)
+    ok_so c.rows_within.result (AreAdded c.in-Some.span c.as_slice-conds.result.now f before now) (IsPermutation (filter test (fin.entries f)) now) (c.rows_within.ensures.rows f whole is)
     (λ added. covered_added c.in-Some.span c.args.find.now.conds f before now
     (λ r h met. c.in-Some.ensures.covers r (all_at (IsRowOf c.args.file.now) (fin.entries f) r is.fit h).0 met) c.requires.none
     (subst (λ (cs : List Cond). AreAdded c.in-Some.span cs f before now) conds added))
