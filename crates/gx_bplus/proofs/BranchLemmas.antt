@@ -1,5 +1,5 @@
 -- Places of children, and the child on the way to a key.
-use Rattle.std.proofs.Common.{◌≡◌, ◌⊎◌, inl, inr, ℕ, zero, suc, ◌+◌, ◌-◌, ◌<◌, ◌≤◌, Bool, true, false, List, [], ◌∷◌, ◌++◌, length, map, take, drop, get_or, Option, Some, refl, sym, ap, ap₂, ◌∙◌, subst, arith}
+use Rattle.std.proofs.Common.{◌≡◌, ◌⊎◌, inl, inr, ℕ, zero, suc, ◌+◌, ◌-◌, ◌<◌, ◌≤◌, true, false, List, [], ◌∷◌, length, map, take, drop, get_or, Option, Some, refl, sym, ap, ap₂, ◌∙◌, arith}
 use Rattle.std.specs.Cmp.Lexicographic.{slice_cmp}
 use Rattle.std.specs.List.{All, count_by, insert, remove}
 use Rattle.std.specs.Ordering.{nat_cmp, is_le}
@@ -10,8 +10,8 @@ use Rattle.std.proofs.lemmas.List.Elements.{All-head, All-tail}
 use Rattle.std.proofs.lemmas.List.Sums.{count_by-le-length}
 use Rattle.gx_bnode.specs.Branches.{Branch}
 use Rattle.gx_bnode.specs.Page.{IsInnerPage, separators_in, first_of, branches_of, separators_of, children_of}
-use Rattle.gx_bnode.proofs.PageLemmas.{page_of as inner_page_of, map-insert, map-remove, children-insert, children-remove}
-use Rattle.gx_bplus.specs.Order.{IsBelow, IsUpTo, is_below}
+use Rattle.gx_bnode.proofs.PageLemmas.{page_of as inner_page_of, map-insert, map-remove, children-insert}
+use Rattle.gx_bplus.specs.Order.{is_below}
 use Rattle.gx_bplus.specs.Tree.{In, child_for, bound_for, with_branch, without_from, without_branch, first_without}
 use Rattle.gx_bplus.proofs.OrderLemmas.{is_below_of, not_below_of}
 

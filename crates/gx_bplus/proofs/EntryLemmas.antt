@@ -1,10 +1,8 @@
 -- Entries in ascending order, and the one with a key among them.
-use Rattle.std.proofs.Common.{◌≡◌, ◌≢◌, ◌⊎◌, inl, inr, ℕ, zero, suc, ◌+◌, ◌<◌, ◌≤◌, List, [], ◌∷◌, length, get_or, refl, sym, ap, ◌∙◌, subst, arith}
+use Rattle.std.proofs.Common.{◌≡◌, ◌≢◌, inl, inr, ℕ, zero, suc, ◌<◌, List, [], ◌∷◌, length, get_or, refl, sym, ap, ◌∙◌, subst, arith}
 use Rattle.std.specs.List.{All, HoldsAt, remove}
-use Rattle.std.proofs.lemmas.List.Elements.{All-head, All-tail}
-use Rattle.gx_bytes.specs.declared.page.TheConstants.{NONE}
 use Rattle.gx_slots.specs.Entries.{Entry, AreAscending}
-use Rattle.gx_slots.specs.Page.{IsPageOf, IsAscendingPage, entries_of, next_of}
+use Rattle.gx_slots.specs.Page.{IsPageOf, entries_of}
 use Rattle.gx_slots.proofs.PageLemmas as slots
 use Rattle.gx_bnode.specs.Page as bnode
 use Rattle.gx_bnode.proofs.PageLemmas as bnode_lemmas

@@ -1,7 +1,7 @@
 -- The file of a tree, and a search in it.
-use Rattle.std.proofs.Common.{◌≡◌, ◌≢◌, inl, inr, ℕ, ◌+◌, ◌<◌, ◌≤◌, Bool, true, false, cond, List, [], ◌∷◌, length, Option, Some, None, refl, sym, ap, ◌∙◌, subst, arith}
+use Rattle.std.proofs.Common.{◌≡◌, ◌≢◌, inl, inr, ℕ, ◌+◌, ◌<◌, ◌≤◌, Bool, true, false, cond, List, [], length, Some, None, refl, sym, ap, ◌∙◌, subst, arith}
 use Rattle.std.specs.Prelude.{IsTrue, slice_get, Result, Err, IsErrOf, OnOk, Ok}
-use Rattle.std.specs.FinMap.{get, insert, remove, empty, get-insert, get-remove, get-empty}
+use Rattle.std.specs.FinMap.{get, remove, empty, get-remove, get-empty}
 use Rattle.std.specs.Ordering.{nat_cmp, eq_by_cmp}
 use Rattle.std.specs.Cmp.Lexicographic.{slice_cmp, nat_list_cmp_total}
 use Rattle.gx_ports.specs.declared.kinds.LeafKind.TheVariants as kinds
@@ -19,9 +19,9 @@ use Rattle.gx_slots.specs.Entries.{Entry}
 use Rattle.gx_bnode.specs.Page.{IsInnerPage}
 use Rattle.gx_bnode.specs.Page as bnode
 use Rattle.gx_bplus.specs.Bplus.{IsBplus, IsTreePage, IsOwned, bytes_at}
-use Rattle.gx_bplus.specs.Changes.{IsPutIn, IsTakenFrom}
+use Rattle.gx_bplus.specs.Changes.{IsTakenFrom}
 use Rattle.gx_bplus.specs.Hole.{IsAtHand}
-use Rattle.gx_bplus.specs.Search.{ArePast, IsSearch, IsReached, HasReached, HasRemoved, HasPut}
+use Rattle.gx_bplus.specs.Search.{ArePast, IsReached, HasReached, HasRemoved}
 use Rattle.gx_bplus.specs.Tree as trees
 use Rattle.gx_bplus.specs.Tree.{In, Tree, leaf, entries, pages, ShowsInner, ShowsEntries, child_for}
 use Rattle.gx_bplus.proofs.EntryLemmas.{shows_inner}

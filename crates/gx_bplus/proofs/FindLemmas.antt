@@ -1,29 +1,28 @@
 -- A search for the entry page on the way to a key.
-use Rattle.std.proofs.Common.{◌≡◌, ◌⊎◌, inl, inr, ◌++◌, ℕ, ◌+◌, ◌<◌, ◌≤◌, List, [], ◌∷◌, map, length, Option, Some, None, refl, sym, ap, ◌∙◌, subst, arith}
-use Rattle.std.specs.Prelude.{IsTrue, Result, Err, IsErrOf}
+use Rattle.std.proofs.Common.{◌≡◌, inl, inr, ℕ, ◌+◌, ◌<◌, ◌≤◌, List, map, Option, Some, None, refl, sym, ap, ◌∙◌, subst, arith}
+use Rattle.std.specs.Prelude.{IsTrue, Result, Err}
 use Rattle.gx_ports.specs.declared.page_view.PageView.{Ghosts}
 use Rattle.gx_ports.specs.declared.pages.Place.{Place}
 use Rattle.gx_ports.specs.declared.stop.Stop.{Stop}
-use Rattle.gx_ports.specs.declared.stop.Stop.TheVariants.{Fault, Damaged}
+use Rattle.gx_ports.specs.declared.stop.Stop.TheVariants.{Damaged}
 use Rattle.gx_ports.specs.Files.{Holds, IsWhole, EndsFile}
 use Rattle.gx_ports.specs.LeafMaps.{LeafMap}
 use Rattle.gx_ports.specs.PageCalls.{ReadsPages}
-use Rattle.gx_ports.specs.Sheets.{Sheets, Ground, IsPast}
-use Rattle.gx_slots.specs.Entries.{Entry}
+use Rattle.gx_ports.specs.Sheets.{Sheets, IsPast}
 use Rattle.gx_slots.specs.Page.{entries_of}
 use Rattle.gx_bnode.specs.Branches.{Branch}
 use Rattle.gx_bnode.specs.Page.{IsInnerPage, separators_in, first_of, branches_of}
 use Rattle.gx_bplus.specs.declared.reading.Shape.TheVariants as shapes
 use Rattle.gx_bplus.specs.Bplus.{IsBplus, IsTreePage, IsOwned, Shows, bytes_at}
 use Rattle.gx_bplus.specs.Hole.{IsAtHand}
-use Rattle.gx_bplus.specs.Order.{IsUpTo, IsUnder}
+use Rattle.gx_bplus.specs.Order.{IsUnder}
 use Rattle.gx_bplus.specs.Search.{IsFound}
 use Rattle.gx_bplus.specs.Tree as trees
 use Rattle.gx_bplus.specs.Tree.{In, Tree, Kids, leaf, node, last, more, page_of, entries, pages, kids_pages, separators, kids_separators, Stands, AllStand, ShowsInner, ShowsEntries, child_for, bound_for}
 use Rattle.gx_bplus.proofs.BranchLemmas.{bound_in}
 use Rattle.gx_bplus.proofs.CallLemmas.{ends_after, pages_read_itself, pages_read_joined}
 use Rattle.gx_bplus.proofs.EntryLemmas.{shows_entries, shows_inner}
-use Rattle.gx_bplus.proofs.FileLemmas.{past_of, root_hand, descent_ends}
+use Rattle.gx_bplus.proofs.FileLemmas.{past_of, descent_ends}
 use Rattle.gx_bplus.proofs.MemberLemmas.{in_left, in_right, in_cases}
 use Rattle.gx_bplus.proofs.OrderLemmas.{not_both, not_under_over, up_to_up_to}
 use Rattle.gx_bplus.proofs.PageLemmas.{one_inner, one_kind}

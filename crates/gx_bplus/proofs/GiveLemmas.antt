@@ -1,13 +1,13 @@
 -- The entries of a page that are given, one at a time.
-use Rattle.std.proofs.Common.{◌≡◌, ℕ, Bool, true, false, cond, List, [], ◌∷◌, ◌++◌, map, refl, sym, ap, ◌∙◌, append_assoc, append-nil}
-use Rattle.std.specs.Prelude.{filter, ◌&&◌}
+use Rattle.std.proofs.Common.{◌≡◌, ℕ, Bool, List, [], ◌++◌, sym, ap, ◌∙◌, append-nil}
+use Rattle.std.specs.Prelude.{◌&&◌}
 use Rattle.std.specs.Cmp.Lexicographic.{slice_cmp}
 use Rattle.std.specs.Ordering.{nat_cmp, is_le}
 use Rattle.gx_values.specs.Keys.{is_inside}
 use Rattle.gx_ports.specs.LeafMaps.{Extends}
 use Rattle.gx_ports.specs.declared.leaves.Entry.{Entry as LeafEntry}
 use Rattle.gx_slots.specs.Entries.{Entry}
-use Rattle.gx_bplus.specs.Selection.{given_entry, given_from}
+use Rattle.gx_bplus.specs.Selection.{given_from}
 
 abbrev pub is_given : List ℕ → List ℕ → List ℕ → Entry → Bool
 is_given from lo hi e = is_le (slice_cmp nat_cmp from e.key) && is_inside lo hi e.key

@@ -16,7 +16,7 @@ use Rattle.gx_bplus.specs.Changes.{IsPutIn, IsTakenFrom, IsSpread}
 use Rattle.gx_bplus.specs.Order.{IsBelow, IsUpTo}
 use Rattle.gx_bplus.specs.Tree.{In, Ascending}
 use Rattle.gx_bplus.proofs.EntryLemmas.{place_in, in_place, ascending_from, entries_up}
-use Rattle.gx_bplus.proofs.MemberLemmas.{in_left, in_right, in_cases}
+use Rattle.gx_bplus.proofs.MemberLemmas.{in_left, in_right}
 use Rattle.gx_bplus.proofs.OrderLemmas.{up_to_itself, below_is_up_to, up_to_cases}
 
 -- all that follows a key

@@ -1,13 +1,13 @@
 -- The children of a page around the one on the way to a key.
-use Rattle.std.proofs.Common.{◌≡◌, ◌⊎◌, inl, inr, ◌++◌, ◌∷◌, ℕ, List, [], Option, Some, true, false, refl, sym, ap, ◌∙◌, subst}
+use Rattle.std.proofs.Common.{◌≡◌, inl, inr, ◌++◌, ◌∷◌, ℕ, List, [], Option, Some, true, false, refl, sym, ap, ◌∙◌, subst}
 use Rattle.std.proofs.lemmas.Bool.{cases_Bool, cond-true, cond-false}
 use Rattle.gx_slots.specs.Entries.{Entry}
 use Rattle.gx_bnode.specs.Branches.{Branch}
-use Rattle.gx_bplus.specs.Order.{IsBelow, IsUpTo, is_below, IsUnder, IsOver}
+use Rattle.gx_bplus.specs.Order.{IsUpTo, is_below, IsUnder}
 use Rattle.gx_bplus.specs.Tree.{In, Tree, Kids, leaf, node, last, more, page_of, first_of, branches_of, entries, kids_entries, pages, kids_pages, Stands, AllStand, AreOrdered, AreApart, ShowsEntries, ShowsInner, child_for, bound_for}
-use Rattle.gx_bplus.specs.Hole.{IsFitting, Same, Joins, IsBefore, IsWithin, KidHole}
+use Rattle.gx_bplus.specs.Hole.{IsFitting, Same, IsBefore, IsWithin, KidHole}
 use Rattle.gx_bplus.proofs.MemberLemmas.{in_left, in_right, in_cases, joins_none, joins_append, joins_more, joins_append_three, joins_more_left, joins_end}
-use Rattle.gx_bplus.proofs.OrderLemmas.{up_to_itself, below_is_up_to, below_below, up_to_below, below_up_to, up_to_up_to, below_of, up_to_of, below_or_not, not_under_over, under_below, under_up_to, over_up_to, under_within}
+use Rattle.gx_bplus.proofs.OrderLemmas.{up_to_itself, below_is_up_to, below_below, up_to_below, below_up_to, up_to_up_to, below_of, up_to_of, below_or_not, not_under_over, under_within}
 
 -- a separator and the child right of it
 abbrev pub branch : List ℕ → ℕ → Branch

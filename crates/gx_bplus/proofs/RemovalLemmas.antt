@@ -1,5 +1,5 @@
 -- The pages after a child was taken off its page.
-use Rattle.std.proofs.Common.{◌≡◌, ◌≢◌, ℕ, zero, suc, ◌+◌, ◌<◌, ◌≤◌, ◌-◌, map, get_or, List, [], ◌∷◌, length, inl, inr, refl, sym, ap, ◌∙◌, subst, arith}
+use Rattle.std.proofs.Common.{◌≡◌, ◌≢◌, ℕ, zero, suc, ◌+◌, ◌≤◌, ◌-◌, map, get_or, List, [], ◌∷◌, length, inl, inr, refl, sym, ap, ◌∙◌, subst, arith}
 use Rattle.std.specs.Prelude.{Result, Ok, Err, OnOk}
 use Rattle.std.specs.List.{remove}
 use Rattle.std.proofs.lemmas.Bool.{cond-true, cond-false}
@@ -14,7 +14,7 @@ use Rattle.gx_bplus.specs.declared.reading.Shape.TheVariants as shapes
 use Rattle.gx_bplus.specs.Bplus.{Shows, IsTreePage, bytes_at, IsOwned}
 use Rattle.gx_bplus.specs.Changes.{IsSome, IsTakenFrom, IsRemoved}
 use Rattle.gx_bplus.specs.Hole.{IsAtHand}
-use Rattle.gx_bplus.specs.Search.{ArePast, IsSearch, IsReached, HasRemoved}
+use Rattle.gx_bplus.specs.Search.{ArePast, IsReached, HasRemoved}
 use Rattle.gx_bplus.specs.Tree as trees
 use Rattle.gx_bplus.specs.Tree.{In, Tree, page_of, entries, pages, kids_pages, ShowsEntries, ShowsInner, IsFilled, IsWhole, Owns, child_for, without_branch, first_without}
 use Rattle.gx_bplus.specs.Order.{is_below}

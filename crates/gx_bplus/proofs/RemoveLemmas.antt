@@ -1,11 +1,11 @@
 -- The steps of a search that removes a key.
-use Rattle.std.proofs.Common.{◌≡◌, ◌≢◌, ◌⊎◌, inl, inr, ◌∷◌, ℕ, List, [], true, false, refl, sym, ap, ◌∙◌, subst}
+use Rattle.std.proofs.Common.{◌≡◌, ◌≢◌, ◌⊎◌, inl, inr, ◌∷◌, ℕ, List, [], refl, sym, ap, ◌∙◌, subst}
 use Rattle.std.proofs.lemmas.Bool.{cases_Bool, cond-true, cond-false}
 use Rattle.gx_slots.specs.Entries.{Entry}
 use Rattle.gx_bnode.specs.Branches.{Branch}
 use Rattle.gx_bplus.specs.Order.{IsUpTo, IsUnder, is_below}
 use Rattle.gx_bplus.specs.Tree.{In, Tree, Kids, leaf, node, last, more, page_of, first_of, branches_of, entries, kids_entries, pages, kids_pages, Stands, AllStand, ShowsEntries, ShowsInner, Ascending, Ordered, AreOrdered, IsFilled, Apart, AreApart, IsWhole, Owns, child_for, without_branch, first_without}
-use Rattle.gx_bplus.specs.Hole.{IsFitting, Same, Joins, AreMany, IsAtHand}
+use Rattle.gx_bplus.specs.Hole.{IsFitting, Same, AreMany, IsAtHand}
 use Rattle.gx_bplus.specs.Changes.{IsSome, IsTakenFrom, IsRemoved}
 use Rattle.gx_bplus.proofs.OrderLemmas.{same_or_not, not_both, not_under_over}
 use Rattle.gx_bplus.proofs.KidLemmas.{all_stand_same, some_key}

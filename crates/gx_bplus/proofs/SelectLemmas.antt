@@ -1,25 +1,25 @@
 -- What a selection has given, and what it gives of the next page.
-use Rattle.std.proofs.Common.{◌≡◌, ◌≢◌, ◌⊎◌, inl, inr, ℕ, zero, suc, ◌+◌, ◌<◌, ◌≤◌, Bool, true, false, cond, List, [], ◌∷◌, ◌++◌, map, take, length, Option, Some, None, refl, sym, ap, ap₂, ◌∙◌, subst, arith}
+use Rattle.std.proofs.Common.{◌≡◌, ◌≢◌, inl, inr, ℕ, Bool, true, false, cond, List, [], ◌∷◌, ◌++◌, map, Option, Some, None, refl, sym, ap, ap₂, ◌∙◌, subst}
 use Rattle.std.specs.Prelude.{filter, ◌&&◌, T}
 use Rattle.std.specs.Cmp.Lexicographic.{slice_cmp, nat_list_cmp_total}
 use Rattle.std.specs.FinMap as fin
 use Rattle.std.specs.FinMap.{get}
 use Rattle.std.specs.FinMap.Entries.{below_all}
-use Rattle.std.specs.Ordering.{nat_cmp, is_le, is_gt, is_lt, eq_by_cmp}
+use Rattle.std.specs.Ordering.{nat_cmp, is_le, is_lt, eq_by_cmp}
 use Rattle.std.specs.declared.cmp.Ordering.{Ordering}
 use Rattle.gx_values.specs.Keys.{is_inside}
 use Rattle.gx_ports.specs.LeafMaps.{LeafMap, selected, entry_of}
 use Rattle.gx_ports.specs.declared.leaves.Entry.{Entry as LeafEntry}
-use Rattle.gx_ports.proofs.KeyLemmas.{only_equal, same_key, tied, front_le, le_trans}
+use Rattle.gx_ports.proofs.KeyLemmas.{only_equal, same_key, tied}
 use Rattle.gx_ports.proofs.KeyedLemmas.{both_of, entries_of_sorted}
 use Rattle.gx_slots.specs.Entries.{Entry}
-use Rattle.gx_bplus.specs.Order.{IsBelow, IsUpTo, IsUnder, is_below}
+use Rattle.gx_bplus.specs.Order.{IsBelow, IsUnder, is_below}
 use Rattle.gx_bplus.specs.Search.{IsFound}
 use Rattle.gx_bplus.specs.Selection.{given_entry, given_from}
 use Rattle.gx_bplus.specs.Tree.{In, Tree, Kids, leaf, node, last, more, entries, kids_entries, Ascending, Ordered, AreOrdered}
 use Rattle.gx_bplus.proofs.GiveLemmas.{is_given}
 use Rattle.gx_bplus.proofs.MemberLemmas.{in_left, in_right, in_cases}
-use Rattle.gx_bplus.proofs.OrderLemmas.{below_or_not, not_both, not_itself, below_below, below_up_to, up_to_below, up_to_cases, below_is_up_to, is_below_of, below_of, same_or_not, differ, under_below}
+use Rattle.gx_bplus.proofs.OrderLemmas.{below_or_not, not_itself, below_below, below_up_to, is_below_of, below_of, differ, under_below}
 
 -- ---- filtered lists
 

@@ -1,16 +1,15 @@
 -- A selection goes from page to page, and ends.
-use Rattle.std.proofs.Common.{◌≡◌, ◌≢◌, ◌⊎◌, inl, inr, ℕ, suc, ◌+◌, ◌<◌, ◌≤◌, Bool, true, false, cond, List, [], ◌∷◌, ◌++◌, map, take, length, Option, Some, None, refl, sym, ap, ◌∙◌, subst, arith, append_assoc, append-nil, length-append}
-use Rattle.std.specs.Prelude.{filter, ◌&&◌, IsTrue, Result, Err, IsErrOf}
+use Rattle.std.proofs.Common.{◌≡◌, ◌⊎◌, inl, inr, ℕ, ◌+◌, ◌<◌, ◌≤◌, Bool, true, false, cond, List, [], ◌∷◌, ◌++◌, map, take, length, Option, Some, None, refl, sym, ap, ◌∙◌, subst, arith, append_assoc, append-nil, length-append}
+use Rattle.std.specs.Prelude.{filter, ◌&&◌, Result, Err}
 use Rattle.std.specs.Cmp.Lexicographic.{slice_cmp}
 use Rattle.std.specs.Ordering.{nat_cmp, is_le, is_gt}
 use Rattle.std.specs.declared.cmp.Ordering.{Ordering}
 use Rattle.std.specs.declared.cmp.Ordering.TheVariants.{Less, Equal, Greater}
-use Rattle.gx_values.specs.Keys.{is_inside}
 use Rattle.gx_ports.specs.declared.leaves.Entry.{Entry as LeafEntry}
 use Rattle.gx_ports.specs.declared.page_view.PageView.{Ghosts}
 use Rattle.gx_ports.specs.declared.pages.Place.{Place}
 use Rattle.gx_ports.specs.declared.stop.Stop.{Stop}
-use Rattle.gx_ports.specs.declared.stop.Stop.TheVariants.{Fault, Damaged}
+use Rattle.gx_ports.specs.declared.stop.Stop.TheVariants.{Damaged}
 use Rattle.gx_ports.specs.Files.{Holds, IsWhole, EndsFile}
 use Rattle.gx_ports.specs.LeafMaps.{LeafMap, Extends, selected}
 use Rattle.gx_ports.specs.PageCalls.{ReadsPages}
@@ -19,7 +18,7 @@ use Rattle.gx_ports.proofs.KeyLemmas.{front_le, le_trans}
 use Rattle.gx_slots.specs.Entries.{Entry}
 use Rattle.gx_bplus.specs.Bplus.{IsBplus, IsOwned, bytes_at}
 use Rattle.gx_bplus.specs.Hole.{AreUnique}
-use Rattle.gx_bplus.specs.Order.{IsBelow, IsUpTo, IsUnder, is_below}
+use Rattle.gx_bplus.specs.Order.{IsUpTo, is_below}
 use Rattle.gx_bplus.specs.Search.{IsFound}
 use Rattle.gx_bplus.specs.Selection.{given_entry, given_from}
 use Rattle.gx_bplus.specs.Tree as trees

@@ -1,9 +1,9 @@
 -- Each page of a tree is an entry page or an inner page.
-use Rattle.std.proofs.Common.{◌≡◌, inl, inr, ℕ, List, [], ◌∷◌, refl, sym, ap, ◌∙◌, subst}
+use Rattle.std.proofs.Common.{inl, inr, ℕ, List, sym, subst}
 use Rattle.gx_bytes.specs.declared.page.TheConstants.{NONE}
 use Rattle.gx_slots.specs.Entries.{Entry, AreAscending}
 use Rattle.gx_slots.proofs.PageLemmas.{entries_of-page, next_of-page}
-use Rattle.gx_ports.specs.Sheets.{Sheets, Ground, IsPast}
+use Rattle.gx_ports.specs.Sheets.{Sheets, Ground}
 use Rattle.gx_bplus.specs.declared.reading.Shape.{Shape}
 use Rattle.gx_bplus.specs.declared.reading.Shape.TheVariants as shapes
 use Rattle.gx_bplus.specs.Bplus.{Shows, IsTreePage, bytes_at, IsOwned}

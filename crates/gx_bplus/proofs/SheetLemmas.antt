@@ -1,10 +1,10 @@
 -- What calls of pages make of the bytes and the owners of pages.
-use Rattle.std.proofs.Common.{◌≡◌, ◌≢◌, ◌⊎◌, inl, inr, ℕ, zero, suc, ◌<◌, ◌≤◌, List, [], ◌∷◌, Option, Some, None, length, slice_set, get_or, refl, sym, ap, ◌∙◌, subst, arith}
+use Rattle.std.proofs.Common.{◌≡◌, ◌≢◌, ◌⊎◌, inl, inr, ℕ, zero, suc, ◌<◌, ◌≤◌, List, [], ◌∷◌, Some, length, slice_set, get_or, refl, sym, ap, ◌∙◌, subst, arith}
 use Rattle.std.specs.Prelude.{slice_get}
 use Rattle.std.proofs.lemmas.Bool.{cases_eq}
 use Rattle.std.proofs.lemmas.Option.{get_or_from_slice_get}
-use Rattle.gx_ports.specs.Files.{OthersStay, SameFor}
-use Rattle.gx_ports.specs.Sheets.{Sheets, Ground, IsPast, IsOwnedAnew, IsClaimed}
+use Rattle.gx_ports.specs.Files.{OthersStay}
+use Rattle.gx_ports.specs.Sheets.{Sheets, Ground, IsOwnedAnew, IsClaimed}
 use Rattle.gx_bplus.specs.Bplus.{bytes_at, IsOwned}
 
 pub get_set_other : {X : Type 0} (xs : List X) (i j : ℕ) (x : X) → j ≢ i → slice_get (slice_set xs i x) j ≡ slice_get xs j

@@ -1,9 +1,9 @@
 -- The steps of a search on its way down.
-use Rattle.std.proofs.Common.{◌≡◌, ◌≢◌, ◌⊎◌, inl, inr, ◌+◌, ◌++◌, ◌∷◌, ℕ, List, [], Option, None, refl, sym, ap, ◌∙◌, subst, arith}
+use Rattle.std.proofs.Common.{◌≡◌, inl, inr, ◌+◌, ◌++◌, ◌∷◌, ℕ, List, [], None, refl, sym, ap, ◌∙◌, subst, arith}
 use Rattle.gx_slots.specs.Entries.{Entry}
 use Rattle.gx_bnode.specs.Branches.{Branch}
-use Rattle.gx_bplus.specs.Order.{IsBelow, IsUpTo, IsUnder, IsOver}
-use Rattle.gx_bplus.specs.Tree.{In, Tree, Kids, leaf, node, last, page_of, first_of, branches_of, entries, kids_entries, pages, kids_pages, Stands, AllStand, ShowsEntries, ShowsInner, Ordered, AreOrdered, IsFilled, Apart, AreApart, IsWhole, Owns, child_for, bound_for}
+use Rattle.gx_bplus.specs.Order.{IsUpTo, IsUnder}
+use Rattle.gx_bplus.specs.Tree.{In, Tree, Kids, leaf, node, page_of, first_of, branches_of, entries, kids_entries, pages, kids_pages, Stands, AllStand, ShowsEntries, ShowsInner, Ordered, AreOrdered, IsFilled, Apart, AreApart, IsWhole, Owns, child_for, bound_for}
 use Rattle.gx_bplus.specs.Hole.{IsFitting, Same, Joins, KidHole, IsAtHand}
 use Rattle.gx_bplus.proofs.MemberLemmas.{in_left, in_right, in_cases, joins_none, joins_through, joins_below}
 use Rattle.gx_bplus.proofs.OrderLemmas.{nothing_up_to, below_up_to, up_to_up_to}

@@ -3,7 +3,7 @@ use Rattle.std.specs.Prelude.{◌≡◌, ◌⊎◌, ◌++◌, ℕ, List, [], ◌
 use Rattle.gx_slots.specs.Entries.{Entry}
 use Rattle.gx_bnode.specs.Branches.{Branch}
 use Rattle.gx_bplus.specs.Order.{IsBelow, IsUpTo, IsUnder, IsOver}
-use Rattle.gx_bplus.specs.Tree.{In, Tree, Kids, last, more, page_of, first_of, branches_of, entries, kids_entries, pages, kids_pages, Stands, AllStand, Ordered, AreOrdered, IsFilled, Apart, AreApart, IsWhole, Owns, child_for, bound_for, with_branch, without_from, without_branch, first_without}
+use Rattle.gx_bplus.specs.Tree.{In, Tree, Kids, last, more, page_of, first_of, branches_of, entries, kids_entries, pages, kids_pages, Stands, AllStand, Ordered, AreOrdered, IsFilled, Apart, AreApart, IsWhole, child_for, bound_for, with_branch, without_from, without_branch, first_without}
 
 -- a tree that may stand where the keys from lo up to below hi belong, beside these pages
 pub record IsFitting (at : ℕ → List ℕ) (p : ℕ) (lo : List ℕ) (hi : Option (List ℕ)) (others : List ℕ) (t : Tree) : Type 0 where

@@ -1,11 +1,10 @@
 -- Entries that a selection gives.
-use Rattle.std.specs.Prelude.{ℕ, Bool, true, List, map, filter, Option, None, Some, ◌&&◌}
+use Rattle.std.specs.Prelude.{ℕ, List, map, filter, ◌&&◌}
 use Rattle.std.specs.Cmp.Lexicographic.{slice_cmp}
 use Rattle.std.specs.Ordering.{nat_cmp, is_le}
 use Rattle.gx_values.specs.Keys.{is_inside}
 use Rattle.gx_ports.specs.declared.leaves.Entry.{Entry as LeafEntry}
 use Rattle.gx_slots.specs.Entries.{Entry}
-use Rattle.gx_bplus.specs.Order.{is_below}
 
 -- an entry of a page as leaves give it
 abbrev pub given_entry : Entry → LeafEntry

@@ -10,8 +10,7 @@ use Rattle.gx_ports.specs.declared.stop.Stop.TheVariants.{Fault, Full, Damaged}
 use Rattle.gx_ports.specs.Stops.{is_outside, HasStopCause}
 use Rattle.gx_ports.specs.LeafMaps.{LeafMap, map_at, entry_count, SameElsewhere}
 use Rattle.gx_ports.specs.PageCalls.{KeepsPages}
-use Rattle.gx_ports.specs.Sheets.{Ground}
-use Rattle.gx_ports.specs.Files.{Holds, IsWhole, SparesOthers, IsFull, OthersStay}
+use Rattle.gx_ports.specs.Files.{Holds, IsWhole, SparesOthers, IsFull}
 use Rattle.gx_leaves.specs.Kinds.{IsFileAt}
 use Rattle.gx_leaves.specs.Places.{IsLaidOut}
 use Rattle.gx_leaves.specs.Wholeness.{maps_of, limits_of, AreWhole, AreLaid}

@@ -1,21 +1,21 @@
 -- Where no page is free and each leaf has few, the pages are few.
-use Rattle.std.proofs.Common.{◌≡◌, ◌≢◌, ℕ, ◌+◌, ◌*◌, ◌-◌, ◌<◌, ◌≤◌, IsTrue, List, length, map, refl, sym, ap, subst, ◌∙◌, arith}
-use Rattle.std.specs.Prelude.{slice_get, Option, Some}
+use Rattle.std.proofs.Common.{◌≡◌, ◌≢◌, ℕ, ◌+◌, ◌*◌, ◌-◌, ◌<◌, ◌≤◌, List, length, ap, ◌∙◌, arith}
+use Rattle.std.specs.Prelude.{slice_get, Some}
 use Rattle.std.specs.List.{sum_by}
 use Rattle.std.specs.FinMap.{len}
 use Rattle.std.proofs.lemmas.Option.{slice_get_within}
 use Rattle.std.proofs.lemmas.List.Sums.{sum-map}
 use Rattle.gx_ports.specs.declared.pages.Place.{Place}
-use Rattle.gx_ports.specs.LeafMaps.{LeafMap, map_at, entry_count}
+use Rattle.gx_ports.specs.LeafMaps.{LeafMap, entry_count}
 use Rattle.gx_ports.specs.Roots.{roots_of, root_pages}
 use Rattle.gx_ports.specs.Sheets.{Sheets, Ground, IsPast, HasNone}
 use Rattle.gx_ports.specs.Files.{OthersStay, page_count}
 use Rattle.gx_leaves.specs.Kinds.{IsFileAt, map_in}
 use Rattle.gx_leaves.specs.Places.{IsLaidOut, specs_of}
 use Rattle.gx_leaves.specs.Wholeness.{maps_of, limits_of, IsTable, AreLaid}
-use Rattle.gx_leaves.proofs.SumLemmas.{some_at, sum_by_map, sum_least, sum_least_but, counted_all}
+use Rattle.gx_leaves.proofs.SumLemmas.{some_at, sum_by_map, sum_least_but, counted_all}
 use Rattle.gx_leaves.proofs.PlaceLemmas.{placed}
-use Rattle.gx_leaves.proofs.FrameLemmas.{laws_at, file_stays, map_held, table_stays}
+use Rattle.gx_leaves.proofs.FrameLemmas.{laws_at, file_stays, table_stays}
 
 -- the root pages and the entries of all leaves, place by place
 sums : (base : Ground) (places : List Place) (sheets : Sheets) → (root_pages (specs_of places) ≡ sum_by (λ p. roots_of p.spec) places) × (entry_count (maps_of base places sheets) ≡ sum_by (λ p. len (map_in base p sheets)) places)

@@ -1,20 +1,19 @@
 -- A change of one file leaves the other leaves as they were.
-use Rattle.std.proofs.Common.{◌≡◌, ◌≢◌, ◌⊎◌, inl, inr, ℕ, ◌+◌, ◌<◌, ◌≤◌, IsTrue, List, length, get_or, set, map, refl, sym, ap, subst, ◌∙◌, arith}
-use Rattle.std.specs.Prelude.{slice_get, Option, Some}
+use Rattle.std.proofs.Common.{◌≡◌, ◌≢◌, inl, inr, ℕ, List, length, set, sym, ap, subst, ◌∙◌, arith}
+use Rattle.std.specs.Prelude.{slice_get, Some}
 use Rattle.std.specs.FinMap.{empty}
 use Rattle.std.proofs.lemmas.Bool.{cases_eq}
 use Rattle.std.proofs.lemmas.Option.{slice_get_within}
 use Rattle.gx_ports.specs.declared.pages.Place.{Place}
-use Rattle.gx_ports.specs.declared.pages.TheConstants.{MAX_OWNER}
 use Rattle.gx_ports.specs.LeafMaps.{LeafMap, map_at, SameElsewhere}
-use Rattle.gx_ports.specs.Sheets.{Sheets, Ground, IsPast}
-use Rattle.gx_ports.specs.Files.{IsPlace, AreFileLaws, OthersStay, SameFor}
+use Rattle.gx_ports.specs.Sheets.{Sheets, Ground}
+use Rattle.gx_ports.specs.Files.{AreFileLaws, OthersStay}
 use Rattle.gx_leaves.specs.Kinds.{IsFileAt, map_in}
 use Rattle.gx_leaves.specs.Places.{IsLaidOut}
-use Rattle.gx_leaves.specs.Wholeness.{maps_of, table_owner, IsTable, IsHeld, AreLaid}
+use Rattle.gx_leaves.specs.Wholeness.{maps_of, table_owner, IsTable, AreLaid}
 use Rattle.gx_leaves.proofs.KindLemmas.{file_laws}
 use Rattle.gx_leaves.proofs.SumLemmas.{some_same, map_set_at, map_same_at, map_at_some}
-use Rattle.gx_leaves.proofs.PlaceLemmas.{IsPlaceOf, placed}
+use Rattle.gx_leaves.proofs.PlaceLemmas.{placed}
 
 -- the laws of the file at the place of a leaf
 pub laws_at : (base : Ground) (places : List Place) → IsLaidOut base places → (leaf : ℕ) (place : Place) → slice_get places leaf ≡ Some place → AreFileLaws base place (IsFileAt base place) (map_in base place)

@@ -1,10 +1,9 @@
 -- Files by the kind of their place.
-use Rattle.std.proofs.Common.{◌≡◌, ap, sym, subst, IsTrue, true}
+use Rattle.std.proofs.Common.{◌≡◌, sym, IsTrue}
 use Rattle.gx_ports.specs.declared.kinds.LeafKind.{LeafKind}
 use Rattle.gx_ports.specs.declared.kinds.LeafKind.TheVariants as kinds
 use Rattle.gx_ports.specs.declared.pages.Place.{Place}
-use Rattle.gx_ports.specs.LeafMaps.{LeafMap}
-use Rattle.gx_ports.specs.Sheets.{Sheets, Ground}
+use Rattle.gx_ports.specs.Sheets.{Ground}
 use Rattle.gx_ports.specs.Files.{IsPlace, AreFileLaws}
 use Rattle.gx_heap.specs.Heap.{IsHeap}
 use Rattle.gx_heap.proofs.HeapLaws.{heap_laws}

@@ -1,18 +1,16 @@
 -- Leaves are made one after the other.
-use Rattle.std.proofs.Common.{◌≡◌, ◌≢◌, ◌⊎◌, inl, inr, ℕ, suc, ◌+◌, ◌<◌, ◌≤◌, IsTrue, List, length, map, refl, sym, ap, subst, ◌∙◌, arith}
-use Rattle.std.specs.Prelude.{slice_get, replicate, Option, Some}
+use Rattle.std.proofs.Common.{◌≡◌, ◌≢◌, inl, inr, ℕ, ◌+◌, ◌<◌, List, length, sym, ap, subst, ◌∙◌, arith}
+use Rattle.std.specs.Prelude.{slice_get, replicate, Some}
 use Rattle.std.specs.FinMap.{empty}
 use Rattle.std.proofs.lemmas.Bool.{cases_eq, cases_lt}
 use Rattle.std.proofs.lemmas.Option.{slice_get_within}
 use Rattle.gx_ports.specs.declared.kinds.LeafSpec.{LeafSpec}
 use Rattle.gx_ports.specs.declared.pages.Place.{Place}
-use Rattle.gx_ports.specs.LeafMaps.{LeafMap}
-use Rattle.gx_ports.specs.Roots.{roots_of}
-use Rattle.gx_ports.specs.Sheets.{Sheets, Ground, IsPast}
+use Rattle.gx_ports.specs.Sheets.{Sheets, Ground}
 use Rattle.gx_ports.specs.Files.{IsVacant, OthersStay, ClaimsRoots}
 use Rattle.gx_leaves.specs.Kinds.{IsFileAt, map_in}
 use Rattle.gx_leaves.specs.Places.{places_of, IsRoomFor, IsLaidOut}
-use Rattle.gx_leaves.specs.Wholeness.{maps_of, table_owner, IsTable, AreLaid}
+use Rattle.gx_leaves.specs.Wholeness.{maps_of, table_owner, AreLaid}
 use Rattle.gx_leaves.specs.Making.{IsAllFree, AreMade}
 use Rattle.gx_leaves.proofs.SumLemmas.{some_same, map_all_same}
 use Rattle.gx_leaves.proofs.PlaceLemmas.{placed, roots_apart, laid_by, place_count}

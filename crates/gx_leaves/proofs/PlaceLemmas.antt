@@ -1,6 +1,6 @@
 -- What is known of the place of each leaf.
-use Rattle.std.proofs.Common.{◌≡◌, ◌≢◌, ℕ, zero, suc, ◌+◌, ◌<◌, ◌≤◌, ◌&&◌, IsTrue, true, List, [], ◌∷◌, length, get_or, map, refl, sym, ap, subst, ◌∙◌, arith, rules}
-use Rattle.std.specs.Prelude.{slice_get, Option, Some}
+use Rattle.std.proofs.Common.{◌≡◌, ℕ, zero, suc, ◌+◌, ◌<◌, ◌≤◌, IsTrue, List, [], ◌∷◌, length, get_or, map, refl, sym, ap, subst, ◌∙◌, arith, rules}
+use Rattle.std.specs.Prelude.{slice_get, Some}
 use Rattle.std.proofs.lemmas.List.{length-map}
 use Rattle.std.proofs.lemmas.Option.{slice_get_within, slice_get_read}
 use Rattle.std.proofs.lemmas.List.Sums.{sum_by-cons}
@@ -10,7 +10,7 @@ use Rattle.gx_ports.specs.Roots.{roots_of, root_pages}
 use Rattle.gx_ports.specs.Sheets.{Ground}
 use Rattle.gx_ports.specs.Files.{IsPlace}
 use Rattle.gx_leaves.specs.Kinds.{is_built, are_built}
-use Rattle.gx_leaves.specs.Places.{places_from, places_of, specs_of, most_leaves, IsRoomFor, IsLaidOut}
+use Rattle.gx_leaves.specs.Places.{places_from, places_of, specs_of, IsRoomFor, IsLaidOut}
 use Rattle.gx_leaves.proofs.SumLemmas.{some_same}
 
 roots_cons : (spec : LeafSpec) (specs : List LeafSpec) → root_pages (spec ∷ specs) ≡ roots_of spec + root_pages specs

@@ -1,5 +1,5 @@
 -- When the pages of leaves are whole, and which maps they hold.
-use Rattle.std.specs.Prelude.{◌≡◌, ℕ, ◌+◌, ◌<◌, ◌≤◌, List, length, map, slice_get, Option, Some, Bool, IsTrue}
+use Rattle.std.specs.Prelude.{◌≡◌, ℕ, ◌+◌, ◌<◌, ◌≤◌, List, length, map, slice_get, Some, Bool, IsTrue}
 use Rattle.gx_ports.specs.declared.pages.Place.{Place}
 use Rattle.gx_ports.specs.declared.pages.TheConstants.{MAX_OWNER}
 use Rattle.gx_ports.specs.LeafMaps.{LeafMap, Limits}

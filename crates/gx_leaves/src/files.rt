@@ -13,8 +13,8 @@ use gx_ports::{Entries, LeafKind, Pages, Place, Stop};
 use gx_values::Span;
 use std::alloc::Global;
 
-/// Makes an empty file at a place whose roots are free and whose owner has no page. After `Failed` the
-/// pages are to be opened again.
+/// Makes an empty file at a place whose roots are free and whose owner has no page. After `Failed`
+/// the pages are to be opened again.
 pub fn make_file<P: Pages>(pages: &mut P, place: &Place) -> Result<(), Failed>
     requires built { IsTrue (is_built place.now.spec.kind) }
     requires place { IsPlace (P.ground pages.old) place.now }

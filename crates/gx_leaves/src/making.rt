@@ -9,7 +9,8 @@ use gx_device::Failed;
 use gx_ports::{LeafSpec, Pages, Place};
 use std::alloc::{AllocError, Global};
 
-/// The places of leaves: their root pages lie one behind the other, from the first page past the table on.
+/// The places of leaves: their root pages lie one behind the other, from the first page past the
+/// table on.
 pub fn lay_out<P: Pages>(
     alloc: Global,
     pages: &P,

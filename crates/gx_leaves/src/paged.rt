@@ -14,8 +14,9 @@ use gx_values::{NoMemory, Span};
 use std::alloc::Global;
 
 /// Leaves on pages, each a file of its kind. The root pages lie from the first page past the table
-/// on, in the order of the leaves; leaf i has the owner i + 1. Nothing of the maps is held in memory: a
-/// call costs what its file reads and writes, `commit` and `abort` cost what those of the pages cost.
+/// on, in the order of the leaves; leaf i has the owner i + 1. Nothing of the maps is held in
+/// memory: a call costs what its file reads and writes, `commit` and `abort` what those of the
+/// pages cost.
 #[derive(Drop)]
 pub struct PagedLeaves<P: Pages + Drop> {
     pages: P,
@@ -25,13 +26,14 @@ pub struct PagedLeaves<P: Pages + Drop> {
 }
 
 impl<P: Pages + Drop> PagedLeaves<P> {
-    ghost use Rattle.gx_leaves.specs.Paged.{pages_of, places_in, working_of, kept_of, work_of, head_of, IsWhole};
+    ghost use Rattle.gx_leaves.specs.Paged.{pages_of, places_in, working_of, work_of, IsWhole};
     ghost use Rattle.gx_leaves.specs.Places.{places_of, IsRoomFor};
     ghost use Rattle.gx_leaves.specs.Making.{IsAllFree, HasMakeCause, pages_left};
 
-    /// Empty leaves on pages of which none past the table has an owner. Their roots are written, and
-    /// are to be committed yet. `Fault`: a call of the pages failed; the pages are to be opened again.
-    /// `NoMemory`: nothing was changed. Either hands the pages back, and nothing else is answered.
+    /// Empty leaves on pages of which none past the table has an owner. Their roots are written,
+    /// and are to be committed yet. `Fault`: a call of the pages failed; the pages are to be opened
+    /// again. `NoMemory`: nothing was changed. Either hands the pages back, and nothing else is
+    /// answered.
     pub fn make(
         alloc: Global,
         mut pages: P,
@@ -103,7 +105,7 @@ impl<P: Pages + Drop> PagedLeaves<P> {
 }
 
 impl<P: Pages + Drop> View for PagedLeaves<P> {
-    ghost use Rattle.std.specs.Prelude.{Some, true};
+    ghost use Rattle.std.specs.Prelude.{true};
     ghost use Rattle.gx_leaves.specs.Wholeness.{IsWholeAt, IsFreshAt, limits_of, StandsFor, IsLaid};
     ghost use Rattle.gx_leaves.specs.Paged.{working_of, kept_of, work_of, head_of, IsWhole, WasWhole};
 
@@ -202,10 +204,12 @@ impl<P: Pages + Drop> Leaves for PagedLeaves<P> {
         ∙ sym (map_count (P.ground l.pages) l.places.items (P.working l.pages)) };
 
     ghost whole_each = { λ l leaf whole below.
-        whole_each P.tells (P.steady l.pages) (P.ground l.pages) l.places.items (P.working l.pages) whole leaf };
+        whole_each P.tells (P.steady l.pages)
+        (P.ground l.pages) l.places.items (P.working l.pages) whole leaf };
 
     ghost whole_all = { λ l steady some each.
-        whole_all P.tells (P.steady l.pages) (P.ground l.pages) l.places.items (P.working l.pages) steady some each };
+        whole_all P.tells (P.steady l.pages)
+        (P.ground l.pages) l.places.items (P.working l.pages) steady some each };
 
     ghost calm_means = { λ l s told calm. P.calm_means l.pages s told calm };
 

@@ -1,4 +1,4 @@
-use Rattle.std.proofs.Common.{◌≡◌, [], length, sym, ap, subst, arith}
+use Rattle.std.proofs.Common.{[], ap, subst, arith}
 use Rattle.gx_slots.specs.Page.{IsPageOf, next_of}
 use Rattle.gx_slots.proofs.PageLemmas.{page_of}
 use Rattle.gx_bplus.specs.Tree.{ShowsEntries}

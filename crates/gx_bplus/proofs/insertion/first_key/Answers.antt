@@ -1,6 +1,5 @@
 use Rattle.std.proofs.Common.{◌∙◌, sym, ap, length, arith}
 use Rattle.gx_slots.specs.Entries.{Entry, lent}
-use Rattle.gx_slots.specs.Page.{entries_of}
 use Rattle.gx_slots.proofs.PageLemmas.{page_of}
 use Rattle.gx_bplus.proofs.insertion.first_key.Goals as goal
 

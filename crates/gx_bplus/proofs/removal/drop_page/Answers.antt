@@ -1,4 +1,4 @@
-use Rattle.std.proofs.Common.{◌∙◌, subst}
+use Rattle.std.proofs.Common.{subst}
 use Rattle.gx_ports.specs.Sheets.{IsOwnedAnew}
 use Rattle.gx_bplus.proofs.BranchLemmas.{place_for}
 use Rattle.gx_bplus.proofs.RemovalLemmas.{on_ok, drop_sheets}

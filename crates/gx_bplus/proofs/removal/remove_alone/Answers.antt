@@ -1,4 +1,4 @@
-use Rattle.std.proofs.Common.{◌∙◌, sym, subst, arith}
+use Rattle.std.proofs.Common.{subst, arith}
 use Rattle.gx_slots.specs.Page.{entries_of}
 use Rattle.gx_bplus.specs.Changes.{IsTakenFrom}
 use Rattle.gx_bplus.proofs.RemovalLemmas.{alone_sheets}

@@ -1,4 +1,4 @@
-use Rattle.std.proofs.Common.{◌∙◌, ap, Some, subst, sym, arith}
+use Rattle.std.proofs.Common.{◌∙◌, ap, Some, arith}
 use Rattle.std.specs.Prelude.{length}
 use Rattle.gx_bnode.specs.Page.{branches_of}
 use Rattle.gx_bplus.proofs.BranchLemmas.{place_for, bound_is, separator_short}

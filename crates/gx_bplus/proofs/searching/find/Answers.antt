@@ -1,4 +1,4 @@
-use Rattle.std.proofs.Common.{◌≡◌, ◌∙◌, refl, subst, sym, ap, arith}
+use Rattle.std.proofs.Common.{refl, subst, ap, arith}
 use Rattle.gx_bplus.specs.Bplus.{Shows}
 use Rattle.gx_bplus.proofs.CallLemmas.{ends_handed}
 use Rattle.gx_bplus.proofs.FileLemmas.{place_past}

@@ -1,5 +1,4 @@
-use Rattle.std.proofs.Common.{◌∙◌, sym}
-use Rattle.gx_slots.specs.Entries.{lent}
+use Rattle.std.proofs.Common.{◌∙◌}
 use Rattle.gx_slots.specs.Page.{entries_of}
 use Rattle.gx_bplus.proofs.GiveLemmas.{giving_starts, giving_ended}
 use Rattle.gx_bplus.proofs.selection.give.Goals as goal

@@ -1,4 +1,4 @@
-use Rattle.std.proofs.Common.{◌≡◌, ◌++◌, ◌∙◌, Some, None, refl, subst, sym, ap, arith}
+use Rattle.std.proofs.Common.{◌≡◌, ◌++◌, ◌∙◌, refl, subst, sym, ap, arith}
 use Rattle.gx_slots.specs.Page.{entries_of}
 use Rattle.gx_bplus.specs.Search.{IsFound}
 use Rattle.gx_bplus.specs.Selection.{given_from}

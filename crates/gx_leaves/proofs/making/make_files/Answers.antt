@@ -1,10 +1,8 @@
-use Rattle.std.proofs.Common.{◌≡◌, ap, refl, sym, subst, ◌∙◌}
+use Rattle.std.proofs.Common.{refl, sym, subst, ◌∙◌}
 use Rattle.std.proofs.lemmas.Option.{slice_get-get_or}
 use Rattle.gx_values.specs.declared.values.Kind.TheVariants.{Int}
 use Rattle.gx_ports.specs.declared.kinds.LeafKind.TheVariants.{Heap}
 use Rattle.gx_ports.specs.declared.pages.Place.{Place}
-use Rattle.gx_ports.specs.LeafMaps.{LeafMap}
-use Rattle.gx_ports.specs.Sheets.{Ground}
 use Rattle.std.specs.FinMap.{empty}
 use Rattle.std.specs.Prelude.{slice_index_or}
 use Rattle.gx_ports.specs.Files.{IsPlace, OthersStay}
