@@ -72,6 +72,9 @@ unaccepted_line s e (ending.Missing name) r = absurd r
 unaccepted_line s e (ending.TooLong name) r = absurd r
 unaccepted_line s e ending.NotBuilt r = absurd r
 unaccepted_line s e (ending.Accepted summary) r = absurd r
+unaccepted_line s e ending.Full r = absurd r
+unaccepted_line s e (ending.Device wrong) r = absurd r
+unaccepted_line s e (ending.Made blocks pages) r = absurd r
 unaccepted_line s e ending.NoMemory r = absurd r
 unaccepted_line s e ending.Fault r = absurd r
 unaccepted_line s e (ending.Line number why) r = absurd r
@@ -120,6 +123,9 @@ reason words texts (ending.Equation line why) r = judged words texts (ending.Equ
 reason words texts (ending.Type line why) r = judged words texts (ending.Type line why) r
 reason words texts ending.TextsTooLong r = judged words texts ending.TextsTooLong r
 reason words texts (ending.Accepted summary) r = absurd r.4
+reason words texts ending.Full r = absurd r.4
+reason words texts (ending.Device wrong) r = absurd r.4
+reason words texts (ending.Made blocks pages) r = absurd r.4
 reason words texts ending.NoMemory r = absurd r.4
 reason words texts ending.Fault r = absurd r.4
 reason words texts (ending.Line number why) r = absurd r.4
@@ -159,7 +165,7 @@ record IsPlayed (words : List (List ℕ)) (before : Content) (text : List ℕ) :
   pub schema : Schema
   pub runnable : IsRunnable words before.aside.texts schema
   pub end : End
-  pub is : IsPlayText schema before.script end text
+  pub is : IsPlayText schema (empty_state schema) before.script end text
 
 is_played : (words : List (List ℕ)) (before : Content) (under text : List ℕ) → IsTryUnder words before.aside.texts under → IsWholeText words before text → IsPlayed words before text
 is_played words before under text try (inl (inl run)) = record { schema = run.0; runnable = run.1; end = good; is = run.2 }
@@ -173,7 +179,7 @@ schema_under words texts under schema try is =
     let same = same_words words trying trying asked.schema_name try.0 asked.equation_name try.1 asked.words_are try.2 in
     subst (λ t. IsSchemaText t schema) (text_once texts asked.schema_name try.0 is.2.0 under same.schemas asked.schema_there.0 try.3) is.2.3.read.schema_means
 
-text_of_play : (schema : Schema) (script : List ℕ) (end close : End) (a b : List ℕ) → IsPlayText schema script end a → IsPlayText schema script close b → a ≡ b
+text_of_play : (schema : Schema) (script : List ℕ) (end close : End) (a b : List ℕ) → IsPlayText schema (empty_state schema) script end a → IsPlayText schema (empty_state schema) script close b → a ≡ b
 text_of_play schema script end close a b x y =
     let once = play_once schema (start_at (empty_state schema)) (script_lines script) x.answers y.answers x.final y.final end close x.play y.play in
     x.text_is ∙ (λ i. once.0 i ++ end_text (once.2 i)) ∙ sym y.text_is
@@ -183,4 +189,4 @@ one_script_once words others before other text more one x y =
     let p = is_played words before one.schema text one.under x in
     let q = is_played others other one.schema more one.other_under y in
     let same = one_schema one.schema p.schema q.schema (schema_under words before.aside.texts one.schema p.schema one.under p.runnable) (schema_under others other.aside.texts one.schema q.schema one.other_under q.runnable) in
-    text_of_play q.schema other.script p.end q.end text more (subst (λ (t : List ℕ). IsPlayText q.schema t p.end text) one.script (subst (λ (k : Schema). IsPlayText k before.script p.end text) same p.is)) q.is
+    text_of_play q.schema other.script p.end q.end text more (subst (λ (t : List ℕ). IsPlayText q.schema t p.end text) one.script (subst (λ (k : Schema). IsPlayText k (empty_state k) before.script p.end text) same p.is)) q.is

@@ -6,6 +6,7 @@ mod built;
 mod check;
 mod ending;
 mod laws;
+mod over_leaves;
 mod play;
 mod reading;
 mod request;
