@@ -189,4 +189,4 @@ one_script_once words others before other text more one x y =
     let p = is_played words before one.schema text one.under x in
     let q = is_played others other one.schema more one.other_under y in
     let same = one_schema one.schema p.schema q.schema (schema_under words before.aside.texts one.schema p.schema one.under p.runnable) (schema_under others other.aside.texts one.schema q.schema one.other_under q.runnable) in
-    text_of_play q.schema other.script p.end q.end text more (subst (λ (t : List ℕ). IsPlayText q.schema t p.end text) one.script (subst (λ (k : Schema). IsPlayText k (empty_state k) before.script p.end text) same p.is)) q.is
+    text_of_play q.schema other.script p.end q.end text more (subst (λ (t : List ℕ). IsPlayText q.schema (empty_state q.schema) t p.end text) one.script (subst (λ (k : Schema). IsPlayText k (empty_state k) before.script p.end text) same p.is)) q.is
