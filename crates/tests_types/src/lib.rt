@@ -4,8 +4,6 @@
 #![tactic(auto)]
 
 #[cfg(test)]
-mod sound;
-#[cfg(test)]
 mod texts;
 #[cfg(test)]
 mod types;
