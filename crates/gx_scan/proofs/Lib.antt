@@ -6,3 +6,4 @@ mod ListingLemmas
 mod ScanLemmas
 pub mod SelectLemmas
 pub mod StorableLemmas
+mod WhereLemmas

@@ -3,3 +3,4 @@ pub mod Records
 pub mod Entries
 pub mod Scan
 pub mod Within
+pub mod Where

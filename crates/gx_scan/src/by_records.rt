@@ -74,7 +74,7 @@ fn add_met(
 }
 
 // A record of the file as a row.
-fn into_row(file: &FileDef, rec: Rec) -> Row
+pub(crate) fn into_row(file: &FileDef, rec: Rec) -> Row
     requires keyed { 0 < length file.now.fields }
     requires fits { IsOf (file_form file.now) rec }
     ensures { result ≡ row_of rec }
@@ -88,7 +88,7 @@ fn into_row(file: &FileDef, rec: Rec) -> Row
     }
 }
 
-fn meets_all(conds: &[Cond], row: &Row) -> bool
+pub(crate) fn meets_all(conds: &[Cond], row: &Row) -> bool
     ensures { result ≡ meets_conds conds.now row.now }
 {
     conds.iter().all(|cond| meets_one(cond, row))

@@ -1,0 +1,63 @@
+use Rattle.std.proofs.Common.{rules, ◌≡◌, ◌∙◌, [], List, Err, get_or, refl, sym, ap, subst, arith}
+use Rattle.std.proofs.lemmas.Result.{err_from_is_err_and}
+use Rattle.gx_values.specs.declared.values.Value.{Value}
+use Rattle.gx_ports.specs.declared.stop.Stop.TheVariants as stop
+use Rattle.gx_ports.specs.LeafMaps.{LeafMap}
+use Rattle.gx_ports.proofs.CallLemmas.{reads_itself, reads_joined}
+use Rattle.gx_stack.specs.Seen.{tree_of}
+use Rattle.gx_stack.proofs.Lists.{in_read}
+use Rattle.gx_model.specs.Found.{meets_conds}
+use Rattle.gx_scan.specs.Files.{IsInternal}
+use Rattle.gx_scan.proofs.PlaceLemmas.{get_or_any}
+use Rattle.gx_scan.proofs.WhereLemmas.{rows_next, rows_done}
+use Rattle.gx_scan.proofs.by_index.add_by_keys.Goals as goal
+
+pub loop-key-init : goal.loop-key-init
+loop-key-init g c = record {
+  rows = λ f whole is. refl;
+  reads = reads_itself g.B.View c.args.leaves.now;
+  whole = λ h. h;
+  counted = refl;
+}
+
+pub add_by_key-requires-clause-fit : goal.add_by_key-requires-clause-fit
+add_by_key-requires-clause-fit g c =
+    let keys = c.args.keys.now in
+    let i = c.loop-key.key-index in
+    let key : List Value = get_or keys i [] in
+    c.requires.fit key (in_read keys i key (get_or_any keys i _ key c.loop-key-test.true) c.loop-key-test.true)
+
+pub loop-key-preserved : goal.loop-key-preserved
+loop-key-preserved g c =
+    let t = tree_of c.args.node.now in
+    let keys = c.args.keys.now in
+    let i = c.loop-key.key-index in
+    let key : List Value = get_or keys i [] in
+    let inv = c.loop-key.invariant in
+    let e = c.in_ok-add_by_key.ensures in record {
+      rows = λ f whole is.
+          let now = e.rows f (inv.whole whole) (subst (λ (maps : List LeafMap). IsInternal c.args.file.now t maps f) (sym inv.reads.working) is) in
+          rows_next f (meets_conds c.args.conds.now) keys i key _ _ _ (get_or_any keys i _ key c.loop-key-test.true) c.loop-key-test.true now (inv.rows f whole is);
+      reads = reads_joined g.B.View inv.reads e.reads;
+      whole = λ h. e.ends.whole (inv.whole h);
+      counted = e.ends.counted refl ∙ inv.counted;
+    }
+
+pub returns-in_err-add_by_key-clause-ends : goal.returns-in_err-add_by_key-clause-ends
+returns-in_err-add_by_key-clause-ends g c = record {
+  whole = search rules;
+  later = search rules;
+  fault = search rules;
+  counted = search rules;
+  damaged = λ block e sound.
+      let inv = c.loop-key.invariant in
+      let p = err_from_is_err_and c.from_residual.result c.from_residual.ensures.1 in
+      let both = sym p.1 ∙ e in
+      let why : p.0 ≡ stop.Damaged block = cc in
+      c.in_err-add_by_key.ensures.ends.damaged block (ap Err (sym p.2 ∙ why))
+      (inv.whole sound.0, (sound.1.0, subst (λ (maps : List LeafMap). IsInternal c.args.file.now (tree_of c.args.node.now) maps sound.1.0) (sym inv.reads.working) sound.1.1));
+}
+
+pub returns-clause-rows : goal.returns-clause-rows
+returns-clause-rows g c = λ f whole is.
+    rows_done f (meets_conds c.args.conds.now) c.args.keys.now c.loop-key.key-index _ _ (omega (arith, c.loop-key-test.false)) (c.loop-key.invariant.rows f whole is)
