@@ -2,8 +2,10 @@
 #![tactic(auto)]
 
 mod engine;
+mod indexed;
 mod listing;
 mod planned;
 mod records;
 
 pub use engine::{Engine, StepStop};
+pub use indexed::indexed_fields;

@@ -10,8 +10,11 @@ ghost use Rattle.gx_model.specs.States.{File as FileMap};
 ghost use Rattle.gx_model.specs.Found.{meets_conds};
 ghost use Rattle.gx_model.specs.Commands.{IsListText};
 ghost use Rattle.gx_scan.specs.Files.{IsInternal, HasFile, IsStorable, IsTreeFor};
+ghost use Rattle.gx_scan.specs.Where.{AreNamed};
 
+use crate::indexed::{add_by_index, index_condition, indexed_fields};
 use crate::planned::planned_span;
+use gx_planner::plan;
 use gx_ports::{Leaves, Stop};
 use gx_rows::{Row, records_text, sort_rows};
 use gx_scan::rows_within;
@@ -32,6 +35,7 @@ pub(crate) fn found_text<B: Leaves>(
 ) -> Result<Octets, Stop>
     requires tree { IsTreeFor file.now (tree_of node.now) (length (B.working leaves.old)) }
     requires storable { IsStorable file.now }
+    requires named { AreNamed file.now }
     requires conds { AllByRecursion (IsCondOf file.now) find.now.conds }
     requires few { length find.now.conds < 2 ^ 16 }
     ensures listed { (f : FileMap) → B.whole leaves.old →
@@ -62,6 +66,7 @@ fn add_found<B: Leaves>(
 ) -> Result<(), Stop>
     requires tree { IsTreeFor file.now (tree_of node.now) (length (B.working leaves.old)) }
     requires storable { IsStorable file.now }
+    requires named { AreNamed file.now }
     requires conds { AllByRecursion (IsCondOf file.now) find.now.conds }
     requires few { length find.now.conds < 2 ^ 16 }
     requires none { rows.old.items ≡ [] }
@@ -76,7 +81,12 @@ fn add_found<B: Leaves>(
     ensures not_full { ¬ IsErrOf result Stop.Full }
 {
     let conds = find.conds.0.as_slice();
-    match planned_span(file, find) {
+    let indexed = indexed_fields(alloc, file, node)?;
+    let plan = plan(find, &indexed);
+    if let Some(cond) = index_condition(find, &indexed, plan) {
+        return add_by_index(alloc, file, node, cond, conds, leaves, rows);
+    }
+    match planned_span(file, find, plan) {
         Some(span) => rows_within(alloc, file, node, &span, conds, leaves, rows),
         None => Ok(()),
     }

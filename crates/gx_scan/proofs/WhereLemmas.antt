@@ -15,12 +15,12 @@ use Rattle.gx_values.specs.declared.records.Field.{Field}
 use Rattle.gx_values.specs.declared.records.Form.{Form}
 use Rattle.gx_values.specs.declared.records.Rec.{Rec}
 use Rattle.gx_values.specs.declared.keys.Span.{Span}
-use Rattle.gx_values.specs.Values.{value_cmp, Fits, AreFit}
+use Rattle.gx_values.specs.Values.{value_cmp}
 use Rattle.gx_values.specs.Keys.{bytes_of, is_inside}
 use Rattle.gx_values.specs.Spans.{IsValueSpan}
 use Rattle.gx_values.proofs.OrderLemmas.{value_cmp_total}
 use Rattle.gx_schema.specs.declared.schema.FileDef.{FileDef}
-use Rattle.gx_schema.specs.Lookups.{no_field, field_at, key_kind, data_fields}
+use Rattle.gx_schema.specs.Lookups.{no_field, field_at, data_fields}
 use Rattle.gx_script.specs.declared.command.Cond.{Cond}
 use Rattle.gx_mapping.specs.Rule.{In, is_field, first_in, kind_in, value_in}
 use Rattle.gx_mapping.proofs.FieldLemmas.{first_kind, first_value}
@@ -37,7 +37,7 @@ use Rattle.gx_scan.specs.Files.{rec_of, records_of}
 use Rattle.gx_scan.specs.Records.{list_of_one}
 use Rattle.gx_scan.specs.Within.{row_of}
 use Rattle.gx_scan.specs.Where.{AreNamed, is_found_by, AreAddedWhere, rows_at_key}
-use Rattle.gx_scan.proofs.FileLemmas.{in_there, key_of_form}
+use Rattle.gx_scan.proofs.FileLemmas.{in_there}
 use Rattle.gx_scan.proofs.PlaceLemmas.{key_cmp, entries_ascend}
 
 -- ---- lists with the same items, each once
@@ -226,7 +226,3 @@ rows_next f p keys i key before rows now read lt now_is so_far =
 pub rows_done : (f : File) (p : Row → Bool) (keys : List (List Value)) (i : ℕ) (before rows : List Row) → length keys ≤ i → rows ++ filter p (flat_map (rows_at_key f) (drop i keys)) ≡ before → rows ≡ before
 rows_done f p keys i before rows past so_far =
     sym (append-nil rows) ∙ ap (λ (ks : List (List Value)). rows ++ filter p (flat_map (rows_at_key f) ks)) (sym (drop_all i keys past)) ∙ so_far
-
--- the one value of a key
-pub key_value : (file : FileDef) (key : List Value) → 0 < length file.fields → AreFit (file_form file).keys key → (k : Value) × (key ≡ k ∷ []) × Fits (key_kind file) k
-key_value file key some fit = key_of_form file.fields key some fit

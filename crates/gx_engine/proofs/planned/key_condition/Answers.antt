@@ -12,12 +12,12 @@ returns-in-Key-clause-there c =
 
 pub returns-in-Key-clause-key : goal.returns-in-Key-clause-key
 returns-in-Key-clause-key c =
-    let by = by_key c.args.find.now [] c.plan.result c.in-Key.number c.in-Key.is c.plan.ensures.applies in
+    let by = by_key c.args.find.now c.requires.0 c.args.plan c.in-Key.number c.in-Key.is c.requires.1 in
     if_seen c.condition_at.result (λ x. x.now) (λ (d : Cond). d.field ≡ 0) _ c.condition_at.ensures
-    (λ d e. (on_key c.args.find.now [] by.0 c.in-Key.number d by.1 e by.2).0)
+    (λ d e. (on_key c.args.find.now c.requires.0 by.0 c.in-Key.number d by.1 e by.2).0)
 
 pub returns-in-Key-clause-op : goal.returns-in-Key-clause-op
 returns-in-Key-clause-op c =
-    let by = by_key c.args.find.now [] c.plan.result c.in-Key.number c.in-Key.is c.plan.ensures.applies in
+    let by = by_key c.args.find.now c.requires.0 c.args.plan c.in-Key.number c.in-Key.is c.requires.1 in
     if_seen c.condition_at.result (λ x. x.now) (λ (d : Cond). d.op ≢ op.Unequal) _ c.condition_at.ensures
-    (λ d e. (on_key c.args.find.now [] by.0 c.in-Key.number d by.1 e by.2).1)
+    (λ d e. (on_key c.args.find.now c.requires.0 by.0 c.in-Key.number d by.1 e by.2).1)
