@@ -3,7 +3,8 @@ use Rattle.std.proofs.Common.{[], ◌≡◌, ℕ, zero, suc, ◌<◌, ◌≤◌,
 use Rattle.std.specs.Prelude.{◌==◌, ◌||◌, nat_eq}
 use Rattle.std.specs.Cmp.Lexicographic.{pointwise}
 use Rattle.std.proofs.lemmas.Bool.{or_parts, or_from}
-use Rattle.gx_tokens.proofs.ReadingLaws.{same_bytes}
+use Rattle.std.proofs.lemmas.Bool.Decides.{Decides-eqb}
+use Rattle.std.proofs.lemmas.Slice.Eq.{slice_eq-Decides}
 use Rattle.gx_values.specs.declared.values.Kind.{Kind}
 use Rattle.gx_values.specs.declared.values.Kind.TheVariants as kind
 use Rattle.gx_values.specs.declared.records.Field.{Field}
@@ -72,7 +73,7 @@ not_before before (f ∷ fs) (suc i) are lt = (has_more before f (get_or fs i no
 first_of_name : (before fs : List Field) (i : ℕ) → AreFields before fs → i < length fs → (is_field fs (get_or fs i no_field).name ≡ true) × (first_in fs (get_or fs i no_field).name ≡ i)
 first_of_name before [] i are lt = absurd (omega arith)
 first_of_name before (f ∷ fs) zero are lt =
-    let same : pointwise nat_eq f.name f.name ≡ true = (same_bytes f.name f.name).1 refl in
+    let same : pointwise nat_eq f.name f.name ≡ true = (slice_eq-Decides Decides-eqb f.name f.name (pointwise nat_eq f.name f.name) refl).1 refl in
     (ap (λ (b : Bool). b || is_field fs f.name) same, ap (λ (b : Bool). cond b 0 (suc (first_in fs f.name))) same)
 first_of_name before (f ∷ fs) (suc i) are lt =
     let name = (get_or fs i no_field).name in
