@@ -1,6 +1,5 @@
-use Rattle.std.proofs.Common.{rules, ◌≡◌, ◌∙◌, [], List, Err, get_or, refl, sym, ap, subst, arith}
+use Rattle.std.proofs.Common.{rules, ◌≡◌, ◌∙◌, Err, refl, sym, ap, subst, arith}
 use Rattle.std.proofs.lemmas.Result.{err_from_is_err_and}
-use Rattle.gx_values.specs.declared.values.Value.{Value}
 use Rattle.gx_ports.specs.declared.stop.Stop.TheVariants as stop
 use Rattle.gx_ports.specs.LeafMaps.{LeafMap}
 use Rattle.gx_ports.proofs.CallLemmas.{reads_itself, reads_joined}
@@ -8,7 +7,6 @@ use Rattle.gx_stack.specs.Seen.{tree_of}
 use Rattle.gx_stack.proofs.Lists.{in_read}
 use Rattle.gx_model.specs.Found.{meets_conds}
 use Rattle.gx_scan.specs.Files.{IsInternal}
-use Rattle.gx_scan.proofs.PlaceLemmas.{get_or_any}
 use Rattle.gx_scan.proofs.WhereLemmas.{rows_next, rows_done}
 use Rattle.gx_scan.proofs.by_index.add_by_keys.Goals as goal
 
@@ -24,20 +22,20 @@ pub add_by_key-requires-clause-fit : goal.add_by_key-requires-clause-fit
 add_by_key-requires-clause-fit g c =
     let keys = c.args.keys.now in
     let i = c.loop-key.key-index in
-    let key : List Value = get_or keys i [] in
-    c.requires.fit key (in_read keys i key (get_or_any keys i _ key c.loop-key-test.true) c.loop-key-test.true)
+    let key = c.key-item.result in
+    c.requires.fit key (in_read keys i key c.key-item.is c.loop-key-test.true)
 
 pub loop-key-preserved : goal.loop-key-preserved
 loop-key-preserved g c =
     let t = tree_of c.args.node.now in
     let keys = c.args.keys.now in
     let i = c.loop-key.key-index in
-    let key : List Value = get_or keys i [] in
+    let key = c.key-item.result in
     let inv = c.loop-key.invariant in
     let e = c.in_ok-add_by_key.ensures in record {
       rows = λ f whole is.
           let now = e.rows f (inv.whole whole) (subst (λ (maps : List LeafMap). IsInternal c.args.file.now t maps f) (sym inv.reads.working) is) in
-          rows_next f (meets_conds c.args.conds.now) keys i key _ _ _ (get_or_any keys i _ key c.loop-key-test.true) c.loop-key-test.true now (inv.rows f whole is);
+          rows_next f (meets_conds c.args.conds.now) keys i key _ _ _ c.key-item.is c.loop-key-test.true now (inv.rows f whole is);
       reads = reads_joined g.B.View inv.reads e.reads;
       whole = λ h. e.ends.whole (inv.whole h);
       counted = e.ends.counted refl ∙ inv.counted;

@@ -11,20 +11,31 @@ use Rattle.gx_stack.specs.Internal.{IsSet}
 use Rattle.gx_model.specs.Found.{meets_conds}
 use Rattle.gx_scan.specs.Files.{IsInternal, records_of}
 use Rattle.gx_scan.specs.Where.{rows_at_key}
+use Rattle.gx_values.specs.declared.records.Field.{Field}
+use Rattle.gx_schema.specs.Lookups.{no_field, field_at}
+use Rattle.gx_mapping.specs.Rule.{kind_in}
+use Rattle.gx_stack.specs.Tree.{tree_form}
+use Rattle.gx_stack.specs.Indexed.{AreKeysOf}
+use Rattle.gx_types.specs.Any.{any_rule}
+use Rattle.gx_scan.proofs.PlaceLemmas.{get_or_any}
 use Rattle.gx_scan.proofs.FileLemmas.{set_of}
 use Rattle.gx_scan.proofs.WhereLemmas.{named_at, span_named, found_where}
 use Rattle.gx_scan.proofs.by_index.rows_where.Goals as goal
 
 pub keys_where-requires-clause-span : goal.keys_where-requires-clause-span
 keys_where-requires-clause-span g c = λ kind e.
+    let file = c.args.file.now in
+    let field : c.index.result.now ≡ field_at file c.args.field = c.index.ensures ∙ get_or_any file.fields c.args.field _ no_field c.requires.in_file in
+    let named = ap (λ (f : Field). kind_in (tree_form any_rule (tree_of c.args.node.now)).fields f.name) (sym field) ∙ e in
     span_named c.args.file.now (tree_of c.args.node.now) c.args.field c.args.span.now kind c.requires.tree.form
-    (named_at c.args.file.now c.args.field c.requires.named c.requires.past_key c.requires.in_file) c.requires.span e
+    (named_at c.args.file.now c.args.field c.requires.named c.requires.past_key c.requires.in_file) c.requires.span named
 
 pub add_by_keys-requires-clause-fit : goal.add_by_keys-requires-clause-fit
 add_by_keys-requires-clause-fit g c = λ key h.
     let found = c.in_ok-keys_where.ensures.found in
     let all = found.appended ∙ ap (λ (before : List (List Value)). before ++ found.keys) c.new-keys.ensures in
-    subst (λ form. AreFit form.keys key) c.requires.tree.form (found.fit key (subst (In key) all h))
+    let slice : c.as_slice.result.now ≡ c.keys_where.new.out = search rules in
+    subst (λ form. AreFit form.keys key) c.requires.tree.form (found.fit key (subst (In key) (slice ∙ all) h))
 
 pub returns-in_err-keys_where-clause-ends : goal.returns-in_err-keys_where-clause-ends
 returns-in_err-keys_where-clause-ends g c = record {
@@ -48,7 +59,25 @@ returns-clause-rows g c = λ f whole is.
     let file = c.args.file.now in
     let keys = c.in_ok-keys_where.ensures in
     let set = subst (λ form. IsSet form (records_of f)) (sym c.requires.tree.form) (set_of file f c.requires.storable.keyed is.fit) in
-    let all = keys.found.appended ∙ ap (λ (before : List (List Value)). before ++ keys.found.keys) c.new-keys.ensures in
+    let slice : c.as_slice.result.now ≡ c.keys_where.new.out = search rules in
+    let field : c.index.result.now ≡ field_at file c.args.field = c.index.ensures ∙ get_or_any file.fields c.args.field _ no_field c.requires.in_file in
+    let all = slice ∙ keys.found.appended ∙ ap (λ (before : List (List Value)). before ++ keys.found.keys) c.new-keys.ensures in
     let now = c.in_ok-add_by_keys.ensures.rows f (keys.ends.whole whole) (subst (λ (maps : List LeafMap). IsInternal file t maps f) (sym keys.reads.working) is) in
-    found_where file t c.args.field c.args.span.now c.args.conds.now f _ _ keys.found.keys _ _ c.requires.tree.form (named_at file c.args.field c.requires.named c.requires.past_key c.requires.in_file) is.fit (keys.found.those whole (records_of f) set is.held)
+    found_where file t c.args.field c.args.span.now c.args.conds.now f _ _ keys.found.keys _ _ c.requires.tree.form (named_at file c.args.field c.requires.named c.requires.past_key c.requires.in_file) is.fit (subst (λ (f' : Field). AreKeysOf any_rule t f'.name c.args.span.now (records_of f) _ _ keys.found.keys) field (keys.found.those whole (records_of f) set is.held))
     (now ∙ ap (λ (ks : List (List Value)). c.args.rows.now.items ++ filter (meets_conds c.args.conds.now) (flat_map (rows_at_key f) ks)) all)
+
+pub returns-in_err-add_by_keys-clause-ends : goal.returns-in_err-add_by_keys-clause-ends
+returns-in_err-add_by_keys-clause-ends g c =
+    let keys = c.in_ok-keys_where.ensures in
+    let e = c.in_err-add_by_keys.ensures.ends in record {
+      whole = search rules;
+      later = search rules;
+      fault = search rules;
+      counted = search rules;
+      damaged = λ block is sound.
+          let p = err_from_is_err_and c.from_residual-in_err-add_by_keys.result c.from_residual-in_err-add_by_keys.ensures.1 in
+          let both = sym p.1 ∙ is in
+          let why : p.0 ≡ stop.Damaged block = cc in
+          let f = sound.1.0 in
+          e.damaged block (ap Err (sym p.2 ∙ why)) (keys.ends.whole sound.0, (f, subst (λ (maps : List LeafMap). IsInternal c.args.file.now (tree_of c.args.node.now) maps f) (sym keys.reads.working) sound.1.1));
+    }
