@@ -9,4 +9,6 @@ code status.Done = 0
 code status.Refused = 1
 code status.Script = 2
 code status.Outside = 3
+code status.Full = 4
 code status.Memory = 5
+code status.Device = 6

@@ -53,6 +53,8 @@ fn code_of(status: Status) -> u8
         Status::Refused => 1,
         Status::Script => 2,
         Status::Outside => 3,
+        Status::Full => 4,
         Status::Memory => 5,
+        Status::Device => 6,
     }
 }

@@ -8,7 +8,7 @@ use Rattle.gx_tokens.specs.declared.why.Unread.TheVariants as unread
 use Rattle.gx_schema.specs.declared.schema.Schema.{Schema}
 use Rattle.gx_script.specs.declared.command.LineWhy.{LineWhy}
 use Rattle.gx_script.specs.Lines.{script_lines}
-use Rattle.gx_model.specs.States.{empty_state}
+use Rattle.gx_model.specs.States.{State, empty_state}
 use Rattle.gx_model.specs.Play.{Playing, End, good, stopped, start_at}
 use Rattle.gx_model.proofs.RunLemmas.{play_once}
 use Rattle.gx_top.specs.declared.ending.Ending.{Ending}
@@ -25,24 +25,36 @@ use Rattle.gx_typing.specs.Typed.{IsTyped, leaves, typing_with}
 use Rattle.gx_typing.specs.Typing.{Mistake}
 use Rattle.gx_typing.proofs.TypedLaws.{again as typed_again}
 use Rattle.gx_top.specs.declared.summary.Summary.{Summary}
-use Rattle.gx_top.specs.Built.{is_built, text_length}
-use Rattle.gx_top.specs.Endings.{status_of, IsOutside}
-use Rattle.gx_top.specs.Requests.{IsText, IsThere, IsTooLong, IsNamed, IsAsked, AreRead, AreAccepted, AreUnaccepted, IsAccepted, IsRunnable, IsSummary, IsRefused, IsUnprepared, equation_of, text_limit}
+use Rattle.gx_top.specs.Built.{text_length}
+use Rattle.gx_top.specs.Endings.{status_of, IsOutside, IsTryStatus}
+use Rattle.gx_top.specs.Requests.{IsText, IsThere, IsTooLong, IsNamed, IsAsked, AreRead, AreAccepted, AreUnaccepted, IsAccepted, is_carried, IsRunnable, IsSummary, IsRefused, IsUnprepared, equation_of, text_limit}
 use Rattle.gx_top.specs.Tries.{Says, IsPlay, IsPlayText, IsStoppedText, IsTry, IsPlayable, IsStoppable, IsCheckable}
-use Rattle.gx_top.specs.Words.{Action, checking, trying, request_words, word_of}
+use Rattle.gx_top.specs.Words.{Action, checking, trying, making, running, request_words}
 
 -- the words of one request are those of no other
-word_once : (a b : Action) → word_of a ≡ word_of b → a ≡ b
-word_once checking checking e = refl
-word_once trying trying e = refl
-word_once checking trying e = absurd (never e)
+action_once : (a b : Action) (s t e f : List ℕ) → request_words a s e ≡ request_words b t f → a ≡ b
+action_once checking checking s t e f same = refl
+action_once trying trying s t e f same = refl
+action_once (making d n) (making c m) s t e f same = λ i. making (get_or (same i) 3 []) (get_or (same i) 4 [])
+action_once (running d) (running c) s t e f same = λ i. running (get_or (same i) 3 [])
+action_once checking trying s t e f same = absurd (never (ap (λ (ws : List (List ℕ)). get_or ws 0 []) same))
   where
     never : codes "check" ≡ codes "try" → ⊥
-    never f = cc
-word_once trying checking e = absurd (never e)
+    never g = cc
+action_once trying checking s t e f same = absurd (never (ap (λ (ws : List (List ℕ)). get_or ws 0 []) same))
   where
     never : codes "try" ≡ codes "check" → ⊥
-    never f = cc
+    never g = cc
+action_once checking (making c m) s t e f same = absurd (let many : 3 ≡ 5 = ap (λ (ws : List (List ℕ)). length ws) same in omega (arith, many))
+action_once checking (running c) s t e f same = absurd (let many : 3 ≡ 4 = ap (λ (ws : List (List ℕ)). length ws) same in omega (arith, many))
+action_once trying (making c m) s t e f same = absurd (let many : 3 ≡ 5 = ap (λ (ws : List (List ℕ)). length ws) same in omega (arith, many))
+action_once trying (running c) s t e f same = absurd (let many : 3 ≡ 4 = ap (λ (ws : List (List ℕ)). length ws) same in omega (arith, many))
+action_once (making d n) checking s t e f same = absurd (let many : 5 ≡ 3 = ap (λ (ws : List (List ℕ)). length ws) same in omega (arith, many))
+action_once (making d n) trying s t e f same = absurd (let many : 5 ≡ 3 = ap (λ (ws : List (List ℕ)). length ws) same in omega (arith, many))
+action_once (making d n) (running c) s t e f same = absurd (let many : 5 ≡ 4 = ap (λ (ws : List (List ℕ)). length ws) same in omega (arith, many))
+action_once (running d) checking s t e f same = absurd (let many : 4 ≡ 3 = ap (λ (ws : List (List ℕ)). length ws) same in omega (arith, many))
+action_once (running d) trying s t e f same = absurd (let many : 4 ≡ 3 = ap (λ (ws : List (List ℕ)). length ws) same in omega (arith, many))
+action_once (running d) (making c m) s t e f same = absurd (let many : 4 ≡ 5 = ap (λ (ws : List (List ℕ)). length ws) same in omega (arith, many))
 
 pub record SameWords (a b : Action) (s t e f : List ℕ) : Type 0 where
   pub actions : a ≡ b
@@ -53,7 +65,7 @@ pub same_words : (words : List (List ℕ)) (a b : Action) (s t e f : List ℕ) �
 same_words words a b s t e f p q =
     let same : request_words a s e ≡ request_words b t f = sym p ∙ q in
     record {
-      actions = word_once a b (ap (λ (ws : List (List ℕ)). get_or ws 0 []) same);
+      actions = action_once a b s t e f same;
       schemas = ap (λ (ws : List (List ℕ)). get_or ws 1 []) same;
       equations = ap (λ (ws : List (List ℕ)). get_or ws 2 []) same;
     }
@@ -148,6 +160,9 @@ not_unaccepted s e schema ds typing (ending.Missing name) a r = r
 not_unaccepted s e schema ds typing (ending.TooLong name) a r = r
 not_unaccepted s e schema ds typing ending.NotBuilt a r = r
 not_unaccepted s e schema ds typing (ending.Accepted summary) a r = r
+not_unaccepted s e schema ds typing ending.Full a r = r
+not_unaccepted s e schema ds typing (ending.Device wrong) a r = r
+not_unaccepted s e schema ds typing (ending.Made blocks pages) a r = r
 not_unaccepted s e schema ds typing ending.NoMemory a r = r
 not_unaccepted s e schema ds typing ending.Fault a r = r
 not_unaccepted s e schema ds typing (ending.Line number why) a r = r
@@ -164,7 +179,7 @@ OnlyUnbuilt ending.NotBuilt = Unit {0}
 OnlyUnbuilt other = ⊥
 
 not_refused : (words : List (List ℕ)) (texts : Texts) (a : Action) (schema : Schema) (ds : List DefinitionTree) (typing : Typing) (why : Ending) → IsAccepted words texts a schema ds typing → IsRefused words texts why → OnlyUnbuilt why
-not_refused words texts a schema ds typing ending.Words is r = r a is.2.schema_name is.2.equation_name is.2.words_are
+not_refused words texts a schema ds typing ending.Words is r = r a is.2.schema_name is.2.equation_name is.2.counted is.2.words_are
 not_refused words texts a schema ds typing (ending.Missing name) is r = not_missing texts name.now (named words texts name.now a is.0 is.1 is.2 r.0) r.1
 not_refused words texts a schema ds typing (ending.TooLong name) is r = not_long texts name.now (named words texts name.now a is.0 is.1 is.2 r.0) r.1
 not_refused words texts a schema ds typing (ending.Schema line why) is r = not_refused_by_texts words texts a is.0 is.1 schema ds typing (ending.Schema line why) is.2 is.3 r
@@ -173,6 +188,9 @@ not_refused words texts a schema ds typing (ending.Type line why) is r = not_ref
 not_refused words texts a schema ds typing ending.TextsTooLong is r = not_refused_by_texts words texts a is.0 is.1 schema ds typing ending.TextsTooLong is.2 is.3 r
 not_refused words texts a schema ds typing ending.NotBuilt is r = tt
 not_refused words texts a schema ds typing (ending.Accepted summary) is r = r.4
+not_refused words texts a schema ds typing ending.Full is r = r.4
+not_refused words texts a schema ds typing (ending.Device wrong) is r = r.4
+not_refused words texts a schema ds typing (ending.Made blocks pages) is r = r.4
 not_refused words texts a schema ds typing ending.NoMemory is r = r.4
 not_refused words texts a schema ds typing ending.Fault is r = r.4
 not_refused words texts a schema ds typing (ending.Line number why) is r = r.4
@@ -190,6 +208,13 @@ one_acceptance words texts a b schema other ds fs typing more x y =
     let read = one_reading y.0 y.1 schema other ds fs x.3.lines y.3.lines (subst (λ t. AreRead t y.1 schema ds x.3.lines) same.schemas (subst (λ f. AreRead x.0 f schema ds x.3.lines) same.equations x.3.read)) y.3.read in
     record { actions = same.actions; schemas = read.schemas; definitions = read.definitions }
 
+-- what can be carried out can be in each reading of the words
+carried_once : (words : List (List ℕ)) (texts : Texts) (a b : Action) (schema other : Schema) (ds fs : List DefinitionTree) (typing more : Typing) → IsAccepted words texts a schema ds typing → IsAccepted words texts b other fs more → is_carried a schema ds typing ≡ true → is_carried b other fs more ≡ true
+carried_once words texts a b schema other ds fs typing more x y is =
+    let same = one_acceptance words texts a b schema other ds fs typing more x y in
+    let typings : typing ≡ more = x.3.leaves_are ∙ (λ i. typing_with (leaves (same.schemas i) (same.definitions i))) ∙ sym y.3.leaves_are in
+    (λ i. is_carried (sym same.actions i) (sym same.schemas i) (sym same.definitions i) (sym typings i)) ∙ is
+
 -- what is played isn't checked
 pub not_both_asked : trying ≡ checking → ⊥
 not_both_asked e = cc
@@ -201,9 +226,7 @@ pub runnable_not_refused : (words : List (List ℕ)) (texts : Texts) (schema : S
 runnable_not_refused words texts schema why x r = by_reason why r (not_refused words texts trying schema x.0 x.1 why x.2 r)
   where
     by_reason : (why : Ending) → IsRefused words texts why → OnlyUnbuilt why → ⊥
-    by_reason ending.NotBuilt r only =
-        let same = one_acceptance words texts trying trying schema r.0 x.0 r.1 x.1 r.2 x.2 r.3 in
-        not_both (is_built r.0 r.1) (subst (λ (k : Schema). is_built k r.1 ≡ true) same.schemas (subst (λ fs. is_built schema fs ≡ true) same.definitions x.3)) r.4
+    by_reason ending.NotBuilt r only = not_both (is_carried r.0 r.1 r.2 r.3) (carried_once words texts trying r.0 schema r.1 x.0 r.2 x.1 r.3 x.2 r.4 x.3) r.5
     by_reason ending.Words r only = only
     by_reason (ending.Missing name) r only = only
     by_reason (ending.TooLong name) r only = only
@@ -212,6 +235,9 @@ runnable_not_refused words texts schema why x r = by_reason why r (not_refused w
     by_reason (ending.Type line reason) r only = only
     by_reason ending.TextsTooLong r only = only
     by_reason (ending.Accepted summary) r only = only
+    by_reason ending.Full r only = only
+    by_reason (ending.Device wrong) r only = only
+    by_reason (ending.Made blocks pages) r only = only
     by_reason ending.NoMemory r only = only
     by_reason ending.Fault r only = only
     by_reason (ending.Line number reason) r only = only
@@ -220,7 +246,7 @@ pub checkable_not_refused : (words : List (List ℕ)) (before : Content) (why : 
 checkable_not_refused words before why x r = by_reason why r (not_refused words before.aside.texts checking x.0 x.1 x.2 why x.3 r)
   where
     by_reason : (why : Ending) → IsRefused words before.aside.texts why → OnlyUnbuilt why → ⊥
-    by_reason ending.NotBuilt r only = not_both_asked (sym (one_acceptance words before.aside.texts checking trying x.0 r.0 x.1 r.1 x.2 r.2 x.3 r.3).actions)
+    by_reason ending.NotBuilt r only = not_both (is_carried r.0 r.1 r.2 r.3) (carried_once words before.aside.texts checking r.0 x.0 r.1 x.1 r.2 x.2 r.3 x.3 r.4 refl) r.5
     by_reason ending.Words r only = only
     by_reason (ending.Missing name) r only = only
     by_reason (ending.TooLong name) r only = only
@@ -229,59 +255,66 @@ checkable_not_refused words before why x r = by_reason why r (not_refused words 
     by_reason (ending.Type line reason) r only = only
     by_reason ending.TextsTooLong r only = only
     by_reason (ending.Accepted summary) r only = only
+    by_reason ending.Full r only = only
+    by_reason (ending.Device wrong) r only = only
+    by_reason (ending.Made blocks pages) r only = only
     by_reason ending.NoMemory r only = only
     by_reason ending.Fault r only = only
     by_reason (ending.Line number reason) r only = only
 
 -- ---- where the play of the script ends good
 
-pub not_stopped : (schema : Schema) (old new : Content) (s : Status) → ((answers : List ℕ) × (final : Playing) × IsPlay schema old.script answers final good) → (s ≡ status.Script → Says (IsStoppedText schema old.script) old new) → s ≢ status.Script
-not_stopped schema old new s play stops e =
+pub not_stopped : (schema : Schema) (start : State) (old new : Content) (s : Status) → ((answers : List ℕ) × (final : Playing) × IsPlay schema start old.script answers final good) → (s ≡ status.Script → Says (IsStoppedText schema start old.script) old new) → s ≢ status.Script
+not_stopped schema start old new s play stops e =
     let text = stops e in
-    let once = play_once schema (start_at (empty_state schema)) (script_lines old.script) play.0 text.1.2.answers play.1 text.1.2.final good (stopped text.1.0 text.1.1) play.2 text.1.2.play in
+    let once = play_once schema (start_at start) (script_lines old.script) play.0 text.1.2.answers play.1 text.1.2.final good (stopped text.1.0 text.1.1) play.2 text.1.2.play in
     never text.1.0 text.1.1 once.2
   where
     never : (number : ℕ) (why : LineWhy) → ◌≡◌ {A = End} good (stopped number why) → ⊥
     never number why f = cc
 
-done_or_memory : (s : Status) → s ≢ status.Refused → s ≢ status.Script → s ≢ status.Outside → (s ≡ status.Done) ⊎ (s ≡ status.Memory)
+done_or_memory : (s : Status) → IsTryStatus s → s ≢ status.Script → s ≢ status.Outside → (s ≡ status.Done) ⊎ (s ≡ status.Memory)
 done_or_memory status.Done r l o = inl refl
 done_or_memory status.Memory r l o = inr refl
-done_or_memory status.Refused r l o = absurd (r refl)
+done_or_memory status.Refused r l o = absurd r
+done_or_memory status.Full r l o = absurd r
+done_or_memory status.Device r l o = absurd r
 done_or_memory status.Script r l o = absurd (l refl)
 done_or_memory status.Outside r l o = absurd (o refl)
 
 -- the schema can be played on: it is that of the request
-pub played_complete : (words : List (List ℕ)) (schema : Schema) (old mid new : Content) (s : Status) → IsRunnable words old.aside.texts schema → mid.script ≡ old.script → IsPlayable words old → s ≢ status.Refused → (s ≡ status.Script → Says (IsStoppedText schema mid.script) mid new) → s ≢ status.Outside → (s ≡ status.Done) ⊎ (s ≡ status.Memory)
+pub played_complete : (words : List (List ℕ)) (schema : Schema) (old mid new : Content) (s : Status) → IsRunnable words old.aside.texts schema → mid.script ≡ old.script → IsPlayable words old → IsTryStatus s → (s ≡ status.Script → Says (IsStoppedText schema (empty_state schema) mid.script) mid new) → s ≢ status.Outside → (s ≡ status.Done) ⊎ (s ≡ status.Memory)
 played_complete words schema old mid new s accepted script playable refused stops outside =
     let same = runnable_once words old.aside.texts playable.0 schema playable.1 accepted in
-    let play : (answers : List ℕ) × (final : Playing) × IsPlay schema mid.script answers final good = (playable.2.0, playable.2.1, subst (λ (t : List ℕ). IsPlay schema t playable.2.0 playable.2.1 good) (sym script) (subst (λ (k : Schema). IsPlay k old.script playable.2.0 playable.2.1 good) same playable.2.2)) in
-    done_or_memory s refused (not_stopped schema mid new s play stops) outside
+    let play : (answers : List ℕ) × (final : Playing) × IsPlay schema (empty_state schema) mid.script answers final good = (playable.2.0, playable.2.1, subst (λ (t : List ℕ). IsPlay schema (empty_state schema) t playable.2.0 playable.2.1 good) (sym script) (subst (λ (k : Schema). IsPlay k (empty_state k) old.script playable.2.0 playable.2.1 good) same playable.2.2)) in
+    done_or_memory s refused (not_stopped schema (empty_state schema) mid new s play stops) outside
 
 -- ---- where it ends at a line
 
-pub not_done : (schema : Schema) (old new : Content) (s : Status) → ((number : ℕ) × (why : LineWhy) × (answers : List ℕ) × (final : Playing) × IsPlay schema old.script answers final (stopped number why)) → (s ≡ status.Done → Says (IsPlayText schema old.script good) old new) → s ≢ status.Done
-not_done schema old new s play dones e =
+pub not_done : (schema : Schema) (start : State) (old new : Content) (s : Status) → ((number : ℕ) × (why : LineWhy) × (answers : List ℕ) × (final : Playing) × IsPlay schema start old.script answers final (stopped number why)) → (s ≡ status.Done → Says (IsPlayText schema start old.script good) old new) → s ≢ status.Done
+not_done schema start old new s play dones e =
     let text = dones e in
-    let once = play_once schema (start_at (empty_state schema)) (script_lines old.script) text.1.answers play.2 text.1.final play.3 good (stopped play.0 play.1) text.1.play play.4 in
+    let once = play_once schema (start_at start) (script_lines old.script) text.1.answers play.2 text.1.final play.3 good (stopped play.0 play.1) text.1.play play.4 in
     never play.0 play.1 once.2
   where
     never : (number : ℕ) (why : LineWhy) → ◌≡◌ {A = End} good (stopped number why) → ⊥
     never number why f = cc
 
-script_or_memory : (s : Status) → s ≢ status.Refused → s ≢ status.Done → s ≢ status.Outside → (s ≡ status.Script) ⊎ (s ≡ status.Memory)
+script_or_memory : (s : Status) → IsTryStatus s → s ≢ status.Done → s ≢ status.Outside → (s ≡ status.Script) ⊎ (s ≡ status.Memory)
 script_or_memory status.Script r d o = inl refl
 script_or_memory status.Memory r d o = inr refl
-script_or_memory status.Refused r d o = absurd (r refl)
+script_or_memory status.Refused r d o = absurd r
+script_or_memory status.Full r d o = absurd r
+script_or_memory status.Device r d o = absurd r
 script_or_memory status.Done r d o = absurd (d refl)
 script_or_memory status.Outside r d o = absurd (o refl)
 
-pub stopped_complete : (words : List (List ℕ)) (schema : Schema) (old mid new : Content) (s : Status) → IsRunnable words old.aside.texts schema → mid.script ≡ old.script → IsStoppable words old → s ≢ status.Refused → (s ≡ status.Done → Says (IsPlayText schema mid.script good) mid new) → s ≢ status.Outside → (s ≡ status.Script) ⊎ (s ≡ status.Memory)
+pub stopped_complete : (words : List (List ℕ)) (schema : Schema) (old mid new : Content) (s : Status) → IsRunnable words old.aside.texts schema → mid.script ≡ old.script → IsStoppable words old → IsTryStatus s → (s ≡ status.Done → Says (IsPlayText schema (empty_state schema) mid.script good) mid new) → s ≢ status.Outside → (s ≡ status.Script) ⊎ (s ≡ status.Memory)
 stopped_complete words schema old mid new s accepted script stoppable refused dones outside =
     let same = runnable_once words old.aside.texts stoppable.0 schema stoppable.1 accepted in
     let end : End = stopped stoppable.2.0 stoppable.2.1 in
-    let play : IsPlay schema mid.script stoppable.2.2 stoppable.2.3 end = subst (λ (t : List ℕ). IsPlay schema t stoppable.2.2 stoppable.2.3 end) (sym script) (subst (λ (k : Schema). IsPlay k old.script stoppable.2.2 stoppable.2.3 end) same stoppable.2.4) in
-    script_or_memory s refused (not_done schema mid new s (stoppable.2.0, stoppable.2.1, stoppable.2.2, stoppable.2.3, play) dones) outside
+    let play : IsPlay schema (empty_state schema) mid.script stoppable.2.2 stoppable.2.3 end = subst (λ (t : List ℕ). IsPlay schema (empty_state schema) t stoppable.2.2 stoppable.2.3 end) (sym script) (subst (λ (k : Schema). IsPlay k (empty_state k) old.script stoppable.2.2 stoppable.2.3 end) same stoppable.2.4) in
+    script_or_memory s refused (not_done schema (empty_state schema) mid new s (stoppable.2.0, stoppable.2.1, stoppable.2.2, stoppable.2.3, play) dones) outside
 
 -- ---- where the request isn't refused, and can't be carried out
 
@@ -295,6 +328,8 @@ unprepared_memory words texts before now why s (inr out) never is fault outside 
     by_ending ending.NoMemory status.Done out is fault outside = is (λ e. cc) (λ e. cc)
     by_ending ending.NoMemory status.Refused out is fault outside = is (λ e. cc) (λ e. cc)
     by_ending ending.NoMemory status.Script out is fault outside = is (λ e. cc) (λ e. cc)
+    by_ending ending.NoMemory status.Full out is fault outside = is (λ e. cc) (λ e. cc)
+    by_ending ending.NoMemory status.Device out is fault outside = is (λ e. cc) (λ e. cc)
     by_ending ending.NoMemory status.Outside out is fault outside = absurd (outside refl)
     by_ending ending.Words s out is fault outside = absurd out
     by_ending (ending.Missing name) s out is fault outside = absurd out
@@ -304,6 +339,9 @@ unprepared_memory words texts before now why s (inr out) never is fault outside 
     by_ending (ending.Equation line why) s out is fault outside = absurd out
     by_ending (ending.Type line why) s out is fault outside = absurd out
     by_ending (ending.Accepted summary) s out is fault outside = absurd out
+    by_ending ending.Full s out is fault outside = absurd out
+    by_ending (ending.Device wrong) s out is fault outside = absurd out
+    by_ending (ending.Made blocks pages) s out is fault outside = absurd out
     by_ending ending.TextsTooLong s out is fault outside = absurd out
     by_ending (ending.Line number why) s out is fault outside = absurd out
 
@@ -318,6 +356,8 @@ said_complete status.Memory is outside = inr refl
 said_complete status.Outside is outside = absurd (outside refl)
 said_complete status.Refused is outside = inl (is outside (λ e. cc))
 said_complete status.Script is outside = inl (is outside (λ e. cc))
+said_complete status.Full is outside = inl (is outside (λ e. cc))
+said_complete status.Device is outside = inl (is outside (λ e. cc))
 
 -- a script isn't heard where it isn't to be played
 pub checked_no_try : (words : List (List ℕ)) (texts : Texts) (summary : Summary) → IsSummary words texts summary → IsTry words → ⊥
@@ -335,6 +375,9 @@ refused_status words texts (ending.Type line why) r = refl
 refused_status words texts ending.TextsTooLong r = refl
 refused_status words texts ending.NotBuilt r = refl
 refused_status words texts (ending.Accepted summary) r = absurd r.4
+refused_status words texts ending.Full r = absurd r.4
+refused_status words texts (ending.Device wrong) r = absurd r.4
+refused_status words texts (ending.Made blocks pages) r = absurd r.4
 refused_status words texts ending.NoMemory r = absurd r.4
 refused_status words texts ending.Fault r = absurd r.4
 refused_status words texts (ending.Line number why) r = absurd r.4
@@ -345,6 +388,8 @@ refused_or_memory status.Memory is outside = inr refl
 refused_or_memory status.Outside is outside = absurd (outside refl)
 refused_or_memory status.Done is outside = inl (is outside (λ e. cc))
 refused_or_memory status.Script is outside = inl (is outside (λ e. cc))
+refused_or_memory status.Full is outside = inl (is outside (λ e. cc))
+refused_or_memory status.Device is outside = inl (is outside (λ e. cc))
 
 -- nothing is to be done: the request is refused, or there was no memory
 pub unprepared_refuses : (words : List (List ℕ)) (texts : Texts) (before now : ℕ) (why : Ending) (s : Status) → IsUnprepared words texts before now why → (s ≢ status.Outside → s ≢ status.Memory → s ≡ status_of why) → (why ≡ ending.Fault → s ≡ status.Outside) → s ≢ status.Outside → (s ≡ status.Refused) ⊎ (s ≡ status.Memory)
@@ -355,6 +400,8 @@ unprepared_refuses words texts before now ending.NoMemory status.Refused (inr ou
 unprepared_refuses words texts before now ending.NoMemory status.Outside (inr out) is fault outside = absurd (outside refl)
 unprepared_refuses words texts before now ending.NoMemory status.Done (inr out) is fault outside = inr (is (λ e. cc) (λ e. cc))
 unprepared_refuses words texts before now ending.NoMemory status.Script (inr out) is fault outside = inr (is (λ e. cc) (λ e. cc))
+unprepared_refuses words texts before now ending.NoMemory status.Full (inr out) is fault outside = inr (is (λ e. cc) (λ e. cc))
+unprepared_refuses words texts before now ending.NoMemory status.Device (inr out) is fault outside = inr (is (λ e. cc) (λ e. cc))
 unprepared_refuses words texts before now ending.Words s (inr out) is fault outside = absurd out
 unprepared_refuses words texts before now (ending.Missing name) s (inr out) is fault outside = absurd out
 unprepared_refuses words texts before now (ending.TooLong name) s (inr out) is fault outside = absurd out
@@ -364,4 +411,7 @@ unprepared_refuses words texts before now (ending.Type line why) s (inr out) is 
 unprepared_refuses words texts before now ending.TextsTooLong s (inr out) is fault outside = absurd out
 unprepared_refuses words texts before now ending.NotBuilt s (inr out) is fault outside = absurd out
 unprepared_refuses words texts before now (ending.Accepted summary) s (inr out) is fault outside = absurd out
+unprepared_refuses words texts before now ending.Full s (inr out) is fault outside = absurd out
+unprepared_refuses words texts before now (ending.Device wrong) s (inr out) is fault outside = absurd out
+unprepared_refuses words texts before now (ending.Made blocks pages) s (inr out) is fault outside = absurd out
 unprepared_refuses words texts before now (ending.Line number why) s (inr out) is fault outside = absurd out

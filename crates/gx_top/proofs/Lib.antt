@@ -4,6 +4,7 @@ mod LineLemmas
 mod RequestLemmas
 mod PlayLemmas
 mod TryLemmas
+mod HoldingLemmas
 mod CompleteLemmas
 mod OnceLemmas
 mod EndLemmas

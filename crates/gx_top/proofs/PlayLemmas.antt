@@ -13,17 +13,20 @@ use Rattle.gx_script.specs.Commands.{place_reason}
 use Rattle.gx_script.specs.Lines.{Lines, Parts, with_line, no_lines, with_byte, parts_of, without_cr, last_line, up_to_limit, lines_within, longest_line, longest_script, script_lines, stopped as stopped_lines}
 use Rattle.gx_script.specs.Grammar.{IsLineOf}
 use Rattle.gx_ports.specs.LeafMaps.{Limits, IsCrowdedBy}
+use Rattle.gx_ports.specs.Calls.{Keeps}
 use Rattle.gx_ports.specs.declared.view.View.{Ghosts}
+use Rattle.gx_types.specs.declared.built.Built.{Built}
 use Rattle.gx_ports.specs.declared.stop.Stop.{Stop}
 use Rattle.gx_model.specs.Play.{Playing, End, stopped, end_at, is_inside, next_of, IsAnswered}
 use Rattle.gx_model.specs.Runs.{Step, Runs, IsBadLine, IsEnd, AreFirstLines}
 use Rattle.gx_model.proofs.RunLemmas.{run_on}
 use Rattle.gx_engine.specs.declared.engine.Engine.{Engine}
-use Rattle.gx_engine.specs.Steps.{schema_of, leaves_of, is_open, IsDue, IsAt}
+use Rattle.gx_engine.specs.Internal.{AreInternal}
+use Rattle.gx_engine.specs.Steps.{schema_of, built_of, leaves_of, is_open, IsDue, IsAt}
 use Rattle.gx_ports.specs.declared.stop.Stop.TheVariants as stop
 use Rattle.gx_top.specs.declared.play.PlayEnd.{PlayEnd}
 use Rattle.gx_top.specs.declared.play.PlayEnd.TheVariants as play_end
-use Rattle.gx_top.specs.Plays.{IsLinePlayed, IsLineCut, IsCommandCut, HasPlayCause, IsBadAt, IsPlayedUp, IsPlayedPart, IsPlayedTo, IsLineEnd, IsSoFar}
+use Rattle.gx_top.specs.Plays.{IsLinePlayed, IsLineCut, IsCommandCut, HasPlayCause, IsBadAt, IsPlayedUp, IsPlayedPart, IsPlayedTo, IsLineEnd, IsSoFar, IsShortLine, IsShortAt, IsGivenUp, HasKept, is_play_fault}
 
 -- no line was played yet
 pub at_start : {S : Type 0} (g : Ghosts S) (start : Playing) (all : Lines) (e : Engine S) → IsAt g start e → IsSoFar g start all all 0 e e
@@ -66,13 +69,14 @@ after_line g start all before left number line old e new schema_is before_is tol
       (subst (λ s. IsAnswered s so.now played.command played.played.answer) schema_is played.played.answered);
 }
 
--- the play ends, and nothing more was said
-ended : {S : Type 0} (g : Ghosts S) (start : Playing) (all left : Lines) (number : ℕ) (next : Result (Option (List ℕ)) LineWhy) (old e : Engine S) (now : Content) (end : End) → (so : IsSoFar g start all left number old e) → now.now.said ≡ (g.content (leaves_of e)).now.said → AreFirstLines all so.ran next → IsEnd (schema_of old) so.now number next end → IsPlayedUp (schema_of old) start all (g.content (leaves_of old)) now end
-ended g start all left number next old e now end so unsaid first ends = record {
+-- the play ends there
+ended : {S : Type 0} (g : Ghosts S) (start : Playing) (all left : Lines) (number : ℕ) (next : Result (Option (List ℕ)) LineWhy) (old e : Engine S) (end : End) → (so : IsSoFar g start all left number old e) → AreFirstLines all so.ran next → IsEnd (schema_of old) so.now number next end → IsPlayedUp g start all old e end
+ended g start all left number next old e end so first ends = record {
   text = so.answers;
   final = so.now;
   played = record { ran = so.ran; next = next; first = first; runs = so.runs; ends = subst (λ n. IsEnd (schema_of old) so.now n next end) (sym so.many) ends };
-  said = unsaid ∙ so.said;
+  said = so.said;
+  at = so.at;
 }
 
 -- no more lines are left
@@ -83,29 +87,46 @@ all_ran g start all left number stop old e left_is so = (
 )
 
 -- at its end, where no transaction is open or one is
-pub at_end : {S : Type 0} (g : Ghosts S) (start : Playing) (all left : Lines) (number : ℕ) (old e : Engine S) (at : Bool) → IsSoFar g start all left number old e → left ≡ no_lines → is_open e ≡ at → IsPlayedUp (schema_of old) start all (g.content (leaves_of old)) (g.content (leaves_of e)) (end_at number at)
+pub at_end : {S : Type 0} (g : Ghosts S) (start : Playing) (all left : Lines) (number : ℕ) (old e : Engine S) (at : Bool) → IsSoFar g start all left number old e → left ≡ no_lines → is_open e ≡ at → IsPlayedUp g start all old e (end_at number at)
 at_end g start all left number old e at so left_is open_is =
-    ended g start all left number (Ok None) old e (g.content (leaves_of e)) (end_at number at) so refl
+    ended g start all left number (Ok None) old e (end_at number at) so
     (all_ran g start all left number None old e left_is so) (ap (end_at number) (sym open_is ∙ so.at.stands.inside_same))
 
 -- where the line behind can't be had
-pub at_stop : {S : Type 0} (g : Ghosts S) (start : Playing) (all left : Lines) (number n : ℕ) (reason : LineWhy) (old e : Engine S) → IsSoFar g start all left number old e → n ≡ number + 1 → left ≡ stopped_lines reason → IsPlayedUp (schema_of old) start all (g.content (leaves_of old)) (g.content (leaves_of e)) (stopped n reason)
+pub at_stop : {S : Type 0} (g : Ghosts S) (start : Playing) (all left : Lines) (number n : ℕ) (reason : LineWhy) (old e : Engine S) → IsSoFar g start all left number old e → n ≡ number + 1 → left ≡ stopped_lines reason → IsPlayedUp g start all old e (stopped n reason)
 at_stop g start all left number n reason old e so n_is left_is =
-    ended g start all left number (Err reason) old e (g.content (leaves_of e)) (stopped n reason) so refl
+    ended g start all left number (Err reason) old e (stopped n reason) so
     (all_ran g start all left number (Some reason) old e left_is so) (ap (λ k. stopped k reason) n_is)
 
 -- at a line that means no command, or one that may not stand there
-at_bad_line : {S : Type 0} (g : Ghosts S) (start : Playing) (all before left : Lines) (number : ℕ) (line : List ℕ) (reason : LineWhy) (old e : Engine S) (now : Content) → schema_of e ≡ schema_of old → before ≡ with_line line left → IsSoFar g start all before number old e → now.now.said ≡ (g.content (leaves_of e)).now.said → IsBadLine (schema_of e) (is_open e) line reason → IsPlayedUp (schema_of old) start all (g.content (leaves_of old)) now (stopped (number + 1) reason)
-at_bad_line g start all before left number line reason old e now schema_is before_is so unsaid bad =
-    ended g start all before number (Ok (Some line)) old e now (stopped (number + 1) reason) so unsaid
+at_bad_line : {S : Type 0} (g : Ghosts S) (start : Playing) (all before left : Lines) (number : ℕ) (line : List ℕ) (reason : LineWhy) (old e : Engine S) → schema_of e ≡ schema_of old → before ≡ with_line line left → IsSoFar g start all before number old e → IsBadLine (schema_of e) (is_open e) line reason → IsPlayedUp g start all old e (stopped (number + 1) reason)
+at_bad_line g start all before left number line reason old e schema_is before_is so bad =
+    ended g start all before number (Ok (Some line)) old e (stopped (number + 1) reason) so
     (left.lines, so.lines_are ∙ ap (λ (ls : Lines). so.ran ++ ls.lines) before_is)
     (reason, subst (λ s. IsBadLine s (is_inside so.now) line reason) schema_is (subst (λ i. IsBadLine (schema_of e) i line reason) so.at.stands.inside_same bad), refl)
 
 -- ---- a line that is given up
 
+-- what was last committed stays the last kept state
+kept_after : {S : Type 0} (g : Ghosts S) (p : Playing) (old e new : Engine S) → schema_of e ≡ schema_of old → built_of e ≡ built_of old → IsAt g p e → Keeps g (leaves_of e) (leaves_of new) → HasKept g (schema_of old) (built_of old) p (leaves_of new)
+kept_after g p old e new schema_is built_is at keeps = record {
+  is = subst (λ (b : Built). AreInternal (schema_of old) b.files (g.kept (leaves_of new)) p.kept) built_is
+      (subst (λ (s : Schema). AreInternal s (built_of e).files (g.kept (leaves_of new)) p.kept) schema_is
+      (subst (λ maps. AreInternal (schema_of e) (built_of e).files maps p.kept) (sym keeps.kept) at.stands.kept_is));
+  whole_is = keeps.kept_whole.0 at.kept_whole_is;
+}
+
+-- the pages may be too few for the line
+short_at : {S : Type 0} (g : Ghosts S) (p : Playing) (before left : Lines) (line : List ℕ) (old e : Engine S) → schema_of e ≡ schema_of old → built_of e ≡ built_of old → g.limit (leaves_of e) ≡ g.limit (leaves_of old) → before ≡ with_line line left → IsAt g p e → IsShortLine g e p line → IsShortAt (schema_of old) (built_of old) (g.limit (leaves_of old)) p before.lines
+short_at g p before left line old e schema_is built_is limit_is before_is at (command, means, placed, short) =
+    subst (λ (b : Built). IsShortAt (schema_of old) b (g.limit (leaves_of old)) p before.lines) built_is
+    (subst (λ (s : Schema). IsShortAt s (built_of e) (g.limit (leaves_of old)) p before.lines) schema_is
+    (subst (λ l. IsShortAt (schema_of e) (built_of e) l p before.lines) limit_is
+    (record { line = line; later = left.lines; lines_are = ap (λ (ls : Lines). ls.lines) before_is; command = command; means = means; placed = placed; maps = g.working (leaves_of e); before = at.stands.working_is; short = short })))
+
 -- the answers of the lines before it
-part_before : {S : Type 0} (g : Ghosts S) (start : Playing) (all before : Lines) (number : ℕ) (old e : Engine S) (now : Content) (why : Stop) → IsSoFar g start all before number old e → now.now.said ≡ (g.content (leaves_of e)).now.said → IsPlayedPart (schema_of old) start all (g.content (leaves_of old)) now why
-part_before g start all before number old e now why so unsaid = record {
+part_before : {S : Type 0} (g : Ghosts S) (start : Playing) (all before : Lines) (number : ℕ) (old e new : Engine S) (why : Stop) → (so : IsSoFar g start all before number old e) → (g.content (leaves_of new)).now.said ≡ (g.content (leaves_of e)).now.said → (why ≢ stop.Fault → HasKept g (schema_of old) (built_of old) so.now (leaves_of new)) → (why ≡ stop.Full → IsShortAt (schema_of old) (built_of old) (g.limit (leaves_of old)) so.now before.lines) → IsPlayedPart g start all old new why
+part_before g start all before number old e new why so unsaid kept short = record {
   ran = so.ran;
   later = before.lines;
   parts = so.lines_are;
@@ -114,11 +135,19 @@ part_before g start all before number old e now why so unsaid = record {
   runs = so.runs;
   front = (length so.answers, unsaid ∙ so.said ∙ ap (λ t. (g.content (leaves_of old)).now.said ++ t) (sym (take_all (length so.answers) so.answers (omega arith))));
   whole = λ _. unsaid ∙ so.said;
+  kept = kept;
+  short = short;
 }
 
+fault_not_full : {A : Type 0} → stop.Fault ≡ stop.Full → A
+fault_not_full e = absurd (never e)
+  where
+    never : stop.Fault ≡ stop.Full → ⊥
+    never f = cc
+
 -- the same, and a front of its own
-part_within : {S : Type 0} (g : Ghosts S) (start : Playing) (all before left : Lines) (number : ℕ) (line : List ℕ) (command : Command) (answer : List ℕ) (n : ℕ) (old e : Engine S) (now : Content) → before ≡ with_line line left → (so : IsSoFar g start all before number old e) → IsLineOf (schema_of old) line command → place_reason (is_inside so.now) command ≡ None → IsAnswered (schema_of old) so.now command answer → now.now.said ≡ (g.content (leaves_of e)).now.said ++ take n answer → IsPlayedPart (schema_of old) start all (g.content (leaves_of old)) now stop.Fault
-part_within g start all before left number line command answer n old e now before_is so means placed answered said = record {
+part_within : {S : Type 0} (g : Ghosts S) (start : Playing) (all before left : Lines) (number : ℕ) (line : List ℕ) (command : Command) (answer : List ℕ) (n : ℕ) (old e new : Engine S) → before ≡ with_line line left → (so : IsSoFar g start all before number old e) → IsLineOf (schema_of old) line command → place_reason (is_inside so.now) command ≡ None → IsAnswered (schema_of old) so.now command answer → (g.content (leaves_of new)).now.said ≡ (g.content (leaves_of e)).now.said ++ take n answer → IsPlayedPart g start all old new stop.Fault
+part_within g start all before left number line command answer n old e new before_is so means placed answered said = record {
   ran = so.ran ++ line ∷ [];
   later = left.lines;
   parts = parts_more all before left so.ran line so.lines_are before_is;
@@ -131,23 +160,32 @@ part_within g start all before left number line command answer n old e now befor
         ∙ ap (λ t. (g.content (leaves_of old)).now.said ++ t) (sym (take-append-add so.answers answer n)),
   );
   whole = λ other. absurd (other refl);
+  kept = λ other. absurd (other refl);
+  short = fault_not_full;
 }
 
 -- after a fault a front of its answer may have been said
-pub at_fault : {S : Type 0} (g : Ghosts S) (start : Playing) (all before left : Lines) (number : ℕ) (line : List ℕ) (old e : Engine S) (now : Content) → schema_of e ≡ schema_of old → before ≡ with_line line left → (so : IsSoFar g start all before number old e) → IsLineCut (schema_of e) so.now line (g.content (leaves_of e)) now → IsPlayedPart (schema_of old) start all (g.content (leaves_of old)) now stop.Fault
-at_fault g start all before left number line old e now schema_is before_is so (inl unsaid) = part_before g start all before number old e now stop.Fault so unsaid
-at_fault g start all before left number line old e now schema_is before_is so (inr (command, means, placed, inl unsaid)) = part_before g start all before number old e now stop.Fault so unsaid
-at_fault g start all before left number line old e now schema_is before_is so (inr (command, means, placed, inr (answer, answered, (n, said)))) =
-    part_within g start all before left number line command answer n old e now before_is so
+pub at_fault : {S : Type 0} (g : Ghosts S) (start : Playing) (all before left : Lines) (number : ℕ) (line : List ℕ) (old e new : Engine S) → schema_of e ≡ schema_of old → before ≡ with_line line left → (so : IsSoFar g start all before number old e) → IsLineCut (schema_of e) so.now line (g.content (leaves_of e)) (g.content (leaves_of new)) → IsPlayedPart g start all old new stop.Fault
+at_fault g start all before left number line old e new schema_is before_is so (inl unsaid) = part_before g start all before number old e new stop.Fault so unsaid (λ other. absurd (other refl)) fault_not_full
+at_fault g start all before left number line old e new schema_is before_is so (inr (command, means, placed, inl unsaid)) = part_before g start all before number old e new stop.Fault so unsaid (λ other. absurd (other refl)) fault_not_full
+at_fault g start all before left number line old e new schema_is before_is so (inr (command, means, placed, inr (answer, answered, (n, said)))) =
+    part_within g start all before left number line command answer n old e new before_is so
     (subst (λ s. IsLineOf s line command) schema_is means) placed
     (subst (λ s. IsAnswered s so.now command answer) schema_is answered) said
 
+-- after another stop nothing of it was
+at_other : {S : Type 0} (g : Ghosts S) (start : Playing) (all before left : Lines) (number : ℕ) (line : List ℕ) (why : Stop) (old e new : Engine S) → schema_of e ≡ schema_of old → built_of e ≡ built_of old → g.limit (leaves_of e) ≡ g.limit (leaves_of old) → before ≡ with_line line left → (so : IsSoFar g start all before number old e) → why ≢ stop.Fault → IsGivenUp g so.now line e new why → IsPlayedPart g start all old new why
+at_other g start all before left number line why old e new schema_is built_is limit_is before_is so other up =
+    part_before g start all before number old e new why so (up.unsaid other)
+    (λ _. kept_after g so.now old e new schema_is built_is so.at (up.kept other))
+    (λ full. short_at g so.now before left line old e schema_is built_is limit_is before_is so.at (up.short full))
+
 -- the same of every stop
-at_cut : {S : Type 0} (g : Ghosts S) (start : Playing) (all before left : Lines) (number : ℕ) (line : List ℕ) (why : Stop) (old e : Engine S) (now : Content) → schema_of e ≡ schema_of old → before ≡ with_line line left → (so : IsSoFar g start all before number old e) → (why ≢ stop.Fault → now.now.said ≡ (g.content (leaves_of e)).now.said) → IsLineCut (schema_of e) so.now line (g.content (leaves_of e)) now → IsPlayedPart (schema_of old) start all (g.content (leaves_of old)) now why
-at_cut g start all before left number line stop.Fault old e now schema_is before_is so unsaid cut = at_fault g start all before left number line old e now schema_is before_is so cut
-at_cut g start all before left number line stop.Full old e now schema_is before_is so unsaid cut = part_before g start all before number old e now stop.Full so (unsaid (λ f. cc))
-at_cut g start all before left number line stop.NoMemory old e now schema_is before_is so unsaid cut = part_before g start all before number old e now stop.NoMemory so (unsaid (λ f. cc))
-at_cut g start all before left number line (stop.Damaged block) old e now schema_is before_is so unsaid cut = part_before g start all before number old e now (stop.Damaged block) so (unsaid (λ f. cc))
+pub at_cut : {S : Type 0} (g : Ghosts S) (start : Playing) (all before left : Lines) (number : ℕ) (line : List ℕ) (why : Stop) (old e new : Engine S) → schema_of e ≡ schema_of old → built_of e ≡ built_of old → g.limit (leaves_of e) ≡ g.limit (leaves_of old) → before ≡ with_line line left → (so : IsSoFar g start all before number old e) → IsGivenUp g so.now line e new why → IsPlayedPart g start all old new why
+at_cut g start all before left number line stop.Fault old e new schema_is built_is limit_is before_is so up = at_fault g start all before left number line old e new schema_is before_is so up.cut
+at_cut g start all before left number line stop.Full old e new schema_is built_is limit_is before_is so up = at_other g start all before left number line stop.Full old e new schema_is built_is limit_is before_is so (λ f. cc) up
+at_cut g start all before left number line stop.NoMemory old e new schema_is built_is limit_is before_is so up = at_other g start all before left number line stop.NoMemory old e new schema_is built_is limit_is before_is so (λ f. cc) up
+at_cut g start all before left number line (stop.Damaged block) old e new schema_is built_is limit_is before_is so up = at_other g start all before left number line (stop.Damaged block) old e new schema_is built_is limit_is before_is so (λ f. cc) up
 
 -- the cut of the command that the line means
 pub line_cut : {S : Type 0} (e : Engine S) (p : Playing) (line : List ℕ) (command : Command) (old new : Content) (out : Result (Unit {0}) PlayEnd) → is_open e ≡ is_inside p → IsLineOf (schema_of e) line command → IsDue e command → IsCommandCut (schema_of e) p command old new → OnErr out (IsLineCut (schema_of e) p line old new)
@@ -164,26 +202,34 @@ cause_since limit start before mid now stop.Full limit_is le cause = (cause.0, s
 cause_since limit start before mid now stop.NoMemory limit_is le cause = tt
 cause_since limit start before mid now (stop.Damaged block) limit_is le cause = absurd cause
 
-stop_other : (s : Stop) → s ≢ stop.Fault → play_end.Stop s ≢ play_end.Stop stop.Fault
-stop_other s other e = other (ap given e)
+-- an end that isn't that of a failed call
+pub stop_other : (end : PlayEnd) (s : Stop) → end ≡ play_end.Stop s → s ≢ stop.Fault → end ≢ play_end.Stop stop.Fault
+stop_other end s is other e = other (ap given (sym is ∙ e))
   where
     given : PlayEnd → Stop
     given (play_end.Stop t) = t
     given (play_end.Line number reason) = s
 
-line_other : (number : ℕ) (reason : LineWhy) → play_end.Line number reason ≢ play_end.Stop stop.Fault
-line_other number reason e = cc
+pub no_play_fault : (end : PlayEnd) (s : Stop) → end ≡ play_end.Stop s → s ≢ stop.Fault → is_play_fault (Err end) ≡ false
+no_play_fault end s is other = ap (λ e. is_play_fault (Err e)) is ∙ by_stop s other
+  where
+    by_stop : (s : Stop) → s ≢ stop.Fault → is_play_fault (Err (play_end.Stop s)) ≡ false
+    by_stop stop.Fault other = absurd (other refl)
+    by_stop stop.Full other = refl
+    by_stop stop.NoMemory other = refl
+    by_stop (stop.Damaged block) other = refl
 
 -- how the play ends where a line isn't carried out
-pub at_line : {S : Type 0} (g : Ghosts S) (start : Playing) (all before left : Lines) (number : ℕ) (line : List ℕ) (end : PlayEnd) (result : Result (Unit {0}) PlayEnd) (old e : Engine S) (now : Content) → schema_of e ≡ schema_of old → before ≡ with_line line left → (so : IsSoFar g start all before number old e) → result ≡ Err end → ((n : ℕ) (reason : LineWhy) → end ≡ play_end.Line n reason → IsBadAt (schema_of e) (is_open e) (number + 1) line n reason) → (end ≢ play_end.Stop stop.Fault → now.now.said ≡ (g.content (leaves_of e)).now.said) → IsLineCut (schema_of e) so.now line (g.content (leaves_of e)) now → IsPlayedTo (schema_of old) start all (g.content (leaves_of old)) now result
-at_line g start all before left number line (play_end.Line n reason) result old e now schema_is before_is so result_is bad unsaid cut =
+pub at_line : {S : Type 0} (g : Ghosts S) (start : Playing) (all before left : Lines) (number : ℕ) (line : List ℕ) (end : PlayEnd) (result : Result (Unit {0}) PlayEnd) (old e new : Engine S) → schema_of e ≡ schema_of old → built_of e ≡ built_of old → g.limit (leaves_of e) ≡ g.limit (leaves_of old) → before ≡ with_line line left → (so : IsSoFar g start all before number old e) → result ≡ Err end → ((n : ℕ) (reason : LineWhy) → end ≡ play_end.Line n reason → IsBadAt (schema_of e) (is_open e) (number + 1) line n reason × (new ≡ e)) → ((why : Stop) → end ≡ play_end.Stop why → IsGivenUp g so.now line e new why) → IsPlayedTo g start all old new result
+at_line g start all before left number line (play_end.Line n reason) result old e new schema_is built_is limit_is before_is so result_is bad up =
     let at = bad n reason refl in
-    subst (λ r. IsPlayedTo (schema_of old) start all (g.content (leaves_of old)) now r) (sym result_is)
-    (subst (λ k. IsPlayedUp (schema_of old) start all (g.content (leaves_of old)) now (stopped k reason)) (sym at.0)
-    (at_bad_line g start all before left number line reason old e now schema_is before_is so (unsaid (line_other n reason)) at.1))
-at_line g start all before left number line (play_end.Stop s) result old e now schema_is before_is so result_is bad unsaid cut =
-    subst (λ r. IsPlayedTo (schema_of old) start all (g.content (leaves_of old)) now r) (sym result_is)
-    (at_cut g start all before left number line s old e now schema_is before_is so (λ other. unsaid (stop_other s other)) cut)
+    subst (λ r. IsPlayedTo g start all old new r) (sym result_is)
+    (subst (λ k. IsPlayedUp g start all old new (stopped k reason)) (sym at.0.0)
+    (subst (λ x. IsPlayedUp g start all old x (stopped (number + 1) reason)) (sym at.1)
+    (at_bad_line g start all before left number line reason old e schema_is before_is so at.0.1)))
+at_line g start all before left number line (play_end.Stop s) result old e new schema_is built_is limit_is before_is so result_is bad up =
+    subst (λ r. IsPlayedTo g start all old new r) (sym result_is)
+    (at_cut g start all before left number line s old e new schema_is built_is limit_is before_is so (up s refl))
 
 -- ---- how many lines there are
 
@@ -220,9 +266,9 @@ few_lines script = omega (arith, limit_few (parts_of (take 16777216 script)).end
     taken = subst (λ n. n ≤ 16777216) (sym (length-take 16777216 script)) (omega arith)
 
 -- the same for the end that is answered
-pub at_line_end : {S : Type 0} (g : Ghosts S) (start : Playing) (all left : Lines) (number : ℕ) (end : PlayEnd) (result : Result (Unit {0}) PlayEnd) (old e : Engine S) → IsSoFar g start all left number old e → result ≡ Err end → IsLineEnd left number end → IsPlayedTo (schema_of old) start all (g.content (leaves_of old)) (g.content (leaves_of e)) result
+pub at_line_end : {S : Type 0} (g : Ghosts S) (start : Playing) (all left : Lines) (number : ℕ) (end : PlayEnd) (result : Result (Unit {0}) PlayEnd) (old e : Engine S) → IsSoFar g start all left number old e → result ≡ Err end → IsLineEnd left number end → IsPlayedTo g start all old e result
 at_line_end g start all left number (play_end.Line n reason) result old e so result_is is =
-    subst (λ r. IsPlayedTo (schema_of old) start all (g.content (leaves_of old)) (g.content (leaves_of e)) r) (sym result_is)
+    subst (λ r. IsPlayedTo g start all old e r) (sym result_is)
     (at_stop g start all left number n reason old e so is.0 is.1)
 at_line_end g start all left number (play_end.Stop stop) result old e so result_is is = absurd is
 

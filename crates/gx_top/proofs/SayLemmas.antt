@@ -1,9 +1,10 @@
 -- A piece that is said part by part.
-use Rattle.std.proofs.Common.{◌≡◌, ℕ, zero, suc, ◌+◌, ◌-◌, List, [], ◌∷◌, ◌++◌, length, take, drop, sym, ap, ◌∙◌, arith, append_assoc}
+use Rattle.std.proofs.Common.{◌≡◌, ℕ, zero, suc, ◌+◌, ◌-◌, List, [], ◌∷◌, ◌++◌, length, take, drop, refl, sym, ap, ◌∙◌, arith, append_assoc}
 use Rattle.std.proofs.lemmas.List.{drop-drop, take_all, length-drop}
+use Rattle.gx_ports.specs.Calls.{Talks}
 use Rattle.gx_ports.specs.declared.view.View.{Ghosts}
 use Rattle.gx_engine.specs.declared.engine.Engine.{Engine}
-use Rattle.gx_engine.specs.Steps.{IsSame}
+use Rattle.gx_engine.specs.Steps.{IsSame, leaves_of}
 
 take_add : (a b : ℕ) (xs : List ℕ) → take a xs ++ take b (drop a xs) ≡ take (a + b) xs
 take_add zero b xs = ap (λ k. take k xs) (let e : b ≡ 0 + b = omega arith in e)
@@ -18,19 +19,26 @@ said_more piece rest old mid new done n is so_far next =
 pub rest_more : (piece rest : List ℕ) (done n : ℕ) → rest ≡ drop done piece → take (length rest - n) (drop n rest) ≡ drop (done + n) piece
 rest_more piece rest done n is = take_all (length rest - n) (drop n rest) (omega (arith, length-drop n rest)) ∙ ap (drop n) is ∙ drop-drop n done piece
 
+-- what `hear` and `say` keep, once and one after the other
+pub talks_itself : {S : Type 0} (g : Ghosts S) (a : S) → Talks g a a
+talks_itself g a = record { working = refl; whole = λ h. h; kept = refl; kept_whole = (λ h. h, λ h. h); work = refl; limit = refl; head = refl; calm = λ s h. h }
+
+pub talks_joined : {S : Type 0} (g : Ghosts S) (a b c : S) → Talks g a b → Talks g b c → Talks g a c
+talks_joined g a b c p q = record {
+  working = q.working ∙ p.working;
+  whole = λ h. q.whole (p.whole h);
+  kept = q.kept ∙ p.kept;
+  kept_whole = (λ h. q.kept_whole.0 (p.kept_whole.0 h), λ h. p.kept_whole.1 (q.kept_whole.1 h));
+  work = q.work ∙ p.work;
+  limit = q.limit ∙ p.limit;
+  head = q.head ∙ p.head;
+  calm = λ s h. q.calm s (p.calm s h);
+}
+
 -- what stays the same twice stays the same
 pub same_again : {S : Type 0} (g : Ghosts S) (a b c : Engine S) → IsSame g a b → IsSame g b c → IsSame g a c
 same_again g a b c p q = record {
-  talks = record {
-    working = q.talks.working ∙ p.talks.working;
-    whole = λ h. q.talks.whole (p.talks.whole h);
-    kept = q.talks.kept ∙ p.talks.kept;
-    kept_whole = (λ h. q.talks.kept_whole.0 (p.talks.kept_whole.0 h), λ h. p.talks.kept_whole.1 (q.talks.kept_whole.1 h));
-    work = q.talks.work ∙ p.talks.work;
-    limit = q.talks.limit ∙ p.talks.limit;
-    head = q.talks.head ∙ p.talks.head;
-    calm = λ s h. q.talks.calm s (p.talks.calm s h);
-  };
+  talks = talks_joined g (leaves_of a) (leaves_of b) (leaves_of c) p.talks q.talks;
   schema = q.schema ∙ p.schema;
   built = q.built ∙ p.built;
   inside = q.inside ∙ p.inside;

@@ -6,6 +6,8 @@ use Rattle.gx_tokens.specs.Whys.{word_of as why_word}
 use Rattle.gx_script.specs.LineWhys.{word_of as line_word}
 use Rattle.gx_typing.specs.Reasons.{words_of as type_words}
 use Rattle.gx_ports.specs.declared.stop.Stop.TheVariants as stop
+use Rattle.gx_top.specs.declared.ending.DeviceWhy.{DeviceWhy}
+use Rattle.gx_top.specs.declared.ending.DeviceWhy.TheVariants as device_why
 use Rattle.gx_top.specs.declared.ending.Ending.{Ending}
 use Rattle.gx_top.specs.declared.ending.Ending.TheVariants as ending
 use Rattle.gx_top.specs.declared.play.PlayEnd.{PlayEnd}
@@ -16,6 +18,22 @@ use Rattle.gx_top.specs.Summaries.{accepted_line}
 
 abbrev pub memory_line : List ℕ
 memory_line = codes "stopped: memory\n"
+
+abbrev pub full_line : List ℕ
+full_line = codes "stopped: full\n"
+
+-- why the device isn't what was asked for
+abbrev pub device_line : DeviceWhy → List ℕ
+device_line device_why.Missing = codes "device: missing\n"
+device_line device_why.Exists = codes "device: exists\n"
+device_line device_why.Size = codes "device: size\n"
+device_line device_why.NoDatabase = codes "device: no database\n"
+device_line (device_why.OtherEquation place) = codes "device: other equation at " ++ decimal place ++ codes "\n"
+device_line (device_why.Damaged block) = codes "device: damaged " ++ decimal block ++ codes "\n"
+
+-- a device of so many blocks was made, which has so many pages
+abbrev pub made_line : ℕ → ℕ → List ℕ
+made_line blocks pages = codes "made: " ++ decimal blocks ++ codes " blocks, " ++ decimal pages ++ codes " pages\n"
 
 -- the line that is said of an ending; after a failed call nothing is said
 abbrev pub line_of : Ending → List ℕ
@@ -29,6 +47,9 @@ line_of ending.TextsTooLong = codes "refused: texts too long\n"
 line_of ending.NotBuilt = codes "refused: not built\n"
 line_of (ending.Accepted summary) = accepted_line summary
 line_of (ending.Line number why) = codes "stopped at line " ++ decimal number ++ codes ": " ++ line_word why ++ codes "\n"
+line_of ending.Full = full_line
+line_of (ending.Device why) = device_line why
+line_of (ending.Made blocks pages) = made_line blocks pages
 line_of ending.Fault = []
 line_of ending.NoMemory = memory_line
 
@@ -36,11 +57,16 @@ line_of ending.NoMemory = memory_line
 abbrev pub ending_of : PlayEnd → Ending
 ending_of (play_end.Line number why) = ending.Line number why
 ending_of (play_end.Stop stop.NoMemory) = ending.NoMemory
-ending_of (play_end.Stop _) = ending.Fault
+ending_of (play_end.Stop stop.Full) = ending.Full
+ending_of (play_end.Stop (stop.Damaged block)) = ending.Device (device_why.Damaged block)
+ending_of (play_end.Stop stop.Fault) = ending.Fault
 
 abbrev pub status_of : Ending → Status
 status_of (ending.Accepted summary) = status.Done
 status_of (ending.Line number why) = status.Script
+status_of ending.Full = status.Full
+status_of (ending.Device why) = status.Device
+status_of (ending.Made blocks pages) = status.Done
 status_of ending.Fault = status.Outside
 status_of ending.NoMemory = status.Memory
 status_of _ = status.Refused
@@ -59,3 +85,27 @@ abbrev pub IsOutside : ℕ → ℕ → Ending → Type 0
 IsOutside before now ending.Fault = Rose before now
 IsOutside before now ending.NoMemory = Unit {0}
 IsOutside before now _ = ⊥
+
+-- how a play may end: at a line, with a stop, or with a failed call
+abbrev pub IsPlayEnding : Ending → Type 0
+IsPlayEnding (ending.Line number why) = Unit {0}
+IsPlayEnding ending.Fault = Unit {0}
+IsPlayEnding ending.NoMemory = Unit {0}
+IsPlayEnding ending.Full = Unit {0}
+IsPlayEnding (ending.Device (device_why.Damaged block)) = Unit {0}
+IsPlayEnding _ = ⊥
+
+-- the same on leaves without a limit, which are whole
+abbrev pub IsTryEnding : Ending → Type 0
+IsTryEnding (ending.Line number why) = Unit {0}
+IsTryEnding ending.Fault = Unit {0}
+IsTryEnding ending.NoMemory = Unit {0}
+IsTryEnding _ = ⊥
+
+-- the status of a script that is played on such leaves
+abbrev pub IsTryStatus : Status → Type 0
+IsTryStatus status.Done = Unit {0}
+IsTryStatus status.Script = Unit {0}
+IsTryStatus status.Outside = Unit {0}
+IsTryStatus status.Memory = Unit {0}
+IsTryStatus _ = ⊥

@@ -1,5 +1,5 @@
 -- What the play of a script on an engine says, line by line.
-use Rattle.std.specs.Prelude.{◌≡◌, ◌≢◌, ◌⊎◌, ℕ, ◌+◌, List, ◌++◌, length, take, Bool, false, IsTrue, Option, None, Result, Ok, Err}
+use Rattle.std.specs.Prelude.{◌≡◌, ◌≢◌, ◌⊎◌, ℕ, ◌+◌, List, ◌∷◌, ◌++◌, length, take, Bool, false, IsTrue, Option, None, Result, Ok, Err}
 use Rattle.gx_device.specs.Content.{Content}
 use Rattle.gx_device.specs.Faults.{Rose}
 use Rattle.gx_schema.specs.declared.schema.Schema.{Schema}
@@ -8,15 +8,19 @@ use Rattle.gx_script.specs.declared.command.LineWhy.{LineWhy}
 use Rattle.gx_script.specs.Commands.{place_reason}
 use Rattle.gx_script.specs.Grammar.{IsLineOf}
 use Rattle.gx_script.specs.Lines.{Lines, stopped as stopped_lines}
-use Rattle.gx_ports.specs.LeafMaps.{Limits, IsCrowdedBy}
+use Rattle.gx_ports.specs.LeafMaps.{LeafMap, Limits, IsCrowdedBy, entry_count}
+use Rattle.gx_ports.specs.Calls.{Keeps}
 use Rattle.gx_ports.specs.declared.view.View.{Ghosts}
 use Rattle.gx_ports.specs.Stops.{is_outside}
 use Rattle.gx_ports.specs.declared.stop.Stop.{Stop}
 use Rattle.gx_ports.specs.declared.stop.Stop.TheVariants as stop
-use Rattle.gx_model.specs.Play.{Playing, End, good, stopped, is_inside, next_of, IsAnswered}
+use Rattle.gx_model.specs.States.{State}
+use Rattle.gx_model.specs.Play.{Playing, End, good, stopped, is_inside, seen_state, next_of, IsAnswered}
+use Rattle.gx_types.specs.declared.built.Built.{Built}
 use Rattle.gx_model.specs.Runs.{Runs, IsBadLine, IsPlayFrom}
 use Rattle.gx_engine.specs.declared.engine.Engine.{Engine}
-use Rattle.gx_engine.specs.Steps.{IsAt, schema_of, leaves_of}
+use Rattle.gx_engine.specs.Internal.{AreInternal, entries_from}
+use Rattle.gx_engine.specs.Steps.{IsAt, IsShortFor, schema_of, built_of, leaves_of}
 use Rattle.gx_top.specs.declared.play.PlayEnd.{PlayEnd}
 use Rattle.gx_top.specs.declared.play.PlayEnd.TheVariants as play_end
 
@@ -61,29 +65,64 @@ is_play_fault _ = false
 
 -- ---- the play of lines
 
--- the lines were played from a moment on, up to this end, and their answers were said
-pub record IsPlayedUp (schema : Schema) (p : Playing) (lines : Lines) (old new : Content) (end : End) : Type 0 where
+-- the pages may be too few for the command of a line, which may stand there
+abbrev pub IsShortLine : {S : Type 0} → Ghosts S → Engine S → Playing → List ℕ → Type 0
+IsShortLine g e p line = (command : Command) × IsLineOf (schema_of e) line command × (place_reason (is_inside p) command ≡ None) × IsShortFor g e p command
+
+-- A line was given up: unless a call below failed, nothing of it was said, and what was last committed stays.
+pub record IsGivenUp {S : Type 0} (g : Ghosts S) (p : Playing) (line : List ℕ) (old new : Engine S) (why : Stop) : Type 0 where
+  pub unsaid : why ≢ stop.Fault → (g.content (leaves_of new)).now.said ≡ (g.content (leaves_of old)).now.said
+  pub cut : IsLineCut (schema_of old) p line (g.content (leaves_of old)) (g.content (leaves_of new))
+  pub kept : why ≢ stop.Fault → Keeps g (leaves_of old) (leaves_of new)
+  pub short : why ≡ stop.Full → IsShortLine g old p line
+
+-- ---- where a play ends
+
+-- the kept leaves are whole, and stand for the last kept state
+pub record HasKept {S : Type 0} (g : Ghosts S) (schema : Schema) (built : Built) (p : Playing) (leaves : S) : Type 0 where
+  pub is : AreInternal schema built.files (g.kept leaves) p.kept
+  pub whole_is : g.kept_whole leaves
+
+-- The first of these lines has a command for which the pages may be too few: for the entries of the state before it
+-- and of that behind it.
+pub record IsShortAt (schema : Schema) (built : Built) (limit : Option Limits) (p : Playing) (lines : List (List ℕ)) : Type 0 where
+  pub line : List ℕ
+  pub later : List (List ℕ)
+  pub lines_are : lines ≡ line ∷ later
+  pub command : Command
+  pub means : IsLineOf schema line command
+  pub placed : place_reason (is_inside p) command ≡ None
+  pub maps : List LeafMap
+  pub before : AreInternal schema built.files maps (seen_state p)
+  pub short : IsCrowdedBy limit (entry_count maps + entries_from built.files (seen_state (next_of schema p command)).files)
+
+-- the lines were played from a moment on, up to this end, their answers were said, and the engine stands there
+pub record IsPlayedUp {S : Type 0} (g : Ghosts S) (p : Playing) (lines : Lines) (old new : Engine S) (end : End) : Type 0 where
   pub text : List ℕ
   pub final : Playing
-  pub played : IsPlayFrom schema p lines text final end
-  pub said : new.now.said ≡ old.now.said ++ text
+  pub played : IsPlayFrom (schema_of old) p lines text final end
+  pub said : (g.content (leaves_of new)).now.said ≡ (g.content (leaves_of old)).now.said ++ text
+  pub at : IsAt g final new
 
--- The first lines ran from a moment on, and a front of their answers was said; all of them, unless a call below failed.
-pub record IsPlayedPart (schema : Schema) (p : Playing) (lines : Lines) (old new : Content) (why : Stop) : Type 0 where
+-- The first lines ran from a moment on, and a front of their answers was said. Unless a call below failed, all of them
+-- was, and the last kept state is theirs.
+pub record IsPlayedPart {S : Type 0} (g : Ghosts S) (p : Playing) (lines : Lines) (old new : Engine S) (why : Stop) : Type 0 where
   pub ran : List (List ℕ)
   pub later : List (List ℕ)
   pub parts : lines.lines ≡ ran ++ later
   pub text : List ℕ
   pub final : Playing
-  pub runs : Runs schema p ran text final
-  pub front : (n : ℕ) × (new.now.said ≡ old.now.said ++ take n text)
-  pub whole : why ≢ stop.Fault → new.now.said ≡ old.now.said ++ text
+  pub runs : Runs (schema_of old) p ran text final
+  pub front : (n : ℕ) × ((g.content (leaves_of new)).now.said ≡ (g.content (leaves_of old)).now.said ++ take n text)
+  pub whole : why ≢ stop.Fault → (g.content (leaves_of new)).now.said ≡ (g.content (leaves_of old)).now.said ++ text
+  pub kept : why ≢ stop.Fault → HasKept g (schema_of old) (built_of old) final (leaves_of new)
+  pub short : why ≡ stop.Full → IsShortAt (schema_of old) (built_of old) (g.limit (leaves_of old)) final later
 
 -- the same for the end that a play answers
-abbrev pub IsPlayedTo : Schema → Playing → Lines → Content → Content → Result (Unit {0}) PlayEnd → Type 0
-IsPlayedTo schema p lines old new (Ok x) = IsPlayedUp schema p lines old new good
-IsPlayedTo schema p lines old new (Err (play_end.Line number why)) = IsPlayedUp schema p lines old new (stopped number why)
-IsPlayedTo schema p lines old new (Err (play_end.Stop why)) = IsPlayedPart schema p lines old new why
+abbrev pub IsPlayedTo : {S : Type 0} → Ghosts S → Playing → Lines → Engine S → Engine S → Result (Unit {0}) PlayEnd → Type 0
+IsPlayedTo g p lines old new (Ok x) = IsPlayedUp g p lines old new good
+IsPlayedTo g p lines old new (Err (play_end.Line number why)) = IsPlayedUp g p lines old new (stopped number why)
+IsPlayedTo g p lines old new (Err (play_end.Stop why)) = IsPlayedPart g p lines old new why
 
 -- Where the play of all lines stands when so many ran, and these are left.
 pub record IsSoFar {S : Type 0} (g : Ghosts S) (start : Playing) (all left : Lines) (number : ℕ) (old new : Engine S) : Type 0 where
@@ -101,3 +140,12 @@ pub record IsSoFar {S : Type 0} (g : Ghosts S) (start : Playing) (all left : Lin
 abbrev pub IsLineEnd : Lines → ℕ → PlayEnd → Type 0
 IsLineEnd lines number (play_end.Line n why) = (n ≡ number + 1) × (lines ≡ stopped_lines why)
 IsLineEnd lines number (play_end.Stop stop) = ⊥
+
+-- ---- over leaves that hold a state
+
+-- the leaves are whole, hold this state, and nothing of it is still to be committed
+pub record IsHolding {S : Type 0} (g : Ghosts S) (schema : Schema) (built : Built) (s : State) (leaves : S) : Type 0 where
+  pub working_is : AreInternal schema built.files (g.working leaves) s
+  pub kept_same : g.kept leaves ≡ g.working leaves
+  pub whole_is : g.whole leaves
+  pub kept_whole_is : g.kept_whole leaves

@@ -7,7 +7,7 @@ use Rattle.gx_device.specs.Faults.{Rose}
 use Rattle.gx_schema.specs.declared.schema.Schema.{Schema}
 use Rattle.gx_script.specs.declared.command.LineWhy.{LineWhy}
 use Rattle.gx_script.specs.Lines.{script_lines}
-use Rattle.gx_model.specs.States.{empty_state}
+use Rattle.gx_model.specs.States.{State, empty_state}
 use Rattle.gx_model.specs.Play.{Playing, End, good, stopped, start_at, end_text}
 use Rattle.gx_model.specs.Runs.{IsPlayFrom, AreFirstAnswersFrom}
 use Rattle.gx_top.specs.declared.ending.Ending.{Ending}
@@ -30,34 +30,34 @@ Says P old new = (text : List ℕ) × P text × (new.now.said ≡ old.now.said +
 abbrev pub SaysFront : (List ℕ → Type 0) → Content → Content → Type 0
 SaysFront P old new = (text : List ℕ) × P text × ((count : ℕ) × (new.now.said ≡ old.now.said ++ take count text))
 
--- ---- of a schema and a script
+-- ---- of a schema, a start state and a script
 
--- the play of a whole script on the empty state: its answers, its last states and its end
-abbrev pub IsPlay : Schema → List ℕ → List ℕ → Playing → End → Type 0
-IsPlay schema script = IsPlayFrom schema (start_at (empty_state schema)) (script_lines script)
+-- the play of a whole script from a state on: its answers, its last states and its end
+abbrev pub IsPlay : Schema → State → List ℕ → List ℕ → Playing → End → Type 0
+IsPlay schema start script = IsPlayFrom schema (start_at start) (script_lines script)
 
--- the answers of the script's first lines on the empty state
-abbrev pub AreFirst : Schema → List ℕ → List ℕ → Type 0
-AreFirst schema script = AreFirstAnswersFrom schema (start_at (empty_state schema)) script
+-- the answers of the script's first lines from a state on
+abbrev pub AreFirst : Schema → State → List ℕ → List ℕ → Type 0
+AreFirst schema start script = AreFirstAnswersFrom schema (start_at start) script
 
--- the answers of the script's play on the empty state up to this end, and then the line of the end
-pub record IsPlayText (schema : Schema) (script : List ℕ) (end : End) (text : List ℕ) : Type 0 where
+-- the answers of the script's play from a state up to this end, and then the line of the end
+pub record IsPlayText (schema : Schema) (start : State) (script : List ℕ) (end : End) (text : List ℕ) : Type 0 where
   pub answers : List ℕ
   pub final : Playing
-  pub play : IsPlay schema script answers final end
+  pub play : IsPlay schema start script answers final end
   pub text_is : text ≡ answers ++ end_text end
 
 -- the same, where the play ends at a line
-abbrev pub IsStoppedText : Schema → List ℕ → List ℕ → Type 0
-IsStoppedText schema script text = (number : ℕ) × (why : LineWhy) × IsPlayText schema script (stopped number why) text
+abbrev pub IsStoppedText : Schema → State → List ℕ → List ℕ → Type 0
+IsStoppedText schema start script text = (number : ℕ) × (why : LineWhy) × IsPlayText schema start script (stopped number why) text
 
 -- the answers of the script's first lines, and then the line that there was no memory
-abbrev pub IsShortText : Schema → List ℕ → List ℕ → Type 0
-IsShortText schema script text = (answers : List ℕ) × AreFirst schema script answers × (text ≡ answers ++ memory_line)
+abbrev pub IsShortText : Schema → State → List ℕ → List ℕ → Type 0
+IsShortText schema start script text = (answers : List ℕ) × AreFirst schema start script answers × (text ≡ answers ++ memory_line)
 
 -- one of these
-abbrev pub IsTryText : Schema → List ℕ → List ℕ → Type 0
-IsTryText schema script text = ((end : End) × IsPlayText schema script end text) ⊎ IsShortText schema script text
+abbrev pub IsTryText : Schema → State → List ℕ → List ℕ → Type 0
+IsTryText schema start script text = ((end : End) × IsPlayText schema start script end text) ⊎ IsShortText schema start script text
 
 -- ---- of a request
 
@@ -78,15 +78,15 @@ IsAcceptedText words before text = (schema : Schema) × (ds : List DefinitionTre
 
 -- all that was asked: the answers of a script whose play ends at no line, or what the checker says
 abbrev pub IsDoneText : List (List ℕ) → Content → List ℕ → Type 0
-IsDoneText words before text = IsRunText (λ schema script. IsPlayText schema script good) words before text ⊎ IsAcceptedText words before text
+IsDoneText words before text = IsRunText (λ schema script. IsPlayText schema (empty_state schema) script good) words before text ⊎ IsAcceptedText words before text
 
 -- the line that there was no memory, behind the answers of the script's first lines or of none
 abbrev pub IsMemoryText : List (List ℕ) → Content → List ℕ → Type 0
-IsMemoryText words before text = (text ≡ memory_line) ⊎ IsRunText IsShortText words before text
+IsMemoryText words before text = (text ≡ memory_line) ⊎ IsRunText (λ schema. IsShortText schema (empty_state schema)) words before text
 
 -- one of these
 abbrev pub IsRequestText : List (List ℕ) → Content → List ℕ → Type 0
-IsRequestText words before text = IsRefusalText words before text ⊎ (text ≡ memory_line) ⊎ IsAcceptedText words before text ⊎ IsRunText IsTryText words before text
+IsRequestText words before text = IsRefusalText words before text ⊎ (text ≡ memory_line) ⊎ IsAcceptedText words before text ⊎ IsRunText (λ schema. IsTryText schema (empty_state schema)) words before text
 
 -- the words ask for a script to be played
 abbrev pub IsTry : List (List ℕ) → Type 0
@@ -94,11 +94,11 @@ IsTry words = (schema : List ℕ) × (equation : List ℕ) × (words ≡ request
 
 -- a script can be played, and its play ends at no line
 abbrev pub IsPlayable : List (List ℕ) → Content → Type 0
-IsPlayable words before = (schema : Schema) × IsRunnable words before.aside.texts schema × ((answers : List ℕ) × (final : Playing) × IsPlay schema before.script answers final good)
+IsPlayable words before = (schema : Schema) × IsRunnable words before.aside.texts schema × ((answers : List ℕ) × (final : Playing) × IsPlay schema (empty_state schema) before.script answers final good)
 
 -- a script can be played, and its play ends at a line
 abbrev pub IsStoppable : List (List ℕ) → Content → Type 0
-IsStoppable words before = (schema : Schema) × IsRunnable words before.aside.texts schema × ((number : ℕ) × (why : LineWhy) × (answers : List ℕ) × (final : Playing) × IsPlay schema before.script answers final (stopped number why))
+IsStoppable words before = (schema : Schema) × IsRunnable words before.aside.texts schema × ((number : ℕ) × (why : LineWhy) × (answers : List ℕ) × (final : Playing) × IsPlay schema (empty_state schema) before.script answers final (stopped number why))
 
 -- the texts to be checked are accepted
 abbrev pub IsCheckable : List (List ℕ) → Content → Type 0
@@ -109,9 +109,11 @@ IsCheckable words before = (schema : Schema) × (ds : List DefinitionTree) × (t
 -- what was said, by the status
 abbrev pub IsSaid : List (List ℕ) → Content → Content → Status → Type 0
 IsSaid words old new status.Done = Says (IsDoneText words old) old new
-IsSaid words old new status.Script = Says (IsRunText IsStoppedText words old) old new
+IsSaid words old new status.Script = Says (IsRunText (λ schema. IsStoppedText schema (empty_state schema)) words old) old new
 IsSaid words old new status.Refused = Says (IsRefusalText words old) old new
 IsSaid words old new status.Memory = Says (IsMemoryText words old) old new
+IsSaid words old new status.Full = ⊥
+IsSaid words old new status.Device = ⊥
 IsSaid words old new status.Outside = SaysFront (IsRequestText words old) old new
 
 -- the same, and what was heard: the script to its end where all of it was played, and none of it where none is to be played
@@ -141,7 +143,7 @@ pub record CountsOutside (before now : ℕ) (s : Status) : Type 0 where
 
 -- all that a request says that ends with Done or Script
 abbrev pub IsWholeText : List (List ℕ) → Content → List ℕ → Type 0
-IsWholeText words before text = IsDoneText words before text ⊎ IsRunText IsStoppedText words before text
+IsWholeText words before text = IsDoneText words before text ⊎ IsRunText (λ schema. IsStoppedText schema (empty_state schema)) words before text
 
 -- the words ask for a script to be played under the schema that this text means
 abbrev pub IsTryUnder : List (List ℕ) → Texts → List ℕ → Type 0
@@ -156,20 +158,21 @@ pub record PlayOneScript (words others : List (List ℕ)) (before other : Conten
 
 -- ---- before the line of the end is said
 
--- the script was played on the empty state up to this end, and its answers were said
-pub record IsPlayedOut (schema : Schema) (old new : Content) (end : End) : Type 0 where
+-- the script was played from a state up to this end, and its answers were said
+pub record IsPlayedOut (schema : Schema) (start : State) (old new : Content) (end : End) : Type 0 where
   pub answers : List ℕ
   pub final : Playing
-  pub play : IsPlay schema old.script answers final end
+  pub play : IsPlay schema start old.script answers final end
   pub said : new.now.said ≡ old.now.said ++ answers
 
 -- what was said for how playing the script ends
-abbrev pub IsPlayedAs : Schema → Content → Content → Result (Unit {0}) Ending → Type 0
-IsPlayedAs schema old new (Ok x) = IsPlayedOut schema old new good
-IsPlayedAs schema old new (Err (ending.Line number why)) = IsPlayedOut schema old new (stopped number why)
-IsPlayedAs schema old new (Err ending.NoMemory) = Says (AreFirst schema old.script) old new
-IsPlayedAs schema old new (Err ending.Fault) = SaysFront (AreFirst schema old.script) old new
-IsPlayedAs schema old new (Err _) = ⊥
+abbrev pub IsPlayedAs : Schema → State → Content → Content → Result (Unit {0}) Ending → Type 0
+IsPlayedAs schema start old new (Ok x) = IsPlayedOut schema start old new good
+IsPlayedAs schema start old new (Err (ending.Line number why)) = IsPlayedOut schema start old new (stopped number why)
+IsPlayedAs schema start old new (Err ending.NoMemory) = Says (AreFirst schema start old.script) old new
+IsPlayedAs schema start old new (Err ending.Full) = Says (AreFirst schema start old.script) old new
+IsPlayedAs schema start old new (Err ending.Fault) = SaysFront (AreFirst schema start old.script) old new
+IsPlayedAs schema start old new (Err _) = ⊥
 
 -- what an end of the play means for the request
 abbrev pub IsEndingOf : Result (Unit {0}) PlayEnd → Result (Unit {0}) Ending → Type 0

@@ -5,7 +5,7 @@ ghost use Rattle.gx_device.specs.Faults.{Rose};
 ghost use Rattle.gx_tokens.specs.Whys.{word_of as why_word};
 ghost use Rattle.gx_script.specs.LineWhys.{word_of as line_word};
 ghost use Rattle.gx_top.specs.Summaries.{accepted_line};
-ghost use Rattle.gx_top.specs.Endings.{line_of, status_of, memory_line};
+ghost use Rattle.gx_top.specs.Endings.{line_of, status_of, memory_line, device_line, made_line};
 ghost use Rattle.gx_top.specs.Say.{IsCut, OnlySays};
 
 use crate::play::PlayEnd;
@@ -19,6 +19,23 @@ use gx_script::LineWhy;
 use gx_typing::TypeWhy;
 use gx_values::NoMemory;
 use std::alloc::{AllocError, Global};
+
+/// Why the device that a request names isn't what was asked for.
+#[derive(Clone, Copy, Debug)]
+pub enum DeviceWhy {
+    /// There is none of that name.
+    Missing,
+    /// There is one of that name already.
+    Exists,
+    /// It has too few blocks for the leaves, or more than a device may have.
+    Size,
+    /// It holds no database.
+    NoDatabase,
+    /// It holds other texts. This is the first place of the text area that differs, counted from 0.
+    OtherEquation(u16),
+    /// What it holds isn't whole, as this block shows.
+    Damaged(u32),
+}
 
 /// How a request ends that isn't played to its end.
 #[derive(Clone, Copy, Debug)]
@@ -43,6 +60,12 @@ pub enum Ending<'a> {
     Accepted(Summary),
     /// The line of this number, counted from 1, ends the script.
     Line(u32, LineWhy),
+    /// The pages may be too few for a command of the script.
+    Full,
+    /// The device isn't what was asked for.
+    Device(DeviceWhy),
+    /// A device of so many blocks was made, and it has so many pages.
+    Made(u32, u32),
     /// A call of the machine failed.
     Fault,
     /// There was no memory.
@@ -69,7 +92,6 @@ impl From<NoMemory> for Ending<'_> {
     }
 }
 
-// Leaves in memory are never full or damaged.
 impl From<PlayEnd> for Ending<'_> {
     ghost use Rattle.gx_top.specs.Endings.{ending_of};
 
@@ -79,7 +101,9 @@ impl From<PlayEnd> for Ending<'_> {
         match end {
             PlayEnd::Line(number, why) => Ending::Line(number, why),
             PlayEnd::Stop(Stop::NoMemory) => Ending::NoMemory,
-            PlayEnd::Stop(Stop::Fault | Stop::Full | Stop::Damaged(_)) => Ending::Fault,
+            PlayEnd::Stop(Stop::Full) => Ending::Full,
+            PlayEnd::Stop(Stop::Damaged(block)) => Ending::Device(DeviceWhy::Damaged(block)),
+            PlayEnd::Stop(Stop::Fault) => Ending::Fault,
         }
     }
 }
@@ -135,8 +159,10 @@ fn status(ending: Ending<'_>) -> Status
         | Ending::Type(..)
         | Ending::TextsTooLong
         | Ending::NotBuilt => Status::Refused,
-        Ending::Accepted(_) => Status::Done,
+        Ending::Accepted(_) | Ending::Made(..) => Status::Done,
         Ending::Line(..) => Status::Script,
+        Ending::Full => Status::Full,
+        Ending::Device(_) => Status::Device,
         Ending::Fault => Status::Outside,
         Ending::NoMemory => Status::Memory,
     }
@@ -168,9 +194,47 @@ fn line(alloc: Global, ending: Ending<'_>) -> Result<Vec<u8>, NoMemory>
         Ending::NotBuilt => Ok(b"refused: not built\n".to_vec(alloc)?),
         Ending::Accepted(summary) => summary_line(alloc, summary),
         Ending::Line(number, why) => numbered_line(alloc, b"stopped at line ", number, why.word()),
+        Ending::Full => Ok(b"stopped: full\n".to_vec(alloc)?),
+        Ending::Device(why) => device_line(alloc, why),
+        Ending::Made(blocks, pages) => made_line(alloc, blocks, pages),
         Ending::Fault => Ok(Vec::new(alloc)),
         Ending::NoMemory => Ok(b"stopped: memory\n".to_vec(alloc)?),
     }
+}
+
+fn device_line(alloc: Global, why: DeviceWhy) -> Result<Vec<u8>, NoMemory>
+    ensures { IfOk result (λ line. line.items ≡ device_line why) }
+{
+    match why {
+        DeviceWhy::Missing => Ok(b"device: missing\n".to_vec(alloc)?),
+        DeviceWhy::Exists => Ok(b"device: exists\n".to_vec(alloc)?),
+        DeviceWhy::Size => Ok(b"device: size\n".to_vec(alloc)?),
+        DeviceWhy::NoDatabase => Ok(b"device: no database\n".to_vec(alloc)?),
+        DeviceWhy::OtherEquation(place) => {
+            counted_line(alloc, b"device: other equation at ", u32::from(place))
+        }
+        DeviceWhy::Damaged(block) => counted_line(alloc, b"device: damaged ", block),
+    }
+}
+
+fn counted_line(alloc: Global, front: &[u8], number: u32) -> Result<Vec<u8>, NoMemory>
+    ensures { IfOk result (λ line. line.items ≡ front.now ++ decimal number ++ codes "\n") }
+{
+    let mut line = front.to_vec(alloc)?;
+    push_number(alloc, &mut line, number)?;
+    line.extend_from_slice(b"\n")?;
+    Ok(line)
+}
+
+fn made_line(alloc: Global, blocks: u32, pages: u32) -> Result<Vec<u8>, NoMemory>
+    ensures { IfOk result (λ line. line.items ≡ made_line blocks pages) }
+{
+    let mut line = b"made: ".to_vec(alloc)?;
+    push_number(alloc, &mut line, blocks)?;
+    line.extend_from_slice(b" blocks, ")?;
+    push_number(alloc, &mut line, pages)?;
+    line.extend_from_slice(b" pages\n")?;
+    Ok(line)
 }
 
 fn named_line(alloc: Global, front: &[u8], name: &str) -> Result<Vec<u8>, NoMemory>

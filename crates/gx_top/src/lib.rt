@@ -6,6 +6,8 @@ mod built;
 mod check;
 mod ending;
 mod laws;
+mod on_device;
+mod over_leaves;
 mod play;
 mod reading;
 mod request;

@@ -1,12 +1,14 @@
 // Playing a script on an engine, line by line.
 ghost use Rattle.std.specs.Prelude.{◌≡◌, ◌≢◌, ◌^◌, ◌<◌, ◌≤◌, ◌+◌, ◌++◌, List, ℕ, Option, None, Ok, Err, false, length, take, IsTrue, IfOk, IfErr, IfSome, OnOk, OnErr, ◌-◌, option_map};
 ghost use Rattle.gx_schema.specs.WellFormed.{IsWellFormed};
+ghost use Rattle.gx_device.specs.Faults.{Rose};
 ghost use Rattle.gx_ports.specs.Stops.{is_fault};
-ghost use Rattle.gx_engine.specs.Steps.{IsReady, IsAt, IsDue, schema_of, is_open, stop_of, leaves_of};
+ghost use Rattle.gx_ports.specs.Calls.{Keeps};
+ghost use Rattle.gx_engine.specs.Steps.{IsReady, IsAt, IsDue, IsShortFor, schema_of, built_of, is_open, stop_of, leaves_of};
 ghost use Rattle.gx_model.specs.Play.{Playing};
 ghost use Rattle.gx_script.specs.Lines.{script_lines, IsNext};
 ghost use Rattle.gx_script.specs.Grammar.{IsLineOf};
-ghost use Rattle.gx_top.specs.Plays.{IsLinePlayed, IsCommandPlayed, IsLineCut, IsCommandCut, HasPlayCause, IsBadAt, IsPlayedTo, IsLineEnd, is_play_fault};
+ghost use Rattle.gx_top.specs.Plays.{IsLinePlayed, IsCommandPlayed, IsLineCut, IsCommandCut, HasPlayCause, IsBadAt, IsPlayedTo, IsShortLine, IsLineEnd, is_play_fault};
 ghost use Rattle.gx_top.specs.Say.{OnlySays};
 
 use crate::say::answer_all;
@@ -59,6 +61,15 @@ fn play_line<B: Leaves + Drop>(
         result ≡ Err (PlayEnd.Stop stop) →
         HasPlayCause (B.limit (leaves_of engine.old)) (B.faults (leaves_of engine.old))
         (B.faults (leaves_of engine.new)) stop }
+    ensures fault { result ≡ Err (PlayEnd.Stop Stop.Fault) →
+        Rose (B.faults (leaves_of engine.old)) (B.faults (leaves_of engine.new)) }
+    ensures full { (p : Playing) → IsAt B.View p engine.old →
+        result ≡ Err (PlayEnd.Stop Stop.Full) → IsShortLine B.View engine.old p line.now }
+    ensures stays { (n : ℕ) (why : LineWhy) → result ≡ Err (PlayEnd.Line n why) →
+        engine.new ≡ engine.old }
+    ensures kept { is_play_fault result ≡ false →
+        OnErr result (Keeps B.View (leaves_of engine.old) (leaves_of engine.new)) }
+    ensures built { built_of engine.new ≡ built_of engine.old }
     ensures schema { schema_of engine.new ≡ schema_of engine.old }
     ensures ready { IsReady B.View engine.new }
     ensures going { OnOk result (stop_of engine.new ≡ None) }
@@ -117,6 +128,13 @@ fn carry_out<B: Leaves + Drop>(
     ensures cause { (p : Playing) → IsAt B.View p engine.old → (stop : Stop) → result ≡ Err stop →
         HasPlayCause (B.limit (leaves_of engine.old)) (B.faults (leaves_of engine.old))
         (B.faults (leaves_of engine.new)) stop }
+    ensures fault { result ≡ Err Stop.Fault →
+        Rose (B.faults (leaves_of engine.old)) (B.faults (leaves_of engine.new)) }
+    ensures full { (p : Playing) → IsAt B.View p engine.old → result ≡ Err Stop.Full →
+        IsShortFor B.View engine.old p command.now }
+    ensures kept { is_fault result ≡ false →
+        OnErr result (Keeps B.View (leaves_of engine.old) (leaves_of engine.new)) }
+    ensures built { built_of engine.new ≡ built_of engine.old }
     ensures schema { schema_of engine.new ≡ schema_of engine.old }
     ensures ready { IsReady B.View engine.new }
     ensures going { OnOk result (stop_of engine.new ≡ None) }
@@ -137,9 +155,11 @@ fn carry_out<B: Leaves + Drop>(
 
 /// Plays a script line by line, up to its end or the line that ends it. Each answer is said whole
 /// before the next line is carried out. On a device that tells its content: after `Ok` and `Line`
-/// exactly the answers of the play were said, and it ends there; after `Stop` exactly the answers of
-/// the first lines, and after `Stop(Fault)` a front of them. Of a stop, `Fault` comes only where the
-/// count of faults rose, `Full` only where the pages may be too few, and `Damaged` never.
+/// exactly the answers of the play were said, it ends there, and the engine stands for its last moment;
+/// after `Stop` exactly the answers of the first lines, and the kept leaves stand for the last state
+/// that these kept; after `Stop(Fault)` a front of the answers. Of a stop, `Fault` comes only where the
+/// count of faults rose, `Full` only where the pages may be too few for the command of the next line,
+/// and `Damaged` never.
 pub fn play<B: Leaves + Drop>(
     alloc: Global,
     script: &[u8],
@@ -149,12 +169,15 @@ pub fn play<B: Leaves + Drop>(
     requires well_formed { IsWellFormed (schema_of engine.old) }
     requires going { stop_of engine.old ≡ None }
     ensures played { IsTrue B.tells → (p : Playing) → IsAt B.View p engine.old →
-        IsPlayedTo (schema_of engine.old) p (script_lines script.now)
-        (B.content (leaves_of engine.old)) (B.content (leaves_of engine.new)) result }
+        IsPlayedTo B.View p (script_lines script.now) engine.old engine.new result }
     ensures cause { (p : Playing) → IsAt B.View p engine.old → (stop : Stop) →
         result ≡ Err (PlayEnd.Stop stop) →
         HasPlayCause (B.limit (leaves_of engine.old)) (B.faults (leaves_of engine.old))
         (B.faults (leaves_of engine.new)) stop }
+    ensures fault { result ≡ Err (PlayEnd.Stop Stop.Fault) →
+        Rose (B.faults (leaves_of engine.old)) (B.faults (leaves_of engine.new)) }
+    ensures schema { schema_of engine.new ≡ schema_of engine.old }
+    ensures built { built_of engine.new ≡ built_of engine.old }
     ensures rest { OnlySays (B.content (leaves_of engine.old)) (B.content (leaves_of engine.new)) }
     ensures counted { is_play_fault result ≡ false →
         B.faults (leaves_of engine.new) ≡ B.faults (leaves_of engine.old) }

@@ -11,6 +11,10 @@ pub enum Status {
     Script,
     /// A call of the machine failed. Nothing was said after that.
     Outside,
+    /// The pages may be too few for a command. The last line said is `stopped: full`.
+    Full,
+    /// The device isn't what was asked for. The last line said is `device: WHY`.
+    Device,
     /// There was no memory. The last line said is `stopped: memory`.
     Memory,
 }

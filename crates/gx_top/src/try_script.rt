@@ -3,22 +3,21 @@ ghost use Rattle.std.specs.Prelude.{◌≡◌, ◌≢◌, ◌≤◌, [], Ok, tru
 ghost use Rattle.gx_device.specs.Content.{SameContent};
 ghost use Rattle.gx_device.specs.Faults.{Rose};
 ghost use Rattle.gx_schema.specs.WellFormed.{IsWellFormed};
+ghost use Rattle.gx_model.specs.States.{empty_state};
 ghost use Rattle.gx_model.specs.Play.{good};
 ghost use Rattle.gx_engine.specs.Steps.{AreFor};
 ghost use Rattle.gx_top.specs.Words.{trying, request_words};
 ghost use Rattle.gx_top.specs.Checked.{IsChecked, IsBuiltFor, IsUnbuilt, CanPlay};
-ghost use Rattle.gx_top.specs.Endings.{status_of, is_fault};
+ghost use Rattle.gx_top.specs.Endings.{IsTryEnding, IsTryStatus, is_fault};
 ghost use Rattle.gx_top.specs.Requests.{IsRunnable, IsUnprepared};
-ghost use Rattle.gx_top.specs.Tries.{Says, SaysFront, IsPlayText, IsStoppedText, IsShortText, IsTryText, IsPlayedAs, IsEndingOf, IsEnd, IsAsDue};
+ghost use Rattle.gx_top.specs.Tries.{Says, SaysFront, IsPlayText, IsStoppedText, IsShortText, IsTryText, IsPlayedAs, IsEnd, IsAsDue};
 
 use crate::built::is_built;
 use crate::ending::{Ending, end};
-use crate::play::{PlayEnd, play};
+use crate::over_leaves::play_over;
 use crate::reading::{Checked, read_texts};
-use crate::script::hear_script;
 use crate::status::Status;
 use gx_device::Machine;
-use gx_engine::Engine;
 use gx_ports::PlainLeaves;
 use gx_schema::Schema;
 use gx_types::{Built, build};
@@ -103,13 +102,13 @@ fn run_script<M: Machine + Drop>(
 ) -> (Status, M)
     requires built { AreFor schema built (length built.specs) }
     requires well_formed { IsWellFormed schema }
-    ensures done { IsTrue M.tells → result.0 ≡ Status.Done → Says (IsPlayText schema (M.content machine).script good) (M.content machine) (M.content result.1) }
+    ensures done { IsTrue M.tells → result.0 ≡ Status.Done → Says (IsPlayText schema (empty_state schema) (M.content machine).script good) (M.content machine) (M.content result.1) }
     ensures heard { IsTrue M.tells → result.0 ≡ Status.Done → (M.content result.1).script ≡ [] }
-    ensures stopped { IsTrue M.tells → result.0 ≡ Status.Script → Says (IsStoppedText schema (M.content machine).script) (M.content machine) (M.content result.1) }
-    ensures memory { IsTrue M.tells → result.0 ≡ Status.Memory → Says (IsShortText schema (M.content machine).script) (M.content machine) (M.content result.1) }
-    ensures cut { IsTrue M.tells → result.0 ≡ Status.Outside → SaysFront (IsTryText schema (M.content machine).script) (M.content machine) (M.content result.1) }
+    ensures stopped { IsTrue M.tells → result.0 ≡ Status.Script → Says (IsStoppedText schema (empty_state schema) (M.content machine).script) (M.content machine) (M.content result.1) }
+    ensures memory { IsTrue M.tells → result.0 ≡ Status.Memory → Says (IsShortText schema (empty_state schema) (M.content machine).script) (M.content machine) (M.content result.1) }
+    ensures cut { IsTrue M.tells → result.0 ≡ Status.Outside → SaysFront (IsTryText schema (empty_state schema) (M.content machine).script) (M.content machine) (M.content result.1) }
     ensures outside { result.0 ≡ Status.Outside → Rose (M.faults machine) (M.faults result.1) }
-    ensures played { result.0 ≢ Status.Refused }
+    ensures played { IsTryStatus result.0 }
     ensures counted { result.0 ≢ Status.Outside → M.faults result.1 ≡ M.faults machine }
     ensures later { M.faults machine ≤ M.faults result.1 }
 {
@@ -123,7 +122,7 @@ fn run_script<M: Machine + Drop>(
     }
 }
 
-// Hears the script and plays it on leaves over the machine.
+// Hears the script and plays it on leaves in memory.
 fn play_script<'a, M: Machine + Drop>(
     alloc: Global,
     schema: Schema,
@@ -132,32 +131,19 @@ fn play_script<'a, M: Machine + Drop>(
 ) -> (Result<(), Ending<'a>>, M)
     requires built { AreFor schema built (length built.specs) }
     requires well_formed { IsWellFormed schema }
-    ensures answered { IsTrue M.tells → IsPlayedAs schema (M.content machine) (M.content result.1) result.0 }
+    ensures answered { IsTrue M.tells → IsPlayedAs schema (empty_state schema) (M.content machine) (M.content result.1) result.0 }
     ensures heard { IsTrue M.tells → result.0 ≡ Ok tt → (M.content result.1).script ≡ [] }
     ensures fault { IsErrOf result.0 Ending.Fault → Rose (M.faults machine) (M.faults result.1) }
-    ensures played { IfErr result.0 (λ ending. status_of ending ≢ Status.Refused) }
+    ensures ending { IfErr result.0 IsTryEnding }
     ensures counted { is_fault result.0 ≡ false → M.faults result.1 ≡ M.faults machine }
     ensures later { M.faults machine ≤ M.faults result.1 }
 {
-    let mut machine = machine;
-    let script = match hear_script(alloc, &mut machine) {
-        Ok(script) => script,
-        Err(ending) => return (Err(ending), machine),
-    };
     let count = built.specs.0.len() as u32;
     match PlainLeaves::make(alloc, machine, count) {
         Ok(leaves) => {
-            let mut engine = Engine::start(schema, built, leaves);
-            let played = play(alloc, &script, &mut engine);
-            (ended(played), engine.into_leaves().into_device())
+            let (played, leaves) = play_over(alloc, schema, built, leaves);
+            (played, leaves.into_device())
         }
         Err((machine, NoMemory)) => (Err(Ending::NoMemory), machine),
     }
-}
-
-// How the request ends where its play does.
-fn ended<'a>(played: Result<(), PlayEnd>) -> Result<(), Ending<'a>>
-    ensures { IsEndingOf played result }
-{
-    Ok(played?)
 }

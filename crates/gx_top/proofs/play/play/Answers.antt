@@ -1,13 +1,15 @@
 use Rattle.std.proofs.Common.{rules, ◌≤◌, ◌∙◌, Err, true, false, length, refl, sym, ap, subst, arith}
 use Rattle.gx_script.specs.Lines.{script_lines}
+use Rattle.gx_top.specs.declared.play.PlayEnd.TheVariants as play_end
 use Rattle.gx_top.specs.Plays.{IsSoFar}
-use Rattle.gx_top.proofs.PlayLemmas.{few_lines, at_start, after_line, at_line_end, at_end, at_line, is_err}
+use Rattle.gx_top.proofs.PlayLemmas.{few_lines, at_start, after_line, at_line_end, at_end, at_line, is_err, stop_other, no_play_fault}
 use Rattle.gx_top.proofs.play.play.Goals as goal
 
 pub loop-line-init : goal.loop-line-init
 loop-line-init g c = record {
   ready = c.requires.ready;
   schema = refl;
+  built = refl;
   going = c.requires.going;
   few = omega (arith, subst (λ ls. length ls.lines ≤ 16777217) (sym c.new-lines.ensures.lines) (few_lines c.args.script.now));
   so_far = λ told p at. subst (λ ls. IsSoFar g.B.View p (script_lines c.args.script.now) ls 0 c.args.engine.now c.args.engine.now) (sym c.new-lines.ensures.lines) (at_start _ p _ c.args.engine.now at);
@@ -21,6 +23,7 @@ pub loop-line-preserved : goal.loop-line-preserved
 loop-line-preserved g c = record {
   ready = search rules;
   schema = c.in_ok-play_line.ensures.schema ∙ c.loop-line.invariant.schema;
+  built = c.in_ok-play_line.ensures.built ∙ c.loop-line.invariant.built;
   going = search rules;
   few = search rules;
   so_far = λ told p at.
@@ -40,8 +43,14 @@ returns-in_err-line-clause-played g c = λ told p at. at_line_end _ p _ c.loop-l
 pub returns-in_err-play_line-clause-played : goal.returns-in_err-play_line-clause-played
 returns-in_err-play_line-clause-played g c = λ told p at.
     let so = c.loop-line.invariant.so_far told p at in
-    at_line _ p _ c.loop-line.lines c.next_line.new.lines c.loop-line.number c.in-Some.line.now c.in_err-play_line.field-0.0 c.from_residual-in_err-play_line.result _ c.loop-line.engine _ c.loop-line.invariant.schema (search rules) so (is_err _ _ c.from_residual-in_err-play_line.ensures.1)
-    (λ n why e. c.in_err-play_line.ensures.bad n why (ap Err e)) (λ other. c.in_err-play_line.ensures.unsaid told _ refl other) (c.in_err-play_line.ensures.cut told so.now so.at)
+    at_line _ p _ c.loop-line.lines c.next_line.new.lines c.loop-line.number c.in-Some.line.now c.in_err-play_line.field-0.0 c.from_residual-in_err-play_line.result _ c.loop-line.engine _ c.loop-line.invariant.schema c.loop-line.invariant.built c.loop-line.invariant.limit (search rules) so (is_err _ _ c.from_residual-in_err-play_line.ensures.1)
+    (λ n why e. (c.in_err-play_line.ensures.bad n why (ap Err e), c.in_err-play_line.ensures.stays n why (ap Err e)))
+    (λ why e. record {
+      unsaid = λ other. c.in_err-play_line.ensures.unsaid told _ refl (stop_other _ why e other);
+      cut = c.in_err-play_line.ensures.cut told so.now so.at;
+      kept = λ other. c.in_err-play_line.ensures.kept (no_play_fault _ why e other);
+      short = λ full. c.in_err-play_line.ensures.full so.now so.at (ap Err (e ∙ ap play_end.Stop full));
+    })
 
 pub returns-then-inside-clause-played : goal.returns-then-inside-clause-played
 returns-then-inside-clause-played g c = λ told p at. at_end _ p _ c.loop-line.lines c.loop-line.number _ c.loop-line.engine true (c.loop-line.invariant.so_far told p at) (search rules) (search rules)

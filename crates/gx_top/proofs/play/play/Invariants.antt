@@ -1,5 +1,5 @@
 use Rattle.std.proofs.Common.{◌≡◌, ◌≤◌, ◌+◌, None, length, IsTrue}
-use Rattle.gx_engine.specs.Steps.{IsReady, IsAt, schema_of, stop_of, leaves_of}
+use Rattle.gx_engine.specs.Steps.{IsReady, IsAt, schema_of, built_of, stop_of, leaves_of}
 use Rattle.gx_model.specs.Play.{Playing}
 use Rattle.gx_script.specs.Lines.{script_lines}
 use Rattle.gx_top.specs.Plays.{IsSoFar}
@@ -10,6 +10,7 @@ abbrev pub invariant-loop-line : goal.invariant-loop-line
 invariant-loop-line g l = record {
   ready : IsReady g.B.View l.engine;
   schema : schema_of l.engine ≡ schema_of l.fn.engine;
+  built : built_of l.engine ≡ built_of l.fn.engine;
   going : stop_of l.engine ≡ None;
   few : l.number + length l.lines.lines ≤ 16777217;
   so_far : IsTrue g.B.View.tells → (p : Playing) → IsAt g.B.View p l.fn.engine → IsSoFar g.B.View p (script_lines l.fn.script) l.lines l.number l.fn.engine l.engine;
