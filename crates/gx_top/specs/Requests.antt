@@ -1,5 +1,5 @@
 -- When a request is refused, by the first reason, and when it is ready to be carried out.
-use Rattle.std.specs.Prelude.{◌≡◌, ◌≢◌, ◌⊎◌, ℕ, ◌<◌, ◌≤◌, List, [], ◌++◌, length, Bool, true, false, IsTrue, Some, None, Result, Err, IsSomeAnd}
+use Rattle.std.specs.Prelude.{◌≡◌, ◌≢◌, ◌⊎◌, ℕ, ◌<◌, ◌≤◌, List, [], ◌++◌, length, Bool, true, false, ◌&&◌, IsTrue, Some, None, Result, Err, IsSomeAnd}
 use Rattle.std.specs.FinMap.{get}
 use Rattle.gx_device.specs.Content.{Texts}
 use Rattle.gx_tokens.specs.declared.why.Unread.{Unread}
@@ -14,6 +14,7 @@ use Rattle.gx_equation.specs.Trees.{DefinitionTree}
 use Rattle.gx_typing.specs.declared.typing.Typing.{Typing}
 use Rattle.gx_typing.specs.Typed.{IsTyped, leaves, typing_with}
 use Rattle.gx_typing.specs.Whole.{typing_of}
+use Rattle.gx_leaves.specs.Kinds.{are_built}
 use Rattle.gx_top.specs.declared.ending.Ending.{Ending}
 use Rattle.gx_top.specs.declared.ending.Ending.TheVariants as ending
 use Rattle.gx_top.specs.declared.summary.Summary.{Summary}
@@ -95,12 +96,12 @@ AreUnchecked schema_text equation_text why = AreUnaccepted schema_text equation_
 abbrev pub IsAccepted : List (List ℕ) → Texts → Action → Schema → List DefinitionTree → Typing → Type 0
 IsAccepted words texts a schema ds typing = (s : List ℕ) × (e : List ℕ) × IsAsked words texts a s e × AreAccepted s e schema ds typing
 
--- Whether what is asked for can be carried out on what is built. No kind of leaf is stored on a device yet.
+-- whether what is asked for can be carried out on what is built
 abbrev pub is_carried : Action → Schema → List DefinitionTree → Typing → Bool
 is_carried checking schema ds typing = true
 is_carried trying schema ds typing = is_built schema ds
-is_carried (making device blocks) schema ds typing = false
-is_carried (running device) schema ds typing = false
+is_carried (making device blocks) schema ds typing = is_built schema ds && are_built typing.specs
+is_carried (running device) schema ds typing = is_built schema ds && are_built typing.specs
 
 -- a request that isn't refused
 abbrev pub IsReady : List (List ℕ) → Texts → Action → Schema → List DefinitionTree → Typing → Type 0
