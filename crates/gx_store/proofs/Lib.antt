@@ -1,0 +1,5 @@
+pub mod GroundLemmas
+pub mod HeldLemmas
+pub mod CauseLemmas
+pub mod ShelfLemmas
+pub mod SettledLemmas
