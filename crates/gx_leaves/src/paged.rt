@@ -211,7 +211,8 @@ impl<P: Pages + Drop> Leaves for PagedLeaves<P> {
         whole_all P.tells (P.steady l.pages)
         (P.ground l.pages) l.places.items (P.working l.pages) steady some each };
 
-    ghost calm_means = { λ l s told calm. P.calm_means l.pages s told calm };
+    ghost calm_means = { λ l s told calm.
+        record { begun = (P.calm_means l.pages s told calm).begun } };
 
     ghost calm_now = { λ l s calm. P.calm_now l.pages s calm };
 }
