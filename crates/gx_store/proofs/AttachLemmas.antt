@@ -1,5 +1,5 @@
 -- A device that has been attached, and a refusal to attach one.
-use Rattle.std.proofs.Common.{◌≡◌, ◌∙◌, ℕ, ◌≤◌, Bool, true, false, not, List, Option, Some, None, Result, Ok, Err, tt, length, refl, sym, ap, subst, arith}
+use Rattle.std.proofs.Common.{◌≡◌, ◌∙◌, ℕ, ◌≤◌, Bool, true, false, not, List, Option, Some, None, Result, Ok, Err, length, refl, sym, ap, subst, arith}
 use Rattle.std.specs.Prelude.{IfOk, IfErr, OnOk}
 use Rattle.std.specs.Option.{option_map_or}
 use Rattle.gx_device.specs.Content.{Content, IsOpened, device_at, Silent}

@@ -1,5 +1,5 @@
 -- Causes of refusals, and faults that are counted over several calls.
-use Rattle.std.proofs.Common.{◌≡◌, ◌∙◌, ℕ, ◌≤◌, Bool, true, false, not, List, Some, None, Unit, tt, length, get_or, refl, sym, ap, subst, arith}
+use Rattle.std.proofs.Common.{◌≡◌, ◌∙◌, ℕ, ◌≤◌, Bool, true, false, not, List, Some, None, length, get_or, refl, sym, ap, subst, arith}
 use Rattle.std.specs.Prelude.{slice_index_or}
 use Rattle.gx_device.specs.Content.{Content, device_at}
 use Rattle.gx_device.specs.Faults.{Counted, Rose}

@@ -1,5 +1,5 @@
 -- Leaves over a journal whose pages hold these maps.
-use Rattle.std.proofs.Common.{◌≡◌, ℕ, ◌*◌, ◌+◌, Bool, List, length, IsTrue, sym, ap, subst, ◌∙◌, tt}
+use Rattle.std.proofs.Common.{◌≡◌, ℕ, ◌*◌, ◌+◌, Bool, List, length, IsTrue, sym, ap, subst, ◌∙◌}
 use Rattle.std.specs.Prelude.{Result, Ok, Err, IfOk, OnOk}
 use Rattle.gx_device.specs.declared.device.Device as device
 use Rattle.gx_ports.specs.declared.page_view.PageView as page_view

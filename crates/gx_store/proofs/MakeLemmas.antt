@@ -1,5 +1,5 @@
 -- Why nothing is made, and how faults are counted while a database is made.
-use Rattle.std.proofs.Common.{◌≡◌, ◌≢◌, ◌∙◌, ℕ, ◌≤◌, Bool, true, false, not, List, Result, Ok, Err, tt, length, refl, sym, ap, subst, arith}
+use Rattle.std.proofs.Common.{◌≡◌, ◌≢◌, ◌∙◌, ℕ, ◌≤◌, Bool, true, false, not, List, Result, Ok, Err, length, refl, sym, ap, subst, arith}
 use Rattle.std.specs.Prelude.{OnOk, OnErr}
 use Rattle.gx_device.specs.Content.{Content, device_at}
 use Rattle.std.specs.Prelude.{IsSome}
@@ -15,7 +15,7 @@ use Rattle.gx_journal.specs.Opening.{has_no_fault}
 use Rattle.gx_store.specs.Causes.{not_attached, no_journal}
 use Rattle.gx_store.specs.Device.{IsSize}
 use Rattle.gx_store.specs.Store.{is_fault}
-use Rattle.gx_store.specs.Making.{IsUnmade, IsUnlaid}
+use Rattle.gx_store.specs.Making.{IsUnmade, IsUnmadeOn, IsUnlaid}
 use Rattle.gx_store.specs.declared.unopened.Unopened.{Unopened}
 use Rattle.gx_store.specs.declared.unopened.Unopened.TheVariants as unopened
 
@@ -24,14 +24,23 @@ unlaid_by journal.Fault no = tt
 unlaid_by journal.NoMemory no = tt
 unlaid_by journal.NoDatabase no = no refl
 
-pub unlaid_unmade : (name : List ℕ) (count : ℕ) (specs : List LeafSpec) (before : Content) (why : Unopened) → IsUnlaid why → IsUnmade name count specs before why
-unlaid_unmade name count specs before unopened.Fault is = tt
-unlaid_unmade name count specs before unopened.NoMemory is = tt
-unlaid_unmade name count specs before unopened.Missing is = is
-unlaid_unmade name count specs before unopened.Exists is = absurd is
-unlaid_unmade name count specs before unopened.Size is = absurd is
-unlaid_unmade name count specs before unopened.NoDatabase is = is
-unlaid_unmade name count specs before (unopened.OtherTexts place) is = is
+pub unlaid_on : (specs : List LeafSpec) (count : ℕ) (why : Unopened) → IsUnlaid why → IsUnmadeOn specs count why
+unlaid_on specs count unopened.Fault is = is
+unlaid_on specs count unopened.NoMemory is = is
+unlaid_on specs count unopened.Missing is = is
+unlaid_on specs count unopened.Exists is = is
+unlaid_on specs count unopened.Size is = absurd is
+unlaid_on specs count unopened.NoDatabase is = is
+unlaid_on specs count (unopened.OtherTexts place) is = is
+
+pub unmade_on : (name : List ℕ) (count : ℕ) (specs : List LeafSpec) (before : Content) (why : Unopened) → IsUnmadeOn specs count why → IsUnmade name count specs before why
+unmade_on name count specs before unopened.Fault is = tt
+unmade_on name count specs before unopened.NoMemory is = tt
+unmade_on name count specs before unopened.Size is = is
+unmade_on name count specs before unopened.Missing is = is
+unmade_on name count specs before unopened.Exists is = absurd is
+unmade_on name count specs before unopened.NoDatabase is = is
+unmade_on name count specs before (unopened.OtherTexts place) is = is
 
 pub unmade_by : (stop : AttachStop) (name : List ℕ) (count : ℕ) (specs : List LeafSpec) (before : Content) → IsSize specs count
     → (stop ≡ attach.Missing → ⊥) → (stop ≡ attach.Exists → IsSome (device_at before.now name)) → IsUnmade name count specs before (not_attached stop)

@@ -26,6 +26,11 @@ IsUnlaid unopened.Fault = Unit {0}
 IsUnlaid unopened.NoMemory = Unit {0}
 IsUnlaid why = ⊥
 
+-- Why nothing is made on an attached device of so many blocks.
+abbrev pub IsUnmadeOn : List LeafSpec → ℕ → Unopened → Type 0
+IsUnmadeOn specs count unopened.Size = ¬ IsSize specs count
+IsUnmadeOn specs count why = IsUnlaid why
+
 -- whether no call of the machine failed
 abbrev pub has_no_fault : {T : Type 0} → Result T Unopened → Bool
 has_no_fault (Ok done) = true

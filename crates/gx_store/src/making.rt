@@ -14,7 +14,7 @@ ghost use Rattle.gx_pages.specs.View.{journal_of};
 ghost use Rattle.gx_store.specs.Device.{IsSize, AreMaps, IsSettled, IsMadeOn};
 ghost use Rattle.gx_store.specs.Store.{CanAttach, Attaches, OfBlocks};
 ghost use Rattle.gx_store.specs.Opening.{is_untouched};
-ghost use Rattle.gx_store.specs.Making.{IsUnmade, IsUnlaid, not_laid, has_no_fault, machine_below, is_laid};
+ghost use Rattle.gx_store.specs.Making.{IsUnmade, IsUnmadeOn, IsUnlaid, not_laid, has_no_fault, machine_below, is_laid};
 
 use crate::store::{FRAMES, is_size};
 use crate::unopened::Unopened;
@@ -67,7 +67,8 @@ pub fn make<M: Machine + Drop>(
     make_attached(alloc, machine, schema, equation, specs)
 }
 
-// Makes the database on the attached device.
+// Makes the database on the attached device. No contract tells the size of one that a machine which tells
+// nothing has made, so it is tried again.
 fn make_attached<M: Machine + Drop>(
     alloc: Global,
     machine: M,
@@ -78,13 +79,15 @@ fn make_attached<M: Machine + Drop>(
     requires texts { length schema.now + length equation.now ≤ 16380 }
     requires few { length specs.now ≤ 255 }
     requires built { IsTrue (are_built specs.now) }
-    requires size { IsSize specs.now (M.size machine) }
     ensures made { IsTrue M.tells → OnOk result.0
         (IsMadeOn (M.size machine) schema.now equation.now specs.now (M.content result.1).now.blocks) }
-    ensures unmade { IfErr result.0 (λ why. IsUnlaid why) }
+    ensures unmade { IfErr result.0 (λ why. IsUnmadeOn specs.now (M.size machine) why) }
     ensures silent { Silent (M.content machine) (M.content result.1) }
     ensures faults { Counted (has_no_fault result.0) (M.faults machine) (M.faults result.1) }
 {
+    if !is_size(specs, machine.blocks()) {
+        return (Err(Unopened::Size), machine);
+    }
     match Journal::format(alloc, machine, FRAMES, schema, equation) {
         Ok(journal) => make_over(alloc, journal, specs),
         Err((machine, why)) => (Err(why.into()), machine),
