@@ -1,5 +1,5 @@
 -- Causes of refusals, and faults that are counted over several calls.
-use Rattle.std.proofs.Common.{◌≡◌, ◌∙◌, ℕ, ◌≤◌, Bool, true, false, not, List, Some, None, length, get_or, refl, sym, ap, subst, arith}
+use Rattle.std.proofs.Common.{◌≡◌, ◌∙◌, ℕ, ◌≤◌, ◌↔◌, IsTrue, Bool, true, false, not, List, [], Some, None, length, get_or, refl, sym, ap, subst, arith}
 use Rattle.std.specs.Prelude.{slice_index_or}
 use Rattle.gx_device.specs.Content.{Content, device_at}
 use Rattle.gx_device.specs.Faults.{Counted, Rose}
@@ -81,3 +81,7 @@ refused_by attach.Missing name schema equation specs before absent exists = abse
 refused_by attach.Exists name schema equation specs before absent exists = absurd (exists refl)
 refused_by attach.Fault name schema equation specs before absent exists = tt
 refused_by attach.NoMemory name schema equation specs before absent exists = tt
+
+-- the size that was asked for is that of the blocks
+pub sized_by : (specs : List LeafSpec) (long size asked : ℕ) (r : Bool) → size ≡ long → asked ≡ size → (IsTrue r ↔ IsSize specs asked) → r ≡ true → IsSize specs long
+sized_by specs long size asked r sized is test yes = subst (λ (n : ℕ). IsSize specs n) (is ∙ sized) (test.0 yes)

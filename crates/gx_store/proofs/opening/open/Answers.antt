@@ -28,7 +28,7 @@ returns-clause-holds g c = λ can blocks maps was is.
     let o = c.in_default.ensures.opened can.told can.free refl in
     c.open_attached.ensures.holds can.told maps
     (subst (λ (bs : List (List ℕ)). Reopens c.args.schema.now c.args.equation.now c.args.specs.now maps bs)
-    (attached_blocks c.args.name.now blocks (g.M.Device.content c.args.machine) (g.M.Device.content c.attach.new.machine) was o) is)
+    (attached_blocks c.args.name.now blocks (g.M.Device.content c.args.machine) (g.M.Device.content c.attach.new.self) was o) is)
 
 pub returns-clause-opened : goal.returns-clause-opened
 returns-clause-opened g c = λ can.
@@ -49,18 +49,18 @@ pub returns-clause-untouched : goal.returns-clause-untouched
 returns-clause-untouched g c = λ can.
     let o = c.in_default.ensures.opened can.told can.free refl in
     if_err_with c.open_attached.result _ _
-    (λ e is same none. left_alone c.args.name.now (g.M.Device.content c.args.machine) (g.M.Device.content c.attach.new.machine) (g.M.Device.content e.0) can.free o
-    (subst (λ r. Silent (g.M.Device.content c.attach.new.machine) (g.M.Device.content (machine_left r))) is c.open_attached.ensures.silent) (same none))
+    (λ e is same none. left_alone c.args.name.now (g.M.Device.content c.args.machine) (g.M.Device.content c.attach.new.self) (g.M.Device.content e.0) can.free o
+    (subst (λ r. Silent (g.M.Device.content c.attach.new.self) (g.M.Device.content (machine_left r))) is c.open_attached.ensures.silent) (same none))
     (c.open_attached.ensures.untouched can.told)
 
 pub returns-clause-named : goal.returns-clause-named
 returns-clause-named g c = λ can.
     let o = c.in_default.ensures.opened can.told can.free refl in
     if_ok_with c.open_attached.result _
-    (λ s is. attached_named c.args.name.now o.blocks (g.M.Device.content c.args.machine) (g.M.Device.content c.attach.new.machine) _ can.free o.attached
-    (subst (λ r. Silent (g.M.Device.content c.attach.new.machine) (g.M.Device.content (machine_left r))) is c.open_attached.ensures.silent))
+    (λ s is. attached_named c.args.name.now o.blocks (g.M.Device.content c.args.machine) (g.M.Device.content c.attach.new.self) _ can.free o.attached
+    (subst (λ r. Silent (g.M.Device.content c.attach.new.self) (g.M.Device.content (machine_left r))) is c.open_attached.ensures.silent))
 
 pub returns-clause-attaches : goal.returns-clause-attaches
 returns-clause-attaches g c = λ can.
     let o = c.in_default.ensures.opened can.told can.free refl in
-    attached_rest c.args.name.now o.blocks (g.M.Device.content c.args.machine) (g.M.Device.content c.attach.new.machine) _ can.free o.attached c.open_attached.ensures.silent
+    attached_rest c.args.name.now o.blocks (g.M.Device.content c.args.machine) (g.M.Device.content c.attach.new.self) _ can.free o.attached c.open_attached.ensures.silent

@@ -15,7 +15,7 @@ use Rattle.gx_store.proofs.opening.open_journal.Goals as goal
 pub returns-in-Ok-None-clause-holds : goal.returns-in-Ok-None-clause-holds
 returns-in-Ok-None-clause-holds g c = λ told same steady maps are.
     if_ok_both c.adopt.result _ _ _
-    (adopted (λ p. refl) (λ p. refl) (λ p. refl) (λ p h. h) told c.args.journal c.texts_differ.new.journal c.texts_differ.ensures.keeps c.texts_differ.ensures.working same steady c.args.specs.now maps are)
+    (adopted (λ p. refl) (λ p. refl) (λ p. refl) (λ p h. h) told c.args.journal c.texts_differ.new.self c.texts_differ.ensures.keeps c.texts_differ.ensures.working same steady c.args.specs.now maps are)
     c.adopt.ensures.journal c.adopt.ensures.places
 
 pub returns-in-Ok-None-clause-specs : goal.returns-in-Ok-None-clause-specs
@@ -27,17 +27,17 @@ returns-in-Ok-None-clause-other g c = λ told.
 
 pub returns-in-Ok-None-clause-silent : goal.returns-in-Ok-None-clause-silent
 returns-in-Ok-None-clause-silent g c =
-    subst (λ d. Silent (content_of c.args.journal) (g.M.Device.content d)) (sym (left_is c.adopt.result c.texts_differ.new.journal c.adopt.ensures.journal c.adopt.ensures.back))
+    subst (λ d. Silent (content_of c.args.journal) (g.M.Device.content d)) (sym (left_is c.adopt.result c.texts_differ.new.self c.adopt.ensures.journal c.adopt.ensures.back))
     c.texts_differ.ensures.silent
 
 pub returns-in-Ok-None-clause-calm : goal.returns-in-Ok-None-clause-calm
 returns-in-Ok-None-clause-calm g c = λ calm.
     IfOk-weaker c.adopt.result _ _
-    (λ s is. subst (λ x. IsCalm x (content_of x)) (sym is) (calm_later c.texts_differ.new.journal (content_of c.args.journal) (c.texts_differ.ensures.keeps.calm (content_of c.args.journal) calm)))
+    (λ s is. subst (λ x. IsCalm x (content_of x)) (sym is) (calm_later c.texts_differ.new.self (content_of c.args.journal) (c.texts_differ.ensures.keeps.calm (content_of c.args.journal) calm)))
     c.adopt.ensures.journal
 
 pub returns-in-Ok-None-clause-faults : goal.returns-in-Ok-None-clause-faults
 returns-in-Ok-None-clause-faults g c =
     subst (λ (b : Bool). Counted b (g.M.Device.faults (device_of c.args.journal)) _) (sym (goes_on_is c.adopt.result c.adopt.ensures.no_memory))
-    (subst (λ d. Counted true (g.M.Device.faults (device_of c.args.journal)) (g.M.Device.faults d)) (sym (left_is c.adopt.result c.texts_differ.new.journal c.adopt.ensures.journal c.adopt.ensures.back))
+    (subst (λ d. Counted true (g.M.Device.faults (device_of c.args.journal)) (g.M.Device.faults d)) (sym (left_is c.adopt.result c.texts_differ.new.self c.adopt.ensures.journal c.adopt.ensures.back))
     (counted_still _ _ c.in-Ok-None.ensures.faults.same))
