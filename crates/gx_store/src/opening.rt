@@ -145,9 +145,6 @@ fn adopt<M: Machine + Drop>(
 {
     match PagedLeaves::adopt(alloc, Paged::adopt(journal), specs) {
         Ok(leaves) => Ok(leaves),
-        Err((pages, NoMemory)) => Err((
-            pages.into_journal().into_device(),
-            Unopened::NoMemory,
-        )),
+        Err((pages, NoMemory)) => Err((pages.into_journal().into_device(), Unopened::NoMemory)),
     }
 }

@@ -32,7 +32,6 @@ pub enum Unopened {
 
 impl From<AttachStop> for Unopened {
     ghost use Rattle.gx_store.specs.Causes.{not_attached};
-
     ghost use Rattle.std.specs.Prelude.{◌≡◌};
 
     ghost from_gives = { λ stop e. e ≡ not_attached stop };
@@ -49,7 +48,6 @@ impl From<AttachStop> for Unopened {
 
 impl From<NoJournal> for Unopened {
     ghost use Rattle.gx_store.specs.Causes.{no_journal};
-
     ghost use Rattle.std.specs.Prelude.{◌≡◌};
 
     ghost from_gives = { λ why e. e ≡ no_journal why };
