@@ -84,4 +84,4 @@ refused_by attach.NoMemory name schema equation specs before absent exists = tt
 
 -- the size that was asked for is that of the blocks
 pub sized_by : (specs : List LeafSpec) (long size asked : ℕ) (r : Bool) → size ≡ long → asked ≡ size → (IsTrue r ↔ IsSize specs asked) → r ≡ true → IsSize specs long
-sized_by specs long size asked r sized is test yes = subst (λ (n : ℕ). IsSize specs n) (is ∙ sized) (test.0 yes)
+sized_by specs long size asked r sized is test so = subst (λ (n : ℕ). IsSize specs n) (is ∙ sized) (test.0 so)

@@ -20,9 +20,9 @@ use Rattle.gx_store.specs.declared.unopened.Unopened.{Unopened}
 use Rattle.gx_store.specs.declared.unopened.Unopened.TheVariants as unopened
 
 pub unlaid_by : (why : NoJournal) → why ≢ journal.NoDatabase → IsUnlaid (no_journal why)
-unlaid_by journal.Fault no = tt
-unlaid_by journal.NoMemory no = tt
-unlaid_by journal.NoDatabase no = no refl
+unlaid_by journal.Fault other = tt
+unlaid_by journal.NoMemory other = tt
+unlaid_by journal.NoDatabase other = other refl
 
 pub unlaid_on : (specs : List LeafSpec) (count : ℕ) (why : Unopened) → IsUnlaid why → IsUnmadeOn specs count why
 unlaid_on specs count unopened.Fault is = is

@@ -20,17 +20,17 @@ pub silent_itself : (a : Content) → Silent a a
 silent_itself a = record { said = refl; shelf = refl; script = refl; aside = refl }
 
 not_so : (b : Bool) → (b ≡ true → ⊥) → b ≡ false
-not_so true no = absurd (no refl)
-not_so false no = refl
+not_so true never = absurd (never refl)
+not_so false never = refl
 
 other_named : (devices : Devices) (name : List ℕ) (blocks : List (List ℕ)) (other : List ℕ) → other ≢ name
     → fin.get (with_named (Some name) blocks (fin.remove devices name)) other ≡ fin.get devices other
 other_named devices name blocks other differ =
-    let no : eq_by_cmp key_cmp other name ≡ false = not_so (eq_by_cmp key_cmp other name) (λ e. differ (same_key other name e)) in
+    let off : eq_by_cmp key_cmp other name ≡ false = not_so (eq_by_cmp key_cmp other name) (λ e. differ (same_key other name e)) in
     fin.get-insert nat_list_cmp_total (fin.remove devices name) name blocks other
-    ∙ ap (λ (b : Bool). cond b (Some blocks) (fin.get (fin.remove devices name) other)) no
+    ∙ ap (λ (b : Bool). cond b (Some blocks) (fin.get (fin.remove devices name) other)) off
     ∙ fin.get-remove nat_list_cmp_total devices name other
-    ∙ ap (λ (b : Bool). cond b None (fin.get devices other)) no
+    ∙ ap (λ (b : Bool). cond b None (fin.get devices other)) off
 
 -- the attached one has the blocks
 pub named_at : (m : Moment) (name : List ℕ) → m.shelf.name ≡ Some name → device_at m name ≡ Some m.blocks

@@ -22,12 +22,12 @@ returns-in-Ok-clause-holds g c = λ told maps is.
     (c.in-Ok.ensures.kept told) is.leaves)
 
 pub returns-in-Ok-clause-silent : goal.returns-in-Ok-clause-silent
-returns-in-Ok-clause-silent g c = silent_after _ (content_of c.in-Ok.journal) _ c.recover.ensures.silent c.open_journal.ensures.silent
+returns-in-Ok-clause-silent g c = silent_after _ (content_of c.in-Ok.journal) _ c.in-Ok.ensures.silent c.open_journal.ensures.silent
 
 pub returns-in-Ok-clause-untouched : goal.returns-in-Ok-clause-untouched
 returns-in-Ok-clause-untouched g c = λ told.
     IfErr-weaker c.open_journal.result _ _
-    (λ e a yes. absurd (unread_touched c.args.schema.now c.args.equation.now (head_blocks c.in-Ok.journal) e.1 a yes))
+    (λ e a so. absurd (unread_touched c.args.schema.now c.args.equation.now (head_blocks c.in-Ok.journal) e.1 a so))
     (c.open_journal.ensures.other told)
 
 pub returns-in-Ok-clause-faults : goal.returns-in-Ok-clause-faults

@@ -7,6 +7,7 @@ use Rattle.gx_pages.specs.Laws.{calm_later}
 use Rattle.gx_leaves.specs.Places.{specs_of}
 use Rattle.gx_leaves.proofs.PlaceLemmas.{specs_back}
 use Rattle.gx_store.specs.Opening.{AreUnread}
+use Rattle.gx_store.specs.Store.{machine_left}
 use Rattle.gx_store.proofs.HeldLemmas.{adopted, if_ok_both, on_ok_always}
 use Rattle.gx_store.proofs.LeftLemmas.{left_is, goes_on_is}
 use Rattle.gx_store.proofs.CauseLemmas.{counted_still}
@@ -38,6 +39,6 @@ returns-in-Ok-None-clause-calm g c = λ calm.
 
 pub returns-in-Ok-None-clause-faults : goal.returns-in-Ok-None-clause-faults
 returns-in-Ok-None-clause-faults g c =
-    subst (λ (b : Bool). Counted b (g.M.Device.faults (device_of c.args.journal)) _) (sym (goes_on_is c.adopt.result c.adopt.ensures.no_memory))
+    subst (λ (b : Bool). Counted b (g.M.Device.faults (device_of c.args.journal)) (g.M.Device.faults (machine_left c.adopt.result))) (sym (goes_on_is c.adopt.result c.adopt.ensures.no_memory))
     (subst (λ d. Counted true (g.M.Device.faults (device_of c.args.journal)) (g.M.Device.faults d)) (sym (left_is c.adopt.result c.texts_differ.new.self c.adopt.ensures.journal c.adopt.ensures.back))
     (counted_still _ _ c.in-Ok-None.ensures.faults.same))
