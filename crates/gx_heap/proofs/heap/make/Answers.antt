@@ -1,4 +1,4 @@
-use Rattle.std.proofs.Common.{◌≡◌, ℕ, ap, arith}
+use Rattle.std.proofs.Common.{◌≡◌, ap, arith}
 use Rattle.std.proofs.lemmas.Result.{on_ok_weaker}
 use Rattle.gx_ports.specs.Roots.{roots_of, roots_of_kind}
 use Rattle.gx_heap.proofs.HeapLemmas.{heap_made, heap_made_others, heap_made_roots}

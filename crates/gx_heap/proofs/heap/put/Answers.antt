@@ -1,6 +1,5 @@
-use Rattle.std.proofs.Common.{◌≡◌, ℕ, ◌+◌, ◌*◌, ◌≤◌, ap, refl, sym, subst, arith}
+use Rattle.std.proofs.Common.{◌≡◌, ap, refl, sym, subst, arith}
 use Rattle.std.proofs.lemmas.Result.{on_ok_weaker}
-use Rattle.std.specs.FinMap.{len}
 use Rattle.gx_ports.specs.Files.{IsWhole, page_count}
 use Rattle.gx_ports.specs.Roots.{roots_of, roots_of_kind}
 use Rattle.gx_ports.specs.Sheets.{HasNone}
