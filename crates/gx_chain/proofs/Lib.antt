@@ -6,3 +6,5 @@ pub mod WalkLemmas
 pub mod PutLemmas
 pub mod CountLemmas
 pub mod RemoveLemmas
+pub mod CheckLemmas
+pub mod VisitLemmas

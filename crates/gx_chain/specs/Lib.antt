@@ -2,3 +2,4 @@ pub mod Chain
 pub mod Changes
 pub mod Walk
 pub mod Seek
+pub mod Check

@@ -1,6 +1,7 @@
 //! Chains of entry pages: each page has the number of the next one.
 #![tactic(auto)]
 
+mod check;
 mod make;
 mod put;
 mod read;
@@ -9,6 +10,7 @@ mod seek;
 mod walk;
 mod write;
 
+pub use check::check_chain;
 pub use make::make_first;
 pub use put::put_in;
 pub use remove::remove_from;
