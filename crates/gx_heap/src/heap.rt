@@ -5,12 +5,13 @@ ghost use Rattle.gx_ports.specs.declared.kinds.LeafKind.TheVariants as kinds;
 ghost use Rattle.gx_ports.specs.declared.leaves.TheConstants.{MAX_KEY_LEN, MAX_ENTRY_LEN};
 ghost use Rattle.gx_ports.specs.Files.{IsPlace, IsVacant, ClaimsRoots, Holds, OthersStay, EndsFile, SparesOthers, IsFull, IsWhole};
 ghost use Rattle.gx_ports.specs.LeafMaps.{LeafMap};
-ghost use Rattle.gx_ports.specs.PageCalls.{KeepsPages, CountsPageFaults};
+ghost use Rattle.gx_ports.specs.PageCalls.{KeepsPages, ReadsPages, CountsPageFaults};
 ghost use Rattle.gx_heap.specs.Heap.{IsHeap};
 
-use gx_chain::{make_first, put_in, remove_from};
+use gx_chain::{check_chain, make_first, put_in, remove_from};
 use gx_device::Failed;
 use gx_ports::{Pages, Place, Stop};
+use std::alloc::Global;
 
 /// Makes an empty heap at a place whose root is free and whose owner has no page. After `Failed` the pages
 /// are to be opened again.
@@ -74,4 +75,19 @@ pub fn remove<P: Pages>(pages: &mut P, place: &Place, key: &[u8]) -> Result<(), 
     ensures frugal { ¬ IsErrOf result Stop.NoMemory }
 {
     remove_from(pages, place.root, place.owner, key)
+}
+
+/// Looks whether the heap is whole. `Damaged` has the block of a page that shows that it isn't.
+pub fn check<P: Pages>(alloc: Global, pages: &mut P, place: &Place) -> Result<(), Stop>
+    requires kind { place.now.spec.kind ≡ kinds.Heap }
+    requires place { IsPlace (P.ground pages.old) place.now }
+    ensures ok { IsTrue P.tells → OnOk result
+        (IsWhole P.PageView (IsHeap (P.ground pages.old) place.now) pages.old) }
+    ensures reads { ReadsPages P.PageView pages.old pages.new }
+    ensures ends { EndsFile P.PageView
+        (IsWhole P.PageView (IsHeap (P.ground pages.old) place.now) pages.old)
+        pages.old pages.new result }
+    ensures not_full { ¬ IsErrOf result Stop.Full }
+{
+    check_chain(alloc, pages, place.root, place.owner)
 }
