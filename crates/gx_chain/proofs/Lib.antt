@@ -8,3 +8,5 @@ pub mod CountLemmas
 pub mod RemoveLemmas
 pub mod CheckLemmas
 pub mod VisitLemmas
+pub mod GatherLemmas
+pub mod CollectLemmas

@@ -3,3 +3,4 @@ pub mod Changes
 pub mod Walk
 pub mod Seek
 pub mod Check
+pub mod Collect

@@ -2,6 +2,7 @@
 #![tactic(auto)]
 
 mod check;
+mod gather;
 mod make;
 mod put;
 mod read;
@@ -11,6 +12,7 @@ mod walk;
 mod write;
 
 pub use check::check_chain;
+pub use gather::collect;
 pub use make::make_first;
 pub use put::put_in;
 pub use remove::remove_from;

@@ -1,16 +1,17 @@
 // The calls on a heap.
-ghost use Rattle.std.specs.Prelude.{◌≡◌, ◌+◌, ◌≤◌, length, IsTrue, OnOk, IsErrOf};
+ghost use Rattle.std.specs.Prelude.{◌≡◌, ◌+◌, ◌≤◌, ◌++◌, length, IsTrue, OnOk, IsErrOf};
 ghost use Rattle.std.specs.FinMap.{empty, insert, remove};
 ghost use Rattle.gx_ports.specs.declared.kinds.LeafKind.TheVariants as kinds;
 ghost use Rattle.gx_ports.specs.declared.leaves.TheConstants.{MAX_KEY_LEN, MAX_ENTRY_LEN};
 ghost use Rattle.gx_ports.specs.Files.{IsPlace, IsVacant, ClaimsRoots, Holds, OthersStay, EndsFile, SparesOthers, IsFull, IsWhole};
-ghost use Rattle.gx_ports.specs.LeafMaps.{LeafMap};
+ghost use Rattle.gx_ports.specs.LeafMaps.{LeafMap, Extends, selected};
 ghost use Rattle.gx_ports.specs.PageCalls.{KeepsPages, ReadsPages, CountsPageFaults};
 ghost use Rattle.gx_heap.specs.Heap.{IsHeap};
 
-use gx_chain::{check_chain, make_first, put_in, remove_from};
+use gx_chain::{check_chain, collect, make_first, put_in, remove_from};
 use gx_device::Failed;
-use gx_ports::{Pages, Place, Stop};
+use gx_ports::{Entries, Pages, Place, Stop};
+use gx_values::Span;
 use std::alloc::Global;
 
 /// Makes an empty heap at a place whose root is free and whose owner has no page. After `Failed` the pages
@@ -75,6 +76,30 @@ pub fn remove<P: Pages>(pages: &mut P, place: &Place, key: &[u8]) -> Result<(), 
     ensures frugal { ¬ IsErrOf result Stop.NoMemory }
 {
     remove_from(pages, place.root, place.owner, key)
+}
+
+/// Appends the entries inside the span, in ascending order of their keys. After a refusal `out` may hold
+/// more than before.
+pub fn select<P: Pages>(
+    alloc: Global,
+    pages: &mut P,
+    place: &Place,
+    span: &Span,
+    out: &mut Entries,
+) -> Result<(), Stop>
+    requires kind { place.now.spec.kind ≡ kinds.Heap }
+    requires place { IsPlace (P.ground pages.old) place.now }
+    ensures ok { (map : LeafMap) →
+        Holds P.PageView (IsHeap (P.ground pages.old) place.now) pages.old map →
+        OnOk result (out.new ≡ out.old ++ selected span.now.lo span.now.hi map) }
+    ensures extends { Extends out.old out.new }
+    ensures reads { ReadsPages P.PageView pages.old pages.new }
+    ensures ends { EndsFile P.PageView
+        (IsWhole P.PageView (IsHeap (P.ground pages.old) place.now) pages.old)
+        pages.old pages.new result }
+    ensures not_full { ¬ IsErrOf result Stop.Full }
+{
+    collect(alloc, pages, place.root, span, out)
 }
 
 /// Looks whether the heap is whole. `Damaged` has the block of a page that shows that it isn't.

@@ -3,4 +3,4 @@
 
 mod heap;
 
-pub use heap::{check, make, put, remove};
+pub use heap::{check, make, put, remove, select};

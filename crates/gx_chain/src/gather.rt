@@ -1,0 +1,118 @@
+// The entries of a chain inside a span.
+ghost use Rattle.std.specs.Prelude.{◌≡◌, ◌++◌, [], ℕ, List, length, IsTrue, OnOk, IfOk, IsErrOf};
+ghost use Rattle.std.specs.List.Sorted.{IsPermutation, IsSortedBy};
+ghost use Rattle.std.specs.Ordering.{is_lt};
+ghost use Rattle.gx_ports.specs.declared.pages.TheConstants.{PAGE_LEN};
+ghost use Rattle.gx_ports.specs.Files.{EndsFile};
+ghost use Rattle.gx_ports.specs.LeafMaps.{Extends};
+ghost use Rattle.gx_ports.specs.PageCalls.{ReadsPages};
+ghost use Rattle.gx_ports.specs.Sheets.{IsPast};
+ghost use Rattle.gx_slots.specs.Page.{IsEntryPage, entries_of};
+ghost use Rattle.gx_chain.specs.Chain.{IsChain, HasChain};
+ghost use Rattle.gx_chain.specs.Collect.{inside_of, inside_on, entry_cmp, HasCollected};
+
+use crate::read::{behind, read_entries};
+use gx_ports::{Entries, Entry, PAGE_LEN, Pages, Stop};
+use gx_slots::entries;
+use gx_values::{NoMemory, Octets, Span, inside};
+use std::alloc::{AllocError, Global};
+
+/// Appends the entries inside the span, in ascending order of their keys. Each page is read once at most.
+/// `Damaged`: no chain begins there. After a refusal `out` may hold more than before.
+pub fn collect<P: Pages>(
+    alloc: Global,
+    pages: &mut P,
+    first: u32,
+    span: &Span,
+    out: &mut Entries,
+) -> Result<(), Stop>
+    requires first { IsPast (P.ground pages.old) first }
+    ensures collected { IsTrue P.tells → (owner : ℕ) (all : List ℕ) →
+        IsChain (P.ground pages.old) owner (P.working pages.old) first all → OnOk result
+        (HasCollected (P.working pages.old) span.now.lo span.now.hi all out.old out.new) }
+    ensures extends { Extends out.old out.new }
+    ensures reads { ReadsPages P.PageView pages.old pages.new }
+    ensures ends { EndsFile P.PageView (HasChain P.PageView pages.old first)
+        pages.old pages.new result }
+    ensures not_full { ¬ IsErrOf result Stop.Full }
+{
+    let mut found = Vec::new(alloc);
+    gather(alloc, pages, first, span, &mut found)?;
+    sort_entries(&mut found)?;
+    append_all(&found, out)?;
+    Ok(())
+}
+
+// Copies the entries inside the span, one page of the chain after the other.
+fn gather<P: Pages>(
+    alloc: Global,
+    pages: &mut P,
+    first: u32,
+    span: &Span,
+    found: &mut Vec<Entry>,
+) -> Result<(), Stop>
+    requires first { IsPast (P.ground pages.old) first }
+    ensures found { IsTrue P.tells → (owner : ℕ) (all : List ℕ) →
+        IsChain (P.ground pages.old) owner (P.working pages.old) first all → OnOk result
+        (found.new.items ≡ found.old.items
+        ++ inside_on (P.working pages.old) span.now.lo span.now.hi all) }
+    ensures reads { ReadsPages P.PageView pages.old pages.new }
+    ensures ends { EndsFile P.PageView (HasChain P.PageView pages.old first)
+        pages.old pages.new result }
+    ensures not_full { ¬ IsErrOf result Stop.Full }
+{
+    let mut page = [0; PAGE_LEN];
+    let mut number = first;
+    for _ in 0..pages.pages() {
+        read_entries(pages, number, &mut page)?;
+        copy_inside(alloc, &page, span, found)?;
+        match behind(pages, number, &page)? {
+            None => return Ok(()),
+            Some(next) => number = next,
+        }
+    }
+    Err(Stop::Damaged(pages.block(number)))
+}
+
+// Copies the entries of a page inside the span.
+fn copy_inside(
+    alloc: Global,
+    page: &[u8],
+    span: &Span,
+    found: &mut Vec<Entry>,
+) -> Result<(), NoMemory>
+    requires page { IsEntryPage page.now }
+    ensures { OnOk result (found.new.items ≡ found.old.items
+        ++ inside_of span.now.lo span.now.hi (entries_of page.now)) }
+{
+    for (key, body) in entries(page) {
+        if inside(span, key) {
+            found.push(Entry {
+                key: Octets::from_slice(alloc, key)?,
+                body: Octets::from_slice(alloc, body)?,
+            })?;
+        }
+    }
+    Ok(())
+}
+
+// Sorts entries by their keys.
+fn sort_entries(found: &mut Vec<Entry>) -> Result<(), AllocError>
+    ensures those { IsPermutation found.old.items found.new.items }
+    ensures in_order { OnOk result
+        (IsSortedBy (λ a b. is_lt (entry_cmp a b)) found.new.items) }
+{
+    found.sort_by(|a, b| a.key.as_slice().cmp(b.key.as_slice()))?;
+    Ok(())
+}
+
+// Appends copies of entries.
+fn append_all(found: &[Entry], out: &mut Entries) -> Result<(), NoMemory>
+    ensures ok { OnOk result (out.new ≡ out.old ++ found.now) }
+    ensures extends { Extends out.old out.new }
+{
+    for entry in found {
+        out.push(entry.key.as_slice(), entry.body.as_slice())?;
+    }
+    Ok(())
+}
