@@ -16,7 +16,7 @@ use Rattle.std.proofs.lemmas.Map.Keys.{IsDistinct-IsPermutation, apart_from_dist
 use Rattle.gx_values.specs.Keys.{is_inside}
 use Rattle.gx_ports.specs.declared.leaves.Entry.{Entry as LeafEntry}
 use Rattle.gx_ports.specs.Sheets.{Sheets, Ground}
-use Rattle.gx_ports.specs.Cells.{key_cmp}
+use Rattle.gx_ports.specs.Keyed.{key_cmp}
 use Rattle.gx_ports.proofs.KeyLemmas.{same_key}
 use Rattle.gx_slots.specs.Entries.{Entry, AreDistinct}
 use Rattle.gx_chain.specs.Chain.{entries_at, IsChain, IsOn}

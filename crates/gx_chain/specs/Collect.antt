@@ -6,7 +6,7 @@ use Rattle.std.specs.declared.cmp.Ordering.{Ordering}
 use Rattle.gx_values.specs.Keys.{is_inside}
 use Rattle.gx_ports.specs.declared.leaves.Entry.{Entry as LeafEntry}
 use Rattle.gx_ports.specs.Sheets.{Sheets}
-use Rattle.gx_ports.specs.Cells.{key_cmp}
+use Rattle.gx_ports.specs.Keyed.{key_cmp}
 use Rattle.gx_slots.specs.Entries.{Entry}
 use Rattle.gx_chain.specs.Chain.{entries_at, IsOn}
 

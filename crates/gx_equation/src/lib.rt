@@ -1,4 +1,4 @@
-//! Equations: what they are, how their texts are read, and their canonical texts.
+//! Equations: what they are, and how their texts are read.
 #![tactic(auto)]
 
 mod arguments;
@@ -7,11 +7,9 @@ mod equation;
 mod heads;
 mod lines;
 mod making;
-mod printing;
 mod reading;
 mod terms;
 
 pub use equation::{Definition, Definitions, Equation, Lines, Names, Side, Term};
 pub use heads::{Head, Linkset};
-pub use printing::print_equation;
 pub use reading::read_equation;

@@ -15,7 +15,7 @@ use Rattle.gx_ports.specs.Files.{IsPlace, AreFileLaws}
 use Rattle.gx_ports.specs.LeafMaps.{LeafMap}
 use Rattle.gx_ports.specs.Roots.{roots_of, roots_of_kind}
 use Rattle.gx_ports.specs.Sheets.{Sheets, Ground}
-use Rattle.gx_ports.specs.Cells.{key_cmp}
+use Rattle.gx_ports.specs.Keyed.{key_cmp}
 use Rattle.gx_ports.proofs.KeyLemmas.{same_key, tied, only_equal}
 use Rattle.gx_slots.specs.Entries.{Entry}
 use Rattle.gx_chain.specs.Chain.{entries_at}

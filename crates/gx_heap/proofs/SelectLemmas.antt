@@ -15,7 +15,7 @@ use Rattle.gx_ports.specs.declared.leaves.Entry.{Entry as LeafEntry}
 use Rattle.gx_ports.specs.declared.pages.Place.{Place}
 use Rattle.gx_ports.specs.LeafMaps.{LeafMap, entry_of, selected}
 use Rattle.gx_ports.specs.Sheets.{Sheets, Ground}
-use Rattle.gx_ports.specs.Cells.{key_cmp}
+use Rattle.gx_ports.specs.Keyed.{key_cmp}
 use Rattle.gx_ports.proofs.KeyLemmas.{same_key, tied, only_equal}
 use Rattle.gx_ports.proofs.KeyedLemmas.{both_of}
 use Rattle.gx_chain.specs.Collect.{AreCollected}

@@ -1,4 +1,3 @@
-pub mod MapLemmas
 pub mod ChangeLemmas
 pub mod CommandLemmas
 pub mod LineLemmas

@@ -7,9 +7,8 @@ ghost use Rattle.gx_script.specs.declared.command.Command.TheVariants as command
 ghost use Rattle.gx_model.specs.Commands.{changed, next_state, state_after};
 ghost use Rattle.gx_plain.specs.Plain.{HasParts, AreSizedChanges};
 
-use crate::links::Pair;
 use crate::refusals::refusal;
-use crate::state::PlainState;
+use gx_plain_state::{Pair, PlainState};
 use gx_rows::Row;
 use gx_schema::Schema;
 use gx_script::{Change, Command};

@@ -3,12 +3,9 @@
 #![tactic(auto)]
 
 mod changes;
-mod files;
-mod links;
 mod listing;
 mod plain;
 mod refusals;
 mod replies;
-mod state;
 
 pub use plain::play;

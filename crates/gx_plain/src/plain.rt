@@ -13,7 +13,7 @@ ghost use Rattle.gx_plain.specs.Plain.{IsMoment, IsOf, IsLineDone, IsPlayedOut, 
 
 use crate::changes::carry_out;
 use crate::replies::answer;
-use crate::state::PlainState;
+use gx_plain_state::PlainState;
 use gx_rows::{commit_line, stop_line};
 use gx_schema::Schema;
 use gx_script::{Command, LineWhy, NoCommand, ScriptLines, allowed, read_command};

@@ -8,8 +8,7 @@ ghost use Rattle.gx_model.specs.Commands.{has_insert_key, has_record, is_end_of,
 ghost use Rattle.gx_script.specs.declared.command.Command.TheVariants as command;
 ghost use Rattle.gx_plain.specs.Plain.{HasParts, IsOfLink, refusal_line};
 
-use crate::links::PlainLink;
-use crate::state::PlainState;
+use gx_plain_state::{PlainLink, PlainState};
 use gx_schema::{LinkDef, Schema};
 use gx_script::{Command, Of};
 use gx_values::Value;

@@ -12,7 +12,7 @@ ghost use Rattle.std.specs.FinMap as fin;
 
 use crate::listing::list_text;
 use crate::refusals::{member_number, owner_number, refusal};
-use crate::state::PlainState;
+use gx_plain_state::PlainState;
 use gx_rows::record_line;
 use gx_schema::{FileDef, Schema};
 use gx_script::{Command, Of, OrderBy};

@@ -4,7 +4,8 @@ ghost use Rattle.gx_schema.specs.Rules.{IsSchema};
 ghost use Rattle.gx_equation.specs.Seen.{definitions_of};
 ghost use Rattle.gx_top.specs.Built.{is_built, text_length};
 
-use gx_equation::{Equation, print_equation};
+use gx_equation::Equation;
+use gx_printing::print_equation;
 use gx_schema::{Schema, print_schema};
 use gx_types::heads_built;
 use gx_values::NoMemory;

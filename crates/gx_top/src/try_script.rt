@@ -18,7 +18,7 @@ use crate::over_leaves::play_over;
 use crate::reading::{Checked, read_texts};
 use crate::status::Status;
 use gx_device::Machine;
-use gx_ports::PlainLeaves;
+use gx_memory_leaves::PlainLeaves;
 use gx_schema::Schema;
 use gx_types::{Built, build};
 use gx_values::NoMemory;

@@ -25,7 +25,7 @@ use Rattle.gx_types.proofs.MakerLaws.{file_fits}
 use Rattle.std.specs.List.{AllByRecursion}
 use Rattle.gx_equation.specs.Printing.{IsSide, IsDefinition, AreWritten}
 use Rattle.gx_typing.specs.Dues.{file_form, file_due, link_due}
-use Rattle.gx_typing.specs.Forms.{kid_form}
+use Rattle.gx_forms.specs.Forms.{kid_form}
 use Rattle.gx_types.specs.Nodes.{tree_at, AreNodes}
 use Rattle.gx_typing.specs.Places.{leaves_at}
 use Rattle.gx_typing.specs.Typed.{IsTypedSide, AreTyped, leaf_here, leaves_of, leaves_of_kids, leaves_of_side, leaves_of_all, leaves, IsTyped}

@@ -17,8 +17,8 @@ use Rattle.gx_equation.specs.declared.heads.Head.{Head}
 use Rattle.gx_equation.specs.declared.heads.Head.TheVariants as heads
 use Rattle.gx_equation.specs.Printing.{IsHead, IsCount, IsTerm}
 use Rattle.gx_equation.specs.Trees.{Tree, Trees, node, none, kid, list_of, arity}
-use Rattle.gx_typing.specs.Fields.{field, kind_in, has_name}
-use Rattle.gx_typing.specs.Forms.{coded_kind, coded_field, index_kind, kid_form}
+use Rattle.gx_forms.specs.Fields.{field, kind_in, has_name}
+use Rattle.gx_forms.specs.Forms.{coded_kind, coded_field, index_kind, kid_form}
 use Rattle.gx_types.specs.FileForms.{IsLimited, AreLimited, AreDistinct, room_of, rooms, IsFileForm}
 use Rattle.gx_typing.specs.Typed.{IsCodeFor, IsMet, IsTypedTerm, AreTypedTerms}
 use Rattle.gx_typing.specs.Typing.{count}

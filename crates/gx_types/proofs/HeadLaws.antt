@@ -26,8 +26,8 @@ use Rattle.gx_equation.specs.declared.heads.Head.TheVariants as heads
 use Rattle.gx_equation.specs.Printing.{IsCount}
 use Rattle.gx_equation.specs.Trees.{Trees, list_of, arity}
 use Rattle.gx_types.specs.Build.{IsFirstOf, IsPlaceOf}
-use Rattle.gx_typing.specs.Fields.{field, kind_in, has_name}
-use Rattle.gx_typing.specs.Forms.{coded_kind, coded_field, index_kind, kid_form}
+use Rattle.gx_forms.specs.Fields.{field, kind_in, has_name}
+use Rattle.gx_forms.specs.Forms.{coded_kind, coded_field, index_kind, kid_form}
 use Rattle.gx_types.specs.FileForms.{AreDistinct}
 use Rattle.gx_types.specs.HeadRules.{numbers_from, place_in, head_rule, IsLayer}
 use Rattle.gx_typing.specs.Typed.{IsField, IsMet}

@@ -35,8 +35,8 @@ use Rattle.gx_equation.specs.Printing.{IsBound, IsCount, IsTerm, IsSide}
 use Rattle.gx_equation.specs.Trees.{Tree, Trees, node, none, kid, kids_from, list_of, arity, link_side}
 use Rattle.gx_types.specs.Build.{are_built_terms, leaf_count, leaf_counts, IsReady, AreReady}
 use Rattle.gx_typing.specs.Dues.{file_form}
-use Rattle.gx_typing.specs.Fields.{kind_in}
-use Rattle.gx_typing.specs.Forms.{index_kind, kid_form, link_form}
+use Rattle.gx_forms.specs.Fields.{kind_in}
+use Rattle.gx_forms.specs.Forms.{index_kind, kid_form, link_form}
 use Rattle.gx_types.specs.FileForms.{IsLimited, AreLimited, AreDistinct, room_of, rooms, IsFileForm}
 use Rattle.gx_types.specs.HeadRules.{place_in}
 use Rattle.gx_types.specs.Makers.{kind_of, CanMake}

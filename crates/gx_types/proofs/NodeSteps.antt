@@ -25,7 +25,7 @@ use Rattle.gx_stack.specs.Tree.{no_kids}
 use Rattle.gx_stack.specs.Seen.{tree_of as node_tree, kids_from as node_kids}
 use Rattle.gx_types.specs.declared.any.AnyMapping.{AnyMapping}
 use Rattle.gx_types.specs.Build.{kids_of, leaf_count, leaf_counts, IsFirstOf, IsTreeOf, AreTreesOf, AreTreesOfFiles, IsReady, AreReady, AreReadyFiles}
-use Rattle.gx_typing.specs.Fields.{kind_in}
+use Rattle.gx_forms.specs.Fields.{kind_in}
 use Rattle.gx_types.proofs.ReadyLaws.{first_ready, others_ready}
 use Rattle.gx_typing.proofs.SeenAs.{seen_transpose, seen_partition}
 use Rattle.gx_typing.proofs.TermSize.{tree_size, trees_size}

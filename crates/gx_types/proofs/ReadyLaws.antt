@@ -23,8 +23,8 @@ use Rattle.gx_types.specs.FileForms.{IsFileForm}
 use Rattle.gx_equation.specs.Printing.{IsTerm}
 use Rattle.gx_types.proofs.FormLaws.{kept}
 use Rattle.gx_types.specs.Build.{is_built_head, is_built_term, are_built_terms, leaf_count, leaf_counts, IsFirstOf, IsPlaceOf, IsReady, AreReady}
-use Rattle.gx_typing.specs.Fields.{kind_in}
-use Rattle.gx_typing.specs.Forms.{kid_form}
+use Rattle.gx_forms.specs.Fields.{kind_in}
+use Rattle.gx_forms.specs.Forms.{kid_form}
 use Rattle.gx_typing.specs.Places.{leaves_at}
 use Rattle.gx_typing.specs.Typed.{IsField, IsBoundFor, AscendStrictly}
 use Rattle.gx_typing.specs.Typing.{count}

@@ -16,7 +16,7 @@ use Rattle.gx_types.specs.FileForms.{AreDistinct, IsFileForm}
 use Rattle.gx_equation.specs.Printing.{IsTerm}
 use Rattle.gx_types.specs.HeadRules.{IsLayer}
 use Rattle.gx_types.proofs.HeadLaws.{rule_form, rule_kid_form, rule_kids}
-use Rattle.gx_typing.specs.Forms.{kid_form}
+use Rattle.gx_forms.specs.Forms.{kid_form}
 use Rattle.gx_typing.specs.Places.{leaves_at}
 use Rattle.gx_typing.specs.Typed.{IsLeafData, IsLeaf, IsMet}
 use Rattle.gx_typing.specs.Typing.{count}

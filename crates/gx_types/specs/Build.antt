@@ -16,9 +16,9 @@ use Rattle.gx_stack.specs.Seen.{tree_of}
 use Rattle.gx_types.specs.declared.any.AnyMapping.{AnyMapping}
 use Rattle.gx_types.specs.Any.{any_rule}
 use Rattle.gx_typing.specs.Dues.{file_form}
-use Rattle.gx_typing.specs.Fields.{kind_in}
+use Rattle.gx_forms.specs.Fields.{kind_in}
 use Rattle.gx_types.specs.FileForms.{IsFileForm}
-use Rattle.gx_typing.specs.Forms.{kid_form}
+use Rattle.gx_forms.specs.Forms.{kid_form}
 use Rattle.gx_types.specs.HeadRules.{head_rule, IsLayer}
 use Rattle.gx_typing.specs.Places.{leaves_at}
 use Rattle.gx_typing.specs.Typed.{IsTypedTerm, AreTypedTerms}

@@ -14,7 +14,7 @@ use Rattle.gx_partition.specs.declared.place.Where.{Where}
 use Rattle.gx_partition.specs.declared.place.Where.TheVariants.{Key, Rest}
 use Rattle.gx_equation.specs.declared.heads.Head.{Head}
 use Rattle.gx_equation.specs.declared.heads.Head.TheVariants as heads
-use Rattle.gx_typing.specs.Fields.{has_name}
+use Rattle.gx_forms.specs.Fields.{has_name}
 
 -- ---- names as numbers
 

@@ -16,8 +16,8 @@ use Rattle.gx_typing.specs.declared.reasons.Untyped.{Untyped}
 use Rattle.gx_typing.specs.declared.reasons.Untyped.TheVariants as untyped
 use Rattle.gx_typing.specs.declared.typing.Typing.{Typing}
 use Rattle.gx_typing.specs.Rows.{◌>>=◌}
-use Rattle.gx_typing.specs.Forms.{kid_form, link_form, array_form}
-use Rattle.gx_typing.specs.Narrow.{narrow}
+use Rattle.gx_forms.specs.Forms.{kid_form, link_form, array_form}
+use Rattle.gx_forms.specs.Narrow.{narrow}
 use Rattle.gx_typing.specs.Typing.{Mistake, behind, at, term_row, with_head, typed_at, kids_typed, FailsSo}
 use Rattle.gx_typing.proofs.NarrowLaws.{typed_same}
 use Rattle.gx_typing.proofs.SeenAs.{seen_actual, seen_encode, seen_divide, IsOver}

@@ -20,7 +20,7 @@ use Rattle.gx_equation.specs.declared.heads.Head.{Head}
 use Rattle.gx_equation.specs.declared.heads.Head.TheVariants as heads
 use Rattle.gx_typing.specs.declared.reasons.TypeWhy.{TypeWhy}
 use Rattle.gx_typing.specs.declared.reasons.TypeWhy.TheVariants as why
-use Rattle.gx_typing.specs.Fields.{kind_in, has_name}
+use Rattle.gx_forms.specs.Fields.{kind_in, has_name}
 use Rattle.gx_typing.specs.Conditions.{is_key_kind, is_bytes, is_coded, is_bound, is_data, are_data, ascends, leaves_some}
 use Rattle.gx_typing.specs.Rows.{◌>>=◌, tested, data_from, any_from, data_kind, any_kind, body_of, leaf_body, one_bytes, row}
 use Rattle.gx_typing.specs.Typed.{IsDataField, IsField, AreDataFields, IsCodeFor, IsBoundFor, AscendStrictly, IsLeafData, IsOneBytes, IsMet}

@@ -20,7 +20,7 @@ use Rattle.gx_typing.specs.declared.dues.Stored.{Stored}
 use Rattle.gx_typing.specs.declared.dues.Stored.TheVariants as stored
 use Rattle.gx_typing.specs.declared.typing.Typing.{Typing}
 use Rattle.gx_typing.specs.Dues.{dues}
-use Rattle.gx_typing.specs.Forms.{kid_form, link_form}
+use Rattle.gx_forms.specs.Forms.{kid_form, link_form}
 use Rattle.gx_typing.specs.Leaves.{leaf_spec}
 use Rattle.gx_typing.specs.Rows.{tested, row}
 use Rattle.gx_typing.specs.Typing.{Mistake, behind, at, count, with_leaf, with_head, typed_at, kids_typed, Answers}

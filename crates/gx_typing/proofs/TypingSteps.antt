@@ -9,7 +9,7 @@ use Rattle.gx_equation.specs.Seen.{trees_of}
 use Rattle.gx_typing.specs.declared.reasons.TypeWhy.{TypeWhy}
 use Rattle.gx_typing.specs.declared.typing.Typing.{Typing}
 use Rattle.gx_typing.specs.Rows.{row}
-use Rattle.gx_typing.specs.Forms.{kid_form}
+use Rattle.gx_forms.specs.Forms.{kid_form}
 use Rattle.gx_typing.specs.Typing.{behind, at, count, term_row, with_head, typed_at, kids_typed}
 use Rattle.gx_typing.proofs.RowLaws.{row_found}
 

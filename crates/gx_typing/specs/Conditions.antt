@@ -11,7 +11,7 @@ use Rattle.gx_values.specs.declared.values.Value.TheVariants as values
 use Rattle.gx_values.specs.declared.records.Field.{Field}
 use Rattle.gx_values.specs.declared.records.Form.{Form}
 use Rattle.gx_values.specs.Values.{value_cmp, is_printable}
-use Rattle.gx_typing.specs.Fields.{kind_in, has_name}
+use Rattle.gx_forms.specs.Fields.{kind_in, has_name}
 
 -- ints and texts
 abbrev pub is_key_kind : Kind → Bool

@@ -1,8 +1,6 @@
 pub mod Reasons
-pub mod Fields
 pub mod Conditions
 pub mod Rows
-pub mod Forms
 pub mod Leaves
 pub mod Typing
 pub mod Dues
@@ -10,4 +8,3 @@ pub mod Sides
 pub mod Whole
 pub mod Typed
 pub mod Places
-pub mod Narrow

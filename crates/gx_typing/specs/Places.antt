@@ -12,7 +12,7 @@ use Rattle.gx_typing.specs.declared.dues.Due.{Due}
 use Rattle.gx_typing.specs.declared.dues.Stored.{Stored}
 use Rattle.gx_typing.specs.declared.dues.Stored.TheVariants as stored
 use Rattle.gx_typing.specs.Dues.{dues}
-use Rattle.gx_typing.specs.Forms.{kid_form, link_form}
+use Rattle.gx_forms.specs.Forms.{kid_form, link_form}
 use Rattle.gx_typing.specs.Rows.{◌>>=◌, tested, row}
 use Rattle.gx_typing.specs.Typing.{here, behind, count}
 

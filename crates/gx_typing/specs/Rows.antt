@@ -12,7 +12,7 @@ use Rattle.gx_equation.specs.declared.heads.Head.{Head}
 use Rattle.gx_equation.specs.declared.heads.Head.TheVariants as heads
 use Rattle.gx_typing.specs.declared.reasons.TypeWhy.{TypeWhy}
 use Rattle.gx_typing.specs.declared.reasons.TypeWhy.TheVariants as why
-use Rattle.gx_typing.specs.Fields.{kind_in}
+use Rattle.gx_forms.specs.Fields.{kind_in}
 use Rattle.gx_typing.specs.Conditions.{is_key_kind, is_bytes, is_coded, is_bound, ascends, are_data, leaves_some}
 
 -- the reason, unless the condition is met

@@ -7,7 +7,7 @@ use Rattle.gx_typing.specs.declared.reasons.TypeWhy.TheVariants as why
 use Rattle.gx_typing.specs.declared.dues.Stored.{Stored}
 use Rattle.gx_typing.specs.declared.dues.Stored.TheVariants as stored
 use Rattle.gx_typing.specs.declared.typing.Typing.{Typing}
-use Rattle.gx_typing.specs.Forms.{link_form}
+use Rattle.gx_forms.specs.Forms.{link_form}
 use Rattle.gx_typing.specs.Typing.{Mistake, here, behind, typed_at, kids_typed}
 
 -- Where a file has the side of a link, or a link that of a file, the line is that of the side's first head.

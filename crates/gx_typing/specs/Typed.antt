@@ -22,8 +22,8 @@ use Rattle.gx_typing.specs.declared.dues.Stored.{Stored}
 use Rattle.gx_typing.specs.declared.dues.Stored.TheVariants as stored
 use Rattle.gx_typing.specs.declared.typing.Typing.{Typing}
 use Rattle.gx_typing.specs.Dues.{dues}
-use Rattle.gx_typing.specs.Fields.{kind_in, has_name}
-use Rattle.gx_typing.specs.Forms.{kid_form, link_form, others_form}
+use Rattle.gx_forms.specs.Fields.{kind_in, has_name}
+use Rattle.gx_forms.specs.Forms.{kid_form, link_form, others_form}
 use Rattle.gx_typing.specs.Leaves.{leaf_spec}
 use Rattle.gx_typing.specs.Typing.{count}
 

@@ -11,7 +11,7 @@ use Rattle.gx_typing.specs.declared.reasons.Untyped.{Untyped}
 use Rattle.gx_typing.specs.declared.reasons.Untyped.TheVariants as untyped
 use Rattle.gx_typing.specs.declared.typing.Typing.{Typing}
 use Rattle.gx_typing.specs.Rows.{◌>>=◌, row}
-use Rattle.gx_typing.specs.Forms.{kid_form}
+use Rattle.gx_forms.specs.Forms.{kid_form}
 use Rattle.gx_typing.specs.Leaves.{leaf_spec}
 
 -- a line, and what fails there

@@ -3,8 +3,7 @@ ghost use Rattle.std.specs.Prelude.{◌≡◌, slice_index_or, take, drop, IfOk}
 ghost use Rattle.gx_schema.specs.Lookups.{key_kind, no_file};
 ghost use Rattle.gx_typing.specs.Dues.{file_form, file_due, link_due, dues};
 
-use crate::fields::first_kind;
-use crate::forms::copy_fields;
+use gx_forms::{copy_fields, first_kind};
 use gx_schema::{FileDef, LinkDef, Schema};
 use gx_values::{Field, Form, Kind, Name};
 use std::alloc::{AllocError, Global};

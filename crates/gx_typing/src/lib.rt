@@ -2,8 +2,6 @@
 #![tactic(auto)]
 
 mod dues;
-mod fields;
-mod forms;
 mod reasons;
 mod rows;
 mod sides;
@@ -12,7 +10,6 @@ mod typing;
 mod whole;
 
 pub use dues::file_form;
-pub use fields::has_name;
 pub use reasons::{TypeWhy, Untyped};
 pub use typing::{Owners, Specs, Typing, root_pages, smallest_device};
 pub use whole::typed;

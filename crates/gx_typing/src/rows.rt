@@ -2,16 +2,16 @@
 ghost use Rattle.std.specs.Prelude.{◌≡◌, ◌≤◌, ◌==◌, min, length, not, OnOk};
 ghost use Rattle.gx_values.specs.Keys.{widths};
 ghost use Rattle.gx_typing.specs.Conditions.{is_bound, ascends, is_coded, is_key_kind, is_data, are_data, leaves_some};
-ghost use Rattle.gx_typing.specs.Fields.{has_name};
+ghost use Rattle.gx_forms.specs.Fields.{has_name};
 ghost use Rattle.gx_equation.specs.Seen.{tree_of};
 ghost use Rattle.gx_typing.specs.Typing.{term_row};
 ghost use Rattle.gx_typing.specs.Rows.{tested, data_kind, any_kind, leaf_body, leaf_row, encode_row, segment_row, transpose_row, partition_row, divide_row, index_row};
 ghost use Rattle.gx_values.specs.Values.{is_printable};
 ghost use Rattle.std.specs.List.{list_all, list_any};
 
-use crate::fields::{has_name, key_widths, kind_in};
 use crate::reasons::TypeWhy;
 use gx_equation::{Names, Term};
+use gx_forms::{has_name, key_widths, kind_in};
 use gx_values::{Code, Field, Form, Kind, Name, Value, Values, compare};
 
 /// The most bytes that a key of a leaf has.

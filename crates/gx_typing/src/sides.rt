@@ -1,18 +1,17 @@
 // Typing of sides.
 ghost use Rattle.std.specs.Prelude.{◌≡◌, IfOk};
 ghost use Rattle.gx_equation.specs.Seen.{side_of};
-ghost use Rattle.gx_typing.specs.Forms.{array_form, ring_form, inverted_form};
-ghost use Rattle.gx_typing.specs.Narrow.{narrow};
+ghost use Rattle.gx_forms.specs.Forms.{array_form, ring_form, inverted_form};
+ghost use Rattle.gx_forms.specs.Narrow.{narrow};
 ghost use Rattle.gx_typing.specs.Sides.{link_typed, side_typed};
 ghost use Rattle.gx_typing.specs.Typing.{Answers};
 
 use crate::dues::Stored;
-use crate::fields::key_width;
-use crate::forms::make_field;
 use crate::reasons::{TypeWhy, Untyped};
 use crate::terms::{behind, both_typed, here, term_typed};
 use crate::typing::Typing;
 use gx_equation::Side;
+use gx_forms::{key_width, make_field};
 use gx_values::{Fields, Form, Kind};
 use std::alloc::{AllocError, Global};
 

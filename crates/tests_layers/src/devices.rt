@@ -1,5 +1,6 @@
 // The machine in memory: what its calls give, and which of them fail.
-use gx_device::{Device, Failed, FetchStop, Machine, MemoryMachine};
+use gx_device::{Device, Failed, FetchStop, Machine};
+use gx_memory_machine::MemoryMachine;
 use std::alloc::Global;
 use std::test::Fail;
 

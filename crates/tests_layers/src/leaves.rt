@@ -1,7 +1,8 @@
 // Leaves in memory: what a transaction makes of them.
 use Step::{Abort, Commit, Put, Remove};
-use gx_device::MemoryMachine;
-use gx_ports::{Entries, Leaves, PlainLeaves};
+use gx_memory_leaves::PlainLeaves;
+use gx_memory_machine::MemoryMachine;
+use gx_ports::{Entries, Leaves};
 use gx_values::{KeyBuf, Span};
 use std::alloc::Global;
 use std::test::Fail;

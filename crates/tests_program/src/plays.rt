@@ -1,6 +1,6 @@
 // Plays of scripts: the plain program beside texts worked out by hand, and the program beside the
 // plain one.
-use gx_device::MemoryMachine;
+use gx_memory_machine::MemoryMachine;
 use gx_plain::play;
 use gx_schema::read_schema;
 use gx_top::top;

@@ -1,5 +1,5 @@
 // Whole requests: what is said, with which status, and what is left of the script.
-use gx_device::MemoryMachine;
+use gx_memory_machine::MemoryMachine;
 use gx_top::{Status, top};
 use std::alloc::Global;
 use std::test::Fail;

@@ -1,13 +1,14 @@
 // What stands in the leaves after a script, beside entries that were worked out by hand.
 ghost use Rattle.std.specs.Prelude.{◌≡◌, length, IfOk};
 ghost use Rattle.gx_schema.specs.WellFormed.{IsWellFormed};
-ghost use Rattle.gx_ports.specs.Plain.{working_of};
+ghost use Rattle.gx_memory_leaves.specs.Plain.{working_of};
 ghost use Rattle.gx_engine.specs.Steps.{AreFor, IsReady, schema_of, built_of, leaves_of};
 
-use gx_device::MemoryMachine;
+use gx_memory_machine::MemoryMachine;
 use gx_engine::Engine;
 use gx_equation::read_equation;
-use gx_ports::{Entries, Leaves, PlainLeaves};
+use gx_memory_leaves::PlainLeaves;
+use gx_ports::{Entries, Leaves};
 use gx_schema::{Schema, read_schema};
 use gx_script::{LONGEST_LINE, LineWhy, allowed, read_command};
 use gx_types::{Built, build, heads_built};

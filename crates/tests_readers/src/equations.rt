@@ -1,5 +1,6 @@
 // Worked texts: what they mean, their canonical texts, and the lines of their places.
-use gx_equation::{Definition, Side, Term, print_equation, read_equation};
+use gx_equation::{Definition, Side, Term, read_equation};
+use gx_printing::print_equation;
 use gx_values::{Code, Octets, Value};
 use std::alloc::Global;
 use std::test::Fail;

@@ -4,7 +4,7 @@ use Rattle.gx_values.specs.declared.records.Form.{Form}
 use Rattle.gx_encode.specs.Forms.{IsEncode}
 use Rattle.gx_encode.specs.Rules.{encode_rule}
 use Rattle.gx_types.specs.Build.{IsFirstOf}
-use Rattle.gx_typing.specs.Fields.{kind_in}
+use Rattle.gx_forms.specs.Fields.{kind_in}
 use Rattle.gx_types.proofs.HeadLaws.{first_only, none_first}
 use Rattle.gx_types.proofs.mappings.encode_of.Goals as goal
 

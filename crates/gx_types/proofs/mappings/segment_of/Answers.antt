@@ -3,7 +3,7 @@ use Rattle.gx_values.specs.declared.records.Field.{Field}
 use Rattle.gx_values.specs.declared.records.Form.{Form}
 use Rattle.gx_split.specs.Groups.{marks}
 use Rattle.gx_split.specs.SegmentRules.{segment_rule}
-use Rattle.gx_typing.specs.Fields.{has_name}
+use Rattle.gx_forms.specs.Fields.{has_name}
 use Rattle.gx_types.specs.HeadRules.{numbers_in}
 use Rattle.gx_types.proofs.HeadLaws.{marked}
 use Rattle.gx_types.proofs.mappings.segment_of.Goals as goal

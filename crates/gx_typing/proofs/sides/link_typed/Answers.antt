@@ -1,5 +1,5 @@
 use Rattle.gx_equation.specs.declared.heads.Linkset.TheVariants as linksets
-use Rattle.gx_typing.specs.Forms.{link_form}
+use Rattle.gx_forms.specs.Forms.{link_form}
 use Rattle.gx_typing.proofs.Onward.{array_goes_on, ring_goes_on, inverted_goes_on}
 use Rattle.gx_typing.proofs.sides.link_typed.Goals as goal
 

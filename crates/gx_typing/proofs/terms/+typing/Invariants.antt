@@ -1,7 +1,7 @@
 use Rattle.std.proofs.Common.{◌≡◌, drop}
 use Rattle.gx_equation.specs.Seen.{tree_of, trees_of}
 use Rattle.gx_equation.specs.Trees.{none, kid, kids_from}
-use Rattle.gx_typing.specs.Forms.{one_field}
+use Rattle.gx_forms.specs.Forms.{one_field}
 use Rattle.gx_typing.specs.Typing.{kids_typed}
 use Rattle.gx_typing.proofs.TermSize.{tree_size, trees_size}
 use Rattle.gx_typing.proofs.terms.+typing.Given as goal

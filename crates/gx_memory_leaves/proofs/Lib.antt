@@ -1,0 +1,3 @@
+mod CellLemmas
+mod SelectLemmas
+mod PlainLemmas

@@ -1,0 +1,81 @@
+-- The cells of a leaf in memory, what the open transaction replaced in them, and the maps that they stand for.
+use Rattle.std.specs.Prelude.{◌≡◌, ℕ, List, [], ◌∷◌, map, Bool, true, Option, Some, None, is_some, if◌then◌else◌}
+use Rattle.std.specs.Global.{Vec}
+use Rattle.std.specs.List.{filter_map}
+use Rattle.std.specs.List.Sorted.{IsStrictlySortedBy}
+use Rattle.std.specs.Map.{keys_of}
+use Rattle.std.specs.Option.{option_map}
+use Rattle.std.specs.Ordering.{nat_cmp}
+use Rattle.std.specs.declared.cmp.Ordering.{Ordering}
+use Rattle.std.specs.Cmp.Lexicographic.{slice_cmp}
+use Rattle.std.specs.FinMap.{FinMap, from_entries, entries, get, insert, remove}
+use Rattle.gx_values.specs.Keys.{is_inside}
+use Rattle.gx_ports.specs.LeafMaps.{LeafMap}
+use Rattle.gx_ports.specs.Keyed.{key_cmp, map_of, IsAscending}
+use Rattle.gx_ports.specs.declared.leaves.Entry.{Entry}
+use Rattle.gx_memory_leaves.specs.declared.undo.Undo.{Undo}
+use Rattle.gx_memory_leaves.specs.declared.undo.End.{End}
+use Rattle.gx_memory_leaves.specs.declared.undo.End.TheVariants.{Commit, Abort}
+
+-- the body at a key, or none where the open transaction took it away
+abbrev pub Cell : Type 0
+Cell = Option (List ℕ)
+
+abbrev pub Cells : Type 0
+Cells = FinMap key_cmp Cell
+
+abbrev pub body_entry : List ℕ × Cell → Option (List ℕ × List ℕ)
+body_entry e = option_map (λ b. (e.0, b)) e.1
+
+-- the cells that have a body
+abbrev pub bodies : Cells → LeafMap
+bodies cells = from_entries (filter_map body_entry (entries cells))
+
+abbrev pub with_cell : Cells → List ℕ → Option Cell → Cells
+with_cell cells key None = remove cells key
+with_cell cells key (Some cell) = insert cells key cell
+
+-- one change is taken back
+abbrev pub put_back : Undo → Cells → Cells
+put_back undo cells = with_cell cells undo.key undo.before
+
+-- all of them are, the last one first
+abbrev pub undone : List Undo → Cells → Cells
+undone [] cells = cells
+undone (undo ∷ undos) cells = put_back undo (undone undos cells)
+
+-- a cell that stood there before can be put back without a new one
+abbrev pub has_place : Option Cell → Option Cell → Bool
+has_place None here = true
+has_place (Some before) here = is_some here
+
+abbrev pub CanUndo : List Undo → Cells → Type 0
+CanUndo [] cells = Unit {0}
+CanUndo (undo ∷ undos) cells =
+    (has_place undo.before (get (undone undos cells) undo.key) ≡ true) × CanUndo undos cells
+
+-- the keys ascend, and the changes can be taken back
+pub record IsOpen (es : List (Vec ℕ × Cell)) (undos : List Undo) : Type 0 where
+  pub ascending : IsAscending es
+  pub can : CanUndo undos (map_of es)
+
+-- one leaf, as contracts see it
+pub record LeafPair : Type 0 where
+  pub working : LeafMap
+  pub kept : LeafMap
+
+abbrev pub pair_of : Cells → List Undo → LeafPair
+pair_of cells undos = record { working = bodies cells; kept = bodies (undone undos cells) }
+
+-- a leaf once a transaction has ended
+abbrev pub ended : End → LeafPair → LeafPair
+ended Commit l = record { working = l.working; kept = l.working }
+ended Abort l = record { working = l.kept; kept = l.kept }
+
+-- the entry of a body inside a span
+abbrev pub picked_body : List ℕ → List ℕ → List ℕ → Cell → List Entry
+picked_body lo hi key None = []
+picked_body lo hi key (Some body) = if is_inside lo hi key then record { key = key; body = body } ∷ [] else []
+
+abbrev pub picked : List ℕ → List ℕ → Vec ℕ × Cell → List Entry
+picked lo hi e = picked_body lo hi e.0.items e.1

@@ -1,0 +1,201 @@
+// One leaf in memory: an ordered map from each key to its cell, and what the open transaction
+// replaced there, so that its end looks no key up that it keeps, and takes no memory.
+ghost use Rattle.std.specs.Prelude.{◌≡◌, ◌≤◌, ◌++◌, [], length, true, None, is_some, OnOk, OnErr};
+ghost use Rattle.std.specs.Option.{option_and_then};
+ghost use Rattle.std.specs.FinMap.{insert, remove, get};
+ghost use Rattle.gx_ports.specs.LeafMaps.{selected, Extends};
+ghost use Rattle.gx_ports.specs.Keyed.{map_of, IsAscending};
+ghost use Rattle.gx_memory_leaves.specs.Cells.{bodies, with_cell, undone, has_place, IsOpen, ended};
+ghost use Rattle.gx_memory_leaves.specs.Pairs.{empty_pair};
+
+use crate::undo::{Cell, End, Undo};
+use gx_ports::Entries;
+use gx_values::{NoMemory, Octets, Span, inside};
+use std::alloc::Global;
+use std::collections::BTreeMap;
+use std::marker::Model;
+
+#[derive(Drop)]
+pub struct Leaf {
+    cells: BTreeMap<Vec<u8>, Cell>,
+    // the changes of the open transaction, the last one last
+    undos: Vec<Undo>,
+}
+
+impl Model for Leaf {
+    ghost use Rattle.std.specs.Coded.{codes};
+    ghost use Rattle.gx_ports.specs.LeafMaps.{coded_leaf_map};
+    ghost use Rattle.gx_ports.specs.Keyed.{map_of};
+    ghost use Rattle.gx_memory_leaves.specs.Cells.{LeafPair, pair_of, IsOpen};
+
+    ghost Value = { LeafPair };
+
+    ghost coded = { Prim.hlevel (codes, coded_leaf_map) };
+
+    ghost view = { λ l. pair_of (map_of l.cells.entries) l.undos.items };
+
+    ghost invariant = { λ l. IsOpen l.cells.entries l.undos.items };
+}
+
+impl Leaf {
+    pub fn new(alloc: Global) -> Leaf
+        ensures { result ≡ empty_pair }
+    {
+        Leaf {
+            cells: BTreeMap::new(alloc),
+            undos: Vec::new(alloc),
+        }
+    }
+
+    pub fn put(&mut self, alloc: Global, key: &[u8], body: &[u8]) -> Result<(), NoMemory>
+        ensures ok { OnOk result
+            (self.new ≡ record self.old { working = insert self.old.working key.now body.now }) }
+        ensures err { OnErr result (self.new ≡ self.old) }
+    {
+        let body = Octets::from_slice(alloc, body)?;
+        replace(alloc, &mut self.cells, &mut self.undos, key, Some(body))
+    }
+
+    pub fn remove(&mut self, alloc: Global, key: &[u8]) -> Result<(), NoMemory>
+        ensures ok { OnOk result
+            (self.new ≡ record self.old { working = remove self.old.working key.now }) }
+        ensures err { OnErr result (self.new ≡ self.old) }
+    {
+        if !has_body(&self.cells, key) {
+            return Ok(());
+        }
+        replace(alloc, &mut self.cells, &mut self.undos, key, None)
+    }
+
+    pub fn select(&self, alloc: Global, span: &Span, out: &mut Entries) -> Result<(), NoMemory>
+        ensures ok { OnOk result
+            (out.new ≡ out.old ++ selected span.now.lo span.now.hi self.now.working) }
+        ensures extends { Extends out.old out.new }
+    {
+        select_cells(alloc, &self.cells, span, out)
+    }
+
+    pub fn settle(&mut self, end: End)
+        ensures { self.new ≡ ended end self.old }
+    {
+        match end {
+            End::Commit => keep(&mut self.cells, &mut self.undos),
+            End::Abort => undo(&mut self.cells, &mut self.undos),
+        }
+    }
+}
+
+fn has_body(cells: &BTreeMap<Vec<u8>, Cell>, key: &[u8]) -> bool
+    ensures { result ≡ is_some (option_and_then (λ c. c) (get (map_of cells.now.entries) key.now)) }
+{
+    match cells.get(key) {
+        Some(cell) => cell.is_some(),
+        None => false,
+    }
+}
+
+// Replaces a key's cell, and notes what stood there. After `NoMemory` all is as before.
+fn replace(
+    alloc: Global,
+    cells: &mut BTreeMap<Vec<u8>, Cell>,
+    undos: &mut Vec<Undo>,
+    key: &[u8],
+    cell: Cell,
+) -> Result<(), NoMemory>
+    requires { IsOpen cells.old.entries undos.old.items }
+    ensures ok { OnOk result
+        (map_of cells.new.entries ≡ insert (map_of cells.old.entries) key.now cell) }
+    ensures err { OnErr result (map_of cells.new.entries ≡ map_of cells.old.entries) }
+    ensures undone { undone undos.new.items (map_of cells.new.entries)
+        ≡ undone undos.old.items (map_of cells.old.entries) }
+    ensures open { IsOpen cells.new.entries undos.new.items }
+{
+    let noted = Octets::from_slice(alloc, key)?;
+    let key = key.to_vec(alloc)?;
+    undos.try_reserve(1)?;
+    let removes = cell.is_none();
+    let before = cells.insert(key, cell)?;
+    undos.push(Undo {
+        key: noted,
+        before,
+        removes,
+    })?;
+    Ok(())
+}
+
+// Ends the transaction with its changes kept. A key whose body went then has no cell.
+fn keep(cells: &mut BTreeMap<Vec<u8>, Cell>, undos: &mut Vec<Undo>)
+    requires { IsOpen cells.old.entries undos.old.items }
+    ensures bodies { bodies (map_of cells.new.entries) ≡ bodies (map_of cells.old.entries) }
+    ensures undos { undos.new.items ≡ [] }
+    ensures ascending { IsAscending cells.new.entries }
+{
+    while let Some(undo) = undos.pop() {
+        if undo.removes {
+            drop_removed(cells, undo.key.as_slice());
+        }
+    }
+}
+
+// Takes a key's cell away where it has no body.
+fn drop_removed(cells: &mut BTreeMap<Vec<u8>, Cell>, key: &[u8])
+    requires { IsAscending cells.old.entries }
+    ensures bodies { bodies (map_of cells.new.entries) ≡ bodies (map_of cells.old.entries) }
+    ensures ascending { IsAscending cells.new.entries }
+{
+    if !has_body(cells, key) {
+        cells.remove(key);
+    }
+}
+
+// Ends the transaction with its changes taken back.
+fn undo(cells: &mut BTreeMap<Vec<u8>, Cell>, undos: &mut Vec<Undo>)
+    requires { IsOpen cells.old.entries undos.old.items }
+    ensures cells { map_of cells.new.entries
+        ≡ undone undos.old.items (map_of cells.old.entries) }
+    ensures undos { undos.new.items ≡ [] }
+    ensures ascending { IsAscending cells.new.entries }
+{
+    while let Some(Undo { key, before, .. }) = undos.pop() {
+        put_back(cells, key.as_slice(), before);
+    }
+}
+
+fn put_back(cells: &mut BTreeMap<Vec<u8>, Cell>, key: &[u8], before: Option<Cell>)
+    requires place { has_place before (get (map_of cells.old.entries) key.now) ≡ true }
+    requires ascending { IsAscending cells.old.entries }
+    ensures cells { map_of cells.new.entries
+        ≡ with_cell (map_of cells.old.entries) key.now before }
+    ensures ascending { IsAscending cells.new.entries }
+{
+    let Some(before) = before else {
+        cells.remove(key);
+        return;
+    };
+    if let Some(cell) = cells.get_mut(key) {
+        *cell = before;
+    }
+}
+
+// Appends the entries inside the span: they stand together, from its lower end on.
+fn select_cells(
+    alloc: Global,
+    cells: &BTreeMap<Vec<u8>, Cell>,
+    span: &Span,
+    out: &mut Entries,
+) -> Result<(), NoMemory>
+    ensures ok { OnOk result
+        (out.new ≡ out.old ++ selected span.now.lo span.now.hi (bodies (map_of cells.now.entries))) }
+    ensures extends { Extends out.old out.new }
+{
+    let lo = span.lo.as_slice().to_vec(alloc)?;
+    for (key, cell) in cells.range(lo..) {
+        if !inside(span, key) {
+            return Ok(());
+        }
+        if let Some(body) = cell {
+            out.push(key, body.as_slice())?;
+        }
+    }
+    Ok(())
+}

@@ -1,0 +1,4 @@
+mod NameLemmas
+mod ScriptLemmas
+mod LogLemmas
+mod CallLemmas

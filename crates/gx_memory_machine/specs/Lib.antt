@@ -1,0 +1,5 @@
+pub mod Counts
+pub mod Names
+pub mod Log
+pub mod Trace
+pub mod Memory

@@ -1,0 +1,320 @@
+// What stood on a device at each moment, kept as the devices at its start and a log of calls.
+ghost use Rattle.std.specs.Prelude.{◌≡◌, ◌≤◌, ◌<◌, ◌+◌, ◌^◌, ◌++◌, ◌∷◌, [], ℕ, length, replicate, slice_index_or, vec_len, vec_capacity, None, IfOk, OnOk, OnErr, is_some, false};
+ghost use Rattle.gx_device.specs.Content.{nothing_told, zero_blocks, block_of};
+ghost use Rattle.gx_memory_machine.specs.Log.{with_block, all_synced, with_said, with_device};
+ghost use Rattle.gx_memory_machine.specs.Names.{by_name};
+ghost use Rattle.gx_memory_machine.specs.Trace.{Adds, AreFew, HasAttachCause, blocks_given, attaching};
+
+use crate::names::find;
+use gx_device::{AttachStop, NoMemory};
+use std::alloc::{AllocError, Global};
+use std::collections::BTreeMap;
+use std::marker::Model;
+
+/// A call in a log. Its bytes, if it has any, stand beside the log.
+#[derive(Clone, Copy)]
+pub enum Step {
+    Still,
+    Write { block: u32 },
+    Sync,
+    Say { count: usize },
+    Open { name: usize },
+    Make { name: usize, blocks: u32 },
+}
+
+/// What stands now, and what stood at each earlier moment.
+#[derive(Drop)]
+pub struct Trace {
+    start: BTreeMap<Vec<u8>, Vec<[u8; 4096]>>,
+    name: Option<Vec<u8>>,
+    blocks: Vec<[u8; 4096]>,
+    pending: Vec<bool>,
+    said: Vec<u8>,
+    steps: Vec<Step>,
+    written: Vec<u8>,
+}
+
+impl Model for Trace {
+    ghost use Rattle.std.specs.Prelude.{◌-◌, min, vec_len, vec_capacity};
+    ghost use Rattle.std.specs.Coded.{codes};
+    ghost use Rattle.gx_device.specs.Content.{Moment, coded_devices};
+    ghost use Rattle.gx_memory_machine.specs.Names.{by_name};
+    ghost use Rattle.gx_memory_machine.specs.Log.{first, earlier};
+    ghost use Rattle.gx_memory_machine.specs.Trace.{Traced, shelf_of, IsTrace};
+
+    ghost Value = { Traced };
+
+    ghost coded = { Prim.hlevel (codes, coded_devices) };
+
+    ghost view = { λ t. record {
+      now = record { blocks = t.blocks.items; pending = t.pending.items; said = t.said.items; shelf = shelf_of t.name (by_name t.start.entries) };
+      past = earlier (first (by_name t.start.entries)) t.steps.items t.written.items;
+      calls = vec_capacity t.steps - vec_len t.steps;
+      bytes = min (vec_capacity t.written - vec_len t.written) (vec_capacity t.said - vec_len t.said);
+    } };
+
+    ghost invariant = { λ t. IsTrace (first (by_name t.start.entries)) t.steps.items t.written.items (record { blocks = t.blocks.items; pending = t.pending.items; said = t.said.items; shelf = shelf_of t.name (by_name t.start.entries) }) };
+}
+
+// Puts bytes at the end, for which there is room.
+fn append(bytes: &mut Vec<u8>, more: &[u8])
+    requires room { vec_len bytes.old + length more.now ≤ vec_capacity bytes.old }
+    ensures items { bytes.new.items ≡ bytes.old.items ++ more.now }
+    ensures long { vec_len bytes.new ≡ vec_len bytes.old + length more.now }
+    ensures capacity { vec_capacity bytes.old ≤ vec_capacity bytes.new }
+{
+    bytes.extend_from_slice(more).unwrap();
+}
+
+// Notes a call and its bytes, for which there is room.
+fn note(steps: &mut Vec<Step>, written: &mut Vec<u8>, step: Step, bytes: &[u8])
+    requires place { vec_len steps.old < vec_capacity steps.old }
+    requires room { vec_len written.old + length bytes.now ≤ vec_capacity written.old }
+    ensures steps { steps.new.items ≡ steps.old.items ++ step ∷ [] }
+    ensures written { written.new.items ≡ written.old.items ++ bytes.now }
+    ensures count { vec_len steps.new ≡ vec_len steps.old + 1 }
+    ensures long { vec_len written.new ≡ vec_len written.old + length bytes.now }
+    ensures places { vec_capacity steps.old ≤ vec_capacity steps.new }
+    ensures capacity { vec_capacity written.old ≤ vec_capacity written.new }
+{
+    steps.push(step).unwrap();
+    append(written, bytes);
+}
+
+fn clear(flags: &mut Vec<bool>)
+    ensures { flags.new.items ≡ replicate (length flags.old.items) false }
+{
+    for i in 0..flags.len() {
+        flags[i] = false;
+    }
+}
+
+// Each block has its size.
+fn are_whole(blocks: &[[u8; 4096]])
+    ensures { (n : ℕ) → n < length blocks.now → length (slice_index_or blocks.now n []) ≡ 4096 }
+{}
+
+impl Trace {
+    /// No device, call or room.
+    pub fn new(alloc: Global) -> Trace
+        ensures now { result.now ≡ nothing_told.now }
+        ensures past { result.past ≡ [] }
+    {
+        Trace {
+            start: BTreeMap::new(alloc),
+            name: None,
+            blocks: Vec::new(alloc),
+            pending: Vec::new(alloc),
+            said: Vec::new(alloc),
+            steps: Vec::new(alloc),
+            written: Vec::new(alloc),
+        }
+    }
+
+    /// Makes room for so many calls and bytes.
+    pub fn reserve(&mut self, calls: usize, bytes: usize) -> Result<(), NoMemory>
+        ensures calls { OnOk result (calls ≤ self.new.calls) }
+        ensures bytes { OnOk result (bytes ≤ self.new.bytes) }
+        ensures more_calls { self.old.calls ≤ self.new.calls }
+        ensures more_bytes { self.old.bytes ≤ self.new.bytes }
+        ensures now { self.new.now ≡ self.old.now }
+        ensures past { self.new.past ≡ self.old.past }
+    {
+        self.steps.reserve(calls)?;
+        self.written.reserve(bytes)?;
+        self.said.reserve(bytes)?;
+        Ok(())
+    }
+
+    /// The number of blocks.
+    pub fn blocks(&self) -> u32
+        ensures { result ≡ length self.now.now.blocks }
+    {
+        self.blocks.len() as u32
+    }
+
+    /// The bytes said so far.
+    pub fn said(&self) -> &[u8]
+        ensures { result.now ≡ self.now.now.said }
+    {
+        &self.said
+    }
+
+    /// Reads a block.
+    pub fn read(&self, n: u32, into: &mut [u8])
+        requires below { n < length self.now.now.blocks }
+        requires room { length into.old ≡ 4096 }
+        ensures { into.new ≡ block_of self.now.now n }
+    {
+        into.copy_from_slice(&self.blocks[n as usize]);
+    }
+
+    /// Each block has its size.
+    pub fn are_whole(&self)
+        ensures { (n : ℕ) → n < length self.now.now.blocks → length (block_of self.now.now n) ≡ 4096 }
+    {
+        are_whole(&self.blocks);
+    }
+
+    /// Whether a device is attached.
+    pub fn is_attached(&self) -> bool
+        ensures { result ≡ is_some self.now.now.shelf.name }
+    {
+        self.name.is_some()
+    }
+
+    /// A call that changes nothing.
+    pub fn pass(&mut self)
+        requires { 0 < self.old.calls }
+        ensures { Adds 0 self.old.now self.old self.new }
+    {
+        note(&mut self.steps, &mut self.written, Step::Still, &[]);
+    }
+
+    /// A block is written.
+    pub fn write(&mut self, n: u32, from: &[u8])
+        requires below { n < length self.old.now.blocks }
+        requires block { length from.now ≡ 4096 }
+        requires place { 0 < self.old.calls }
+        requires room { 4096 ≤ self.old.bytes }
+        ensures { Adds 4096 (with_block self.old.now n from.now) self.old self.new }
+    {
+        note(
+            &mut self.steps,
+            &mut self.written,
+            Step::Write { block: n },
+            from,
+        );
+        self.blocks[n as usize].copy_from_slice(from);
+        self.pending[n as usize] = true;
+    }
+
+    /// The blocks are synced.
+    pub fn sync(&mut self)
+        requires { 0 < self.old.calls }
+        ensures { Adds 0 (all_synced self.old.now) self.old self.new }
+    {
+        note(&mut self.steps, &mut self.written, Step::Sync, &[]);
+        clear(&mut self.pending);
+    }
+
+    /// A piece is said.
+    pub fn say(&mut self, piece: &[u8])
+        requires place { 0 < self.old.calls }
+        requires room { length piece.now ≤ self.old.bytes }
+        ensures { Adds (length piece.now) (with_said self.old.now piece.now) self.old self.new }
+    {
+        note(
+            &mut self.steps,
+            &mut self.written,
+            Step::Say { count: piece.len() },
+            piece,
+        );
+        append(&mut self.said, piece);
+    }
+}
+
+// A device that is to be attached.
+#[derive(Drop)]
+struct Drive {
+    name: Vec<u8>,
+    blocks: Vec<[u8; 4096]>,
+    pending: Vec<bool>,
+}
+
+fn copied(alloc: Global, blocks: &[[u8; 4096]]) -> Result<Vec<[u8; 4096]>, AllocError>
+    ensures { IfOk result (λ copy. copy.items ≡ blocks.now) }
+{
+    let mut copy = Vec::new(alloc);
+    copy.extend_from_slice(blocks)?;
+    Ok(copy)
+}
+
+fn zeros(alloc: Global, count: u32) -> Result<Vec<[u8; 4096]>, AllocError>
+    ensures zeros { IfOk result (λ blocks. blocks.items ≡ zero_blocks count) }
+    ensures few { IfOk result (λ blocks. length blocks.items < 2 ^ 32) }
+{
+    let mut blocks = Vec::new(alloc);
+    blocks.resize(count as usize, [0; 4096])?;
+    Ok(blocks)
+}
+
+// The blocks of a device of that name: those that it has, or so many new ones.
+fn blocks_of(
+    alloc: Global,
+    start: &BTreeMap<Vec<u8>, Vec<[u8; 4096]>>,
+    name: &[u8],
+    make: Option<u32>,
+) -> Result<Vec<[u8; 4096]>, AttachStop>
+    ensures blocks { IfOk result (λ blocks. blocks.items ≡ blocks_given (by_name start.now.entries) name.now make) }
+    ensures few { AreFew (by_name start.now.entries) → IfOk result (λ blocks. length blocks.items < 2 ^ 32) }
+    ensures cause { HasAttachCause (by_name start.now.entries) name.now make result }
+{
+    match (find(start, name), make) {
+        (Some(blocks), None) => Ok(copied(alloc, blocks)?),
+        (None, Some(count)) => Ok(zeros(alloc, count)?),
+        (None, None) => Err(AttachStop::Missing),
+        (Some(_), Some(_)) => Err(AttachStop::Exists),
+    }
+}
+
+fn prepare(alloc: Global, name: &[u8], blocks: Vec<[u8; 4096]>) -> Result<Drive, NoMemory>
+    ensures name { IfOk result (λ drive. drive.name.items ≡ name.now) }
+    ensures blocks { IfOk result (λ drive. drive.blocks ≡ blocks) }
+    ensures pending { IfOk result (λ drive. drive.pending.items ≡ replicate (length blocks.items) false) }
+{
+    Ok(Drive {
+        name: name.to_vec(alloc)?,
+        pending: vec![in alloc; false; blocks.len()]?,
+        blocks,
+    })
+}
+
+impl Trace {
+    /// Attaches a device, where none is attached yet. It takes its moment, whatever it answers.
+    pub fn attach(
+        &mut self,
+        alloc: Global,
+        name: &[u8],
+        make: Option<u32>,
+    ) -> Result<(), AttachStop>
+        requires place { 0 < self.old.calls }
+        requires room { length name.now ≤ self.old.bytes }
+        requires first { self.old.now.shelf.name ≡ None }
+        ensures ok { OnOk result (Adds (length name.now) (with_device self.old.now name.now (blocks_given self.old.now.shelf.devices name.now make)) self.old self.new) }
+        ensures err { OnErr result (Adds 0 self.old.now self.old self.new) }
+        ensures cause { HasAttachCause self.old.now.shelf.devices name.now make result }
+    {
+        let blocks = match blocks_of(alloc, &self.start, name, make) {
+            Ok(blocks) => blocks,
+            Err(stop) => {
+                self.pass();
+                return Err(stop);
+            }
+        };
+        let Ok(drive) = prepare(alloc, name, blocks) else {
+            self.pass();
+            return Err(AttachStop::NoMemory);
+        };
+        note(
+            &mut self.steps,
+            &mut self.written,
+            step_of(name, make),
+            name,
+        );
+        self.name = Some(drive.name);
+        self.blocks = drive.blocks;
+        self.pending = drive.pending;
+        Ok(())
+    }
+}
+
+fn step_of(name: &[u8], make: Option<u32>) -> Step
+    ensures { result ≡ attaching (length name.now) make }
+{
+    let name = name.len();
+    match make {
+        None => Step::Open { name },
+        Some(blocks) => Step::Make { name, blocks },
+    }
+}

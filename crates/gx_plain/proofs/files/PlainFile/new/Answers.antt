@@ -1,5 +1,0 @@
-use Rattle.gx_plain.proofs.MapLemmas.{empty_view}
-use Rattle.gx_plain.proofs.files.PlainFile.new.Goals as goal
-
-pub returns : goal.returns
-returns c = empty_view _ c.new.ensures.items

@@ -1,0 +1,7 @@
+use Rattle.std.proofs.Common.{◌≡◌}
+use Rattle.std.specs.Prelude.{replicate}
+use Rattle.std.specs.FinMap as fin
+use Rattle.gx_plain_state.proofs.state.empty_links.Given as goal
+
+abbrev pub invariant-loop : goal.invariant-loop
+invariant-loop l = l.links.items ≡ replicate l.counter fin.empty

@@ -1,9 +1,0 @@
-use Rattle.std.proofs.Common.{◌≡◌, vec_len}
-use Rattle.gx_ports.specs.Cells.{map_of, bodies, IsAscending}
-use Rattle.gx_ports.proofs.leaf.keep.Given as goal
-
-abbrev pub invariant-loop-undo : goal.invariant-loop-undo
-invariant-loop-undo l = IsAscending l.cells.entries × (bodies (map_of l.cells.entries) ≡ bodies (map_of l.fn.cells.entries))
-
-abbrev pub decreases-loop-undo : goal.decreases-loop-undo
-decreases-loop-undo l = vec_len l.undos

@@ -1,0 +1,6 @@
+//! The canonical text of an equation.
+#![tactic(auto)]
+
+mod printing;
+
+pub use printing::print_equation;
