@@ -2,7 +2,7 @@ use Rattle.std.proofs.Common.{refl, sym, subst, ◌<◌, ◌||◌, length}
 use Rattle.gx_device.specs.Content.{Writes}
 use Rattle.gx_memory_machine.specs.Counts.{is_short}
 use Rattle.gx_memory_machine.specs.Memory.{Memory, content_of}
-use Rattle.gx_device.specs.contracts.memory.MemoryMachine.{the_view}
+use Rattle.gx_memory_machine.specs.contracts.memory.MemoryMachine.{the_view}
 use Rattle.gx_memory_machine.proofs.CallLemmas.{ticks, writes_nothing}
 use Rattle.gx_memory_machine.proofs.memory.MemoryMachineDevice.write_block.Goals as goal
 

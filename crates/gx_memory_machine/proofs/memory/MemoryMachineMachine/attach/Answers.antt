@@ -1,6 +1,6 @@
 use Rattle.std.proofs.Common.{◌≡◌, ap, ◌∙◌}
 use Rattle.gx_memory_machine.specs.Memory.{Memory, content_of}
-use Rattle.gx_device.specs.contracts.memory.MemoryMachine.{the_view}
+use Rattle.gx_memory_machine.specs.contracts.memory.MemoryMachine.{the_view}
 use Rattle.gx_memory_machine.proofs.CallLemmas.{on_ok_both, is_opened, is_made}
 use Rattle.gx_memory_machine.proofs.memory.MemoryMachineMachine.attach.Goals as goal
 

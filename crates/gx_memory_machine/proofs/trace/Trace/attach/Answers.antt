@@ -7,7 +7,7 @@ use Rattle.gx_device.specs.Content.{Moment, Shelf, Devices}
 use Rattle.gx_memory_machine.specs.Log.{first, uses, advance, with_device}
 use Rattle.gx_memory_machine.specs.Names.{by_name}
 use Rattle.gx_memory_machine.specs.Trace.{Traced, Adds, shelf_of, blocks_given}
-use Rattle.gx_device.specs.contracts.trace.Trace.{the_view}
+use Rattle.gx_memory_machine.specs.contracts.trace.Trace.{the_view}
 use Rattle.gx_memory_machine.proofs.LogLemmas.{noted, noted_past, attaching_uses, attaching_is, all_on_shelf}
 use Rattle.gx_memory_machine.proofs.trace.Trace.attach.Goals as goal
 

@@ -5,7 +5,7 @@ use Rattle.gx_memory_machine.specs.declared.trace.Step.TheVariants as step
 use Rattle.gx_memory_machine.specs.Log.{first, with_block}
 use Rattle.gx_memory_machine.specs.Names.{by_name}
 use Rattle.gx_memory_machine.specs.Trace.{Traced, Adds, shelf_of}
-use Rattle.gx_device.specs.contracts.trace.Trace.{the_view}
+use Rattle.gx_memory_machine.specs.contracts.trace.Trace.{the_view}
 use Rattle.gx_memory_machine.proofs.LogLemmas.{noted, noted_past}
 use Rattle.gx_memory_machine.proofs.trace.Trace.write.Goals as goal
 
