@@ -1,0 +1,40 @@
+// A database's leaves on a device, and how large the device may be.
+ghost use Rattle.std.specs.Prelude.{◌≡◌, ◌↔◌, ◌≤◌, ℕ, List, length, IsTrue};
+ghost use Rattle.gx_leaves.specs.Paged.{places_in, kept_of, head_of, WasWhole};
+ghost use Rattle.gx_leaves.specs.Places.{specs_of};
+ghost use Rattle.gx_store.specs.Device.{IsSize, IsHeadOf, IsSettled};
+ghost use Rattle.gx_store.specs.Store.{machine_of};
+
+use gx_device::Machine;
+use gx_leaves::PagedLeaves;
+use gx_pages::Paged;
+use gx_ports::{LeafSpec, smallest_device};
+
+/// How many pages of a device are in memory at once.
+pub const FRAMES: u32 = 64;
+
+// The blocks of the largest device.
+const MOST_BLOCKS: u32 = 65543;
+
+/// The leaves of a database on a device of a machine.
+pub type Store<M> = PagedLeaves<Paged<M>>;
+
+/// Whether a device of so many blocks has room for such leaves, and isn't too large.
+pub(crate) fn is_size(specs: &[LeafSpec], blocks: u32) -> bool
+    requires { length specs.now ≤ 255 }
+    ensures { IsTrue result ↔ IsSize specs.now blocks }
+{
+    smallest_device(specs) <= blocks && blocks <= MOST_BLOCKS
+}
+
+/// The machine. Where no commit failed, and the leaves were whole at the last one, its device holds the maps
+/// that were kept then, and its gate is closed. What was changed since is gone.
+pub fn close<M: Machine + Drop>(store: Store<M>) -> M
+    ensures machine { result ≡ machine_of store }
+    ensures settled { (schema equation : List ℕ) →
+        IsHeadOf schema equation (specs_of (places_in store)) (head_of store) → WasWhole store →
+        IsSettled schema equation (specs_of (places_in store)) (kept_of store)
+        (M.content result).now.blocks }
+{
+    store.into_pages().into_journal().into_device()
+}
