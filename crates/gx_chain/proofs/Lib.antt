@@ -6,5 +6,7 @@ pub mod WalkLemmas
 pub mod PutLemmas
 pub mod CountLemmas
 pub mod RemoveLemmas
+pub mod CheckLemmas
+pub mod VisitLemmas
 pub mod GatherLemmas
 pub mod CollectLemmas

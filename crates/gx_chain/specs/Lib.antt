@@ -2,4 +2,5 @@ pub mod Chain
 pub mod Changes
 pub mod Walk
 pub mod Seek
+pub mod Check
 pub mod Collect

@@ -1,6 +1,7 @@
 //! Chains of entry pages: each page has the number of the next one.
 #![tactic(auto)]
 
+mod check;
 mod gather;
 mod make;
 mod put;
@@ -10,6 +11,7 @@ mod seek;
 mod walk;
 mod write;
 
+pub use check::check_chain;
 pub use gather::collect;
 pub use make::make_first;
 pub use put::put_in;

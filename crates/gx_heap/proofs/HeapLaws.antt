@@ -1,13 +1,14 @@
 -- What every kind of file proves, of heaps.
-use Rattle.std.proofs.Common.{◌≡◌, ◌⊎◌, inl, inr, ℕ, zero, suc, ◌<◌, ◌≤◌, true, false, cond, List, [], ◌∷◌, ◌++◌, length, map, Option, Some, None, refl, sym, ap, subst, ◌∙◌, arith}
+use Rattle.std.proofs.Common.{◌≡◌, ◌⊎◌, inl, inr, ℕ, zero, suc, ◌<◌, ◌≤◌, true, false, cond, List, [], ◌∷◌, ◌++◌, length, get_or, map, Option, Some, None, refl, sym, ap, subst, ◌∙◌, arith}
 use Rattle.std.specs.Prelude.{◌==◌, slice_get, slice_index_or}
 use Rattle.std.specs.List.{Contains}
 use Rattle.std.specs.Option.{unwrap_or}
 use Rattle.std.specs.Ordering.{eq_by_cmp}
 use Rattle.std.specs.Cmp.Lexicographic.{nat_list_cmp_total}
 use Rattle.std.specs.FinMap as fin
-use Rattle.std.proofs.lemmas.Bool.{cases_eq, eqb-true, true≢false}
+use Rattle.std.proofs.lemmas.Bool.{cases_eq, cases_order, eqb-true, true≢false}
 use Rattle.std.proofs.lemmas.Bool.Decides.{nat_tests}
+use Rattle.std.proofs.lemmas.List.{get_or_default}
 use Rattle.std.proofs.lemmas.Option.{same_Some, none-some, unwrap_or-slice_get, slice_get_within}
 use Rattle.gx_ports.specs.declared.kinds.LeafKind.TheVariants as kinds
 use Rattle.gx_ports.specs.declared.pages.Place.{Place}
@@ -17,9 +18,11 @@ use Rattle.gx_ports.specs.Roots.{roots_of, roots_of_kind}
 use Rattle.gx_ports.specs.Sheets.{Sheets, Ground}
 use Rattle.gx_ports.specs.Keyed.{key_cmp}
 use Rattle.gx_ports.proofs.KeyLemmas.{same_key, tied, only_equal}
-use Rattle.gx_slots.specs.Entries.{Entry}
-use Rattle.gx_chain.specs.Chain.{entries_at}
+use Rattle.gx_slots.specs.Entries.{Entry, AreDistinct}
+use Rattle.gx_chain.specs.Chain.{entries_at, IsChain, IsOn}
+use Rattle.gx_chain.proofs.ChainLemmas.{linked_page}
 use Rattle.gx_chain.proofs.ListLemmas.{contains_here, contains_later, contains_cases, contains_none}
+use Rattle.gx_chain.proofs.PutLemmas.{page_distinct}
 use Rattle.gx_heap.specs.Heap.{IsHeap}
 use Rattle.gx_heap.specs.Map.{has_owner, entries_if_owned, owned_entries, heap_map}
 use Rattle.gx_heap.proofs.HeapLemmas.{heap_few, heap_same}
@@ -99,9 +102,25 @@ found_some (e ∷ es) k b c = elim (eq_by_cmp key_cmp k e.key) as (λ t. eq_by_c
   ]
 ] refl
 
+-- ---- entries of different keys
+
+same_body : (es : List Entry) (k b c : List ℕ) → AreDistinct es → Contains es (record { key = k; body = b }) → Contains es (record { key = k; body = c }) → b ≡ c
+same_body es k b c distinct x y =
+    let first : Entry = record { key = k; body = b } in
+    let at_y : get_or es y.0 first ≡ record { key = k; body = c } = get_or_default es y.0 first (record { key = k; body = c }) y.1 ∙ y.2 in
+    let key_x = ap (λ (e : Entry). e.key) x.2 in
+    let key_y = ap (λ (e : Entry). e.key) at_y in
+    elim (cases_order x.0 y.0) [
+      | inl same ↦ ap (λ (e : Entry). e.body) (sym x.2 ∙ ap (λ n. get_or es n first) same ∙ at_y)
+      | inr apart ↦ elim apart [
+        | inl lt ↦ absurd (distinct x.0 y.0 first lt y.1 (key_x ∙ sym key_y))
+        | inr gt ↦ absurd (distinct y.0 x.0 first gt x.1 (key_y ∙ sym key_x))
+      ]
+    ]
+
 -- ---- the map that is read is the one of the chain
 
-module _ (ground : Ground) (place : Place) (s : Sheets) (map_here : LeafMap) (some : 1 ≤ place.owner) (h : IsHeap ground place s map_here) where
+module _ (ground : Ground) (place : Place) (s : Sheets) (pages : List ℕ) (some : 1 ≤ place.owner) (chain : IsChain ground place.owner s place.root pages) (all_owned : (page : ℕ) → slice_get s.owners page ≡ Some place.owner → Contains pages page) where
   read_at : (k : List ℕ) → fin.get (heap_map ground place s) k ≡ fin.find key_cmp k (pairs (owned_entries place.owner s (length s.owners)))
   read_at k = fin.get-from_entries nat_list_cmp_total (pairs (owned_entries place.owner s (length s.owners))) k
 
@@ -117,20 +136,46 @@ module _ (ground : Ground) (place : Place) (s : Sheets) (map_here : LeafMap) (so
   has_at : (p : ℕ) → slice_get s.owners p ≡ Some place.owner → has_owner place.owner s p ≡ true
   has_at p is = ap (λ n. n == place.owner) (sym (unwrap_or-slice_get s.owners p 0) ∙ ap (λ o. unwrap_or o 0) is) ∙ equal_itself place.owner
 
-  -- what is read is in the map
-  from_read : (k b : List ℕ) → fin.get (heap_map ground place s) k ≡ Some b → fin.get map_here k ≡ Some b
-  from_read k b is =
+  -- what is read stands on the chain
+  read_on : (k b : List ℕ) → fin.get (heap_map ground place s) k ≡ Some b → IsOn s pages k b
+  read_on k b is =
       let at = owned_from place.owner s (length s.owners) (record { key = k; body = b }) (found_from (owned_entries place.owner s (length s.owners)) k b (sym (read_at k) ∙ is)) in
-      (h.map_is k b).1 (record { page = at.page; among = h.owned at.page (owner_at at.page at.owned); here = at.here })
+      record { page = at.page; among = all_owned at.page (owner_at at.page at.owned); here = at.here }
 
-  -- what is in the map is read
-  to_read : (k b : List ℕ) → fin.get map_here k ≡ Some b → (c : List ℕ) × (fin.get (heap_map ground place s) k ≡ Some c)
-  to_read k b is =
-      let on = (h.map_is k b).0 is in
-      let owned = h.chain.owned on.page on.among in
+  -- what stands on the chain is read
+  on_read : (k b : List ℕ) → IsOn s pages k b → (c : List ℕ) × (fin.get (heap_map ground place s) k ≡ Some c)
+  on_read k b on =
+      let owned = chain.owned on.page on.among in
       let found = found_some (owned_entries place.owner s (length s.owners)) k b
       (owned_to place.owner s (length s.owners) on.page (record { key = k; body = b }) (slice_get_within s.owners on.page place.owner owned) (has_at on.page owned) on.here) in
       (found.0, read_at k ∙ found.1)
+
+  -- one body at most stands on it under a key
+  one_body : (k b c : List ℕ) → IsOn s pages k b → IsOn s pages k c → b ≡ c
+  one_body k b c x y =
+      let same = chain.apart y.page x.page k c b y.among x.among y.here x.here in
+      same_body (entries_at s x.page) k b c (page_distinct s x.page (linked_page s place.root pages x.page chain.linked x.among)) x.here (subst (λ n. Contains (entries_at s n) (record { key = k; body = c })) same y.here)
+
+  -- the map that is read is the one of a chain with all pages of its owner
+  pub heap_read : IsHeap ground place s (heap_map ground place s)
+  heap_read = record {
+    pages = pages;
+    chain = chain;
+    owned = all_owned;
+    map_is = λ k b. (
+      read_on k b,
+      λ on. (let found = on_read k b on in found.1 ∙ ap Some (sym (one_body k b found.0 on (read_on k found.0 found.1)))),
+    );
+  }
+
+module _ (ground : Ground) (place : Place) (s : Sheets) (map_here : LeafMap) (some : 1 ≤ place.owner) (h : IsHeap ground place s map_here) where
+  -- what is read is in the map
+  from_read : (k b : List ℕ) → fin.get (heap_map ground place s) k ≡ Some b → fin.get map_here k ≡ Some b
+  from_read k b is = (h.map_is k b).1 (read_on ground place s h.pages some h.chain h.owned k b is)
+
+  -- what is in the map is read
+  to_read : (k b : List ℕ) → fin.get map_here k ≡ Some b → (c : List ℕ) × (fin.get (heap_map ground place s) k ≡ Some c)
+  to_read k b is = on_read ground place s h.pages some h.chain h.owned k b ((h.map_is k b).0 is)
 
   both : (k : List ℕ) (read there : Option (List ℕ)) → fin.get (heap_map ground place s) k ≡ read → fin.get map_here k ≡ there → fin.get (heap_map ground place s) k ≡ fin.get map_here k
   both k None None r t = r ∙ sym t

@@ -8,7 +8,7 @@ ghost use Rattle.gx_ports.specs.LeafMaps.{LeafMap, Extends, selected};
 ghost use Rattle.gx_ports.specs.PageCalls.{KeepsPages, ReadsPages, CountsPageFaults};
 ghost use Rattle.gx_heap.specs.Heap.{IsHeap};
 
-use gx_chain::{collect, make_first, put_in, remove_from};
+use gx_chain::{check_chain, collect, make_first, put_in, remove_from};
 use gx_device::Failed;
 use gx_ports::{Entries, Pages, Place, Stop};
 use gx_values::Span;
@@ -100,4 +100,19 @@ pub fn select<P: Pages>(
     ensures not_full { ¬ IsErrOf result Stop.Full }
 {
     collect(alloc, pages, place.root, span, out)
+}
+
+/// Looks whether the heap is whole. `Damaged` has the block of a page that shows that it isn't.
+pub fn check<P: Pages>(alloc: Global, pages: &mut P, place: &Place) -> Result<(), Stop>
+    requires kind { place.now.spec.kind ≡ kinds.Heap }
+    requires place { IsPlace (P.ground pages.old) place.now }
+    ensures ok { IsTrue P.tells → OnOk result
+        (IsWhole P.PageView (IsHeap (P.ground pages.old) place.now) pages.old) }
+    ensures reads { ReadsPages P.PageView pages.old pages.new }
+    ensures ends { EndsFile P.PageView
+        (IsWhole P.PageView (IsHeap (P.ground pages.old) place.now) pages.old)
+        pages.old pages.new result }
+    ensures not_full { ¬ IsErrOf result Stop.Full }
+{
+    check_chain(alloc, pages, place.root, place.owner)
 }

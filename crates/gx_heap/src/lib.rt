@@ -3,4 +3,4 @@
 
 mod heap;
 
-pub use heap::{make, put, remove, select};
+pub use heap::{check, make, put, remove, select};

@@ -1,0 +1,85 @@
+-- What is found of a chain that is checked.
+use Rattle.std.specs.Prelude.{◌≡◌, ◌≢◌, ◌↔◌, ◌⊎◌, ℕ, Bool, true, List, [], ◌++◌, ◌∷◌, slice_get, Some, IsTrue}
+use Rattle.std.specs.Global.{Vec}
+use Rattle.std.specs.List.{AllPairs, Contains, list_any}
+use Rattle.std.specs.Ordering.{eq_by_cmp}
+use Rattle.gx_ports.specs.declared.page_view.PageView.{Ghosts}
+use Rattle.gx_ports.specs.Sheets.{Sheets, Ground, IsPast}
+use Rattle.gx_ports.specs.Cells.{key_cmp}
+use Rattle.gx_slots.specs.Entries.{Entry}
+use Rattle.gx_chain.specs.declared.check.Visits.{Visits}
+use Rattle.gx_chain.specs.Chain.{entries_at, IsChain, IsOn}
+
+-- a chain stands there, and its owner has no other page
+pub record IsWholeChain (ground : Ground) (owner : ℕ) (sheets : Sheets) (first : ℕ) : Type 0 where
+  pub pages : List ℕ
+  pub chain : IsChain ground owner sheets first pages
+  pub owned : (page : ℕ) → slice_get sheets.owners page ≡ Some owner → Contains pages page
+
+-- the pages tell what the device holds, and such a chain stands there
+pub record HasWholeChain {S : Type 0} (g : Ghosts S) (p : S) (owner first : ℕ) : Type 0 where
+  pub told : IsTrue g.tells
+  pub whole : IsWholeChain (g.ground p) owner (g.working p) first
+
+-- whether a key is among these
+abbrev pub has_key : List (Vec ℕ) → List ℕ → Bool
+has_key keys key = list_any (λ k. eq_by_cmp key_cmp key k.items) keys
+
+-- an entry has the key
+abbrev pub IsKeyOf : List Entry → List ℕ → Type 0
+IsKeyOf entries key = (body : List ℕ) × Contains entries (record { key = key; body = body })
+
+-- the keys of the entries, which were not among the old ones, are among the new ones
+pub record HasAddedKeys (entries : List Entry) (old new : List (Vec ℕ)) : Type 0 where
+  pub fresh : (key : List ℕ) → IsKeyOf entries key → has_key old key ≢ true
+  pub those : (key : List ℕ) → (has_key new key ≡ true) ↔ (IsKeyOf entries key ⊎ (has_key old key ≡ true))
+
+-- one of the entries has a key that is among these
+pub record SharesKey (entries : List Entry) (keys : List (Vec ℕ)) : Type 0 where
+  pub key : List ℕ
+  pub among : IsKeyOf entries key
+  pub shared : has_key keys key ≡ true
+
+-- these pages are marked
+abbrev pub AreSeen : List ℕ → List Bool → Type 0
+AreSeen pages seen = (page : ℕ) → (slice_get seen page ≡ Some true) ↔ Contains pages page
+
+-- These pages could begin a chain, and they and their keys are noted.
+pub record AreVisited (ground : Ground) (owner : ℕ) (sheets : Sheets) (first : ℕ) (pages : List ℕ) (visits : Visits) : Type 0 where
+  pub once : AllPairs (λ a b. a ≢ b) pages
+  pub past : (page : ℕ) → Contains pages page → IsPast ground page
+  pub owned : (page : ℕ) → Contains pages page → slice_get sheets.owners page ≡ Some owner
+  pub filled : (page : ℕ) → Contains pages page → page ≢ first → entries_at sheets page ≢ []
+  pub apart : (page other : ℕ) (key body again : List ℕ) → Contains pages page → Contains pages other
+      → Contains (entries_at sheets page) (record { key = key; body = body }) → Contains (entries_at sheets other) (record { key = key; body = again })
+      → page ≡ other
+  pub seen : AreSeen pages visits.seen.items
+  pub keys : (key : List ℕ) → (has_key visits.keys.keys key ≡ true) ↔ ((body : List ℕ) × IsOn sheets pages key body)
+
+-- the pages tell what the device holds, these pages are visited, and a chain of the owner has them and then this one
+pub record IsNext {S : Type 0} (g : Ghosts S) (p : S) (owner first : ℕ) (visits : Visits) (page : ℕ) : Type 0 where
+  pub told : IsTrue g.tells
+  pub front : List ℕ
+  pub visited : AreVisited (g.ground p) owner (g.working p) first front visits
+  pub all : List ℕ
+  pub chain : IsChain (g.ground p) owner (g.working p) first all
+  pub rest : List ℕ
+  pub is : all ≡ front ++ page ∷ rest
+
+-- one chain stands there, and its pages are marked
+pub record HasSeenChain (ground : Ground) (owner : ℕ) (sheets : Sheets) (first : ℕ) (seen : List Bool) : Type 0 where
+  pub pages : List ℕ
+  pub chain : IsChain ground owner sheets first pages
+  pub only : (other : List ℕ) → IsChain ground owner sheets first other → other ≡ pages
+  pub marked : AreSeen pages seen
+
+-- the owner has the page, which isn't marked
+abbrev pub IsUnseen : Sheets → ℕ → List Bool → ℕ → Type 0
+IsUnseen sheets owner seen page = (slice_get sheets.owners page ≡ Some owner) × (slice_get seen page ≢ Some true)
+
+-- each page of the owner is marked
+abbrev pub AreAllSeen : Sheets → ℕ → List Bool → Type 0
+AreAllSeen sheets owner seen = (page : ℕ) → slice_get sheets.owners page ≡ Some owner → slice_get seen page ≡ Some true
+
+abbrev pub HasAllSeen : {S : Type 0} → Ghosts S → S → ℕ → List Bool → Type 0
+HasAllSeen g p owner seen = IsTrue g.tells × AreAllSeen (g.working p) owner seen

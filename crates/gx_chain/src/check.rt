@@ -1,0 +1,177 @@
+// A chain is checked.
+ghost use Rattle.std.specs.Prelude.{◌≡◌, ◌≢◌, ◌↔◌, ℕ, ◌<◌, List, [], ◌++◌, ◌∷◌, length, replicate, false, IsTrue, OnOk, IfOk, IsErrOf};
+ghost use Rattle.std.specs.Bool.{OnTrue, OnFalse};
+ghost use Rattle.gx_ports.specs.declared.pages.TheConstants.{PAGE_LEN};
+ghost use Rattle.gx_ports.specs.Files.{EndsFile};
+ghost use Rattle.gx_ports.specs.PageCalls.{ReadsPages, CountsPageFaults};
+ghost use Rattle.gx_ports.specs.Sheets.{IsPast};
+ghost use Rattle.gx_slots.specs.Page.{IsEntryPage, entries_of};
+ghost use Rattle.gx_chain.specs.Chain.{bytes_at};
+ghost use Rattle.gx_chain.specs.Check.{IsWholeChain, HasWholeChain, HasAddedKeys, SharesKey, AreVisited, IsNext, HasSeenChain, IsUnseen, AreAllSeen, HasAllSeen};
+
+use crate::read::{behind, read_entries};
+use gx_device::Failed;
+use gx_ports::{PAGE_LEN, Pages, Stop};
+use gx_slots::{count, entries};
+use gx_values::NoMemory;
+use std::alloc::{AllocError, Global};
+use std::collections::BTreeSet;
+
+/// What was found on the pages of a chain so far.
+#[derive(Drop)]
+pub(crate) struct Visits {
+    /// for each page, whether it is one of them
+    pub seen: Vec<bool>,
+    /// the keys of their entries
+    pub keys: BTreeSet<Vec<u8>>,
+}
+
+/// Looks whether a chain of the owner begins at `first`, and the owner has no other page. Each page of the
+/// chain is read once. `Damaged`: none does, or it has one, and the block is that of a page that shows it.
+pub fn check_chain<P: Pages>(
+    alloc: Global,
+    pages: &mut P,
+    first: u32,
+    owner: u16,
+) -> Result<(), Stop>
+    requires first { IsPast (P.ground pages.old) first }
+    ensures whole { IsTrue P.tells → OnOk result
+        (IsWholeChain (P.ground pages.old) owner (P.working pages.old) first) }
+    ensures reads { ReadsPages P.PageView pages.old pages.new }
+    ensures ends { EndsFile P.PageView (HasWholeChain P.PageView pages.old owner first)
+        pages.old pages.new result }
+    ensures not_full { ¬ IsErrOf result Stop.Full }
+{
+    let seen = visit_all(alloc, pages, first, owner)?;
+    seek_unseen(pages, owner, &seen)
+}
+
+// Visits each page of the chain, and answers which these are.
+fn visit_all<P: Pages>(
+    alloc: Global,
+    pages: &mut P,
+    first: u32,
+    owner: u16,
+) -> Result<Vec<bool>, Stop>
+    requires first { IsPast (P.ground pages.old) first }
+    ensures seen { IsTrue P.tells → IfOk result
+        (λ seen. HasSeenChain (P.ground pages.old) owner (P.working pages.old) first seen.items) }
+    ensures len { IfOk result (λ seen. length seen.items ≡ (P.ground pages.old).size) }
+    ensures reads { ReadsPages P.PageView pages.old pages.new }
+    ensures ends { EndsFile P.PageView (HasWholeChain P.PageView pages.old owner first)
+        pages.old pages.new result }
+    ensures not_full { ¬ IsErrOf result Stop.Full }
+{
+    let count = pages.pages();
+    let mut visits = no_visits(alloc, count)?;
+    let mut page = [0; PAGE_LEN];
+    let mut number = first;
+    for _ in 0..count {
+        visit(alloc, pages, number, first, owner, &mut page, &mut visits)?;
+        match behind(pages, number, &page)? {
+            None => return Ok(visits.seen),
+            Some(next) => number = next,
+        }
+    }
+    Err(Stop::Damaged(pages.block(number)))
+}
+
+// No page is visited yet.
+fn no_visits(alloc: Global, count: u32) -> Result<Visits, AllocError>
+    ensures seen { IfOk result (λ visits. visits.seen.items ≡ replicate count false) }
+    ensures keys { IfOk result (λ visits. visits.keys.keys ≡ []) }
+{
+    Ok(Visits {
+        seen: vec![in alloc; false; count as usize]?,
+        keys: BTreeSet::new(alloc),
+    })
+}
+
+// Reads the next page of the chain, which must be a page of the owner that wasn't seen, have an entry if it
+// isn't the first, and no key that was found before.
+fn visit<P: Pages>(
+    alloc: Global,
+    pages: &mut P,
+    number: u32,
+    first: u32,
+    owner: u16,
+    page: &mut [u8],
+    visits: &mut Visits,
+) -> Result<(), Stop>
+    requires number { IsPast (P.ground pages.old) number }
+    requires bytes { length page.old ≡ PAGE_LEN }
+    requires seen { length visits.old.seen.items ≡ (P.ground pages.old).size }
+    ensures visited { IsTrue P.tells → (front : List ℕ) →
+        AreVisited (P.ground pages.old) owner (P.working pages.old) first front visits.old →
+        OnOk result
+        (AreVisited (P.ground pages.old) owner (P.working pages.old) first (front ++ number ∷ []) visits.new) }
+    ensures read { OnOk result (IsEntryPage page.new) }
+    ensures bytes { IsTrue P.tells →
+        OnOk result (page.new ≡ bytes_at (P.working pages.old) number) }
+    ensures len { length page.new ≡ PAGE_LEN }
+    ensures seen { length visits.new.seen.items ≡ (P.ground pages.old).size }
+    ensures reads { ReadsPages P.PageView pages.old pages.new }
+    ensures ends { EndsFile P.PageView (IsNext P.PageView pages.old owner first visits.old number)
+        pages.old pages.new result }
+    ensures not_full { ¬ IsErrOf result Stop.Full }
+{
+    if !is_unseen(pages, number, owner, &visits.seen)? {
+        return Err(Stop::Damaged(pages.block(number)));
+    }
+    read_entries(pages, number, page)?;
+    if number != first && count(page) == 0 {
+        return Err(Stop::Damaged(pages.block(number)));
+    }
+    if !add_keys(alloc, page, &mut visits.keys)? {
+        return Err(Stop::Damaged(pages.block(number)));
+    }
+    visits.seen[number as usize] = true;
+    Ok(())
+}
+
+// Whether the owner has a page that wasn't seen.
+fn is_unseen<P: Pages>(pages: &mut P, page: u32, owner: u16, seen: &[bool]) -> Result<bool, Failed>
+    requires page { page < (P.ground pages.old).size }
+    requires len { length seen.now ≡ (P.ground pages.old).size }
+    ensures unseen { IsTrue P.tells → IfOk result
+        (λ unseen. IsTrue unseen ↔ IsUnseen (P.working pages.old) owner seen.now page) }
+    ensures reads { ReadsPages P.PageView pages.old pages.new }
+    ensures faults { CountsPageFaults P.PageView pages.old pages.new result }
+{
+    Ok(pages.owner(page)? == owner && !seen[page as usize])
+}
+
+// Adds the keys of a page. False: one was there already.
+fn add_keys(alloc: Global, page: &[u8], keys: &mut BTreeSet<Vec<u8>>) -> Result<bool, NoMemory>
+    requires page { IsEntryPage page.now }
+    ensures added { IfOk result (λ added. OnTrue added
+        (HasAddedKeys (entries_of page.now) keys.old.keys keys.new.keys)) }
+    ensures shared { IfOk result (λ added. OnFalse added
+        (SharesKey (entries_of page.now) keys.old.keys)) }
+{
+    for (key, _) in entries(page) {
+        if !keys.insert(key.to_vec(alloc)?)? {
+            return Ok(false);
+        }
+    }
+    Ok(true)
+}
+
+// Looks whether each page of the owner was seen.
+fn seek_unseen<P: Pages>(pages: &mut P, owner: u16, seen: &[bool]) -> Result<(), Stop>
+    requires len { length seen.now ≡ (P.ground pages.old).size }
+    ensures all { IsTrue P.tells → OnOk result
+        (AreAllSeen (P.working pages.old) owner seen.now) }
+    ensures reads { ReadsPages P.PageView pages.old pages.new }
+    ensures ends { EndsFile P.PageView (HasAllSeen P.PageView pages.old owner seen.now)
+        pages.old pages.new result }
+    ensures not_full { ¬ IsErrOf result Stop.Full }
+    ensures frugal { ¬ IsErrOf result Stop.NoMemory }
+{
+    for page in 0..pages.pages() {
+        if is_unseen(pages, page, owner, seen)? {
+            return Err(Stop::Damaged(pages.block(page)));
+        }
+    }
+    Ok(())
+}
