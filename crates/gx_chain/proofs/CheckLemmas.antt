@@ -20,7 +20,7 @@ use Rattle.gx_ports.specs.declared.stop.Stop.TheVariants.{Fault, Damaged}
 use Rattle.gx_ports.specs.Files.{EndsFile}
 use Rattle.gx_ports.specs.PageCalls.{ReadsPages}
 use Rattle.gx_ports.specs.Sheets.{Sheets, Ground, IsPast}
-use Rattle.gx_ports.specs.Cells.{key_cmp}
+use Rattle.gx_ports.specs.Keyed.{key_cmp}
 use Rattle.gx_ports.proofs.KeyLemmas.{only_equal, same_key, tied}
 use Rattle.gx_ports.proofs.KeyedLemmas.{vec_cmp}
 use Rattle.gx_slots.specs.Entries.{Entry, AreDistinct}

@@ -5,7 +5,7 @@ use Rattle.std.specs.List.{AllPairs, Contains, list_any}
 use Rattle.std.specs.Ordering.{eq_by_cmp}
 use Rattle.gx_ports.specs.declared.page_view.PageView.{Ghosts}
 use Rattle.gx_ports.specs.Sheets.{Sheets, Ground, IsPast}
-use Rattle.gx_ports.specs.Cells.{key_cmp}
+use Rattle.gx_ports.specs.Keyed.{key_cmp}
 use Rattle.gx_slots.specs.Entries.{Entry}
 use Rattle.gx_chain.specs.declared.check.Visits.{Visits}
 use Rattle.gx_chain.specs.Chain.{entries_at, IsChain, IsOn}
