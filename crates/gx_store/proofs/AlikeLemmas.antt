@@ -1,5 +1,5 @@
 -- Blocks from which the same is read.
-use Rattle.std.proofs.Common.{◌≡◌, ◌∙◌, ℕ, ◌+◌, ◌≤◌, Bool, true, false, not, List, [], length, get_or, IsTrue, refl, sym, ap, subst, arith, Result, Ok, Err}
+use Rattle.std.proofs.Common.{◌≡◌, ◌∙◌, ℕ, ◌≤◌, Bool, true, false, not, List, [], length, get_or, IsTrue, refl, sym, ap, subst, arith, Result, Ok, Err}
 use Rattle.std.specs.Prelude.{IfOk, OnOk}
 use Rattle.gx_device.specs.Content.{Content, block_of}
 use Rattle.gx_ports.specs.declared.kinds.LeafSpec.{LeafSpec}

@@ -1,5 +1,5 @@
 -- Causes of refusals, and faults that are counted over several calls.
-use Rattle.std.proofs.Common.{◌≡◌, ◌∙◌, ℕ, ◌≤◌, ◌↔◌, IsTrue, Bool, true, false, not, List, [], Some, None, length, get_or, refl, sym, ap, subst, arith}
+use Rattle.std.proofs.Common.{◌≡◌, ◌∙◌, ℕ, ◌↔◌, IsTrue, Bool, true, false, List, [], Some, None, length, get_or, refl, subst, arith}
 use Rattle.std.specs.Prelude.{slice_index_or}
 use Rattle.gx_device.specs.Content.{Content, device_at}
 use Rattle.gx_device.specs.Faults.{Counted, Rose}
@@ -12,7 +12,6 @@ use Rattle.gx_journal.specs.declared.opening.Unopened.{Unopened as NoJournal}
 use Rattle.gx_journal.specs.declared.opening.Unopened.TheVariants as journal
 use Rattle.gx_store.specs.Causes.{not_attached, no_journal}
 use Rattle.gx_store.specs.Device.{IsSize}
-use Rattle.gx_store.specs.Store.{is_fault}
 use Rattle.gx_store.specs.Opening.{AreUnopened, AreUnread, IsUnopened, is_untouched}
 use Rattle.gx_store.specs.declared.unopened.Unopened.{Unopened}
 use Rattle.gx_store.specs.declared.unopened.Unopened.TheVariants as unopened

@@ -1,5 +1,5 @@
 -- Leaves over a journal whose pages hold these maps.
-use Rattle.std.proofs.Common.{◌≡◌, ℕ, ◌*◌, ◌+◌, Bool, List, length, IsTrue, sym, ap, subst, ◌∙◌}
+use Rattle.std.proofs.Common.{◌≡◌, ℕ, ◌*◌, ◌+◌, List, length, IsTrue, sym, ap, subst, ◌∙◌}
 use Rattle.std.specs.Prelude.{Result, Ok, Err, IfOk, OnOk}
 use Rattle.gx_device.specs.declared.device.Device as device
 use Rattle.gx_ports.specs.declared.page_view.PageView as page_view
@@ -10,7 +10,7 @@ use Rattle.gx_ports.specs.Sheets.{Sheets, Ground}
 use Rattle.gx_layout.specs.Layout.{pages_of, head_of}
 use Rattle.gx_layout.specs.Recovered.{replayed_pages}
 use Rattle.gx_leaves.specs.Places.{places_of}
-use Rattle.gx_leaves.specs.Wholeness.{AreLaid, AreWhole, maps_of}
+use Rattle.gx_leaves.specs.Wholeness.{AreLaid, maps_of}
 use Rattle.gx_leaves.specs.declared.paged.PagedLeaves.{PagedLeaves}
 use Rattle.gx_pages.specs.declared.paged.Paged.{Paged}
 use Rattle.gx_pages.specs.Owners.{sheets_of}

@@ -1,22 +1,19 @@
 -- What a journal of which no commit failed leaves on its device.
 use Rattle.std.proofs.Common.{◌≡◌, ◌∙◌, ℕ, ◌+◌, ◌≤◌, Bool, List, [], length, get_or, drop, IsTrue, refl, sym, ap, subst, arith}
 use Rattle.gx_device.specs.declared.device.Device as device
-use Rattle.gx_device.specs.Content.{Content, block_of}
-use Rattle.gx_ports.specs.declared.page_view.PageView as page_view
+use Rattle.gx_device.specs.Content.{block_of}
 use Rattle.gx_ports.specs.declared.kinds.LeafSpec.{LeafSpec}
 use Rattle.gx_ports.specs.declared.pages.Place.{Place}
 use Rattle.gx_ports.specs.LeafMaps.{LeafMap}
 use Rattle.gx_ports.specs.Roots.{root_pages}
 use Rattle.gx_ports.specs.Sheets.{Sheets, Ground}
 use Rattle.gx_layout.specs.Layout.{pages_of, head_of}
-use Rattle.gx_layout.specs.Head.{HasMagic, text_blocks}
+use Rattle.gx_layout.specs.Head.{HasMagic}
 use Rattle.gx_journal.specs.State.{head_told}
 use Rattle.gx_journal.specs.declared.journal.Journal.{Journal}
 use Rattle.gx_journal.specs.Journal.{IsSteady, content_of, size_of, working_of, kept_of, head_blocks}
-use Rattle.gx_pages.specs.declared.paged.Paged.{Paged}
 use Rattle.gx_pages.specs.Owners.{sheets_of}
 use Rattle.gx_pages.specs.Paged.{ground_of, kept_sheets}
-use Rattle.gx_pages.specs.View.{journal_of}
 use Rattle.gx_leaves.specs.Places.{IsRoomFor, specs_of, places_of}
 use Rattle.gx_leaves.specs.Wholeness.{AreLaid, maps_of}
 use Rattle.gx_store.specs.Device.{AreMaps, AreTexts, IsSettled}

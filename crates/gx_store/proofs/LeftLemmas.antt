@@ -1,20 +1,15 @@
 -- The machine below what is handed back.
-use Rattle.std.proofs.Common.{◌≡◌, ◌∙◌, ℕ, Bool, true, false, not, Result, Ok, Err, refl, sym, ap, subst}
+use Rattle.std.proofs.Common.{◌≡◌, true, not, Result, Ok, Err, refl, ap}
 use Rattle.std.specs.Prelude.{IfOk, IfErr}
 use Rattle.gx_device.specs.declared.device.Device as device
-use Rattle.gx_device.specs.Faults.{Counted}
 use Rattle.gx_ports.specs.declared.page_view.PageView as page_view
 use Rattle.gx_journal.specs.declared.journal.Journal.{Journal}
-use Rattle.gx_journal.specs.declared.opening.Unopened.{Unopened as NoJournal}
-use Rattle.gx_journal.specs.declared.opening.Unopened.TheVariants as journal
 use Rattle.gx_journal.specs.Journal.{device_of}
-use Rattle.gx_journal.specs.Opening.{has_no_fault}
 use Rattle.gx_pages.specs.declared.paged.Paged.{Paged}
 use Rattle.gx_pages.specs.View.{journal_of}
 use Rattle.gx_leaves.specs.declared.paged.PagedLeaves.{PagedLeaves}
 use Rattle.gx_leaves.specs.Paged.{pages_of}
-use Rattle.gx_store.specs.Causes.{no_journal}
-use Rattle.gx_store.specs.Store.{is_fault, machine_of, machine_left, goes_on}
+use Rattle.gx_store.specs.Store.{is_fault, machine_left, goes_on}
 use Rattle.gx_store.specs.declared.unopened.Unopened.{Unopened}
 use Rattle.gx_store.specs.declared.unopened.Unopened.TheVariants as unopened
 

@@ -1,19 +1,16 @@
 -- Why nothing is made, and how faults are counted while a database is made.
-use Rattle.std.proofs.Common.{◌≡◌, ◌≢◌, ◌∙◌, ℕ, zero, suc, ◌<◌, ◌≤◌, Bool, true, false, not, List, [], Result, Ok, Err, length, get_or, refl, sym, ap, subst, arith}
-use Rattle.std.specs.Prelude.{OnOk, OnErr}
+use Rattle.std.proofs.Common.{◌≡◌, ◌≢◌, ◌∙◌, ℕ, zero, suc, true, false, not, List, [], Result, Ok, Err, get_or, refl, sym, ap, arith}
+use Rattle.std.specs.Prelude.{OnOk}
 use Rattle.std.proofs.lemmas.List.{get_or-replicate}
 use Rattle.gx_device.specs.Content.{Content, device_at, zero_blocks}
 use Rattle.gx_layout.specs.Head.{HasMagic}
 use Rattle.std.specs.Prelude.{IsSome}
-use Rattle.gx_device.specs.Faults.{Counted, IsCounted, Rose}
-use Rattle.gx_device.specs.declared.device.Device as device
+use Rattle.gx_device.specs.Faults.{Counted}
 use Rattle.gx_device.specs.declared.device.AttachStop.{AttachStop}
 use Rattle.gx_device.specs.declared.device.AttachStop.TheVariants as attach
 use Rattle.gx_ports.specs.declared.kinds.LeafSpec.{LeafSpec}
-use Rattle.gx_journal.specs.declared.journal.Journal.{Journal}
 use Rattle.gx_journal.specs.declared.opening.Unopened.{Unopened as NoJournal}
 use Rattle.gx_journal.specs.declared.opening.Unopened.TheVariants as journal
-use Rattle.gx_journal.specs.Opening.{has_no_fault}
 use Rattle.gx_store.specs.Causes.{not_attached, no_journal}
 use Rattle.gx_ports.specs.declared.stop.Stop.{Stop}
 use Rattle.gx_ports.specs.declared.stop.Stop.TheVariants as stop

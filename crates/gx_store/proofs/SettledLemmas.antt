@@ -1,6 +1,5 @@
 -- What a journal at rest leaves on its device.
-use Rattle.std.proofs.Common.{◌≡◌, ℕ, ◌+◌, ◌*◌, ◌<◌, ◌≤◌, Bool, true, false, List, [], length, get_or, take, drop, replicate, IsTrue, refl, sym, ap, subst, ◌∙◌, arith, length-take, length-drop}
-use Rattle.std.specs.FinMap.{empty}
+use Rattle.std.proofs.Common.{◌≡◌, ℕ, ◌+◌, ◌*◌, ◌<◌, ◌≤◌, Bool, false, List, [], length, get_or, take, drop, IsTrue, refl, sym, ap, subst, ◌∙◌, arith}
 use Rattle.std.proofs.lemmas.List.{same_lists, get_or-take, get_or-drop, get_or_default}
 use Rattle.std.proofs.lemmas.List.FromFn.{get_or-map-range_with_len}
 use Rattle.gx_device.specs.Content.{Content, block_of}
@@ -8,7 +7,7 @@ use Rattle.gx_ports.specs.declared.kinds.LeafSpec.{LeafSpec}
 use Rattle.gx_ports.specs.LeafMaps.{LeafMap}
 use Rattle.gx_ports.specs.Roots.{root_pages}
 use Rattle.gx_ports.specs.Sheets.{Ground}
-use Rattle.gx_layout.specs.Layout.{pages_of, head_of, is_open, replayed, home}
+use Rattle.gx_layout.specs.Layout.{pages_of, head_of, is_open, replayed}
 use Rattle.gx_layout.specs.PhaseLaws.{shut}
 use Rattle.gx_layout.specs.Recovered.{replayed_pages}
 use Rattle.gx_layout.specs.Head.{HasMagic, text_at, text_area, text_blocks, block_in}
@@ -16,7 +15,7 @@ use Rattle.gx_layout.proofs.ReplayLemmas.{length-replayed, homes_long}
 use Rattle.gx_layout.proofs.TextLemmas.{more_same}
 use Rattle.gx_journal.specs.State.{homes_told, head_told}
 use Rattle.gx_pages.specs.Owners.{sheets_of}
-use Rattle.gx_store.specs.Device.{IsSize, AreMaps, AreTexts, HasTexts, IsDatabase, IsSettled, Reopens, home_pages, ground_on, most_blocks}
+use Rattle.gx_store.specs.Device.{AreMaps, AreTexts, IsDatabase, IsSettled, Reopens, home_pages, ground_on, most_blocks}
 use Rattle.gx_store.proofs.GroundLemmas.{maps_moved}
 
 -- the text blocks of a device, byte by byte

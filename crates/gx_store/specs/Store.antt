@@ -4,7 +4,6 @@ use Rattle.gx_device.specs.declared.device.Device as device
 use Rattle.gx_device.specs.Content.{Content, device_at}
 use Rattle.gx_ports.specs.declared.page_view.PageView as page_view
 use Rattle.gx_ports.specs.LeafMaps.{LeafMap}
-use Rattle.gx_journal.specs.declared.journal.Journal.{Journal}
 use Rattle.gx_journal.specs.Journal.{device_of}
 use Rattle.gx_pages.specs.declared.paged.Paged.{Paged}
 use Rattle.gx_pages.specs.View.{journal_of}

@@ -26,13 +26,13 @@ use gx_pages::Paged;
 use gx_ports::{LeafSpec, Stop};
 use std::alloc::Global;
 
-/// Makes a device of that name with so many blocks, and an empty database on it under these two canonical
-/// texts. The specs are those of the texts. The magic is written last, so that a crash before leaves no
-/// database.
+/// Makes a device of that name with so many blocks, and an empty database on it under these two
+/// canonical texts. The specs are those of the texts. The magic is written last, so that a crash
+/// before leaves no database.
 ///
-/// Otherwise, in this order: `Size` of the number, `Exists`; then no device is made or changed. `Fault`:
-/// the count of faults rose; with every other answer it stays. `NoMemory`: there was none. After these
-/// two there may be a device: it has no database, or an empty one.
+/// Otherwise, in this order: `Size` of the number, `Exists`; then no device is made or changed.
+/// `Fault`: the count of faults rose; with every other answer it stays. `NoMemory`: there was none.
+/// After these two there may be a device: it has no database, or an empty one.
 pub fn make<M: Machine + Drop>(
     alloc: Global,
     machine: M,
@@ -46,13 +46,15 @@ pub fn make<M: Machine + Drop>(
     requires few { length specs.now ≤ 255 }
     requires built { IsTrue (are_built specs.now) }
     ensures made { CanAttach M.tells (M.content machine) → OnOk result.0
-        (OfBlocks name.now (M.content result.1) (IsMadeOn blocks schema.now equation.now specs.now)) }
+        (OfBlocks name.now (M.content result.1)
+        (IsMadeOn blocks schema.now equation.now specs.now)) }
     ensures new { CanAttach M.tells (M.content machine) →
         OnOk result.0 (device_at (M.content machine).now name.now ≡ None) }
     ensures size { OnOk result.0 (IsSize specs.now blocks) }
     ensures unmade { CanAttach M.tells (M.content machine) → IfErr result.0
         (IsUnmade name.now blocks specs.now (M.content machine)) }
-    ensures untouched { CanAttach M.tells (M.content machine) → IfErr result.0 (λ why. is_untouched why ≡ true →
+    ensures untouched { CanAttach M.tells (M.content machine) →
+        IfErr result.0 (λ why. is_untouched why ≡ true →
         device_at (M.content result.1).now name.now ≡ device_at (M.content machine).now name.now) }
     ensures left { CanAttach M.tells (M.content machine) →
         device_at (M.content machine).now name.now ≡ None → (blocks : List (List ℕ)) →
@@ -72,8 +74,8 @@ pub fn make<M: Machine + Drop>(
     make_attached(alloc, machine, schema, equation, specs)
 }
 
-// Makes the database on the attached device. No contract tells the size of one that a machine which tells
-// nothing has made, so it is tried again.
+// Makes the database on the attached device. No contract tells the size of one that a machine which
+// tells nothing has made, so it is tried again.
 fn make_attached<M: Machine + Drop>(
     alloc: Global,
     machine: M,
@@ -85,7 +87,8 @@ fn make_attached<M: Machine + Drop>(
     requires few { length specs.now ≤ 255 }
     requires built { IsTrue (are_built specs.now) }
     ensures made { IsTrue M.tells → OnOk result.0
-        (IsMadeOn (M.size machine) schema.now equation.now specs.now (M.content result.1).now.blocks) }
+        (IsMadeOn (M.size machine) schema.now equation.now specs.now
+        (M.content result.1).now.blocks) }
     ensures left { IsTrue M.tells → ¬ HasMagic (block_of (M.content machine).now 0) →
         IsNoneOrEmpty schema.now equation.now specs.now (M.content result.1).now.blocks }
     ensures unmade { IfErr result.0 (λ why. IsUnmadeOn specs.now (M.size machine) why) }
@@ -120,7 +123,8 @@ fn make_over<M: Machine + Drop>(
         OnOk result.0 (pages_of (length (M.content result.1).now.blocks) ≡ size_of journal) }
     ensures unmade { IfErr result.0 (λ why. IsUnlaid why) }
     ensures silent { Silent (content_of journal) (M.content result.1) }
-    ensures faults { Counted (has_no_fault result.0) (M.faults (device_of journal)) (M.faults result.1) }
+    ensures faults { Counted (has_no_fault result.0) (M.faults (device_of journal))
+        (M.faults result.1) }
 {
     match make_leaves(alloc, journal, specs) {
         Ok(journal) => publish(journal),
@@ -136,13 +140,15 @@ fn make_leaves<M: Machine + Drop>(
 ) -> Result<Journal<M>, (M, Unopened)>
     requires room { IsRoomFor (ground_of journal) specs.now }
     ensures made { IsTrue M.tells → IsSteady journal → IfOk result (λ j.
-        AreMaps (ground_of journal) specs.now (replicate (length specs.now) empty) (working_sheets j)) }
+        AreMaps (ground_of journal) specs.now (replicate (length specs.now) empty)
+        (working_sheets j)) }
     ensures ground { IfOk result (λ j. ground_of j ≡ ground_of journal) }
     ensures steady { IfOk result (λ j. IsSteady journal ↔ IsSteady j) }
     ensures head { IfErr result (λ e. head_told M.tells (M.content e.0) ≡ head_blocks journal) }
     ensures unmade { IfErr result (λ e. IsUnlaid e.1) }
     ensures silent { Silent (content_of journal) (M.content (machine_below result)) }
-    ensures faults { Counted (is_laid result) (M.faults (device_of journal)) (M.faults (machine_below result)) }
+    ensures faults { Counted (is_laid result) (M.faults (device_of journal))
+        (M.faults (machine_below result)) }
 {
     match Paged::make(journal) {
         Ok(pages) => make_in(alloc, pages, specs),
@@ -158,14 +164,18 @@ fn make_in<M: Machine + Drop>(
 ) -> Result<Journal<M>, (M, Unopened)>
     requires room { IsRoomFor (ground_of (journal_of pages)) specs.now }
     ensures made { IsTrue M.tells → IsSteady (journal_of pages) →
-        IsAllFree (ground_of (journal_of pages)) (working_sheets (journal_of pages)) → IfOk result (λ j.
-        AreMaps (ground_of (journal_of pages)) specs.now (replicate (length specs.now) empty) (working_sheets j)) }
+        IsAllFree (ground_of (journal_of pages)) (working_sheets (journal_of pages)) →
+        IfOk result (λ j.
+        AreMaps (ground_of (journal_of pages)) specs.now (replicate (length specs.now) empty)
+        (working_sheets j)) }
     ensures ground { IfOk result (λ j. ground_of j ≡ ground_of (journal_of pages)) }
     ensures steady { IfOk result (λ j. IsSteady (journal_of pages) ↔ IsSteady j) }
-    ensures head { IfErr result (λ e. head_told M.tells (M.content e.0) ≡ head_blocks (journal_of pages)) }
+    ensures head { IfErr result
+        (λ e. head_told M.tells (M.content e.0) ≡ head_blocks (journal_of pages)) }
     ensures unmade { IfErr result (λ e. IsUnlaid e.1) }
     ensures silent { Silent (content_of (journal_of pages)) (M.content (machine_below result)) }
-    ensures faults { Counted (is_laid result) (M.faults (device_of (journal_of pages))) (M.faults (machine_below result)) }
+    ensures faults { Counted (is_laid result) (M.faults (device_of (journal_of pages)))
+        (M.faults (machine_below result)) }
 {
     match PagedLeaves::make(alloc, pages, specs) {
         Ok(leaves) => Ok(leaves.into_pages().into_journal()),
@@ -195,7 +205,8 @@ fn publish<M: Machine + Drop>(mut journal: Journal<M>) -> (Result<(), Unopened>,
         pages_of (length (M.content result.1).now.blocks) ≡ size_of journal }
     ensures unmade { IfErr result.0 (λ why. IsUnlaid why) }
     ensures silent { Silent (content_of journal) (M.content result.1) }
-    ensures faults { Counted (has_no_fault result.0) (M.faults (device_of journal)) (M.faults result.1) }
+    ensures faults { Counted (has_no_fault result.0) (M.faults (device_of journal))
+        (M.faults result.1) }
 {
     match journal.commit() {
         Ok(()) => seal(journal),
@@ -205,14 +216,17 @@ fn publish<M: Machine + Drop>(mut journal: Journal<M>) -> (Result<(), Unopened>,
 
 // Writes the magic.
 fn seal<M: Machine + Drop>(mut journal: Journal<M>) -> (Result<(), Unopened>, M)
-    ensures magic { IsTrue M.tells → OnOk result.0 (HasMagic (block_of (M.content result.1).now 0)) }
-    ensures settled { IsTrue M.tells → IsSteady journal → HasMagic (block_of (M.content result.1).now 0) →
+    ensures magic { IsTrue M.tells →
+        OnOk result.0 (HasMagic (block_of (M.content result.1).now 0)) }
+    ensures settled { IsTrue M.tells → IsSteady journal →
+        HasMagic (block_of (M.content result.1).now 0) →
         Publishes journal (kept_of journal) (M.content result.1).now.blocks }
     ensures pages { IsTrue M.tells →
         pages_of (length (M.content result.1).now.blocks) ≡ size_of journal }
     ensures unmade { IfErr result.0 (λ why. IsUnlaid why) }
     ensures silent { Silent (content_of journal) (M.content result.1) }
-    ensures faults { Counted (has_no_fault result.0) (M.faults (device_of journal)) (M.faults result.1) }
+    ensures faults { Counted (has_no_fault result.0) (M.faults (device_of journal))
+        (M.faults result.1) }
 {
     match journal.seal() {
         Ok(()) => (Ok(()), journal.into_device()),

@@ -23,13 +23,14 @@ use gx_ports::LeafSpec;
 use gx_values::NoMemory;
 use std::alloc::Global;
 
-/// Attaches the device of that name, settles what a crash left there, and opens its leaves, where it holds
-/// a database under these two canonical texts. The specs are those of the texts.
+/// Attaches the device of that name, settles what a crash left there, and opens its leaves, where
+/// it holds a database under these two canonical texts. The specs are those of the texts.
 ///
-/// Otherwise the machine is handed back, in this order: `Missing`, `Size`, `NoDatabase`, `OtherTexts`. After
-/// the first three no block was written. `Fault`: the count of faults rose; with every other answer it
-/// stays. `NoMemory`: there was none. With every answer but `Fault` the device still reads as it did, so
-/// that what opened it opens it again; whatever it answers, no block was written but by recovery.
+/// Otherwise the machine is handed back, in this order: `Missing`, `Size`, `NoDatabase`,
+/// `OtherTexts`. After the first three no block was written. `Fault`: the count of faults rose;
+/// with every other answer it stays. `NoMemory`: there was none. With every answer but `Fault` the
+/// device still reads as it did, so that what opened it opens it again; whatever it answers, no
+/// block was written but by recovery.
 pub fn open<M: Machine + Drop>(
     alloc: Global,
     machine: M,
@@ -41,7 +42,8 @@ pub fn open<M: Machine + Drop>(
     requires texts { length schema.now + length equation.now ≤ 16380 }
     requires few { length specs.now ≤ 255 }
     requires built { IsTrue (are_built specs.now) }
-    ensures holds { CanAttach M.tells (M.content machine) → (blocks : List (List ℕ)) (maps : List LeafMap) →
+    ensures holds { CanAttach M.tells (M.content machine) →
+        (blocks : List (List ℕ)) (maps : List LeafMap) →
         device_at (M.content machine).now name.now ≡ Some blocks →
         Reopens schema.now equation.now specs.now maps blocks → IfOk result (HoldsMaps maps) }
     ensures specs { IfOk result (λ s. specs_of (places_in s) ≡ specs.now) }
@@ -49,7 +51,8 @@ pub fn open<M: Machine + Drop>(
         (OfBlocks name.now (M.content machine) (AreOpened schema.now equation.now specs.now)) }
     ensures unopened { CanAttach M.tells (M.content machine) → IfErr result
         (λ e. IsUnopened name.now schema.now equation.now specs.now (M.content machine) e.1) }
-    ensures untouched { CanAttach M.tells (M.content machine) → IfErr result (λ e. is_untouched e.1 ≡ true →
+    ensures untouched { CanAttach M.tells (M.content machine) →
+        IfErr result (λ e. is_untouched e.1 ≡ true →
         device_at (M.content e.0).now name.now ≡ device_at (M.content machine).now name.now) }
     ensures named { CanAttach M.tells (M.content machine) → IfOk result
         (λ s. (M.content (machine_of s)).now.shelf.name ≡ Some name.now) }
@@ -57,9 +60,11 @@ pub fn open<M: Machine + Drop>(
         Attaches name.now (M.content machine) (M.content (machine_left result)) }
     ensures head { CanAttach M.tells (M.content machine) → IfOk result
         (λ s. IsHeadOf schema.now equation.now specs.now (head_of s)) }
-    ensures ground { CanAttach M.tells (M.content machine) → IfOk result (λ s. OfBlocks name.now (M.content machine)
+    ensures ground { CanAttach M.tells (M.content machine) →
+        IfOk result (λ s. OfBlocks name.now (M.content machine)
         (λ blocks. ground_of (journal_of (pages_of s)) ≡ ground_on blocks)) }
-    ensures kept { CanAttach M.tells (M.content machine) → goes_on result ≡ true → (blocks : List (List ℕ)) →
+    ensures kept { CanAttach M.tells (M.content machine) → goes_on result ≡ true →
+        (blocks : List (List ℕ)) →
         device_at (M.content machine).now name.now ≡ Some blocks →
         OfBlocks name.now (M.content (machine_left result)) (ReadAlike blocks) }
     ensures recovered { CanAttach M.tells (M.content machine) → (blocks : List (List ℕ)) →
@@ -138,10 +143,12 @@ fn open_journal<M: Machine + Drop>(
         (λ e. AreUnread schema.now equation.now (head_blocks journal) e.1) }
     ensures silent { Silent (content_of journal) (M.content (machine_left result)) }
     ensures ground { IfOk result (λ s. ground_of (journal_of (pages_of s)) ≡ ground_of journal) }
-    ensures blocks { (M.content (machine_left result)).now.blocks ≡ (content_of journal).now.blocks }
+    ensures blocks { (M.content (machine_left result)).now.blocks
+        ≡ (content_of journal).now.blocks }
     ensures calm { IsCalm journal (content_of journal) → IfOk result (λ s.
         IsCalm (journal_of (pages_of s)) (content_of (journal_of (pages_of s)))) }
-    ensures faults { Counted (goes_on result) (M.faults (device_of journal)) (M.faults (machine_left result)) }
+    ensures faults { Counted (goes_on result) (M.faults (device_of journal))
+        (M.faults (machine_left result)) }
 {
     match journal.texts_differ(schema, equation) {
         Ok(None) => adopt(alloc, journal, specs),

@@ -27,8 +27,8 @@ pub(crate) fn is_size(specs: &[LeafSpec], blocks: u32) -> bool
     smallest_device(specs) <= blocks && blocks <= MOST_BLOCKS
 }
 
-/// The machine. Where no commit failed, and the leaves were whole at the last one, its device holds the maps
-/// that were kept then, and its gate is closed. What was changed since is gone.
+/// The machine. Where no commit failed, and the leaves were whole at the last one, its device holds
+/// the maps that were kept then, and its gate is closed. What was changed since is gone.
 pub fn close<M: Machine + Drop>(store: Store<M>) -> M
     ensures machine { result ≡ machine_of store }
     ensures settled { (schema equation : List ℕ) →

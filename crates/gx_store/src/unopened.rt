@@ -18,8 +18,8 @@ pub enum Unopened {
     /// There is no database on the device.
     #[error("no database")]
     NoDatabase,
-    /// The texts that are kept there are others. This is the first place of the text area that differs,
-    /// counted from 0.
+    /// The texts that are kept there are others. This is the first place of the text area that
+    /// differs, counted from 0.
     #[error("another schema or equation")]
     OtherTexts(u16),
     /// A call of the machine failed.

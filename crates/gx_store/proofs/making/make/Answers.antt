@@ -1,14 +1,13 @@
-use Rattle.std.proofs.Common.{◌≡◌, ◌∙◌, ℕ, Bool, List, [], Some, None, length, get_or, refl, sym, ap, subst}
+use Rattle.std.proofs.Common.{◌≡◌, ◌∙◌, ℕ, List, [], Some, None, length, get_or, refl, sym, ap, subst}
 use Rattle.std.specs.Prelude.{Err}
 use Rattle.std.proofs.lemmas.List.{length-replicate}
 use Rattle.std.proofs.lemmas.Result.{IfErr-weaker, on_ok_weaker}
-use Rattle.gx_device.specs.Content.{Moment, Content, Silent, device_at, zero_blocks}
+use Rattle.gx_device.specs.Content.{Moment, device_at, zero_blocks}
 use Rattle.gx_layout.specs.Head.{HasMagic}
-use Rattle.gx_store.specs.Device.{IsSize, IsMadeOn, IsNoneOrEmpty}
+use Rattle.gx_store.specs.Device.{IsMadeOn, IsNoneOrEmpty}
 use Rattle.gx_store.specs.Making.{IsUnmade, IsUnmadeOn}
 use Rattle.gx_store.proofs.ShelfLemmas.{attached_at, attached_rest, refused_rest}
 use Rattle.gx_store.proofs.AttachLemmas.{some_same}
-use Rattle.gx_store.proofs.CauseLemmas.{counted_after}
 use Rattle.gx_store.proofs.MakeLemmas.{unmade_by, unmade_on, unmade_touched, on_ok_always, none_made}
 use Rattle.gx_store.proofs.making.make.Goals as goal
 

@@ -1,8 +1,7 @@
-use Rattle.std.proofs.Common.{◌≡◌, ◌∙◌, ◌<◌, ◌≤◌, ◌+◌, ℕ, List, [], get_or, length, drop, replicate, refl, sym, ap, subst, arith}
+use Rattle.std.proofs.Common.{◌∙◌, ℕ, List, [], get_or, drop, refl, sym, ap, subst, arith}
 use Rattle.std.proofs.lemmas.Result.{IfErr-weaker}
 use Rattle.gx_store.specs.Causes.{no_journal}
 use Rattle.gx_store.specs.Making.{IsUnmadeOn}
-use Rattle.gx_layout.specs.Layout.{OnlyBlocks}
 use Rattle.gx_layout.specs.Head.{HasMagic, IsFormatted}
 use Rattle.gx_journal.specs.Journal.{content_of}
 use Rattle.gx_store.proofs.ShelfLemmas.{silent_after}

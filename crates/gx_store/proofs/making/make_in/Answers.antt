@@ -1,4 +1,4 @@
-use Rattle.std.proofs.Common.{◌≡◌, ◌∙◌, not, List, length, replicate, refl, sym, ap, subst}
+use Rattle.std.proofs.Common.{◌∙◌, not, length, replicate, sym, ap, subst}
 use Rattle.std.specs.FinMap.{empty}
 use Rattle.gx_leaves.specs.Making.{IsAllFree}
 use Rattle.gx_journal.specs.Journal.{device_of}

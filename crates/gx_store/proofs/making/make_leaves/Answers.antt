@@ -1,4 +1,4 @@
-use Rattle.std.proofs.Common.{◌≡◌, ◌∙◌, ℕ, List, length, replicate, refl, sym, ap, subst}
+use Rattle.std.proofs.Common.{◌∙◌, length, replicate, sym, subst}
 use Rattle.std.specs.Prelude.{IfOk}
 use Rattle.std.specs.FinMap.{empty}
 use Rattle.std.proofs.lemmas.Result.{IfOk-weaker, IfErr-weaker}
@@ -7,7 +7,7 @@ use Rattle.gx_leaves.specs.Places.{IsRoomFor}
 use Rattle.gx_journal.specs.Journal.{content_of}
 use Rattle.gx_pages.specs.Owners.{IsAllFree}
 use Rattle.gx_pages.specs.View.{journal_of}
-use Rattle.gx_pages.specs.Paged.{ground_of, working_sheets}
+use Rattle.gx_pages.specs.Paged.{working_sheets}
 use Rattle.gx_store.specs.Device.{AreMaps}
 use Rattle.gx_store.proofs.HeldLemmas.{ground_kept}
 use Rattle.gx_store.proofs.ShelfLemmas.{silent_after}

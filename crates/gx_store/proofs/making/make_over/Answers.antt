@@ -1,12 +1,9 @@
-use Rattle.std.proofs.Common.{◌≡◌, ◌∙◌, ℕ, Bool, List, [], get_or, length, drop, replicate, refl, sym, ap, subst}
+use Rattle.std.proofs.Common.{◌∙◌, ℕ, Bool, List, [], get_or, length, replicate, refl, sym, ap, subst}
 use Rattle.std.specs.FinMap.{empty}
 use Rattle.std.proofs.lemmas.Result.{on_ok_weaker}
 use Rattle.gx_ports.specs.Sheets.{Ground}
 use Rattle.gx_layout.specs.Head.{HasMagic}
-use Rattle.gx_leaves.specs.Places.{IsRoomFor}
-use Rattle.gx_journal.specs.Journal.{content_of, head_blocks, working_of}
-use Rattle.gx_pages.specs.Paged.{ground_of}
-use Rattle.gx_store.specs.Device.{IsSettled}
+use Rattle.gx_journal.specs.Journal.{content_of, working_of}
 use Rattle.gx_store.proofs.ShelfLemmas.{silent_after}
 use Rattle.gx_store.proofs.CauseLemmas.{counted_after}
 use Rattle.gx_store.proofs.SettledLemmas.{settled_reopens}

@@ -1,15 +1,13 @@
-use Rattle.std.proofs.Common.{◌≡◌, ◌∙◌, ℕ, Bool, List, [], get_or, length, sym, ap, subst}
+use Rattle.std.proofs.Common.{◌∙◌, ℕ, Bool, List, [], get_or, length, sym, ap, subst}
 use Rattle.std.proofs.lemmas.Result.{on_ok_weaker}
-use Rattle.gx_device.specs.Content.{Content, Silent, block_of}
+use Rattle.gx_device.specs.Content.{block_of}
 use Rattle.gx_layout.specs.Layout.{pages_of}
 use Rattle.gx_layout.specs.Head.{HasMagic}
 use Rattle.gx_journal.specs.State.{head_told}
-use Rattle.gx_journal.specs.Journal.{content_of, head_blocks}
-use Rattle.gx_store.specs.Making.{Publishes}
+use Rattle.gx_journal.specs.Journal.{content_of}
 use Rattle.gx_store.proofs.ShelfLemmas.{silent_after}
 use Rattle.gx_store.proofs.CauseLemmas.{counted_after}
 use Rattle.gx_store.proofs.JournalLemmas.{published}
-use Rattle.gx_store.proofs.MakeLemmas.{on_ok_both}
 use Rattle.gx_store.proofs.making.publish.Goals as goal
 
 pub returns-in-Ok-clause-settled : goal.returns-in-Ok-clause-settled

@@ -1,6 +1,5 @@
-use Rattle.std.proofs.Common.{◌≡◌, ◌∙◌, ℕ, Bool, List, [], get_or, length, sym, ap, subst}
-use Rattle.std.proofs.lemmas.Result.{on_ok_weaker}
-use Rattle.gx_device.specs.Content.{Content, block_of}
+use Rattle.std.proofs.Common.{◌∙◌, Bool, [], get_or, length, sym, ap, subst}
+use Rattle.gx_device.specs.Content.{block_of}
 use Rattle.gx_layout.specs.Layout.{pages_of}
 use Rattle.gx_layout.specs.Head.{HasMagic}
 use Rattle.gx_journal.specs.State.{head_told}

@@ -1,4 +1,4 @@
-use Rattle.std.proofs.Common.{◌≡◌, ◌∙◌, ℕ, Bool, List, refl, sym, ap, subst}
+use Rattle.std.proofs.Common.{◌∙◌, ℕ, List, refl, sym, ap, subst}
 use Rattle.std.specs.Prelude.{Err}
 use Rattle.std.proofs.lemmas.Result.{IfOk-weaker, IfErr-weaker, on_ok_weaker}
 use Rattle.gx_device.specs.Content.{Moment, Silent, device_at}
@@ -8,8 +8,8 @@ use Rattle.gx_store.specs.Device.{ReadAlike, Reopens, ground_on}
 use Rattle.gx_store.specs.Opening.{AreOpened, AreUnopened, IsRecoveryOf, IsUnopened}
 use Rattle.gx_store.specs.Store.{machine_left}
 use Rattle.gx_store.proofs.ShelfLemmas.{attached_named, attached_at, attached_rest, refused_rest}
-use Rattle.gx_store.proofs.AttachLemmas.{attached_blocks, left_alone, if_err_with, if_ok_with, counted_refusal}
-use Rattle.gx_store.proofs.CauseLemmas.{refused_by, unopened_on, counted_after}
+use Rattle.gx_store.proofs.AttachLemmas.{attached_blocks, left_alone, if_err_with, if_ok_with}
+use Rattle.gx_store.proofs.CauseLemmas.{refused_by, unopened_on}
 use Rattle.gx_store.proofs.AlikeLemmas.{alike_itself, headed, recovery_itself}
 use Rattle.gx_store.proofs.opening.open.Goals as goal
 

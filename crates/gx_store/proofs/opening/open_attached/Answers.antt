@@ -1,11 +1,9 @@
-use Rattle.std.proofs.Common.{◌≡◌, ◌∙◌, ◌+◌, ◌*◌, ◌≤◌, ℕ, Bool, true, not, List, length, refl, sym, ap, subst, arith}
+use Rattle.std.proofs.Common.{◌≡◌, ◌∙◌, ℕ, Bool, true, not, List, length, refl, sym, ap, subst, arith}
 use Rattle.std.proofs.lemmas.Result.{IfOk-weaker, IfErr-weaker, on_ok_weaker}
-use Rattle.gx_device.specs.Content.{Silent}
-use Rattle.gx_device.specs.Faults.{Counted}
-use Rattle.gx_layout.specs.Layout.{pages_of, head_of}
+use Rattle.gx_layout.specs.Layout.{pages_of}
 use Rattle.gx_journal.specs.State.{head_told}
-use Rattle.gx_journal.specs.Journal.{size_of, head_blocks, kept_of, content_of, working_of}
-use Rattle.gx_store.specs.Device.{IsSize, AreTexts}
+use Rattle.gx_journal.specs.Journal.{size_of, head_blocks, kept_of, content_of}
+use Rattle.gx_store.specs.Device.{AreTexts}
 use Rattle.gx_store.specs.Store.{is_fault}
 use Rattle.gx_store.proofs.HeldLemmas.{maps_opened, ground_same}
 use Rattle.gx_store.proofs.ShelfLemmas.{silent_after}

@@ -1,5 +1,5 @@
-use Rattle.std.proofs.Common.{◌≡◌, ◌∙◌, ℕ, Bool, true, List, refl, sym, ap, subst}
-use Rattle.std.proofs.lemmas.Result.{IfOk-weaker, IfErr-weaker, IfOk-at_ok}
+use Rattle.std.proofs.Common.{◌∙◌, Bool, true, refl, sym, ap, subst}
+use Rattle.std.proofs.lemmas.Result.{IfOk-weaker, IfErr-weaker}
 use Rattle.gx_device.specs.Content.{Silent}
 use Rattle.gx_device.specs.Faults.{Counted}
 use Rattle.gx_journal.specs.Journal.{IsCalm, content_of, head_blocks, device_of}
@@ -9,7 +9,7 @@ use Rattle.gx_leaves.specs.Places.{specs_of}
 use Rattle.gx_leaves.proofs.PlaceLemmas.{specs_back}
 use Rattle.gx_store.specs.Opening.{AreUnread}
 use Rattle.gx_store.specs.Store.{machine_left}
-use Rattle.gx_store.proofs.HeldLemmas.{adopted, ground_kept, if_ok_both, on_ok_always}
+use Rattle.gx_store.proofs.HeldLemmas.{adopted, ground_kept, if_ok_both}
 use Rattle.gx_store.proofs.LeftLemmas.{left_is, goes_on_is}
 use Rattle.gx_store.proofs.CauseLemmas.{counted_still}
 use Rattle.gx_store.proofs.opening.open_journal.Goals as goal

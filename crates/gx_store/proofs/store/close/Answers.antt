@@ -1,4 +1,4 @@
-use Rattle.std.proofs.Common.{◌≡◌, ◌∙◌, ℕ, sym, ap, subst}
+use Rattle.std.proofs.Common.{◌∙◌, sym, ap, subst}
 use Rattle.gx_journal.specs.Journal.{device_of}
 use Rattle.gx_pages.specs.View.{journal_of}
 use Rattle.gx_pages.specs.Paged.{ground_of, kept_sheets}
