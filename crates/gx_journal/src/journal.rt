@@ -32,6 +32,7 @@ pub struct Journal<D: Device> {
     failed: bool,
     ghost few: { length spilled.items ≤ 32768 },
     ghost room: { 7 + 2 * length spilled.items ≤ D.size device },
+    ghost limit: { D.size device ≤ 65543 },
     ghost pages: { frames.pages ≡ length spilled.items },
     ghost named: { IsListed spilled.items listed.items },
     ghost space: { length spilled.items ≤ vec_capacity listed },
@@ -47,6 +48,7 @@ impl<D: Device> Journal<D> {
     fn over(device: D, room: Room) -> Journal<D>
         requires few { length room.spilled.items ≤ 32768 }
         requires blocks { 7 + 2 * length room.spilled.items ≤ D.size device }
+        requires limit { D.size device ≤ 65543 }
         ensures size { size_of result ≡ length room.spilled.items }
         ensures device { device_of result ≡ device }
         ensures steady { IsSteady result }

@@ -25,24 +25,36 @@ use Rattle.gx_typing.specs.Typed.{IsTyped, leaves, typing_with}
 use Rattle.gx_typing.specs.Typing.{Mistake}
 use Rattle.gx_typing.proofs.TypedLaws.{again as typed_again}
 use Rattle.gx_top.specs.declared.summary.Summary.{Summary}
-use Rattle.gx_top.specs.Built.{is_built, text_length}
+use Rattle.gx_top.specs.Built.{text_length}
 use Rattle.gx_top.specs.Endings.{status_of, IsOutside, IsTryStatus}
-use Rattle.gx_top.specs.Requests.{IsText, IsThere, IsTooLong, IsNamed, IsAsked, AreRead, AreAccepted, AreUnaccepted, IsAccepted, IsRunnable, IsSummary, IsRefused, IsUnprepared, equation_of, text_limit}
+use Rattle.gx_top.specs.Requests.{IsText, IsThere, IsTooLong, IsNamed, IsAsked, AreRead, AreAccepted, AreUnaccepted, IsAccepted, is_carried, IsRunnable, IsSummary, IsRefused, IsUnprepared, equation_of, text_limit}
 use Rattle.gx_top.specs.Tries.{Says, IsPlay, IsPlayText, IsStoppedText, IsTry, IsPlayable, IsStoppable, IsCheckable}
-use Rattle.gx_top.specs.Words.{Action, checking, trying, request_words, word_of}
+use Rattle.gx_top.specs.Words.{Action, checking, trying, making, running, request_words}
 
 -- the words of one request are those of no other
-word_once : (a b : Action) → word_of a ≡ word_of b → a ≡ b
-word_once checking checking e = refl
-word_once trying trying e = refl
-word_once checking trying e = absurd (never e)
+action_once : (a b : Action) (s t e f : List ℕ) → request_words a s e ≡ request_words b t f → a ≡ b
+action_once checking checking s t e f same = refl
+action_once trying trying s t e f same = refl
+action_once (making d n) (making c m) s t e f same = λ i. making (get_or (same i) 3 []) (get_or (same i) 4 [])
+action_once (running d) (running c) s t e f same = λ i. running (get_or (same i) 3 [])
+action_once checking trying s t e f same = absurd (never (ap (λ (ws : List (List ℕ)). get_or ws 0 []) same))
   where
     never : codes "check" ≡ codes "try" → ⊥
-    never f = cc
-word_once trying checking e = absurd (never e)
+    never g = cc
+action_once trying checking s t e f same = absurd (never (ap (λ (ws : List (List ℕ)). get_or ws 0 []) same))
   where
     never : codes "try" ≡ codes "check" → ⊥
-    never f = cc
+    never g = cc
+action_once checking (making c m) s t e f same = absurd (let many : 3 ≡ 5 = ap (λ (ws : List (List ℕ)). length ws) same in omega (arith, many))
+action_once checking (running c) s t e f same = absurd (let many : 3 ≡ 4 = ap (λ (ws : List (List ℕ)). length ws) same in omega (arith, many))
+action_once trying (making c m) s t e f same = absurd (let many : 3 ≡ 5 = ap (λ (ws : List (List ℕ)). length ws) same in omega (arith, many))
+action_once trying (running c) s t e f same = absurd (let many : 3 ≡ 4 = ap (λ (ws : List (List ℕ)). length ws) same in omega (arith, many))
+action_once (making d n) checking s t e f same = absurd (let many : 5 ≡ 3 = ap (λ (ws : List (List ℕ)). length ws) same in omega (arith, many))
+action_once (making d n) trying s t e f same = absurd (let many : 5 ≡ 3 = ap (λ (ws : List (List ℕ)). length ws) same in omega (arith, many))
+action_once (making d n) (running c) s t e f same = absurd (let many : 5 ≡ 4 = ap (λ (ws : List (List ℕ)). length ws) same in omega (arith, many))
+action_once (running d) checking s t e f same = absurd (let many : 4 ≡ 3 = ap (λ (ws : List (List ℕ)). length ws) same in omega (arith, many))
+action_once (running d) trying s t e f same = absurd (let many : 4 ≡ 3 = ap (λ (ws : List (List ℕ)). length ws) same in omega (arith, many))
+action_once (running d) (making c m) s t e f same = absurd (let many : 4 ≡ 5 = ap (λ (ws : List (List ℕ)). length ws) same in omega (arith, many))
 
 pub record SameWords (a b : Action) (s t e f : List ℕ) : Type 0 where
   pub actions : a ≡ b
@@ -53,7 +65,7 @@ pub same_words : (words : List (List ℕ)) (a b : Action) (s t e f : List ℕ) �
 same_words words a b s t e f p q =
     let same : request_words a s e ≡ request_words b t f = sym p ∙ q in
     record {
-      actions = word_once a b (ap (λ (ws : List (List ℕ)). get_or ws 0 []) same);
+      actions = action_once a b s t e f same;
       schemas = ap (λ (ws : List (List ℕ)). get_or ws 1 []) same;
       equations = ap (λ (ws : List (List ℕ)). get_or ws 2 []) same;
     }
@@ -167,7 +179,7 @@ OnlyUnbuilt ending.NotBuilt = Unit {0}
 OnlyUnbuilt other = ⊥
 
 not_refused : (words : List (List ℕ)) (texts : Texts) (a : Action) (schema : Schema) (ds : List DefinitionTree) (typing : Typing) (why : Ending) → IsAccepted words texts a schema ds typing → IsRefused words texts why → OnlyUnbuilt why
-not_refused words texts a schema ds typing ending.Words is r = r a is.2.schema_name is.2.equation_name is.2.words_are
+not_refused words texts a schema ds typing ending.Words is r = r a is.2.schema_name is.2.equation_name is.2.counted is.2.words_are
 not_refused words texts a schema ds typing (ending.Missing name) is r = not_missing texts name.now (named words texts name.now a is.0 is.1 is.2 r.0) r.1
 not_refused words texts a schema ds typing (ending.TooLong name) is r = not_long texts name.now (named words texts name.now a is.0 is.1 is.2 r.0) r.1
 not_refused words texts a schema ds typing (ending.Schema line why) is r = not_refused_by_texts words texts a is.0 is.1 schema ds typing (ending.Schema line why) is.2 is.3 r
@@ -196,6 +208,13 @@ one_acceptance words texts a b schema other ds fs typing more x y =
     let read = one_reading y.0 y.1 schema other ds fs x.3.lines y.3.lines (subst (λ t. AreRead t y.1 schema ds x.3.lines) same.schemas (subst (λ f. AreRead x.0 f schema ds x.3.lines) same.equations x.3.read)) y.3.read in
     record { actions = same.actions; schemas = read.schemas; definitions = read.definitions }
 
+-- what can be carried out can be in each reading of the words
+carried_once : (words : List (List ℕ)) (texts : Texts) (a b : Action) (schema other : Schema) (ds fs : List DefinitionTree) (typing more : Typing) → IsAccepted words texts a schema ds typing → IsAccepted words texts b other fs more → is_carried a schema ds typing ≡ true → is_carried b other fs more ≡ true
+carried_once words texts a b schema other ds fs typing more x y is =
+    let same = one_acceptance words texts a b schema other ds fs typing more x y in
+    let typings : typing ≡ more = x.3.leaves_are ∙ (λ i. typing_with (leaves (same.schemas i) (same.definitions i))) ∙ sym y.3.leaves_are in
+    (λ i. is_carried (sym same.actions i) (sym same.schemas i) (sym same.definitions i) (sym typings i)) ∙ is
+
 -- what is played isn't checked
 pub not_both_asked : trying ≡ checking → ⊥
 not_both_asked e = cc
@@ -207,9 +226,7 @@ pub runnable_not_refused : (words : List (List ℕ)) (texts : Texts) (schema : S
 runnable_not_refused words texts schema why x r = by_reason why r (not_refused words texts trying schema x.0 x.1 why x.2 r)
   where
     by_reason : (why : Ending) → IsRefused words texts why → OnlyUnbuilt why → ⊥
-    by_reason ending.NotBuilt r only =
-        let same = one_acceptance words texts trying trying schema r.0 x.0 r.1 x.1 r.2 x.2 r.3 in
-        not_both (is_built r.0 r.1) (subst (λ (k : Schema). is_built k r.1 ≡ true) same.schemas (subst (λ fs. is_built schema fs ≡ true) same.definitions x.3)) r.4
+    by_reason ending.NotBuilt r only = not_both (is_carried r.0 r.1 r.2 r.3) (carried_once words texts trying r.0 schema r.1 x.0 r.2 x.1 r.3 x.2 r.4 x.3) r.5
     by_reason ending.Words r only = only
     by_reason (ending.Missing name) r only = only
     by_reason (ending.TooLong name) r only = only
@@ -229,7 +246,7 @@ pub checkable_not_refused : (words : List (List ℕ)) (before : Content) (why : 
 checkable_not_refused words before why x r = by_reason why r (not_refused words before.aside.texts checking x.0 x.1 x.2 why x.3 r)
   where
     by_reason : (why : Ending) → IsRefused words before.aside.texts why → OnlyUnbuilt why → ⊥
-    by_reason ending.NotBuilt r only = not_both_asked (sym (one_acceptance words before.aside.texts checking trying x.0 r.0 x.1 r.1 x.2 r.2 x.3 r.3).actions)
+    by_reason ending.NotBuilt r only = not_both (is_carried r.0 r.1 r.2 r.3) (carried_once words before.aside.texts checking r.0 x.0 r.1 x.1 r.2 x.2 r.3 x.3 r.4 refl) r.5
     by_reason ending.Words r only = only
     by_reason (ending.Missing name) r only = only
     by_reason (ending.TooLong name) r only = only

@@ -5,6 +5,7 @@ mod RequestLemmas
 mod PlayLemmas
 mod TryLemmas
 mod HoldingLemmas
+mod StoredLemmas
 mod CompleteLemmas
 mod OnceLemmas
 mod EndLemmas

@@ -26,7 +26,7 @@ use Rattle.gx_top.specs.Built.{text_length}
 use Rattle.gx_top.specs.Endings.{line_of}
 use Rattle.gx_top.specs.Requests.{IsThere, IsNamed, IsAsked, AreRead, AreAccepted, AreUnaccepted, IsRunnable, IsRefused, equation_of, text_limit}
 use Rattle.gx_top.specs.Tries.{IsPlayText, IsWholeText, IsTryUnder, PlayOneScript}
-use Rattle.gx_top.specs.Words.{Action, checking, trying, request_words}
+use Rattle.gx_top.specs.Words.{Action, checking, trying, request_words, IsCounted}
 use Rattle.gx_top.proofs.CompleteLemmas.{SameWords, same_words, one_request, named, not_missing, not_long, text_once, equation_read, not_both_asked}
 
 -- ---- the line of a refusal, from what stands in the texts
@@ -85,7 +85,7 @@ accepted_line s e schema ds typing is = read_at s e schema ds is.lines (Ok (typi
 -- ---- why a request is refused: its words, a text that isn't had, or what stands in the texts
 
 abbrev AreNoRequest : List (List ℕ) → List ℕ → Type 0
-AreNoRequest words line = ((a : Action) (schema equation : List ℕ) → words ≢ request_words a schema equation) × (line ≡ line_of ending.Words)
+AreNoRequest words line = ((a : Action) (schema equation : List ℕ) → IsCounted a → words ≢ request_words a schema equation) × (line ≡ line_of ending.Words)
 
 record IsLost (words : List (List ℕ)) (texts : Texts) (line : List ℕ) : Type 0 where
   pub name : List ℕ
@@ -117,7 +117,7 @@ reason : (words : List (List ℕ)) (texts : Texts) (why : Ending) → IsRefused 
 reason words texts ending.Words r = inl (r, refl)
 reason words texts (ending.Missing name) r = inr (inl (record { name = name.now; is_named = r.0; not_there = λ there. not_missing texts name.now there r.1; line_is = missing_line name.now (get texts name.now) r.1 }))
 reason words texts (ending.TooLong name) r = inr (inl (record { name = name.now; is_named = r.0; not_there = λ there. not_long texts name.now there r.1; line_is = long_line name.now (get texts name.now) r.1 }))
-reason words texts ending.NotBuilt r = inr (inr (record { asked = trying; schema = r.3.0; equation = r.3.1; is_asked = r.3.2; line_is = accepted_line r.3.0 r.3.1 r.0 r.1 r.2 r.3.3 }))
+reason words texts ending.NotBuilt r = inr (inr (record { asked = r.0; schema = r.4.0; equation = r.4.1; is_asked = r.4.2; line_is = accepted_line r.4.0 r.4.1 r.1 r.2 r.3 r.4.3 }))
 reason words texts (ending.Schema line why) r = judged words texts (ending.Schema line why) r
 reason words texts (ending.Equation line why) r = judged words texts (ending.Equation line why) r
 reason words texts (ending.Type line why) r = judged words texts (ending.Type line why) r
@@ -145,12 +145,12 @@ name_once words texts name other x y lost missed = by_place x.first y.first
 
 line_once : (words : List (List ℕ)) (texts : Texts) (line other : List ℕ) → HasReason words texts line → HasReason words texts other → line ≡ other
 line_once words texts line other (inl x) (inl y) = x.1 ∙ sym y.1
-line_once words texts line other (inl x) (inr (inl y)) = absurd (x.0 y.is_named.asked y.is_named.schema_name y.is_named.equation_name y.is_named.words_are)
-line_once words texts line other (inl x) (inr (inr y)) = absurd (x.0 y.asked y.is_asked.schema_name y.is_asked.equation_name y.is_asked.words_are)
-line_once words texts line other (inr (inl x)) (inl y) = absurd (y.0 x.is_named.asked x.is_named.schema_name x.is_named.equation_name x.is_named.words_are)
+line_once words texts line other (inl x) (inr (inl y)) = absurd (x.0 y.is_named.asked y.is_named.schema_name y.is_named.equation_name y.is_named.counted y.is_named.words_are)
+line_once words texts line other (inl x) (inr (inr y)) = absurd (x.0 y.asked y.is_asked.schema_name y.is_asked.equation_name y.is_asked.counted y.is_asked.words_are)
+line_once words texts line other (inr (inl x)) (inl y) = absurd (y.0 x.is_named.asked x.is_named.schema_name x.is_named.equation_name x.is_named.counted x.is_named.words_are)
 line_once words texts line other (inr (inl x)) (inr (inl y)) = x.line_is ∙ ap (λ n. fetch_line (get texts n) n) (name_once words texts x.name y.name x.is_named y.is_named x.not_there y.not_there) ∙ sym y.line_is
 line_once words texts line other (inr (inl x)) (inr (inr y)) = absurd (x.not_there (named words texts x.name y.asked y.schema y.equation y.is_asked x.is_named))
-line_once words texts line other (inr (inr x)) (inl y) = absurd (y.0 x.asked x.is_asked.schema_name x.is_asked.equation_name x.is_asked.words_are)
+line_once words texts line other (inr (inr x)) (inl y) = absurd (y.0 x.asked x.is_asked.schema_name x.is_asked.equation_name x.is_asked.counted x.is_asked.words_are)
 line_once words texts line other (inr (inr x)) (inr (inl y)) = absurd (y.not_there (named words texts y.name x.asked x.schema x.equation x.is_asked y.is_named))
 line_once words texts line other (inr (inr x)) (inr (inr y)) =
     let same = one_request words texts x.asked y.asked x.schema y.schema x.equation y.equation x.is_asked y.is_asked in

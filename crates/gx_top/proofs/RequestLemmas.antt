@@ -1,5 +1,5 @@
 -- Why a request isn't carried out, from why its texts aren't accepted.
-use Rattle.std.proofs.Common.{◌≡◌, ◌≤◌, ℕ, List, true, Result, Ok, Err, sym, subst, arith, inl, inr, length}
+use Rattle.std.proofs.Common.{◌≡◌, ◌≤◌, ℕ, List, true, false, refl, Result, Ok, Err, sym, subst, arith, inl, inr, length}
 use Rattle.std.specs.Prelude.{IfOk, IfErr, IsErrAnd}
 use Rattle.std.proofs.lemmas.List.{length-map}
 use Rattle.gx_device.specs.Content.{Texts}
@@ -15,9 +15,9 @@ use Rattle.gx_top.specs.declared.reading.Checked.{Checked}
 use Rattle.gx_top.specs.declared.summary.Summary.{Summary}
 use Rattle.gx_top.specs.Built.{is_built}
 use Rattle.gx_top.specs.Checked.{AreChecked, IsAcceptedAs, IsBuiltFor, IsUnbuilt}
-use Rattle.gx_top.specs.Requests.{IsAsked, IsAccepted, AreAccepted, AreUnchecked, IsRunnable, IsSummary, IsUnprepared}
+use Rattle.gx_top.specs.Requests.{IsAsked, IsAccepted, is_carried, AreAccepted, AreUnchecked, IsRunnable, IsSummary, IsUnprepared}
 use Rattle.gx_top.specs.Summaries.{summary_of}
-use Rattle.gx_top.specs.Words.{Action, checking, trying}
+use Rattle.gx_top.specs.Words.{Action, checking, trying, making, running, IsOnDevice}
 
 -- as many leaves as a typed equation may have
 pub few_leaves : (s e : List ℕ) (schema : Schema) (ds : List DefinitionTree) (typing : Typing) → AreAccepted s e schema ds typing → length typing.specs ≤ 255
@@ -51,7 +51,7 @@ all_accepted words texts a s e (Err why) asked h = tt
 
 -- accepted texts that can't be carried out
 unbuilt : (words : List (List ℕ)) (texts : Texts) (before now : ℕ) (c : Checked) (why : Ending) → IsAcceptedAs words texts trying c → IsUnbuilt c why → IsUnprepared words texts before now why
-unbuilt words texts before now c ending.NotBuilt is un = inl (c.schema, definitions_of c.equation.definitions, c.typing, is, un)
+unbuilt words texts before now c ending.NotBuilt is un = inl (trying, c.schema, definitions_of c.equation.definitions, c.typing, is, un)
 unbuilt words texts before now c ending.NoMemory is un = inr tt
 unbuilt words texts before now c (ending.Schema line reason) is un = absurd un
 unbuilt words texts before now c (ending.Equation line reason) is un = absurd un
@@ -85,3 +85,13 @@ summary words texts c given is same = (c.schema, definitions_of c.equation.defin
 pub passed_on : (words : List (List ℕ)) (texts : Texts) (before now : ℕ) (why : Ending) (result : Result (Schema × Built) Ending) → IsUnprepared words texts before now why → IsErrAnd result (λ e. e ≡ why) → IfErr result (IsUnprepared words texts before now)
 passed_on words texts before now why (Ok x) un is = tt
 passed_on words texts before now why (Err e) un is = subst (IsUnprepared words texts before now) (sym is) un
+
+-- nothing is carried out on a device
+no_device_yet : (a : Action) (schema : Schema) (ds : List DefinitionTree) (typing : Typing) → IsOnDevice a → is_carried a schema ds typing ≡ false
+no_device_yet checking schema ds typing is = absurd is
+no_device_yet trying schema ds typing is = absurd is
+no_device_yet (making device blocks) schema ds typing is = refl
+no_device_yet (running device) schema ds typing is = refl
+
+pub uncarried : (words : List (List ℕ)) (texts : Texts) (before now : ℕ) (a : Action) (c : Checked) → IsOnDevice a → IsAcceptedAs words texts a c → IsUnprepared words texts before now ending.NotBuilt
+uncarried words texts before now a c device is = inl (a, c.schema, definitions_of c.equation.definitions, c.typing, is, no_device_yet a c.schema (definitions_of c.equation.definitions) c.typing device)

@@ -5,5 +5,7 @@ pub mod Endings
 pub mod Requests
 pub mod Checked
 pub mod Say
-pub mod Tries
 pub mod Plays
+pub mod Played
+pub mod Devices
+pub mod Tries

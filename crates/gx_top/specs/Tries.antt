@@ -20,44 +20,9 @@ use Rattle.gx_equation.specs.Trees.{DefinitionTree}
 use Rattle.gx_typing.specs.declared.typing.Typing.{Typing}
 use Rattle.gx_top.specs.Requests.{IsRefused, IsAccepted, IsRunnable}
 use Rattle.gx_top.specs.Summaries.{summary_of, accepted_line}
+use Rattle.gx_top.specs.Played.{Says, SaysFront, IsPlay, AreFirst, IsPlayText, IsStoppedText, IsShortText, IsTryText}
+use Rattle.gx_top.specs.Devices.{IsRunDone, IsRunStopped, IsRunShort, IsRunFull, IsRunFront, IsMadeText, IsDeviceText, IsRunTo, CanMake, IsWrongDevice}
 use Rattle.gx_top.specs.Words.{checking, trying, request_words}
-
--- such a text was said
-abbrev pub Says : (List ℕ → Type 0) → Content → Content → Type 0
-Says P old new = (text : List ℕ) × P text × (new.now.said ≡ old.now.said ++ text)
-
--- a front of such a text was said
-abbrev pub SaysFront : (List ℕ → Type 0) → Content → Content → Type 0
-SaysFront P old new = (text : List ℕ) × P text × ((count : ℕ) × (new.now.said ≡ old.now.said ++ take count text))
-
--- ---- of a schema, a start state and a script
-
--- the play of a whole script from a state on: its answers, its last states and its end
-abbrev pub IsPlay : Schema → State → List ℕ → List ℕ → Playing → End → Type 0
-IsPlay schema start script = IsPlayFrom schema (start_at start) (script_lines script)
-
--- the answers of the script's first lines from a state on
-abbrev pub AreFirst : Schema → State → List ℕ → List ℕ → Type 0
-AreFirst schema start script = AreFirstAnswersFrom schema (start_at start) script
-
--- the answers of the script's play from a state up to this end, and then the line of the end
-pub record IsPlayText (schema : Schema) (start : State) (script : List ℕ) (end : End) (text : List ℕ) : Type 0 where
-  pub answers : List ℕ
-  pub final : Playing
-  pub play : IsPlay schema start script answers final end
-  pub text_is : text ≡ answers ++ end_text end
-
--- the same, where the play ends at a line
-abbrev pub IsStoppedText : Schema → State → List ℕ → List ℕ → Type 0
-IsStoppedText schema start script text = (number : ℕ) × (why : LineWhy) × IsPlayText schema start script (stopped number why) text
-
--- the answers of the script's first lines, and then the line that there was no memory
-abbrev pub IsShortText : Schema → State → List ℕ → List ℕ → Type 0
-IsShortText schema start script text = (answers : List ℕ) × AreFirst schema start script answers × (text ≡ answers ++ memory_line)
-
--- one of these
-abbrev pub IsTryText : Schema → State → List ℕ → List ℕ → Type 0
-IsTryText schema start script text = ((end : End) × IsPlayText schema start script end text) ⊎ IsShortText schema start script text
 
 -- ---- of a request
 
@@ -108,13 +73,13 @@ IsCheckable words before = (schema : Schema) × (ds : List DefinitionTree) × (t
 
 -- what was said, by the status
 abbrev pub IsSaid : List (List ℕ) → Content → Content → Status → Type 0
-IsSaid words old new status.Done = Says (IsDoneText words old) old new
-IsSaid words old new status.Script = Says (IsRunText (λ schema. IsStoppedText schema (empty_state schema)) words old) old new
+IsSaid words old new status.Done = Says (IsDoneText words old) old new ⊎ Says (IsMadeText words old) old new ⊎ IsRunDone words old new
+IsSaid words old new status.Script = Says (IsRunText (λ schema. IsStoppedText schema (empty_state schema)) words old) old new ⊎ IsRunStopped words old new
 IsSaid words old new status.Refused = Says (IsRefusalText words old) old new
-IsSaid words old new status.Memory = Says (IsMemoryText words old) old new
-IsSaid words old new status.Full = ⊥
-IsSaid words old new status.Device = ⊥
-IsSaid words old new status.Outside = SaysFront (IsRequestText words old) old new
+IsSaid words old new status.Memory = Says (IsMemoryText words old) old new ⊎ IsRunShort words old new
+IsSaid words old new status.Full = IsRunFull words old new
+IsSaid words old new status.Device = Says (IsDeviceText words old) old new
+IsSaid words old new status.Outside = SaysFront (λ text. IsRequestText words old text ⊎ IsMadeText words old text ⊎ IsDeviceText words old text) old new ⊎ IsRunFront words old new
 
 -- the same, and what was heard: the script to its end where all of it was played, and none of it where none is to be played
 pub record IsEnd (words : List (List ℕ)) (old new : Content) (s : Status) : Type 0 where
@@ -124,8 +89,9 @@ pub record IsEnd (words : List (List ℕ)) (old new : Content) (s : Status) : Ty
 
 -- the status that a request is due
 abbrev pub IsDueStatus : List (List ℕ) → Content → Status → Type 0
-IsDueStatus words before status.Done = IsPlayable words before ⊎ IsCheckable words before
-IsDueStatus words before status.Script = IsStoppable words before
+IsDueStatus words before status.Done = IsPlayable words before ⊎ IsCheckable words before ⊎ CanMake words before ⊎ IsRunTo words before good
+IsDueStatus words before status.Script = IsStoppable words before ⊎ ((number : ℕ) × (why : LineWhy) × IsRunTo words before (stopped number why))
+IsDueStatus words before status.Device = IsWrongDevice words before
 IsDueStatus words before status.Refused = (why : Ending) × IsRefused words before.aside.texts why
 IsDueStatus words before other = ⊥
 

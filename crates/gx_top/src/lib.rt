@@ -6,6 +6,7 @@ mod built;
 mod check;
 mod ending;
 mod laws;
+mod on_device;
 mod over_leaves;
 mod play;
 mod reading;

@@ -5,6 +5,7 @@ ghost use Rattle.gx_top.specs.Tries.{IsEnd, IsAsDue, CountsOutside};
 
 use crate::check::check;
 use crate::ending::{Ending, end};
+use crate::on_device::refuse_device;
 use crate::status::Status;
 use crate::try_script::try_script;
 use crate::words::{Request, read_words};
@@ -12,8 +13,9 @@ use gx_device::Machine;
 use std::alloc::Global;
 
 /// Carries out what the words ask for, says its answers on the machine, and hands the machine
-/// back. The words are `check SCHEMA EQUATION` or `try SCHEMA EQUATION`. On a machine that tells its
-/// content:
+/// back. The words are `check SCHEMA EQUATION`, `try SCHEMA EQUATION`, `make SCHEMA EQUATION DEVICE BLOCKS`
+/// or `run SCHEMA EQUATION DEVICE`; of the last two nothing is carried out yet. On a machine that tells
+/// its content:
 ///
 /// - `Done`: of `check`, exactly the line of the accepted equation's leaves was said. Of `try`, exactly
 ///   the answers of the play of the whole script on an empty database were said, and the script was
@@ -48,6 +50,18 @@ pub fn top<M: Machine + Drop>(alloc: Global, words: &[String], machine: M) -> (S
             (status, machine)
         }
         Some(Request::Try { schema, equation }) => try_script(alloc, schema, equation, machine),
+        Some(Request::Make {
+            schema, equation, ..
+        }) => {
+            let status = refuse_device(alloc, schema, equation, &mut machine);
+            (status, machine)
+        }
+        Some(Request::Run {
+            schema, equation, ..
+        }) => {
+            let status = refuse_device(alloc, schema, equation, &mut machine);
+            (status, machine)
+        }
         None => {
             let status = end(alloc, Ending::Words, &mut machine);
             (status, machine)

@@ -10,6 +10,7 @@ invariant_of-self g c =
     record {
       few = old.few;
       room = omega (arith, old.room, c.hear.ensures.size);
+      limit = omega (arith, old.limit, c.hear.ensures.size);
       pages = old.pages;
       named = old.named;
       space = old.space;

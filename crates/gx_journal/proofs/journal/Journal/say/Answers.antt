@@ -9,6 +9,7 @@ invariant_of-self g c =
     record {
       few = old.few;
       room = omega (arith, old.room, c.say.ensures.size);
+      limit = omega (arith, old.limit, c.say.ensures.size);
       pages = old.pages;
       named = old.named;
       space = old.space;

@@ -11,6 +11,7 @@ invariant_of-self g c =
     record {
       few = old.few;
       room = omega (arith, old.room, c.seal.ensures.size);
+      limit = omega (arith, old.limit, c.seal.ensures.size);
       pages = old.pages;
       named = old.named;
       space = old.space;

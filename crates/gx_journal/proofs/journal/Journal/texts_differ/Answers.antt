@@ -12,6 +12,7 @@ invariant_of-self g c =
     record {
       few = old.few;
       room = omega (arith, old.room, c.texts_differ.ensures.size);
+      limit = omega (arith, old.limit, c.texts_differ.ensures.size);
       pages = old.pages;
       named = old.named;
       space = old.space;

@@ -1,0 +1,81 @@
+-- What a journal at rest leaves on its device.
+use Rattle.std.proofs.Common.{◌≡◌, ℕ, ◌+◌, ◌*◌, ◌<◌, ◌≤◌, Bool, true, false, List, [], length, get_or, take, drop, replicate, IsTrue, refl, sym, ap, subst, ◌∙◌, arith, length-take, length-drop}
+use Rattle.std.specs.FinMap.{empty}
+use Rattle.std.proofs.lemmas.List.{same_lists, get_or-take, get_or-drop, get_or_default}
+use Rattle.std.proofs.lemmas.List.FromFn.{get_or-map-range_with_len}
+use Rattle.gx_device.specs.Content.{Content, block_of}
+use Rattle.gx_ports.specs.declared.kinds.LeafSpec.{LeafSpec}
+use Rattle.gx_ports.specs.LeafMaps.{LeafMap}
+use Rattle.gx_ports.specs.Roots.{root_pages}
+use Rattle.gx_ports.specs.Sheets.{Ground}
+use Rattle.gx_layout.specs.Layout.{pages_of, head_of, is_open, replayed, home}
+use Rattle.gx_layout.specs.PhaseLaws.{shut}
+use Rattle.gx_layout.specs.Recovered.{replayed_pages}
+use Rattle.gx_layout.specs.Head.{HasMagic, text_at, text_area, text_blocks, block_in}
+use Rattle.gx_layout.proofs.ReplayLemmas.{length-replayed, homes_long}
+use Rattle.gx_layout.proofs.TextLemmas.{more_same}
+use Rattle.gx_journal.specs.State.{CalmSince, homes_told, head_told}
+use Rattle.gx_pages.specs.Owners.{sheets_of}
+use Rattle.gx_store.specs.Device.{IsSize, AreMaps, AreTexts, HasTexts, IsDatabase, IsSettled, Reopens, home_pages, ground_on, most_blocks}
+use Rattle.gx_store.proofs.GroundLemmas.{maps_moved}
+
+-- the text blocks of a device, byte by byte
+texts_read : (c : Content) (schema equation : List ℕ) → drop 1 (head_of c.now.blocks) ≡ text_blocks schema equation → AreTexts schema equation (head_of c.now.blocks)
+texts_read c schema equation is =
+    let area = text_area schema equation in
+    let m = c.now in
+    let e0 : block_of m 3 ≡ block_in area 0 = ap (λ (l : List (List ℕ)). get_or l 0 []) is in
+    let e1 : block_of m 4 ≡ block_in area 1 = ap (λ (l : List (List ℕ)). get_or l 1 []) is in
+    let e2 : block_of m 5 ≡ block_in area 2 = ap (λ (l : List (List ℕ)). get_or l 2 []) is in
+    let e3 : block_of m 6 ≡ block_in area 3 = ap (λ (l : List (List ℕ)). get_or l 3 []) is in
+    let none : (q : ℕ) → q < 4096 * 0 → text_at (head_of m.blocks) q ≡ get_or area q 0 = λ q low. absurd (omega (arith, low)) in
+    let t0 = more_same m area 0 (omega arith) (block_of m 3) (block_in area 0) refl refl none (λ k lt. ap (λ (l : List ℕ). get_or l k 0) e0) in
+    let t1 = more_same m area 1 (omega arith) (block_of m 4) (block_in area 1) refl refl t0 (λ k lt. ap (λ (l : List ℕ). get_or l k 0) e1) in
+    let t2 = more_same m area 2 (omega arith) (block_of m 5) (block_in area 2) refl refl t1 (λ k lt. ap (λ (l : List ℕ). get_or l k 0) e2) in
+    more_same m area 3 (omega arith) (block_of m 6) (block_in area 3) refl refl t2 (λ k lt. ap (λ (l : List ℕ). get_or l k 0) e3)
+
+-- behind a closed gate the pages are those at home
+home_replayed : (blocks : List (List ℕ)) → 7 ≤ length blocks → is_open (get_or blocks 1 []) ≡ false → home_pages blocks ≡ replayed_pages blocks
+home_replayed blocks room gate =
+    let P = pages_of (length blocks) in
+    let homes = home_pages blocks in
+    let long : length homes ≡ P = homes_long P blocks (omega (arith, room)) in
+    same_lists homes (replayed_pages blocks) (long ∙ sym (length-replayed blocks)) (λ k d lt.
+    let under : k < P = omega (arith, long, lt) in
+    get_or-take P (drop (7 + P) blocks) k d under ∙ get_or-drop (7 + P) blocks k d
+    ∙ get_or_default blocks (7 + P + k) d [] (omega (arith, under, room))
+    ∙ sym (shut P blocks k gate)
+    ∙ sym (get_or-map-range_with_len (replayed P blocks) 0 P k k d under (omega arith)))
+
+-- so a device that is settled is opened with the same maps
+pub settled_reopens : (schema equation : List ℕ) (specs : List LeafSpec) (maps : List LeafMap) (blocks : List (List ℕ))
+    → IsSettled schema equation specs maps blocks → Reopens schema equation specs maps blocks
+settled_reopens schema equation specs maps blocks is =
+    subst (λ (pages : List (List ℕ)). IsDatabase schema equation specs maps blocks pages)
+    (home_replayed blocks (let least = is.database.size.least in omega (arith, least)) is.gate) is.database
+
+module _ (schema equation : List ℕ) (specs : List LeafSpec) (maps : List LeafMap) (tells failed : Bool) (P : ℕ) (start c : Content) (calm : CalmSince tells failed P start c) where
+  many : P ≡ pages_of (length c.now.blocks)
+  many = sym calm.count ∙ calm.calm.now.fits.count
+
+  head_is : head_told tells c ≡ head_of c.now.blocks
+  head_is = ap (λ (b : Bool). head_told b c) calm.told
+
+  pages_are : homes_told tells P c ≡ home_pages c.now.blocks
+  pages_are = ap (λ (b : Bool). homes_told b P c) calm.told ∙ ap (λ (n : ℕ). take n (drop (7 + n) c.now.blocks)) many
+
+  -- A journal at rest, with the magic and these texts, leaves what its kept pages hold.
+  pub calm_settled : length c.now.blocks ≤ most_blocks → 16 + root_pages specs ≤ P → HasMagic (get_or (head_told tells c) 0 [])
+      → drop 1 (head_told tells c) ≡ text_blocks schema equation
+      → (base : Ground) → base.size ≡ P → base.tables ≡ 16 → AreMaps base specs maps (sheets_of (homes_told tells P c))
+      → IsSettled schema equation specs maps c.now.blocks
+  calm_settled most least magic texts base size tables are = record {
+    gate = calm.calm.now.gate;
+    database = record {
+      size = record { least = omega (arith, least, many); most = most };
+      magic = subst (λ (h : List (List ℕ)). HasMagic (get_or h 0 [])) head_is magic;
+      texts = texts_read c schema equation (ap (λ (h : List (List ℕ)). drop 1 h) (sym head_is) ∙ texts);
+      leaves = maps_moved base (ground_on c.now.blocks) (size ∙ many) tables specs maps (sheets_of (home_pages c.now.blocks))
+          (subst (λ (ps : List (List ℕ)). AreMaps base specs maps (sheets_of ps)) pages_are are);
+    };
+  }

@@ -1,0 +1,68 @@
+-- The device of a name, and the others, while one is attached.
+use Rattle.std.proofs.Common.{◌≡◌, ◌≢◌, ◌∙◌, ℕ, Bool, true, false, List, Some, None, cond, refl, sym, ap}
+use Rattle.std.specs.FinMap as fin
+use Rattle.std.specs.Ordering.{eq_by_cmp}
+use Rattle.std.specs.Cmp.Lexicographic.{nat_list_cmp_total}
+use Rattle.gx_device.specs.Content.{Moment, Content, Shelf, Devices, Silent, SameContent, IsAttached, device_at, with_named}
+use Rattle.gx_ports.specs.Cells.{key_cmp}
+use Rattle.gx_ports.proofs.KeyLemmas.{same_key, tied}
+use Rattle.gx_store.specs.Store.{Attaches}
+
+pub silent_after : (a b c : Content) → Silent a b → Silent b c → Silent a c
+silent_after a b c x y = record {
+  said = y.said ∙ x.said;
+  shelf = y.shelf ∙ x.shelf;
+  script = y.script ∙ x.script;
+  aside = y.aside ∙ x.aside;
+}
+
+pub silent_itself : (a : Content) → Silent a a
+silent_itself a = record { said = refl; shelf = refl; script = refl; aside = refl }
+
+not_so : (b : Bool) → (b ≡ true → ⊥) → b ≡ false
+not_so true never = absurd (never refl)
+not_so false never = refl
+
+other_named : (devices : Devices) (name : List ℕ) (blocks : List (List ℕ)) (other : List ℕ) → other ≢ name
+    → fin.get (with_named (Some name) blocks (fin.remove devices name)) other ≡ fin.get devices other
+other_named devices name blocks other differ =
+    let off : eq_by_cmp key_cmp other name ≡ false = not_so (eq_by_cmp key_cmp other name) (λ e. differ (same_key other name e)) in
+    fin.get-insert nat_list_cmp_total (fin.remove devices name) name blocks other
+    ∙ ap (λ (b : Bool). cond b (Some blocks) (fin.get (fin.remove devices name) other)) off
+    ∙ fin.get-remove nat_list_cmp_total devices name other
+    ∙ ap (λ (b : Bool). cond b None (fin.get devices other)) off
+
+-- the attached one has the blocks
+pub named_at : (m : Moment) (name : List ℕ) → m.shelf.name ≡ Some name → device_at m name ≡ Some m.blocks
+named_at m name named =
+    ap (λ n. fin.get (with_named n m.blocks m.shelf.devices) name) named
+    ∙ fin.get-insert nat_list_cmp_total m.shelf.devices name m.blocks name
+    ∙ ap (λ (b : Bool). cond b (Some m.blocks) (fin.get m.shelf.devices name)) (tied name)
+
+module _ (name : List ℕ) (blocks : List (List ℕ)) (a b c : Content) (free : a.now.shelf.name ≡ None) (at : IsAttached name blocks a b) (silent : Silent b c) where
+  pub attached_named : c.now.shelf.name ≡ Some name
+  attached_named = ap (λ (s : Shelf). s.name) silent.shelf ∙ at.named
+
+  pub attached_at : device_at c.now name ≡ Some c.now.blocks
+  attached_at = named_at c.now name attached_named
+
+  pub attached_rest : Attaches name a c
+  attached_rest = record {
+    said = silent.said ∙ at.said;
+    script = silent.script ∙ at.script;
+    aside = silent.aside ∙ at.aside;
+    others = λ other differ.
+        ap (λ n. fin.get (with_named n c.now.blocks c.now.shelf.devices) other) attached_named
+        ∙ ap (λ (d : Devices). fin.get (with_named (Some name) c.now.blocks d) other) (ap (λ (s : Shelf). s.devices) silent.shelf ∙ at.others)
+        ∙ other_named a.now.shelf.devices name c.now.blocks other differ
+        ∙ ap (λ n. fin.get (with_named n a.now.blocks a.now.shelf.devices) other) (sym free);
+  }
+
+-- where none was attached all is as it was
+pub refused_rest : (name : List ℕ) (a b : Content) → SameContent a b → Attaches name a b
+refused_rest name a b same = record {
+  said = ap (λ (m : Moment). m.said) same.now;
+  script = same.script;
+  aside = same.aside;
+  others = λ other differ. ap (λ (m : Moment). device_at m other) same.now;
+}

@@ -1,0 +1,66 @@
+use Rattle.std.proofs.Common.{◌≡◌, ◌∙◌, ℕ, Bool, List, refl, sym, ap, subst}
+use Rattle.std.specs.Prelude.{Err}
+use Rattle.std.proofs.lemmas.Result.{IfErr-weaker, on_ok_weaker}
+use Rattle.gx_device.specs.Content.{Moment, Silent, device_at}
+use Rattle.gx_store.specs.Device.{Reopens}
+use Rattle.gx_store.specs.Opening.{AreOpened, AreUnopened, IsUnopened}
+use Rattle.gx_store.specs.Store.{machine_left}
+use Rattle.gx_store.proofs.ShelfLemmas.{attached_named, attached_rest, refused_rest}
+use Rattle.gx_store.proofs.AttachLemmas.{attached_blocks, left_alone, if_err_with, if_ok_with, counted_refusal}
+use Rattle.gx_store.proofs.CauseLemmas.{refused_by, unopened_on, counted_after}
+use Rattle.gx_store.proofs.opening.open.Goals as goal
+
+pub returns-in-Err-clause-unopened : goal.returns-in-Err-clause-unopened
+returns-in-Err-clause-unopened g c = λ can.
+    subst (λ w. IsUnopened c.args.name.now c.args.schema.now c.args.equation.now c.args.specs.now (g.M.Device.content c.args.machine) w) (sym c.into.ensures)
+    (refused_by c.in-Err.stop c.args.name.now c.args.schema.now c.args.equation.now c.args.specs.now (g.M.Device.content c.args.machine)
+    (λ e. c.attach.ensures.absent can.told (c.in-Err.is ∙ ap (λ s. Err s) e))
+    (λ e. let some = c.attach.ensures.exists (c.in-Err.is ∙ ap (λ s. Err s) e) in cc))
+
+pub returns-in-Err-clause-untouched : goal.returns-in-Err-clause-untouched
+returns-in-Err-clause-untouched g c = λ can e. ap (λ (m : Moment). device_at m c.args.name.now) c.in-Err.ensures.refused.now
+
+pub returns-in-Err-clause-attaches : goal.returns-in-Err-clause-attaches
+returns-in-Err-clause-attaches g c = λ can. refused_rest c.args.name.now _ _ c.in-Err.ensures.refused
+
+pub returns-clause-holds : goal.returns-clause-holds
+returns-clause-holds g c = λ can blocks maps was is.
+    let o = c.in_default.ensures.opened can.told can.free refl in
+    c.open_attached.ensures.holds can.told maps
+    (subst (λ (bs : List (List ℕ)). Reopens c.args.schema.now c.args.equation.now c.args.specs.now maps bs)
+    (attached_blocks c.args.name.now blocks (g.M.Device.content c.args.machine) (g.M.Device.content c.attach.new.self) was o) is)
+
+pub returns-clause-opened : goal.returns-clause-opened
+returns-clause-opened g c = λ can.
+    let o = c.in_default.ensures.opened can.told can.free refl in
+    on_ok_weaker c.open_attached.result
+    (λ a. (o.blocks, o.was, subst (λ (bs : List (List ℕ)). AreOpened c.args.schema.now c.args.equation.now c.args.specs.now bs) o.attached.blocks_are a))
+    (c.open_attached.ensures.opened can.told)
+
+pub returns-clause-unopened : goal.returns-clause-unopened
+returns-clause-unopened g c = λ can.
+    let o = c.in_default.ensures.opened can.told can.free refl in
+    IfErr-weaker c.open_attached.result _ _
+    (λ e a. unopened_on c.args.schema.now c.args.equation.now c.args.specs.now o.blocks c.args.name.now (g.M.Device.content c.args.machine) e.1 o.was
+    (subst (λ (bs : List (List ℕ)). AreUnopened c.args.schema.now c.args.equation.now c.args.specs.now bs e.1) o.attached.blocks_are a))
+    (c.open_attached.ensures.unopened can.told)
+
+pub returns-clause-untouched : goal.returns-clause-untouched
+returns-clause-untouched g c = λ can.
+    let o = c.in_default.ensures.opened can.told can.free refl in
+    if_err_with c.open_attached.result _ _
+    (λ e is same none. left_alone c.args.name.now (g.M.Device.content c.args.machine) (g.M.Device.content c.attach.new.self) (g.M.Device.content e.0) can.free o
+    (subst (λ r. Silent (g.M.Device.content c.attach.new.self) (g.M.Device.content (machine_left r))) is c.open_attached.ensures.silent) (same none))
+    (c.open_attached.ensures.untouched can.told)
+
+pub returns-clause-named : goal.returns-clause-named
+returns-clause-named g c = λ can.
+    let o = c.in_default.ensures.opened can.told can.free refl in
+    if_ok_with c.open_attached.result _
+    (λ s is. attached_named c.args.name.now o.blocks (g.M.Device.content c.args.machine) (g.M.Device.content c.attach.new.self) _ can.free o.attached
+    (subst (λ r. Silent (g.M.Device.content c.attach.new.self) (g.M.Device.content (machine_left r))) is c.open_attached.ensures.silent))
+
+pub returns-clause-attaches : goal.returns-clause-attaches
+returns-clause-attaches g c = λ can.
+    let o = c.in_default.ensures.opened can.told can.free refl in
+    attached_rest c.args.name.now o.blocks (g.M.Device.content c.args.machine) (g.M.Device.content c.attach.new.self) _ can.free o.attached c.open_attached.ensures.silent

@@ -1,0 +1,5 @@
+pub mod Device
+pub mod Causes
+pub mod Store
+pub mod Opening
+pub mod Making

@@ -1,0 +1,54 @@
+-- Why no device is made, and how the steps of making one end.
+use Rattle.std.specs.Prelude.{ℕ, Bool, true, not, List, Result, Ok, Err, IsSome}
+use Rattle.gx_device.specs.declared.device.Device as device
+use Rattle.gx_device.specs.Content.{Content, device_at}
+use Rattle.gx_ports.specs.declared.kinds.LeafSpec.{LeafSpec}
+use Rattle.gx_ports.specs.declared.stop.Stop.{Stop}
+use Rattle.gx_ports.specs.declared.stop.Stop.TheVariants as stop
+use Rattle.gx_journal.specs.declared.journal.Journal.{Journal}
+use Rattle.gx_journal.specs.Journal.{device_of}
+use Rattle.gx_store.specs.Device.{IsSize}
+use Rattle.gx_store.specs.Store.{is_fault}
+use Rattle.gx_store.specs.declared.unopened.Unopened.{Unopened}
+use Rattle.gx_store.specs.declared.unopened.Unopened.TheVariants as unopened
+
+-- Why no device of that name is made, with so many blocks.
+abbrev pub IsUnmade : List ℕ → ℕ → List LeafSpec → Content → Unopened → Type 0
+IsUnmade name count specs before unopened.Exists = IsSize specs count × IsSome (device_at before.now name)
+IsUnmade name count specs before unopened.Size = ¬ IsSize specs count
+IsUnmade name count specs before unopened.Fault = Unit {0}
+IsUnmade name count specs before unopened.NoMemory = Unit {0}
+IsUnmade name count specs before why = ⊥
+
+-- Why nothing is made on a device that is attached.
+abbrev pub IsUnlaid : Unopened → Type 0
+IsUnlaid unopened.Fault = Unit {0}
+IsUnlaid unopened.NoMemory = Unit {0}
+IsUnlaid why = ⊥
+
+-- Why nothing is made on an attached device of so many blocks.
+abbrev pub IsUnmadeOn : List LeafSpec → ℕ → Unopened → Type 0
+IsUnmadeOn specs count unopened.Size = ¬ IsSize specs count
+IsUnmadeOn specs count why = IsUnlaid why
+
+-- whether no call of the machine failed
+abbrev pub has_no_fault : {T : Type 0} → Result T Unopened → Bool
+has_no_fault (Ok done) = true
+has_no_fault (Err why) = not (is_fault why)
+
+-- what the refusal of leaves is here
+abbrev pub not_laid : Stop → Unopened
+not_laid stop.NoMemory = unopened.NoMemory
+not_laid stop.Fault = unopened.Fault
+not_laid stop.Full = unopened.Fault
+not_laid (stop.Damaged block) = unopened.Fault
+
+module _ {M : Type 0} {g : device.Ghosts M} where
+  -- the machine, whether or not there are leaves over its journal
+  abbrev pub machine_below : Result (Journal M g) (M × Unopened) → M
+  machine_below (Ok j) = device_of j
+  machine_below (Err e) = e.0
+
+  abbrev pub is_laid : Result (Journal M g) (M × Unopened) → Bool
+  is_laid (Ok j) = true
+  is_laid (Err e) = not (is_fault e.1)

@@ -1,0 +1,12 @@
+//! The leaves of a database on a named device of a machine: made, opened and closed.
+#![tactic(auto)]
+
+mod making;
+mod opening;
+mod store;
+mod unopened;
+
+pub use making::make;
+pub use opening::open;
+pub use store::{FRAMES, Store, close};
+pub use unopened::Unopened;
