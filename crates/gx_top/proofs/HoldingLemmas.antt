@@ -9,7 +9,7 @@ use Rattle.gx_model.specs.Play.{start_at}
 use Rattle.gx_engine.specs.declared.engine.Engine.{Engine}
 use Rattle.gx_engine.specs.Internal.{AreInternal}
 use Rattle.gx_engine.specs.Steps.{StandsFor, IsAt, leaves_of}
-use Rattle.gx_top.specs.Plays.{IsHolding}
+use Rattle.gx_top.specs.Plays.{IsHolding, KeepsState}
 
 -- to hear changes nothing of them
 pub holding_after : {S : Type 0} (g : Ghosts S) (schema : Schema) (built : Built) (s : State) (a b : S) → Talks g a b → IsHolding g schema built s a → IsHolding g schema built s b
@@ -18,6 +18,13 @@ holding_after g schema built s a b talks h = record {
   kept_same = talks.kept ∙ h.kept_same ∙ sym talks.working;
   whole_is = talks.whole h.whole_is;
   kept_whole_is = talks.kept_whole.0 h.kept_whole_is;
+}
+
+-- nor of what they keep
+pub kept_in : {S : Type 0} (g : Ghosts S) (schema : Schema) (built : Built) (s : State) (a b : S) → Talks g a b → IsHolding g schema built s a → KeepsState g schema built b s
+kept_in g schema built s a b talks h = record {
+  is = subst (λ maps. AreInternal schema built.files maps s) (sym (talks.kept ∙ h.kept_same)) h.working_is;
+  whole_is = talks.kept_whole.0 h.kept_whole_is;
 }
 
 -- the engine stands for the start of a play

@@ -4,6 +4,7 @@ mod LineLemmas
 mod RequestLemmas
 mod PlayLemmas
 mod TryLemmas
+mod RowLemmas
 mod HoldingLemmas
 mod StoredLemmas
 mod CompleteLemmas

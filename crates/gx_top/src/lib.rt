@@ -5,6 +5,7 @@
 mod built;
 mod check;
 mod ending;
+mod finish;
 mod laws;
 mod on_device;
 mod over_leaves;
