@@ -9,3 +9,4 @@ mod StoredLemmas
 mod CompleteLemmas
 mod OnceLemmas
 mod EndLemmas
+mod MakeLemmas

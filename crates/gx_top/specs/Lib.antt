@@ -8,4 +8,5 @@ pub mod Say
 pub mod Plays
 pub mod Played
 pub mod Devices
+pub mod Made
 pub mod Tries
