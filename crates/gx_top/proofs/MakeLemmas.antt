@@ -57,10 +57,10 @@ module _ (schema equation : List ℕ) (specs : List LeafSpec) (device : List ℕ
   made (Err why) is free size un same = not_made why un same
 
 -- the same of texts and kinds of leaves that are read out of what is stored
-pub making : (x : Stored) (schema equation : List ℕ) (specs : List LeafSpec) (device : List ℕ) (count : ℕ) (old new : Content) (r : Result (Unit {0}) Unopened) → schema ≡ x.schema_text → equation ≡ x.equation_text → specs ≡ x.built.specs
+pub making_told : (x : Stored) (schema equation : List ℕ) (specs : List LeafSpec) (device : List ℕ) (count : ℕ) (old new : Content) (r : Result (Unit {0}) Unopened) → schema ≡ x.schema_text → equation ≡ x.equation_text → specs ≡ x.built.specs
     → OnOk r (OfBlocks device new (IsMadeOn count schema equation specs)) → OnOk r (device_at old.now device ≡ None) → OnOk r (IsSize specs count) → IfErr r (IsUnmade device count specs old) → IfErr r (λ why. is_untouched why ≡ true → device_at new.now device ≡ device_at old.now device)
     → IsMaking x.schema_text x.equation_text x.built.specs device count old new (making_ending count r)
-making x schema equation specs device count old new r p q k is free size un same =
+making_told x schema equation specs device count old new r p q k is free size un same =
     subst (λ (s : List ℕ). IsMaking s x.equation_text x.built.specs device count old new (making_ending count r)) p
     (subst (λ (e : List ℕ). IsMaking schema e x.built.specs device count old new (making_ending count r)) q
     (subst (λ (ks : List LeafSpec). IsMaking schema equation ks device count old new (making_ending count r)) k
@@ -109,7 +109,7 @@ ways schema equation specs device count old new ending.Full m = absurd m
 
 -- ---- the request
 
-pub to_make : (words : List (List ℕ)) (texts : Texts) (device digits : List ℕ) (count : ℕ) (x : Stored) → IsStoredFor words texts (making device digits) x → IsCount digits count → IsToMake words texts count
+abbrev pub to_make : (words : List (List ℕ)) (texts : Texts) (device digits : List ℕ) (count : ℕ) (x : Stored) → IsStoredFor words texts (making device digits) x → IsCount digits count → IsToMake words texts count
 to_make words texts device digits count x st counted = record { device = device; digits = digits; counted = counted; schema = x.schema; definitions = st.definitions; typing = st.typing; ready = st.ready }
 
 -- a request that is ready, in two readings of its words
@@ -183,7 +183,7 @@ not_both specs device count before (device_why.OtherEquation place) size free h 
 not_both specs device count before (device_why.Damaged block) size free h = h
 
 module _ (words : List (List ℕ)) (device digits : List ℕ) (count : ℕ) (x : Stored) (old mid end new : Content) (st : IsStoredFor words old.aside.texts (making device digits) x) (counted : IsCount digits count) (before : mid.now ≡ old.now) where
-  request : IsToMake words old.aside.texts count
+  abbrev request : IsToMake words old.aside.texts count
   request = to_make words old.aside.texts device digits count x st counted
 
   -- at the start of the request
