@@ -10,3 +10,4 @@ mod StoredLemmas
 mod CompleteLemmas
 mod OnceLemmas
 mod EndLemmas
+mod MakeLemmas

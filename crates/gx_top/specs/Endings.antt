@@ -7,6 +7,8 @@ use Rattle.gx_tokens.specs.Whys.{word_of as why_word}
 use Rattle.gx_script.specs.LineWhys.{word_of as line_word}
 use Rattle.gx_typing.specs.Reasons.{words_of as type_words}
 use Rattle.gx_ports.specs.declared.stop.Stop.TheVariants as stop
+use Rattle.gx_store.specs.declared.unopened.Unopened.{Unopened}
+use Rattle.gx_store.specs.declared.unopened.Unopened.TheVariants as unopened
 use Rattle.gx_top.specs.declared.ending.DeviceWhy.{DeviceWhy}
 use Rattle.gx_top.specs.declared.ending.DeviceWhy.TheVariants as device_why
 use Rattle.gx_top.specs.declared.ending.Ending.{Ending}
@@ -62,6 +64,16 @@ ending_of (play_end.Stop stop.NoMemory) = ending.NoMemory
 ending_of (play_end.Stop stop.Full) = ending.Full
 ending_of (play_end.Stop (stop.Damaged block)) = ending.Device (device_why.Damaged block)
 ending_of (play_end.Stop stop.Fault) = ending.Fault
+
+-- how it ends where its device isn't had
+abbrev pub unopened_ending : Unopened → Ending
+unopened_ending unopened.Missing = ending.Device device_why.Missing
+unopened_ending unopened.Exists = ending.Device device_why.Exists
+unopened_ending unopened.Size = ending.Device device_why.Size
+unopened_ending unopened.NoDatabase = ending.Device device_why.NoDatabase
+unopened_ending (unopened.OtherTexts place) = ending.Device (device_why.OtherEquation place)
+unopened_ending unopened.Fault = ending.Fault
+unopened_ending unopened.NoMemory = ending.NoMemory
 
 abbrev pub status_of : Ending → Status
 status_of (ending.Accepted summary) = status.Done

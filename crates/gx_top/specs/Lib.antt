@@ -9,4 +9,5 @@ pub mod Played
 pub mod Plays
 pub mod Tasks
 pub mod Devices
+pub mod Made
 pub mod Tries

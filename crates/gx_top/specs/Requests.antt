@@ -1,7 +1,7 @@
 -- When a request is refused, by the first reason, and when it is ready to be carried out.
-use Rattle.std.specs.Prelude.{◌≡◌, ◌≢◌, ◌⊎◌, ℕ, ◌<◌, ◌≤◌, List, [], ◌++◌, length, Bool, true, false, ◌&&◌, IsTrue, Some, None, Result, Err, IsSomeAnd}
+use Rattle.std.specs.Prelude.{◌≡◌, ◌≢◌, ◌⊎◌, ℕ, ◌<◌, ◌≤◌, List, [], ◌++◌, length, Bool, true, false, IsTrue, Some, None, Result, Err, IsSomeAnd}
 use Rattle.std.specs.FinMap.{get}
-use Rattle.gx_device.specs.Content.{Texts}
+use Rattle.gx_device.specs.Content.{Content, Texts}
 use Rattle.gx_tokens.specs.declared.why.Unread.{Unread}
 use Rattle.gx_tokens.specs.declared.why.Unread.TheVariants as unread
 use Rattle.gx_tokens.specs.Reading.{map_ok, with_line}
@@ -14,12 +14,11 @@ use Rattle.gx_equation.specs.Trees.{DefinitionTree}
 use Rattle.gx_typing.specs.declared.typing.Typing.{Typing}
 use Rattle.gx_typing.specs.Typed.{IsTyped, leaves, typing_with}
 use Rattle.gx_typing.specs.Whole.{typing_of}
-use Rattle.gx_leaves.specs.Kinds.{are_built}
 use Rattle.gx_top.specs.declared.ending.Ending.{Ending}
 use Rattle.gx_top.specs.declared.ending.Ending.TheVariants as ending
 use Rattle.gx_top.specs.declared.summary.Summary.{Summary}
-use Rattle.gx_top.specs.Words.{Action, checking, trying, making, running, request_words, IsCounted}
-use Rattle.gx_top.specs.Built.{is_built, text_length}
+use Rattle.gx_top.specs.Words.{Action, checking, trying, making, running, request_words, IsCounted, IsOnDevice}
+use Rattle.gx_top.specs.Built.{is_built, is_built_on_device, text_length}
 use Rattle.gx_top.specs.Endings.{IsOutside}
 use Rattle.gx_top.specs.Summaries.{summary_of}
 
@@ -100,12 +99,16 @@ IsAccepted words texts a schema ds typing = (s : List ℕ) × (e : List ℕ) × 
 abbrev pub is_carried : Action → Schema → List DefinitionTree → Typing → Bool
 is_carried checking schema ds typing = true
 is_carried trying schema ds typing = is_built schema ds
-is_carried (making device blocks) schema ds typing = is_built schema ds && are_built typing.specs
-is_carried (running device) schema ds typing = is_built schema ds && are_built typing.specs
+is_carried (making device blocks) schema ds typing = is_built_on_device schema ds typing
+is_carried (running device) schema ds typing = is_built_on_device schema ds typing
 
 -- a request that isn't refused
 abbrev pub IsReady : List (List ℕ) → Texts → Action → Schema → List DefinitionTree → Typing → Type 0
 IsReady words texts a schema ds typing = IsAccepted words texts a schema ds typing × (is_carried a schema ds typing ≡ true)
+
+-- no device is attached where the words name one
+abbrev pub IsFree : List (List ℕ) → Content → Type 0
+IsFree words c = (a : Action) (schema equation : List ℕ) → IsOnDevice a → words ≡ request_words a schema equation → c.now.shelf.name ≡ None
 
 -- a script that can be played on this schema
 abbrev pub IsRunnable : List (List ℕ) → Texts → Schema → Type 0

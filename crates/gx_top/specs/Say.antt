@@ -9,6 +9,11 @@ pub record OnlySays (old new : Content) : Type 0 where
   pub script : new.script ≡ old.script
   pub aside : new.aside ≡ old.aside
 
+-- the blocks and the other devices are as they were
+pub record SameDevices (old new : Content) : Type 0 where
+  pub blocks : new.now.blocks ≡ old.now.blocks
+  pub shelf : new.now.shelf ≡ old.now.shelf
+
 -- all of the piece, or after a failure a front of it
 pub record SaysAll {T : Type 0} (tells : Bool) (old new : Content) (before now : ℕ) (piece : List ℕ) (result : Result T Failed) : Type 0 where
   pub all : IsTrue tells → OnOk result (new.now.said ≡ old.now.said ++ piece)

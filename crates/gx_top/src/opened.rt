@@ -1,17 +1,24 @@
 // What a request on a device is prepared from, and why its device isn't had.
-use crate::built::is_built;
+ghost use Rattle.std.specs.Prelude.{◌≡◌, ◌≤◌, List, ℕ, false, IsTrue, IfOk, IfErr, IsErrOf};
+ghost use Rattle.gx_device.specs.Content.{SameContent};
+ghost use Rattle.gx_device.specs.Faults.{Rose};
+ghost use Rattle.gx_top.specs.Words.{Action, request_words, IsCounted, IsOnDevice};
+ghost use Rattle.gx_top.specs.Checked.{IsChecked, IsStoredOf, IsUnstored, IsStoredFor, IsStored};
+ghost use Rattle.gx_top.specs.Endings.{is_fault, unopened_ending};
+ghost use Rattle.gx_top.specs.Requests.{IsUnprepared};
+
+use crate::built::is_built_on_device;
 use crate::ending::{DeviceWhy, Ending};
 use crate::reading::{Checked, read_texts};
 use gx_device::Machine;
 use gx_equation::print_equation;
-use gx_leaves::kinds_built;
 use gx_schema::{Schema, print_schema};
 use gx_store::Unopened;
 use gx_types::{Built, build};
 use gx_values::Octets;
 use std::alloc::Global;
 
-/// Accepted texts, whose heads and kinds of leaves are built.
+/// Accepted texts whose heads and kinds of leaves are built, as a device keeps them.
 #[derive(Drop)]
 pub struct Stored {
     /// The schema.
@@ -24,24 +31,44 @@ pub struct Stored {
     pub equation_text: Octets,
 }
 
-/// What the texts of these names give for a device. `NotBuilt` comes before anything of the device.
+/// What the texts of these names give for a device. A refusal is the first reason in the order of the
+/// texts, the schema, the equation, its types, the length of the canonical texts, and what is built;
+/// it comes before anything of the device. `Fault` comes only where a call of the machine failed.
 pub fn prepare_stored<'a, M: Machine>(
     alloc: Global,
     schema: &'a str,
     equation: &'a str,
     machine: &mut M,
-) -> Result<Stored, Ending<'a>> {
+) -> Result<Stored, Ending<'a>>
+    ensures ready { IsTrue M.tells → (a : Action) → IsCounted a → IsOnDevice a → IfOk result
+        (IsStoredFor (request_words a schema.now equation.now)
+        (M.content machine.old).aside.texts a) }
+    ensures stored { IfOk result IsStored }
+    ensures unprepared { IsTrue M.tells → (a : Action) → IsCounted a → IsOnDevice a → IfErr result
+        (IsUnprepared (request_words a schema.now equation.now)
+        (M.content machine.old).aside.texts (M.faults machine.old) (M.faults machine.new)) }
+    ensures fault { IsErrOf result Ending.Fault → Rose (M.faults machine.old) (M.faults machine.new) }
+    ensures counted { is_fault result ≡ false → M.faults machine.new ≡ M.faults machine.old }
+    ensures later { M.faults machine.old ≤ M.faults machine.new }
+    ensures content { SameContent (M.content machine.old) (M.content machine.new) }
+{
     let checked = read_texts(alloc, schema, equation, machine)?;
     build_stored(alloc, checked)
 }
 
-fn build_stored<'a>(alloc: Global, checked: Checked) -> Result<Stored, Ending<'a>> {
+// The same of accepted texts.
+fn build_stored<'a>(alloc: Global, checked: Checked) -> Result<Stored, Ending<'a>>
+    requires { IsChecked checked }
+    ensures built { IfOk result (IsStoredOf checked) }
+    ensures stored { IfOk result IsStored }
+    ensures unbuilt { IfErr result (IsUnstored checked) }
+{
     let Checked {
         schema,
         equation,
         typing,
     } = checked;
-    if !is_built(&schema, &equation) || !kinds_built(&typing.specs.0) {
+    if !is_built_on_device(&schema, &equation, &typing) {
         return Err(Ending::NotBuilt);
     }
     let schema_text = print_schema(alloc, &schema)?;
@@ -56,7 +83,9 @@ fn build_stored<'a>(alloc: Global, checked: Checked) -> Result<Stored, Ending<'a
 }
 
 /// How the request ends where its device isn't had.
-pub fn unopened_ending<'a>(why: Unopened) -> Ending<'a> {
+pub fn unopened_ending<'a>(why: Unopened) -> Ending<'a>
+    ensures { result ≡ unopened_ending why }
+{
     match why {
         Unopened::Missing => Ending::Device(DeviceWhy::Missing),
         Unopened::Exists => Ending::Device(DeviceWhy::Exists),

@@ -5,7 +5,8 @@ ghost use Rattle.gx_top.specs.Tries.{IsEnd, IsAsDue, CountsOutside};
 
 use crate::check::check;
 use crate::ending::{Ending, end};
-use crate::on_device::refuse_device;
+use crate::make_database::make_database;
+use crate::run_script::run_script;
 use crate::status::Status;
 use crate::try_script::try_script;
 use crate::words::{Request, read_words};
@@ -51,17 +52,16 @@ pub fn top<M: Machine + Drop>(alloc: Global, words: &[String], machine: M) -> (S
         }
         Some(Request::Try { schema, equation }) => try_script(alloc, schema, equation, machine),
         Some(Request::Make {
-            schema, equation, ..
-        }) => {
-            let status = refuse_device(alloc, schema, equation, &mut machine);
-            (status, machine)
-        }
+            schema,
+            equation,
+            device,
+            blocks,
+        }) => make_database(alloc, schema, equation, device, blocks, machine),
         Some(Request::Run {
-            schema, equation, ..
-        }) => {
-            let status = refuse_device(alloc, schema, equation, &mut machine);
-            (status, machine)
-        }
+            schema,
+            equation,
+            device,
+        }) => run_script(alloc, schema, equation, device, machine),
         None => {
             let status = end(alloc, Ending::Words, &mut machine);
             (status, machine)
