@@ -132,6 +132,25 @@ played_over g schema built start script before e f leaves left result schema_is 
     (subst (λ (b : Built). IsPlayedAs (schema_of e) b (g.limit leaves) start (KeepsState g (schema_of e) b (leaves_of f)) script before (g.content (leaves_of f)).now.said result) built_is
     (subst (λ (l : Option Limits). IsPlayedAs (schema_of e) (built_of e) l start (KeepsState g (schema_of e) (built_of e) (leaves_of f)) script before (g.content (leaves_of f)).now.said result) limit_is is)))
 
+-- what is held of a state means another thing of it
+pub held_as : (schema : Schema) (built : Built) (limit : Option Limits) (start : State) (Holds Other : State → Type 0) (script before now : List ℕ) (result : Result (Unit {0}) Ending) → ((s : State) → Holds s → Other s) → IsPlayedAs schema built limit start Holds script before now result → IsPlayedAs schema built limit start Other script before now result
+held_as schema built limit start Holds Other script before now (Ok x) other is = record { answers = is.answers; final = is.final; play = is.play; said = is.said; holds = other is.final.kept is.holds }
+held_as schema built limit start Holds Other script before now (Err (ending.Line number why)) other is = record { answers = is.answers; final = is.final; play = is.play; said = is.said; holds = other is.final.kept is.holds }
+held_as schema built limit start Holds Other script before now (Err ending.NoMemory) other is = record { answers = is.answers; first = is.first; said = is.said; holds = other is.first.final.kept is.holds }
+held_as schema built limit start Holds Other script before now (Err ending.Full) other is = record { answers = is.answers; final = is.final; full = is.full; said = is.said; holds = other is.final.kept is.holds }
+held_as schema built limit start Holds Other script before now (Err ending.Fault) other is = is
+held_as schema built limit start Holds Other script before now (Err ending.Words) other is = is
+held_as schema built limit start Holds Other script before now (Err (ending.Missing name)) other is = is
+held_as schema built limit start Holds Other script before now (Err (ending.TooLong name)) other is = is
+held_as schema built limit start Holds Other script before now (Err (ending.Schema line why)) other is = is
+held_as schema built limit start Holds Other script before now (Err (ending.Equation line why)) other is = is
+held_as schema built limit start Holds Other script before now (Err (ending.Type line why)) other is = is
+held_as schema built limit start Holds Other script before now (Err ending.TextsTooLong) other is = is
+held_as schema built limit start Holds Other script before now (Err ending.NotBuilt) other is = is
+held_as schema built limit start Holds Other script before now (Err (ending.Accepted summary)) other is = is
+held_as schema built limit start Holds Other script before now (Err (ending.Device wrong)) other is = is
+held_as schema built limit start Holds Other script before now (Err (ending.Made blocks pages)) other is = is
+
 -- before a line is played
 abbrev none_played : (schema : Schema) (start : State) (script : List ℕ) → AreFirst schema start script []
 none_played schema start script = record { ran = []; later = (script_lines script).lines; parts = refl; final = start_at start; runs = (refl, refl) }
