@@ -63,7 +63,7 @@ IsUnmakable specs device blocks before why = ⊥
 
 -- the same of a request to make one
 abbrev pub IsWrongToMake : {words : List (List ℕ)} {texts : Texts} {blocks : ℕ} → IsToMake words texts blocks → Content → DeviceWhy → Type 0
-IsWrongToMake {_} {_} {blocks} r before why = IsUnmakable r.typing.specs r.device blocks before why
+IsWrongToMake {blocks = blocks} r before why = IsUnmakable r.typing.specs r.device blocks before why
 
 -- the device of the request is wrong in this way
 abbrev pub IsWrong : List (List ℕ) → Content → DeviceWhy → Type 0
