@@ -11,4 +11,5 @@ mod CompleteLemmas
 mod OnceLemmas
 mod EndLemmas
 mod TaskLemmas
+mod StoreLemmas
 mod MakeLemmas

@@ -1,7 +1,7 @@
 -- A script that was played for `try` or for `run`, and a device that wasn't had.
 use Rattle.std.proofs.Common.{◌≡◌, ℕ, List, [], length, Result, Ok, Err, Option, Some, None, refl, sym, ap, subst, ◌∙◌, inl, inr}
 use Rattle.std.specs.Prelude.{true, IfOk, IfErr}
-use Rattle.gx_device.specs.Content.{Content, Texts, SameContent, device_at}
+use Rattle.gx_device.specs.Content.{Content, Texts, Shelf, SameContent, device_at}
 use Rattle.gx_ports.specs.declared.kinds.LeafSpec.{LeafSpec}
 use Rattle.gx_ports.specs.LeafMaps.{LeafMap, Limits}
 use Rattle.gx_schema.specs.declared.schema.Schema.{Schema}
@@ -12,7 +12,8 @@ use Rattle.gx_types.specs.declared.built.Built.{Built}
 use Rattle.gx_types.specs.Build.{AreTreesOfFiles}
 use Rattle.gx_model.specs.States.{State, empty_state}
 use Rattle.gx_engine.specs.Internal.{AreInternal}
-use Rattle.gx_store.specs.Device.{Reopens, IsSize, HasTexts}
+use Rattle.gx_store.specs.Device.{Reopens, IsSize, IsSettled, HasTexts}
+use Rattle.gx_store.proofs.ShelfLemmas.{named_at}
 use Rattle.gx_store.specs.Opening.{AreOpened, IsUnopened}
 use Rattle.gx_store.specs.Store.{OfBlocks}
 use Rattle.gx_store.specs.declared.unopened.Unopened.{Unopened}
@@ -29,10 +30,12 @@ use Rattle.gx_top.specs.Checked.{IsAcceptedAs, IsBuiltFor, IsStoredFor}
 use Rattle.gx_top.specs.Requests.{IsAccepted}
 use Rattle.gx_top.specs.Endings.{IsPlayEnding, IsFinished, unopened_ending}
 use Rattle.gx_top.specs.Plays.{IsPlayedAs}
-use Rattle.gx_top.specs.Tasks.{Task, IsTask, IsPrepared, IsHeldOn, limits_on}
+use Rattle.gx_top.specs.Say.{SameDevices}
+use Rattle.gx_top.specs.Tasks.{Task, IsTask, IsPrepared, IsHeldOn, IsSettledIn, IsSettledOn, limits_on}
 use Rattle.gx_top.specs.Devices.{IsWrongOn, IsWrong, IsBefore}
 use Rattle.gx_top.specs.Words.{Action, trying, running}
 use Rattle.gx_top.proofs.StoredLemmas.{same_internal}
+use Rattle.gx_top.proofs.TryLemmas.{held_as}
 use Rattle.gx_top.proofs.CompleteLemmas.{one_task, made_no_task, had_not_wrong}
 use Rattle.gx_top.proofs.EndLemmas.{IsRun, IsUnhad}
 
@@ -103,10 +106,12 @@ device_once a b e = ap device_or e
 pub record IsOnStore (device : List ℕ) (x : Stored) (middle opened mid : Content) (limit : Limits) (Reaches : List LeafMap → Type 0) (played : Result (Unit {0}) Ending) : Type 0 where
   pub said : opened.now.said ≡ middle.now.said
   pub script : opened.script ≡ middle.script
+  pub named : opened.now.shelf.name ≡ Some device
+  pub shelf : mid.now.shelf ≡ opened.now.shelf
   pub had : OfBlocks device middle (AreOpened x.schema_text x.equation_text x.built.specs)
   pub holds : (blocks : List (List ℕ)) (maps : List LeafMap) → device_at middle.now device ≡ Some blocks → Reopens x.schema_text x.equation_text x.built.specs maps blocks → Reaches maps
   pub limit_is : (blocks : List (List ℕ)) → device_at middle.now device ≡ Some blocks → limit ≡ limits_on x.built.specs (length blocks)
-  pub answered : (s : State) (maps : List LeafMap) → Reaches maps → AreInternal x.schema x.built.files maps s → IsPlayedAs x.schema x.built (Some limit) s (λ kept. Unit {0}) opened.script opened.now.said mid.now.said played
+  pub answered : (s : State) (maps : List LeafMap) → Reaches maps → AreInternal x.schema x.built.files maps s → IsPlayedAs x.schema x.built (Some limit) s (IsSettledIn x.schema x.built x.schema_text x.equation_text x.built.specs mid.now.blocks) opened.script opened.now.said mid.now.said played
   pub heard : (s : State) (maps : List LeafMap) → Reaches maps → AreInternal x.schema x.built.files maps s → played ≡ Ok tt → mid.script ≡ []
 
 module _ (words : List (List ℕ)) (device : List ℕ) (x : Stored) (old middle : Content) (p : IsStoredFor words old.aside.texts (running device) x) (same : SameContent old middle) where
@@ -137,11 +142,14 @@ module _ (words : List (List ℕ)) (device : List ℕ) (x : Stored) (old middle 
     limit_from bound start h =
         ap Some (o.limit_is h.blocks (there h.blocks h.there) ∙ ap (λ k. limits_on k (length h.blocks)) p.specs_are) ∙ sym h.limit_is
 
-    from_start : (bound : Option Limits) (start : State) → IsHeldOn Run device old bound start → IsPlayedAs x.schema x.built bound start (λ kept. Unit {0}) old.script old.now.said mid.now.said played
+    abbrev Settled : State → Type 0
+    Settled = IsSettledIn x.schema x.built x.schema_text x.equation_text x.built.specs mid.now.blocks
+
+    from_start : (bound : Option Limits) (start : State) → IsHeldOn Run device old bound start → IsPlayedAs x.schema x.built bound start Settled old.script old.now.said mid.now.said played
     from_start bound start h =
-        subst (λ (l : Option Limits). IsPlayedAs x.schema x.built l start (λ kept. Unit {0}) old.script old.now.said mid.now.said played) (limit_from bound start h)
-        (subst (λ (n : List ℕ). IsPlayedAs x.schema x.built (Some limit) start (λ kept. Unit {0}) old.script n mid.now.said played) (o.said ∙ ap (λ n. n.said) same.now)
-        (subst (λ (l : List ℕ). IsPlayedAs x.schema x.built (Some limit) start (λ kept. Unit {0}) l opened.now.said mid.now.said played) (o.script ∙ same.script)
+        subst (λ (l : Option Limits). IsPlayedAs x.schema x.built l start Settled old.script old.now.said mid.now.said played) (limit_from bound start h)
+        (subst (λ (n : List ℕ). IsPlayedAs x.schema x.built (Some limit) start Settled old.script n mid.now.said played) (o.said ∙ ap (λ n. n.said) same.now)
+        (subst (λ (l : List ℕ). IsPlayedAs x.schema x.built (Some limit) start Settled l opened.now.said mid.now.said played) (o.script ∙ same.script)
         (o.answered start h.maps (reached bound start h) (internal bound start h))))
 
     had_texts : (blocks : List (List ℕ)) → HasTexts x.schema_text x.equation_text blocks → HasTexts (schema_text x.schema) (equation_text p.definitions) blocks
@@ -158,12 +166,28 @@ module _ (words : List (List ℕ)) (device : List ℕ) (x : Stored) (old middle 
         (subst (λ d. IsWrongOn d Run old wrong) same_device (subst (λ u. IsWrongOn run.device u old wrong) same_task run.wrong))
     not_wrong wrong early (inr make) = made_no_task words old.aside.texts Run make.0 run_is_task make.1
 
-    pub device_run : (new : Content) (s : Status) → IfErr played IsPlayEnding → IsFinished played mid new s → IsRun words Run old mid new played s
-    device_run new s ends finished = record {
+    settled_texts : (maps : List LeafMap) (blocks : List (List ℕ)) → IsSettled x.schema_text x.equation_text x.built.specs maps blocks → IsSettled (schema_text x.schema) (equation_text p.definitions) p.typing.specs maps blocks
+    settled_texts maps blocks is =
+        subst (λ (t : List ℕ). IsSettled t (equation_text p.definitions) p.typing.specs maps blocks) p.schema_text_is
+        (subst (λ (t : List ℕ). IsSettled x.schema_text t p.typing.specs maps blocks) p.equation_text_is
+        (subst (λ (k : List LeafSpec). IsSettled x.schema_text x.equation_text k maps blocks) p.specs_are is))
+
+    -- what is said then changes nothing of the device
+    left : (new : Content) → SameDevices mid new → (s : State) → Settled s → IsSettledOn Run device new s
+    left new devices s is = record {
+      blocks = new.now.blocks;
+      there = named_at new.now device (ap (λ (h : Shelf). h.name) devices.shelf ∙ ap (λ (h : Shelf). h.name) o.shelf ∙ o.named);
+      maps = is.0;
+      settled = subst (λ (b : List (List ℕ)). IsSettled (schema_text x.schema) (equation_text p.definitions) p.typing.specs is.0 b) (sym devices.blocks) (settled_texts is.0 mid.now.blocks is.1);
+      internal = record { built = x.built; trees = p.trees; is = is.2 };
+    }
+
+    pub device_run : (new : Content) (s : Status) → IfErr played IsPlayEnding → IsFinished played mid new s → SameDevices mid new → IsRun words Run old mid new played s
+    device_run new s ends finished devices = record {
       task = run_is_task;
       built = x.built;
       trees = p.trees;
-      answered = from_start;
+      answered = λ bound start h. held_as x.schema x.built bound start Settled (IsSettledOn Run device new) old.script old.now.said mid.now.said played (left new devices) (from_start bound start h);
       heard = λ bound start h ok. o.heard start h.maps (reached bound start h) (internal bound start h) ok;
       play_ending = ends;
       damaged = λ block found. inl (record {
@@ -171,7 +195,7 @@ module _ (words : List (List ℕ)) (device : List ℕ) (x : Stored) (old middle 
         is = run_is_task;
         device = device;
         action_is = refl;
-        wrong = λ bound start h. subst (λ (r : Result (Unit {0}) Ending). IsPlayedAs x.schema x.built bound start (λ kept. Unit {0}) old.script old.now.said mid.now.said r) found (from_start bound start h);
+        wrong = λ bound start h. subst (λ (r : Result (Unit {0}) Ending). IsPlayedAs x.schema x.built bound start Settled old.script old.now.said mid.now.said r) found (from_start bound start h);
       });
       right = not_wrong;
       finished = finished;

@@ -14,7 +14,7 @@ use Rattle.gx_types.specs.Build.{AreTreesOfFiles}
 use Rattle.gx_model.specs.States.{State, empty_state}
 use Rattle.gx_engine.specs.Internal.{AreInternal}
 use Rattle.gx_layout.specs.Layout.{pages_of}
-use Rattle.gx_store.specs.Device.{Reopens}
+use Rattle.gx_store.specs.Device.{Reopens, IsSettled}
 use Rattle.gx_top.specs.Words.{Action, checking, trying, making, running}
 use Rattle.gx_top.specs.Requests.{IsReady}
 
@@ -79,10 +79,25 @@ IsFrom t before limit s = IsStart t.action t before limit s
 
 -- ---- what is left of it
 
--- nothing of leaves in memory
+-- the blocks are settled with maps in which these nodes hold the state
+abbrev pub IsSettledIn : Schema → Built → List ℕ → List ℕ → List LeafSpec → List (List ℕ) → State → Type 0
+IsSettledIn schema built schema_text equation_text specs blocks s =
+    (maps : List LeafMap) × IsSettled schema_text equation_text specs maps blocks × AreInternal schema built.files maps s
+
+-- the device of that name is settled with the internal form of the state
+pub record IsSettledOn (t : Task) (device : List ℕ) (after : Content) (s : State) : Type 0 where
+  pub blocks : List (List ℕ)
+  pub there : device_at after.now device ≡ Some blocks
+  pub maps : List LeafMap
+  pub settled : IsSettled (schema_text t.schema) (equation_text t.definitions) t.typing.specs maps blocks
+  pub internal : IsInternalOf t.schema t.definitions maps s
+
+-- nothing of leaves in memory; on a device the state
 abbrev pub IsLeftBy : Action → Task → Content → State → Type 0
-IsLeftBy (running device) t after s = Unit {0}
-IsLeftBy a t after s = Unit {0}
+IsLeftBy checking t after s = Unit {0}
+IsLeftBy trying t after s = Unit {0}
+IsLeftBy (making device blocks) t after s = Unit {0}
+IsLeftBy (running device) t after s = IsSettledOn t device after s
 
 abbrev pub IsLeft : Task → Content → State → Type 0
 IsLeft t after s = IsLeftBy t.action t after s

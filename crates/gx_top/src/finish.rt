@@ -1,6 +1,7 @@
 // How a script that was played ends for the request.
 ghost use Rattle.std.specs.Prelude.{◌≡◌, ◌≢◌, ◌≤◌, ◌⊎◌, false, IsTrue, IsErrOf};
 ghost use Rattle.gx_device.specs.Faults.{Rose};
+ghost use Rattle.gx_top.specs.Say.{SameDevices};
 ghost use Rattle.gx_top.specs.Endings.{IsFinished, is_fault};
 
 use crate::ending::{Ending, end};
@@ -21,6 +22,7 @@ pub fn finish<M: Machine>(
         IsErrOf played.entry Ending.Fault ⊎ Rose (M.faults machine.old) (M.faults machine.new) }
     ensures no_fault { result ≢ Status.Outside → is_fault played.entry ≡ false }
     ensures counted { result ≢ Status.Outside → M.faults machine.new ≡ M.faults machine.old }
+    ensures devices { SameDevices (M.content machine.old) (M.content machine.new) }
     ensures later { M.faults machine.old ≤ M.faults machine.new }
 {
     match played {

@@ -5,7 +5,9 @@ ghost use Rattle.gx_device.specs.Faults.{Rose};
 ghost use Rattle.gx_ports.specs.LeafMaps.{LeafMap};
 ghost use Rattle.gx_schema.specs.WellFormed.{IsWellFormed};
 ghost use Rattle.gx_leaves.specs.Wholeness.{limits_of};
-ghost use Rattle.gx_leaves.specs.Paged.{pages_of, places_in, working_of};
+ghost use Rattle.gx_leaves.specs.Paged.{pages_of, places_in, working_of, head_of};
+ghost use Rattle.gx_leaves.specs.Places.{specs_of};
+ghost use Rattle.gx_store.specs.Device.{IsHeadOf};
 ghost use Rattle.gx_pages.specs.Paged.{ground_of};
 ghost use Rattle.gx_pages.specs.View.{journal_of};
 ghost use Rattle.gx_store.specs.Store.{CanAttach, HoldsMaps, machine_of};
@@ -16,6 +18,7 @@ ghost use Rattle.gx_top.specs.Words.{running, request_words};
 ghost use Rattle.gx_top.specs.Checked.{IsStored, IsStoredFor};
 ghost use Rattle.gx_top.specs.Endings.{IsPlayEnding, is_fault};
 ghost use Rattle.gx_top.specs.Plays.{IsPlayedAs};
+ghost use Rattle.gx_top.specs.Tasks.{IsSettledIn};
 ghost use Rattle.gx_top.specs.Tries.{IsEnd, IsAsDue};
 
 use crate::ending::{Ending, end};
@@ -114,14 +117,17 @@ fn play_stored<'a, M: Machine + Drop>(
     requires built { AreFor schema built (length (working_of store)) }
     requires well_formed { IsWellFormed schema }
     ensures answered { IsTrue M.tells → (s : State) (maps : List LeafMap) → HoldsMaps maps store →
-        AreInternal schema built.files maps s →
+        AreInternal schema built.files maps s → (texts : List ℕ × List ℕ) →
+        IsHeadOf texts.0 texts.1 (specs_of (places_in store)) (head_of store) →
         IsPlayedAs schema built
         (Some (limits_of (ground_of (journal_of (pages_of store))) (places_in store))) s
-        (λ kept. Unit {0}) (M.content (machine_of store)).script
+        (IsSettledIn schema built texts.0 texts.1 (specs_of (places_in store))
+        (M.content result.1).now.blocks) (M.content (machine_of store)).script
         (M.content (machine_of store)).now.said (M.content result.1).now.said result.0 }
     ensures heard { IsTrue M.tells → (s : State) (maps : List LeafMap) → HoldsMaps maps store →
         AreInternal schema built.files maps s → result.0 ≡ Ok tt →
         (M.content result.1).script ≡ [] }
+    ensures shelf { (M.content result.1).now.shelf ≡ (M.content (machine_of store)).now.shelf }
     ensures ending { IfErr result.0 IsPlayEnding }
     ensures fault { IsErrOf result.0 Ending.Fault →
         Rose (M.faults (machine_of store)) (M.faults result.1) }
