@@ -1,5 +1,5 @@
 -- A commit whose changed pages are in their slots.
-use Rattle.std.proofs.Common.{◌≡◌, inl, inr, ℕ, ◌+◌, ◌*◌, ◌≤◌, Bool, false, List, [], ◌∷◌, ◌++◌, length, IsTrue, refl, sym, ◌∙◌, ap, subst, arith, length-append, Result, Ok, Err}
+use Rattle.std.proofs.Common.{◌≡◌, inl, inr, ℕ, ◌+◌, ◌*◌, ◌≤◌, Bool, true, false, List, [], ◌∷◌, ◌++◌, length, IsTrue, refl, sym, ◌∙◌, ap, subst, arith, length-append, Result, Ok, Err}
 use Rattle.std.specs.Prelude.{◌||◌, OnOk, is_err}
 use Rattle.std.proofs.lemmas.List.{append-nil}
 use Rattle.std.proofs.lemmas.List.FromFn.{length-map-range_with_len}
@@ -103,3 +103,12 @@ pages_many tells told P c spilled rs = ap (λ (b : Bool). length (pages_told b P
 pub calm_committed : {T E : Type 0} (r : Result T E) (tells was bad : Bool) (P : ℕ) (c : Content) → was ≡ false → bad ≡ is_err r → OnOk r (CalmSince tells false P c c) → OnOk r (CalmSince tells (was || bad) P c c)
 calm_committed (Ok x) tells was bad P c steady is calm = subst (λ (b : Bool). CalmSince tells b P c c) (sym (λ i. steady i || is i)) calm
 calm_committed (Err e) tells was bad P c steady is calm = tt
+
+neither : (a b : Bool) → (a || b) ≡ false → (a ≡ false) × (b ≡ false)
+neither false b e = (refl, e)
+neither true b e = absurd (let f : true ≡ false = e in cc)
+
+-- where none failed, this one didn't
+pub committed_still : {T E A : Type 0} (r : Result T E) (was bad : Bool) → bad ≡ is_err r → (was || bad) ≡ false → (was ≡ false → OnOk r A) → A
+committed_still (Ok x) was bad is none then = then (neither was bad none).0
+committed_still (Err e) was bad is none then = absurd (let f : true ≡ false = sym is ∙ (neither was bad none).1 in cc)

@@ -1,8 +1,9 @@
 -- Calls of the device that change slots alone.
-use Rattle.std.proofs.Common.{◌≡◌, ◌≢◌, ℕ, Bool, true, false, Some, set, ◌+◌, ◌<◌, List, [], length, get_or, sym, ◌∙◌, ap, subst, arith}
-use Rattle.gx_device.specs.Content.{Moment, Content, Writes, OnlyTime, Silent}
+use Rattle.std.proofs.Common.{◌≡◌, ◌≢◌, ℕ, Bool, true, false, Some, set, ◌+◌, ◌<◌, ◌≤◌, List, [], length, get_or, sym, ◌∙◌, ap, subst, arith}
+use Rattle.gx_device.specs.Content.{Moment, Content, Writes, OnlyTime, Silent, block_of}
 use Rattle.gx_device.specs.Crash.{Outside}
 use Rattle.gx_device.proofs.RunLemmas.{outside_same, outside_twice, outside_write}
+use Rattle.gx_layout.specs.Layout.{is_open}
 use Rattle.gx_layout.proofs.CalmLemmas.{calm_spill, calm_read}
 use Rattle.std.proofs.lemmas.List.{get_or-set_same, get_or-set_other}
 use Rattle.gx_frames.specs.Pool.{Resident, find_page, to_front}
@@ -60,3 +61,7 @@ written_stored P p bytes old new was is below room e w = stored_slot P new.now.b
 -- nothing was said, heard or attached
 pub slots_silent : (P : ℕ) (old new : Content) → OnlySlots P old new → Silent old new
 slots_silent P old new o = record { said = o.outside.said; shelf = o.outside.shelf; script = o.script; aside = o.aside }
+
+-- no slot is the gate
+pub slots_gate : (P : ℕ) (old new : Content) → OnlySlots P old new → is_open (block_of old.now 1) ≡ false → is_open (block_of new.now 1) ≡ false
+slots_gate P old new o closed = ap is_open (o.outside.blocks 1 (λ (s : IsSlot P 1). (let low = s.0 in absurd (omega (arith, low))))) ∙ closed

@@ -1,9 +1,10 @@
 // The first step of a commit: the changed pages go to their slots.
 ghost use Rattle.std.specs.Prelude.{◌≡◌, ◌<◌, ◌≤◌, ◌+◌, ◌*◌, ℕ, false, [], length, slice_index_or, vec_capacity, IsTrue, OnOk};
+ghost use Rattle.gx_device.specs.Content.{block_of};
 ghost use Rattle.gx_device.specs.Crash.{LeavesOnly};
 ghost use Rattle.gx_device.specs.Faults.{IsCounted};
 ghost use Rattle.gx_frames.specs.Pool.{IsChanged};
-ghost use Rattle.gx_layout.specs.Layout.{View, AtRest, Either, OnlyBlocks, with_pages, home};
+ghost use Rattle.gx_layout.specs.Layout.{View, AtRest, Either, OnlyBlocks, with_pages, home, is_open};
 ghost use Rattle.gx_journal.specs.State.{pages_told};
 ghost use Rattle.gx_journal.specs.Sources.{stored, page_of, IsCached, SamePages, IsListed, OnlySlots, IsBody};
 
@@ -111,6 +112,7 @@ pub(crate) fn commit<D: Device>(
         → LeavesOnly (Either kept (with_pages kept (pages_told D.tells (length spilled.old.items) (D.content device.old) spilled.old.items frames.old.resident))) (D.content device.old) (D.content device.new) }
     ensures at_rest { IsTrue D.tells → (kept : View) → length kept.pages ≡ length spilled.old.items → AtRest (D.content device.old).now kept
         → OnOk result (AtRest (D.content device.new).now (with_pages kept (pages_told D.tells (length spilled.old.items) (D.content device.old) spilled.old.items frames.old.resident))) }
+    ensures closed { IsTrue D.tells → is_open (block_of (D.content device.old).now 1) ≡ false → OnOk result (is_open (block_of (D.content device.new).now 1) ≡ false) }
     ensures cached { IsTrue D.tells → IsCached (length spilled.old.items) (D.content device.new).now.blocks spilled.new.items frames.new.resident }
     ensures body { OnlyBlocks IsBody (D.content device.old) (D.content device.new) }
     ensures pages { frames.new.pages ≡ frames.old.pages }

@@ -4,7 +4,7 @@ ghost use Rattle.gx_device.specs.Content.{Content, Silent, Hears, Listens, Says,
 ghost use Rattle.gx_device.specs.Crash.{LeavesOnly};
 ghost use Rattle.gx_device.specs.Quiet.{IsOldOrNew};
 ghost use Rattle.gx_device.specs.Faults.{Rose, HasCause, Counted, IsCounted};
-ghost use Rattle.gx_layout.specs.Layout.{OnlyBlocks, Shows, home, pages_of};
+ghost use Rattle.gx_layout.specs.Layout.{OnlyBlocks, Shows, home, pages_of, is_open};
 ghost use Rattle.gx_layout.specs.Head.{HasMagic, IsFormatted, DifferFirst, text_at, text_area, text_blocks};
 ghost use Rattle.gx_layout.specs.Besides.{IsImageBesides, IsUnsealed};
 ghost use Rattle.gx_layout.specs.Recovered.{Recovers, IsSettled, replayed_pages, view_now};
@@ -33,6 +33,8 @@ pub struct Journal<D: Device> {
     ghost few: { length spilled.items ≤ 32768 },
     ghost room: { 7 + 2 * length spilled.items ≤ D.size device },
     ghost limit: { D.size device ≤ 65543 },
+    ghost count: { length spilled.items ≡ pages_of (D.size device) },
+    ghost closed: { IsTrue D.tells → failed ≡ false → is_open (block_of (D.content device).now 1) ≡ false },
     ghost pages: { frames.pages ≡ length spilled.items },
     ghost named: { IsListed spilled.items listed.items },
     ghost space: { length spilled.items ≤ vec_capacity listed },
@@ -49,6 +51,8 @@ impl<D: Device> Journal<D> {
         requires few { length room.spilled.items ≤ 32768 }
         requires blocks { 7 + 2 * length room.spilled.items ≤ D.size device }
         requires limit { D.size device ≤ 65543 }
+        requires count { length room.spilled.items ≡ pages_of (D.size device) }
+        requires closed { IsTrue D.tells → is_open (block_of (D.content device).now 1) ≡ false }
         ensures size { size_of result ≡ length room.spilled.items }
         ensures device { device_of result ≡ device }
         ensures steady { IsSteady result }
@@ -174,6 +178,7 @@ impl<D: Device> Journal<D> {
         ensures place { IsTrue D.tells → IfOk result (DifferFirst (text_at (head_blocks self.old))
             (λ q. slice_index_or (text_area schema.now equation.now) q 0)) }
         ensures working { working_of self.new ≡ working_of self.old }
+        ensures blocks { (content_of self.new).now.blocks ≡ (content_of self.old).now.blocks }
         ensures keeps { Keeps self.old self.new }
         ensures silent { Silent (content_of self.old) (content_of self.new) }
         ensures faults { IsCounted (D.faults (device_of self.old)) (D.faults (device_of self.new)) result }

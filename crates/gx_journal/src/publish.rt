@@ -4,7 +4,7 @@ ghost use Rattle.gx_device.specs.Content.{NonePending, block_of};
 ghost use Rattle.gx_device.specs.Crash.{Through, Outside, LeavesOnly};
 ghost use Rattle.gx_device.specs.Faults.{IsCounted};
 ghost use Rattle.gx_frames.specs.Pool.{Resident, find_page};
-ghost use Rattle.gx_layout.specs.Layout.{View, OnlyBlocks, Names, Holds, AtRest, SameButChanged, Either, with_pages, home};
+ghost use Rattle.gx_layout.specs.Layout.{View, OnlyBlocks, Names, Holds, AtRest, SameButChanged, Either, with_pages, home, is_open};
 ghost use Rattle.gx_layout.specs.Besides.{Flushes};
 ghost use Rattle.gx_journal.specs.Sources.{IsHomeOf, IsCommitted, IsListed};
 
@@ -141,6 +141,7 @@ pub(crate) fn publish<D: Device>(
     ensures at_rest { IsTrue D.tells → (kept : View) (pages : List (List ℕ)) → length kept.pages ≡ length pages → length spilled.now.items ≡ length pages
         → AtRest (D.content device.old).now kept → SameButChanged spilled.now.items kept.pages pages → Holds 7 pages spilled.now.items (D.content device.old).now
         → OnOk result (AtRest (D.content device.new).now (with_pages kept pages)) }
+    ensures closed { IsTrue D.tells → OnOk result (is_open (block_of (D.content device.new).now 1) ≡ false) }
     ensures order { (q : ℕ) → find_page q frames.new.resident ≡ find_page q frames.old.resident }
     ensures pages { frames.new.pages ≡ frames.old.pages }
     ensures rest { OnlyBlocks (IsCommitted (length spilled.now.items) listed.now.items) (D.content device.old) (D.content device.new) }

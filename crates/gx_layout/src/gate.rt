@@ -1,5 +1,5 @@
 // The gate: the byte that says whether the slots count.
-ghost use Rattle.std.specs.Prelude.{◌≡◌, ◌<◌, ◌≤◌, ◌+◌, Bool, List, IsTrue, OnOk};
+ghost use Rattle.std.specs.Prelude.{◌≡◌, ◌<◌, ◌≤◌, ◌+◌, Bool, false, List, IsTrue, OnOk};
 ghost use Rattle.gx_device.specs.Content.{block_of};
 ghost use Rattle.gx_device.specs.Crash.{Through, Outside, LeavesOnly};
 ghost use Rattle.gx_device.specs.Faults.{IsCounted};
@@ -43,6 +43,7 @@ pub fn close_gate<D: Device>(device: &mut D) -> Result<(), Failed>
         → LeavesOnly (StandsFor v) (D.content device.old) (D.content device.new) }
     ensures at_rest { IsTrue D.tells → (v : View) (changed : List Bool) → IsReady (D.content device.old).now v v changed
         → OnOk result (AtRest (D.content device.new).now v) }
+    ensures closed { IsTrue D.tells → OnOk result (is_open (block_of (D.content device.new).now 1) ≡ false) }
     ensures rest { OnlyBlocks (λ n. n ≡ 1) (D.content device.old) (D.content device.new) }
     ensures size { D.size device.new ≡ D.size device.old }
     ensures faults { IsCounted (D.faults device.old) (D.faults device.new) result }

@@ -23,7 +23,7 @@ pub record AreMade (base : Ground) (places : List Place) (count : ℕ) (sheets :
 
 -- why leaves weren't made: the outside failed, or there was no memory
 abbrev pub HasMakeCause : ℕ → ℕ → Stop → Type 0
-HasMakeCause before now stop.Fault = Rose before now
+HasMakeCause before now stop.Fault = (before ≤ now) × Rose before now
 HasMakeCause before now stop.NoMemory = now ≡ before
 HasMakeCause before now stop.Full = ⊥
 HasMakeCause before now (stop.Damaged block) = ⊥

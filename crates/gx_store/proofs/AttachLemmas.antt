@@ -18,7 +18,7 @@ pub if_ok_with : {T E : Type 0} (r : Result T E) (Q : T → Type 0) → ((y : T)
 if_ok_with (Ok x) Q f = f x refl
 if_ok_with (Err e) Q f = tt
 
-some_same : {A : Type 0} (a b : A) → Some a ≡ Some b → a ≡ b
+pub some_same : {A : Type 0} (a b : A) → Some a ≡ Some b → a ≡ b
 some_same {A = A} a b e = ap (λ (o : Option A). option_map_or (λ (x : A). x) o a) e
 
 -- the blocks of the device are those that are attached

@@ -6,3 +6,5 @@ pub mod SettledLemmas
 pub mod AttachLemmas
 pub mod MakeLemmas
 pub mod LeftLemmas
+pub mod JournalLemmas
+pub mod AlikeLemmas

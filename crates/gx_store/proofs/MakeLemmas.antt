@@ -1,7 +1,9 @@
 -- Why nothing is made, and how faults are counted while a database is made.
-use Rattle.std.proofs.Common.{◌≡◌, ◌≢◌, ◌∙◌, ℕ, ◌≤◌, Bool, true, false, not, List, Result, Ok, Err, length, refl, sym, ap, subst, arith}
+use Rattle.std.proofs.Common.{◌≡◌, ◌≢◌, ◌∙◌, ℕ, zero, suc, ◌<◌, ◌≤◌, Bool, true, false, not, List, [], Result, Ok, Err, length, get_or, refl, sym, ap, subst, arith}
 use Rattle.std.specs.Prelude.{OnOk, OnErr}
-use Rattle.gx_device.specs.Content.{Content, device_at}
+use Rattle.std.proofs.lemmas.List.{get_or-replicate}
+use Rattle.gx_device.specs.Content.{Content, device_at, zero_blocks}
+use Rattle.gx_layout.specs.Head.{HasMagic}
 use Rattle.std.specs.Prelude.{IsSome}
 use Rattle.gx_device.specs.Faults.{Counted, IsCounted, Rose}
 use Rattle.gx_device.specs.declared.device.Device as device
@@ -13,9 +15,14 @@ use Rattle.gx_journal.specs.declared.opening.Unopened.{Unopened as NoJournal}
 use Rattle.gx_journal.specs.declared.opening.Unopened.TheVariants as journal
 use Rattle.gx_journal.specs.Opening.{has_no_fault}
 use Rattle.gx_store.specs.Causes.{not_attached, no_journal}
+use Rattle.gx_ports.specs.declared.stop.Stop.{Stop}
+use Rattle.gx_ports.specs.declared.stop.Stop.TheVariants as stop
+use Rattle.gx_leaves.specs.Making.{HasMakeCause}
 use Rattle.gx_store.specs.Device.{IsSize}
 use Rattle.gx_store.specs.Store.{is_fault}
-use Rattle.gx_store.specs.Making.{IsUnmade, IsUnmadeOn, IsUnlaid}
+use Rattle.gx_store.specs.Opening.{is_untouched}
+use Rattle.gx_store.specs.Making.{IsUnmade, IsUnmadeOn, IsUnlaid, not_laid}
+use Rattle.gx_store.proofs.CauseLemmas.{counted_still}
 use Rattle.gx_store.specs.declared.unopened.Unopened.{Unopened}
 use Rattle.gx_store.specs.declared.unopened.Unopened.TheVariants as unopened
 
@@ -49,12 +56,39 @@ unmade_by attach.Exists name count specs before size missing present = (size, pr
 unmade_by attach.Fault name count specs before size missing present = tt
 unmade_by attach.NoMemory name count specs before size missing present = tt
 
-module _ {D : Type 0} {g : device.Ghosts D} where
-  pub counted_journal : (d : D) (why : NoJournal) (a b : ℕ) → Counted (has_no_fault {D = D} {g = g} (Err (d, why))) a b → Counted (not (is_fault (no_journal why))) a b
-  counted_journal d journal.Fault a b c = c
-  counted_journal d journal.NoMemory a b c = c
-  counted_journal d journal.NoDatabase a b c = c
+-- how faults are counted while leaves are made
+pub counted_leaves : (why : Stop) (before now : ℕ) → HasMakeCause before now why → Counted (not (is_fault (not_laid why))) before now
+counted_leaves stop.Fault before now is = record { later = is.0; rose = λ e. is.1; same = λ e. absurd (let f : false ≡ true = e in cc) }
+counted_leaves stop.NoMemory before now is = counted_still before now is
+counted_leaves stop.Full before now is = absurd is
+counted_leaves (stop.Damaged block) before now is = absurd is
 
 pub on_ok_both : {T E P Q R : Type 0} (r : Result T E) → (P → Q → R) → OnOk r P → OnOk r Q → OnOk r R
 on_ok_both (Ok x) f p q = f p q
 on_ok_both (Err e) f p q = tt
+
+-- a refusal on the attached device comes after blocks were written, where the size is right
+pub unmade_touched : (specs : List LeafSpec) (count : ℕ) (why : Unopened) → IsSize specs count → IsUnmadeOn specs count why → is_untouched why ≡ true → ⊥
+unmade_touched specs count unopened.Size size are so = are size
+unmade_touched specs count unopened.Fault size are so = let f : false ≡ true = so in cc
+unmade_touched specs count unopened.NoMemory size are so = let f : false ≡ true = so in cc
+unmade_touched specs count unopened.Missing size are so = are
+unmade_touched specs count unopened.Exists size are so = are
+unmade_touched specs count unopened.NoDatabase size are so = are
+unmade_touched specs count (unopened.OtherTexts place) size are so = are
+
+pub on_ok_always : {T E A : Type 0} (r : Result T E) → A → OnOk r A
+on_ok_always (Ok x) a = a
+on_ok_always (Err e) a = tt
+
+-- a block that begins with a zero doesn't begin with the magic
+pub zero_first : (block : List ℕ) → get_or block 0 0 ≡ 0 → ¬ HasMagic block
+zero_first block none is = let first : 71 ≡ 0 = sym (ap (λ (bytes : List ℕ). get_or bytes 0 0) is.1) ∙ none in absurd (omega (arith, first))
+
+-- so no block of a device that was made has it
+pub none_made : (n : ℕ) → ¬ HasMagic (get_or (zero_blocks n) 0 [])
+none_made n = zero_first (get_or (zero_blocks n) 0 []) (first n)
+  where
+    first : (k : ℕ) → get_or (get_or (zero_blocks k) 0 []) 0 0 ≡ 0
+    first zero = refl
+    first (suc k) = get_or-replicate 4096 0 0 0 (omega arith)

@@ -14,13 +14,13 @@ use Rattle.gx_layout.specs.Recovered.{replayed_pages}
 use Rattle.gx_layout.specs.Head.{HasMagic, text_at, text_area, text_blocks, block_in}
 use Rattle.gx_layout.proofs.ReplayLemmas.{length-replayed, homes_long}
 use Rattle.gx_layout.proofs.TextLemmas.{more_same}
-use Rattle.gx_journal.specs.State.{CalmSince, homes_told, head_told}
+use Rattle.gx_journal.specs.State.{homes_told, head_told}
 use Rattle.gx_pages.specs.Owners.{sheets_of}
 use Rattle.gx_store.specs.Device.{IsSize, AreMaps, AreTexts, HasTexts, IsDatabase, IsSettled, Reopens, home_pages, ground_on, most_blocks}
 use Rattle.gx_store.proofs.GroundLemmas.{maps_moved}
 
 -- the text blocks of a device, byte by byte
-texts_read : (c : Content) (schema equation : List ℕ) → drop 1 (head_of c.now.blocks) ≡ text_blocks schema equation → AreTexts schema equation (head_of c.now.blocks)
+pub texts_read : (c : Content) (schema equation : List ℕ) → drop 1 (head_of c.now.blocks) ≡ text_blocks schema equation → AreTexts schema equation (head_of c.now.blocks)
 texts_read c schema equation is =
     let area = text_area schema equation in
     let m = c.now in
@@ -35,7 +35,7 @@ texts_read c schema equation is =
     more_same m area 3 (omega arith) (block_of m 6) (block_in area 3) refl refl t2 (λ k lt. ap (λ (l : List ℕ). get_or l k 0) e3)
 
 -- behind a closed gate the pages are those at home
-home_replayed : (blocks : List (List ℕ)) → 7 ≤ length blocks → is_open (get_or blocks 1 []) ≡ false → home_pages blocks ≡ replayed_pages blocks
+pub home_replayed : (blocks : List (List ℕ)) → 7 ≤ length blocks → is_open (get_or blocks 1 []) ≡ false → home_pages blocks ≡ replayed_pages blocks
 home_replayed blocks room gate =
     let P = pages_of (length blocks) in
     let homes = home_pages blocks in
@@ -54,28 +54,25 @@ settled_reopens schema equation specs maps blocks is =
     subst (λ (pages : List (List ℕ)). IsDatabase schema equation specs maps blocks pages)
     (home_replayed blocks (let least = is.database.size.least in omega (arith, least)) is.gate) is.database
 
-module _ (schema equation : List ℕ) (specs : List LeafSpec) (maps : List LeafMap) (tells failed : Bool) (P : ℕ) (start c : Content) (calm : CalmSince tells failed P start c) where
-  many : P ≡ pages_of (length c.now.blocks)
-  many = sym calm.count ∙ calm.calm.now.fits.count
+-- the kept pages are those at home
+pub homes_are : (tells : Bool) (P : ℕ) (c : Content) → IsTrue tells → P ≡ pages_of (length c.now.blocks) → homes_told tells P c ≡ home_pages c.now.blocks
+homes_are tells P c told many = ap (λ (b : Bool). homes_told b P c) told ∙ ap (λ (n : ℕ). take n (drop (7 + n) c.now.blocks)) many
 
-  head_is : head_told tells c ≡ head_of c.now.blocks
-  head_is = ap (λ (b : Bool). head_told b c) calm.told
-
-  pages_are : homes_told tells P c ≡ home_pages c.now.blocks
-  pages_are = ap (λ (b : Bool). homes_told b P c) calm.told ∙ ap (λ (n : ℕ). take n (drop (7 + n) c.now.blocks)) many
-
-  -- A journal at rest, with the magic and these texts, leaves what its kept pages hold.
-  pub calm_settled : length c.now.blocks ≤ most_blocks → 16 + root_pages specs ≤ P → HasMagic (get_or (head_told tells c) 0 [])
-      → drop 1 (head_told tells c) ≡ text_blocks schema equation
-      → (base : Ground) → base.size ≡ P → base.tables ≡ 16 → AreMaps base specs maps (sheets_of (homes_told tells P c))
-      → IsSettled schema equation specs maps c.now.blocks
-  calm_settled most least magic texts base size tables are = record {
-    gate = calm.calm.now.gate;
-    database = record {
-      size = record { least = omega (arith, least, many); most = most };
-      magic = subst (λ (h : List (List ℕ)). HasMagic (get_or h 0 [])) head_is magic;
-      texts = texts_read c schema equation (ap (λ (h : List (List ℕ)). drop 1 h) (sym head_is) ∙ texts);
-      leaves = maps_moved base (ground_on c.now.blocks) (size ∙ many) tables specs maps (sheets_of (home_pages c.now.blocks))
-          (subst (λ (ps : List (List ℕ)). AreMaps base specs maps (sheets_of ps)) pages_are are);
-    };
-  }
+-- Behind a closed gate the blocks hold what the kept pages hold.
+pub closed_settled : (schema equation : List ℕ) (specs : List LeafSpec) (maps : List LeafMap) (tells : Bool) (P : ℕ) (c : Content) → IsTrue tells
+    → P ≡ pages_of (length c.now.blocks) → is_open (block_of c.now 1) ≡ false → length c.now.blocks ≤ most_blocks → 16 + root_pages specs ≤ P
+    → HasMagic (get_or (head_told tells c) 0 []) → AreTexts schema equation (head_told tells c)
+    → (base : Ground) → base.size ≡ P → base.tables ≡ 16 → AreMaps base specs maps (sheets_of (homes_told tells P c))
+    → IsSettled schema equation specs maps c.now.blocks
+closed_settled schema equation specs maps tells P c told many gate most least magic texts base size tables are =
+    let head : head_told tells c ≡ head_of c.now.blocks = ap (λ (b : Bool). head_told b c) told in
+    record {
+      gate = gate;
+      database = record {
+        size = record { least = omega (arith, least, many); most = most };
+        magic = subst (λ (h : List (List ℕ)). HasMagic (get_or h 0 [])) head magic;
+        texts = subst (λ (h : List (List ℕ)). AreTexts schema equation h) head texts;
+        leaves = maps_moved base (ground_on c.now.blocks) (size ∙ many) tables specs maps (sheets_of (home_pages c.now.blocks))
+            (subst (λ (ps : List (List ℕ)). AreMaps base specs maps (sheets_of ps)) (homes_are tells P c told many) are);
+      };
+    }

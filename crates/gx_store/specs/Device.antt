@@ -3,6 +3,7 @@ use Rattle.std.specs.Prelude.{◌≡◌, ◌+◌, ◌*◌, ◌≤◌, ◌<◌, �
 use Rattle.std.specs.FinMap.{empty}
 use Rattle.gx_ports.specs.declared.kinds.LeafSpec.{LeafSpec}
 use Rattle.gx_ports.specs.LeafMaps.{LeafMap}
+use Rattle.gx_ports.specs.Heads.{Head}
 use Rattle.gx_ports.specs.Roots.{smallest_device}
 use Rattle.gx_ports.specs.Sheets.{Sheets, Ground}
 use Rattle.gx_layout.specs.Layout.{pages_of, head_of, is_open}
@@ -32,6 +33,12 @@ AreTexts schema equation head = (q : ℕ) → q < 16384 → text_at head q ≡ s
 abbrev pub HasTexts : List ℕ → List ℕ → List (List ℕ) → Type 0
 HasTexts schema equation blocks = AreTexts schema equation (head_of blocks)
 
+-- a head has the magic and these texts, and leaves of these kinds
+pub record IsHeadOf (schema equation : List ℕ) (specs : List LeafSpec) (head : Head) : Type 0 where
+  pub magic : HasMagic (get_or head.blocks 0 [])
+  pub texts : AreTexts schema equation head.blocks
+  pub leaves : head.leaves ≡ specs
+
 -- the table of owners is whole, and so is each leaf of these kinds; these are their maps
 pub record AreMaps (base : Ground) (specs : List LeafSpec) (maps : List LeafMap) (sheets : Sheets) : Type 0 where
   pub laid : AreLaid base (places_of base specs) sheets
@@ -58,6 +65,16 @@ pub record IsSettled (schema equation : List ℕ) (specs : List LeafSpec) (maps 
 -- those of the slots that the bitmap names.
 abbrev pub Reopens : List ℕ → List ℕ → List LeafSpec → List LeafMap → List (List ℕ) → Type 0
 Reopens schema equation specs maps blocks = IsDatabase schema equation specs maps blocks (replayed_pages blocks)
+
+-- the same pages and the same head are read from these blocks: what opens one of them opens the other
+pub record ReadAlike (old new : List (List ℕ)) : Type 0 where
+  pub count : length new ≡ length old
+  pub head : head_of new ≡ head_of old
+  pub pages : replayed_pages new ≡ replayed_pages old
+
+-- Where the blocks have the magic, they are opened with an empty database.
+abbrev pub IsNoneOrEmpty : List ℕ → List ℕ → List LeafSpec → List (List ℕ) → Type 0
+IsNoneOrEmpty schema equation specs blocks = HasMagic (get_or blocks 0 []) → Reopens schema equation specs (replicate (length specs) empty) blocks
 
 -- An empty database was made on a device of so many blocks.
 pub record IsMadeOn (count : ℕ) (schema equation : List ℕ) (specs : List LeafSpec) (blocks : List (List ℕ)) : Type 0 where

@@ -1,13 +1,18 @@
 -- Why no device is made, and how the steps of making one end.
-use Rattle.std.specs.Prelude.{ℕ, Bool, true, not, List, Result, Ok, Err, IsSome}
+use Rattle.std.specs.Prelude.{◌≡◌, ℕ, Bool, true, not, List, drop, Result, Ok, Err, IsSome}
 use Rattle.gx_device.specs.declared.device.Device as device
 use Rattle.gx_device.specs.Content.{Content, device_at}
 use Rattle.gx_ports.specs.declared.kinds.LeafSpec.{LeafSpec}
+use Rattle.gx_ports.specs.LeafMaps.{LeafMap}
 use Rattle.gx_ports.specs.declared.stop.Stop.{Stop}
 use Rattle.gx_ports.specs.declared.stop.Stop.TheVariants as stop
 use Rattle.gx_journal.specs.declared.journal.Journal.{Journal}
-use Rattle.gx_journal.specs.Journal.{device_of}
-use Rattle.gx_store.specs.Device.{IsSize}
+use Rattle.gx_journal.specs.Journal.{device_of, head_blocks}
+use Rattle.gx_layout.specs.Head.{text_blocks}
+use Rattle.gx_leaves.specs.Places.{IsRoomFor}
+use Rattle.gx_pages.specs.Owners.{sheets_of}
+use Rattle.gx_pages.specs.Paged.{ground_of}
+use Rattle.gx_store.specs.Device.{IsSize, AreMaps, IsSettled}
 use Rattle.gx_store.specs.Store.{is_fault}
 use Rattle.gx_store.specs.declared.unopened.Unopened.{Unopened}
 use Rattle.gx_store.specs.declared.unopened.Unopened.TheVariants as unopened
@@ -52,3 +57,9 @@ module _ {M : Type 0} {g : device.Ghosts M} where
   abbrev pub is_laid : Result (Journal M g) (M × Unopened) → Bool
   is_laid (Ok j) = true
   is_laid (Err e) = not (is_fault e.1)
+
+  -- the blocks hold what these pages hold, under the texts of the head
+  abbrev pub Publishes : Journal M g → List (List ℕ) → List (List ℕ) → Type 0
+  Publishes j pages blocks = (schema equation : List ℕ) (specs : List LeafSpec) (maps : List LeafMap)
+      → drop 1 (head_blocks j) ≡ text_blocks schema equation → IsRoomFor (ground_of j) specs → AreMaps (ground_of j) specs maps (sheets_of pages)
+      → IsSettled schema equation specs maps blocks

@@ -2,7 +2,8 @@
 use Rattle.std.specs.Prelude.{◌≡◌, ℕ, Bool, true, false, List, [], length, get_or, slice_index_or, Some, None}
 use Rattle.gx_device.specs.Content.{Content, device_at}
 use Rattle.gx_ports.specs.declared.kinds.LeafSpec.{LeafSpec}
-use Rattle.gx_layout.specs.Layout.{head_of}
+use Rattle.gx_layout.specs.Layout.{head_of, pages_of}
+use Rattle.gx_layout.specs.Recovered.{IsSettled as IsOfRecovery}
 use Rattle.gx_layout.specs.Head.{HasMagic, DifferFirst, text_at, text_area}
 use Rattle.gx_store.specs.Device.{IsSize, HasTexts}
 use Rattle.gx_store.specs.Store.{OfBlocks}
@@ -39,6 +40,12 @@ IsUnopened name schema equation specs before unopened.Missing = device_at before
 IsUnopened name schema equation specs before unopened.Fault = Unit {0}
 IsUnopened name schema equation specs before unopened.NoMemory = Unit {0}
 IsUnopened name schema equation specs before why = OfBlocks name before (λ blocks. AreUnopened schema equation specs blocks why)
+
+-- no block was written but those that recovery writes: where the gate was open, the gate and the homes of the pages that the
+-- bitmap names
+pub record IsRecoveryOf (old new : List (List ℕ)) : Type 0 where
+  pub count : length new ≡ length old
+  pub others : (n : ℕ) → ¬ IsOfRecovery (pages_of (length old)) old n → get_or new n [] ≡ get_or old n []
 
 -- whether no block of the device was written before it was refused
 abbrev pub is_untouched : Unopened → Bool

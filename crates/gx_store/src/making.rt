@@ -1,20 +1,21 @@
 // A database's leaves are made.
-ghost use Rattle.std.specs.Prelude.{◌≡◌, ◌+◌, ◌≤◌, ℕ, List, [], Some, None, true, drop, length, slice_index_or, replicate, IsTrue, IfOk, IfErr, OnOk};
+ghost use Rattle.std.specs.Prelude.{◌≡◌, ◌↔◌, ◌+◌, ◌≤◌, ℕ, List, [], Some, None, true, drop, length, slice_index_or, replicate, IsTrue, IfOk, IfErr, OnOk};
 ghost use Rattle.std.specs.FinMap.{empty};
-ghost use Rattle.gx_device.specs.Content.{Content, device_at, Silent};
-ghost use Rattle.gx_device.specs.Faults.{Counted, IsCounted};
+ghost use Rattle.gx_device.specs.Content.{device_at, block_of, Silent};
+ghost use Rattle.gx_device.specs.Faults.{Counted};
 ghost use Rattle.gx_layout.specs.Layout.{pages_of};
 ghost use Rattle.gx_layout.specs.Head.{HasMagic, text_blocks};
 ghost use Rattle.gx_leaves.specs.Kinds.{are_built};
 ghost use Rattle.gx_leaves.specs.Places.{IsRoomFor};
-ghost use Rattle.gx_journal.specs.Journal.{IsCalm, IsSteady, device_of, content_of, size_of, working_of, kept_of, head_blocks};
+ghost use Rattle.gx_journal.specs.Journal.{IsSteady, device_of, content_of, size_of, working_of, kept_of, head_blocks};
+ghost use Rattle.gx_journal.specs.State.{head_told};
 ghost use Rattle.gx_pages.specs.Owners.{IsAllFree};
 ghost use Rattle.gx_pages.specs.Paged.{ground_of, working_sheets};
 ghost use Rattle.gx_pages.specs.View.{journal_of};
-ghost use Rattle.gx_store.specs.Device.{IsSize, AreMaps, IsSettled, IsMadeOn};
+ghost use Rattle.gx_store.specs.Device.{IsSize, AreMaps, IsSettled, IsMadeOn, IsNoneOrEmpty};
 ghost use Rattle.gx_store.specs.Store.{CanAttach, Attaches, OfBlocks};
 ghost use Rattle.gx_store.specs.Opening.{is_untouched};
-ghost use Rattle.gx_store.specs.Making.{IsUnmade, IsUnmadeOn, IsUnlaid, not_laid, has_no_fault, machine_below, is_laid};
+ghost use Rattle.gx_store.specs.Making.{IsUnmade, IsUnmadeOn, IsUnlaid, Publishes, not_laid, has_no_fault, machine_below, is_laid};
 
 use crate::store::{FRAMES, is_size};
 use crate::unopened::Unopened;
@@ -30,8 +31,8 @@ use std::alloc::Global;
 /// database.
 ///
 /// Otherwise, in this order: `Size` of the number, `Exists`; then no device is made or changed. `Fault`:
-/// the count of faults rose, and there may be a device without a database; with every other answer it
-/// stays. `NoMemory`: there was none, and there may be a device without a database.
+/// the count of faults rose; with every other answer it stays. `NoMemory`: there was none. After these
+/// two there may be a device: it has no database, or an empty one.
 pub fn make<M: Machine + Drop>(
     alloc: Global,
     machine: M,
@@ -53,6 +54,10 @@ pub fn make<M: Machine + Drop>(
         (IsUnmade name.now blocks specs.now (M.content machine)) }
     ensures untouched { CanAttach M.tells (M.content machine) → IfErr result.0 (λ why. is_untouched why ≡ true →
         device_at (M.content result.1).now name.now ≡ device_at (M.content machine).now name.now) }
+    ensures left { CanAttach M.tells (M.content machine) →
+        device_at (M.content machine).now name.now ≡ None → (blocks : List (List ℕ)) →
+        device_at (M.content result.1).now name.now ≡ Some blocks →
+        IsNoneOrEmpty schema.now equation.now specs.now blocks }
     ensures attaches { CanAttach M.tells (M.content machine) →
         Attaches name.now (M.content machine) (M.content result.1) }
     ensures faults { Counted (has_no_fault result.0) (M.faults machine) (M.faults result.1) }
@@ -81,6 +86,8 @@ fn make_attached<M: Machine + Drop>(
     requires built { IsTrue (are_built specs.now) }
     ensures made { IsTrue M.tells → OnOk result.0
         (IsMadeOn (M.size machine) schema.now equation.now specs.now (M.content result.1).now.blocks) }
+    ensures left { IsTrue M.tells → ¬ HasMagic (block_of (M.content machine).now 0) →
+        IsNoneOrEmpty schema.now equation.now specs.now (M.content result.1).now.blocks }
     ensures unmade { IfErr result.0 (λ why. IsUnmadeOn specs.now (M.size machine) why) }
     ensures silent { Silent (M.content machine) (M.content result.1) }
     ensures faults { Counted (has_no_fault result.0) (M.faults machine) (M.faults result.1) }
@@ -101,21 +108,22 @@ fn make_over<M: Machine + Drop>(
     specs: &[LeafSpec],
 ) -> (Result<(), Unopened>, M)
     requires room { IsRoomFor (ground_of journal) specs.now }
-    ensures settled { IsTrue M.tells → IsSteady journal → IsCalm journal (content_of journal) →
-        (schema equation : List ℕ) → drop 1 (head_blocks journal) ≡ text_blocks schema equation →
+    ensures settled { IsTrue M.tells → IsSteady journal → (schema equation : List ℕ) →
+        drop 1 (head_blocks journal) ≡ text_blocks schema equation →
         OnOk result.0 (IsSettled schema equation specs.now (replicate (length specs.now) empty)
         (M.content result.1).now.blocks) }
-    ensures pages { IsTrue M.tells → IsCalm journal (content_of journal) →
+    ensures left { IsTrue M.tells → IsSteady journal →
+        ¬ HasMagic (slice_index_or (head_blocks journal) 0 []) → (schema equation : List ℕ) →
+        drop 1 (head_blocks journal) ≡ text_blocks schema equation →
+        IsNoneOrEmpty schema equation specs.now (M.content result.1).now.blocks }
+    ensures pages { IsTrue M.tells →
         OnOk result.0 (pages_of (length (M.content result.1).now.blocks) ≡ size_of journal) }
     ensures unmade { IfErr result.0 (λ why. IsUnlaid why) }
     ensures silent { Silent (content_of journal) (M.content result.1) }
     ensures faults { Counted (has_no_fault result.0) (M.faults (device_of journal)) (M.faults result.1) }
 {
     match make_leaves(alloc, journal, specs) {
-        Ok(mut journal) => match publish(&mut journal) {
-            Ok(()) => (Ok(()), journal.into_device()),
-            Err(Failed) => (Err(Unopened::Fault), journal.into_device()),
-        },
+        Ok(journal) => publish(journal),
         Err((machine, why)) => (Err(why), machine),
     }
 }
@@ -130,7 +138,8 @@ fn make_leaves<M: Machine + Drop>(
     ensures made { IsTrue M.tells → IsSteady journal → IfOk result (λ j.
         AreMaps (ground_of journal) specs.now (replicate (length specs.now) empty) (working_sheets j)) }
     ensures ground { IfOk result (λ j. ground_of j ≡ ground_of journal) }
-    ensures calm { (start : Content) → IsCalm journal start → IfOk result (λ j. IsCalm j start) }
+    ensures steady { IfOk result (λ j. IsSteady journal ↔ IsSteady j) }
+    ensures head { IfErr result (λ e. head_told M.tells (M.content e.0) ≡ head_blocks journal) }
     ensures unmade { IfErr result (λ e. IsUnlaid e.1) }
     ensures silent { Silent (content_of journal) (M.content (machine_below result)) }
     ensures faults { Counted (is_laid result) (M.faults (device_of journal)) (M.faults (machine_below result)) }
@@ -152,7 +161,8 @@ fn make_in<M: Machine + Drop>(
         IsAllFree (ground_of (journal_of pages)) (working_sheets (journal_of pages)) → IfOk result (λ j.
         AreMaps (ground_of (journal_of pages)) specs.now (replicate (length specs.now) empty) (working_sheets j)) }
     ensures ground { IfOk result (λ j. ground_of j ≡ ground_of (journal_of pages)) }
-    ensures calm { (start : Content) → IsCalm (journal_of pages) start → IfOk result (λ j. IsCalm j start) }
+    ensures steady { IfOk result (λ j. IsSteady (journal_of pages) ↔ IsSteady j) }
+    ensures head { IfErr result (λ e. head_told M.tells (M.content e.0) ≡ head_blocks (journal_of pages)) }
     ensures unmade { IfErr result (λ e. IsUnlaid e.1) }
     ensures silent { Silent (content_of (journal_of pages)) (M.content (machine_below result)) }
     ensures faults { Counted (is_laid result) (M.faults (device_of (journal_of pages))) (M.faults (machine_below result)) }
@@ -174,16 +184,38 @@ fn not_made(why: Stop) -> Unopened
 }
 
 // Makes the working pages the kept ones, and then writes the magic.
-fn publish<M: Machine + Drop>(journal: &mut Journal<M>) -> Result<(), Failed>
-    ensures kept { OnOk result (kept_of journal.new ≡ working_of journal.old) }
-    ensures magic { IsTrue M.tells → OnOk result (HasMagic (slice_index_or (head_blocks journal.new) 0 [])) }
-    ensures texts { drop 1 (head_blocks journal.new) ≡ drop 1 (head_blocks journal.old) }
-    ensures size { size_of journal.new ≡ size_of journal.old }
-    ensures calm { (start : Content) → IsCalm journal.old start →
-        OnOk result (IsCalm journal.new (content_of journal.new)) }
-    ensures silent { Silent (content_of journal.old) (content_of journal.new) }
-    ensures faults { IsCounted (M.faults (device_of journal.old)) (M.faults (device_of journal.new)) result }
+fn publish<M: Machine + Drop>(mut journal: Journal<M>) -> (Result<(), Unopened>, M)
+    ensures settled { IsTrue M.tells → IsSteady journal →
+        OnOk result.0 (Publishes journal (working_of journal) (M.content result.1).now.blocks) }
+    ensures left { IsTrue M.tells → IsSteady journal →
+        ¬ HasMagic (slice_index_or (head_blocks journal) 0 []) →
+        HasMagic (block_of (M.content result.1).now 0) →
+        Publishes journal (working_of journal) (M.content result.1).now.blocks }
+    ensures pages { IsTrue M.tells →
+        pages_of (length (M.content result.1).now.blocks) ≡ size_of journal }
+    ensures unmade { IfErr result.0 (λ why. IsUnlaid why) }
+    ensures silent { Silent (content_of journal) (M.content result.1) }
+    ensures faults { Counted (has_no_fault result.0) (M.faults (device_of journal)) (M.faults result.1) }
 {
-    journal.commit()?;
-    journal.seal()
+    match journal.commit() {
+        Ok(()) => seal(journal),
+        Err(Failed) => (Err(Unopened::Fault), journal.into_device()),
+    }
+}
+
+// Writes the magic.
+fn seal<M: Machine + Drop>(mut journal: Journal<M>) -> (Result<(), Unopened>, M)
+    ensures magic { IsTrue M.tells → OnOk result.0 (HasMagic (block_of (M.content result.1).now 0)) }
+    ensures settled { IsTrue M.tells → IsSteady journal → HasMagic (block_of (M.content result.1).now 0) →
+        Publishes journal (kept_of journal) (M.content result.1).now.blocks }
+    ensures pages { IsTrue M.tells →
+        pages_of (length (M.content result.1).now.blocks) ≡ size_of journal }
+    ensures unmade { IfErr result.0 (λ why. IsUnlaid why) }
+    ensures silent { Silent (content_of journal) (M.content result.1) }
+    ensures faults { Counted (has_no_fault result.0) (M.faults (device_of journal)) (M.faults result.1) }
+{
+    match journal.seal() {
+        Ok(()) => (Ok(()), journal.into_device()),
+        Err(Failed) => (Err(Unopened::Fault), journal.into_device()),
+    }
 }

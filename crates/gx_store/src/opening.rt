@@ -5,13 +5,13 @@ ghost use Rattle.gx_device.specs.Faults.{Counted};
 ghost use Rattle.gx_ports.specs.LeafMaps.{LeafMap};
 ghost use Rattle.gx_leaves.specs.Kinds.{are_built};
 ghost use Rattle.gx_leaves.specs.Places.{specs_of, places_of, IsRoomFor};
-ghost use Rattle.gx_leaves.specs.Paged.{pages_of, places_in};
+ghost use Rattle.gx_leaves.specs.Paged.{pages_of, places_in, head_of};
 ghost use Rattle.gx_journal.specs.Journal.{IsCalm, IsSteady, device_of, content_of, working_of, kept_of, head_blocks};
 ghost use Rattle.gx_pages.specs.View.{journal_of};
 ghost use Rattle.gx_pages.specs.Paged.{ground_of, kept_sheets};
-ghost use Rattle.gx_store.specs.Device.{AreMaps, AreTexts, Reopens};
+ghost use Rattle.gx_store.specs.Device.{AreMaps, AreTexts, IsHeadOf, ReadAlike, Reopens, ground_on};
 ghost use Rattle.gx_store.specs.Store.{CanAttach, Attaches, OfBlocks, machine_of, HoldsMaps, machine_left, goes_on};
-ghost use Rattle.gx_store.specs.Opening.{AreOpened, AreUnopened, AreUnread, IsUnopened, is_untouched};
+ghost use Rattle.gx_store.specs.Opening.{AreOpened, AreUnopened, AreUnread, IsRecoveryOf, IsUnopened, is_untouched};
 
 use crate::store::{FRAMES, Store, is_size};
 use crate::unopened::Unopened;
@@ -28,7 +28,8 @@ use std::alloc::Global;
 ///
 /// Otherwise the machine is handed back, in this order: `Missing`, `Size`, `NoDatabase`, `OtherTexts`. After
 /// the first three no block was written. `Fault`: the count of faults rose; with every other answer it
-/// stays. `NoMemory`: there was none.
+/// stays. `NoMemory`: there was none. With every answer but `Fault` the device still reads as it did, so
+/// that what opened it opens it again; whatever it answers, no block was written but by recovery.
 pub fn open<M: Machine + Drop>(
     alloc: Global,
     machine: M,
@@ -54,6 +55,16 @@ pub fn open<M: Machine + Drop>(
         (λ s. (M.content (machine_of s)).now.shelf.name ≡ Some name.now) }
     ensures attaches { CanAttach M.tells (M.content machine) →
         Attaches name.now (M.content machine) (M.content (machine_left result)) }
+    ensures head { CanAttach M.tells (M.content machine) → IfOk result
+        (λ s. IsHeadOf schema.now equation.now specs.now (head_of s)) }
+    ensures ground { CanAttach M.tells (M.content machine) → IfOk result (λ s. OfBlocks name.now (M.content machine)
+        (λ blocks. ground_of (journal_of (pages_of s)) ≡ ground_on blocks)) }
+    ensures kept { CanAttach M.tells (M.content machine) → goes_on result ≡ true → (blocks : List (List ℕ)) →
+        device_at (M.content machine).now name.now ≡ Some blocks →
+        OfBlocks name.now (M.content (machine_left result)) (ReadAlike blocks) }
+    ensures recovered { CanAttach M.tells (M.content machine) → (blocks : List (List ℕ)) →
+        device_at (M.content machine).now name.now ≡ Some blocks →
+        OfBlocks name.now (M.content (machine_left result)) (IsRecoveryOf blocks) }
     ensures calm { CanAttach M.tells (M.content machine) → IfOk result (λ s.
         IsCalm (journal_of (pages_of s)) (content_of (journal_of (pages_of s)))) }
     ensures faults { Counted (goes_on result) (M.faults machine) (M.faults (machine_left result)) }
@@ -87,6 +98,12 @@ fn open_attached<M: Machine + Drop>(
     ensures untouched { IsTrue M.tells → IfErr result (λ e. is_untouched e.1 ≡ true →
         (M.content e.0).now.blocks ≡ (M.content machine).now.blocks) }
     ensures silent { Silent (M.content machine) (M.content (machine_left result)) }
+    ensures ground { IsTrue M.tells → IfOk result
+        (λ s. ground_of (journal_of (pages_of s)) ≡ ground_on (M.content machine).now.blocks) }
+    ensures kept { IsTrue M.tells → goes_on result ≡ true →
+        ReadAlike (M.content machine).now.blocks (M.content (machine_left result)).now.blocks }
+    ensures recovered { IsTrue M.tells →
+        IsRecoveryOf (M.content machine).now.blocks (M.content (machine_left result)).now.blocks }
     ensures calm { IsTrue M.tells → IfOk result (λ s.
         IsCalm (journal_of (pages_of s)) (content_of (journal_of (pages_of s)))) }
     ensures faults { Counted (goes_on result) (M.faults machine) (M.faults (machine_left result)) }
@@ -120,6 +137,8 @@ fn open_journal<M: Machine + Drop>(
     ensures other { IsTrue M.tells → IfErr result
         (λ e. AreUnread schema.now equation.now (head_blocks journal) e.1) }
     ensures silent { Silent (content_of journal) (M.content (machine_left result)) }
+    ensures ground { IfOk result (λ s. ground_of (journal_of (pages_of s)) ≡ ground_of journal) }
+    ensures blocks { (M.content (machine_left result)).now.blocks ≡ (content_of journal).now.blocks }
     ensures calm { IsCalm journal (content_of journal) → IfOk result (λ s.
         IsCalm (journal_of (pages_of s)) (content_of (journal_of (pages_of s)))) }
     ensures faults { Counted (goes_on result) (M.faults (device_of journal)) (M.faults (machine_left result)) }

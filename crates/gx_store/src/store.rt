@@ -1,6 +1,8 @@
 // A database's leaves on a device, and how large the device may be.
-ghost use Rattle.std.specs.Prelude.{◌≡◌, ◌↔◌, ◌≤◌, length, IsTrue};
-ghost use Rattle.gx_store.specs.Device.{IsSize};
+ghost use Rattle.std.specs.Prelude.{◌≡◌, ◌↔◌, ◌≤◌, ℕ, List, length, IsTrue};
+ghost use Rattle.gx_leaves.specs.Paged.{places_in, kept_of, head_of, WasWhole};
+ghost use Rattle.gx_leaves.specs.Places.{specs_of};
+ghost use Rattle.gx_store.specs.Device.{IsSize, IsHeadOf, IsSettled};
 ghost use Rattle.gx_store.specs.Store.{machine_of};
 
 use gx_device::Machine;
@@ -25,9 +27,14 @@ pub(crate) fn is_size(specs: &[LeafSpec], blocks: u32) -> bool
     smallest_device(specs) <= blocks && blocks <= MOST_BLOCKS
 }
 
-/// The machine. Its device holds what was last committed.
+/// The machine. Where no commit failed, and the leaves were whole at the last one, its device holds the maps
+/// that were kept then, and its gate is closed. What was changed since is gone.
 pub fn close<M: Machine + Drop>(store: Store<M>) -> M
-    ensures { result ≡ machine_of store }
+    ensures machine { result ≡ machine_of store }
+    ensures settled { (schema equation : List ℕ) →
+        IsHeadOf schema equation (specs_of (places_in store)) (head_of store) → WasWhole store →
+        IsSettled schema equation (specs_of (places_in store)) (kept_of store)
+        (M.content result).now.blocks }
 {
     store.into_pages().into_journal().into_device()
 }

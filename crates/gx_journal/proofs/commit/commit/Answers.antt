@@ -1,10 +1,14 @@
-use Rattle.std.proofs.Common.{rules, ◌≡◌, ◌+◌, ◌*◌, ◌≤◌, length, arith}
+use Rattle.std.proofs.Common.{rules, ◌≡◌, ◌∙◌, ℕ, ◌+◌, ◌*◌, ◌≤◌, false, true, List, [], length, get_or, sym, subst, arith}
 use Rattle.gx_device.specs.Crash.{EachImage}
 use Rattle.gx_device.proofs.RunLemmas.{joined}
-use Rattle.gx_layout.specs.Layout.{Either, with_pages}
+use Rattle.gx_device.specs.Content.{block_of}
+use Rattle.gx_layout.specs.Layout.{Either, OnlyBlocks, with_pages, home}
 use Rattle.gx_layout.proofs.CommitLemmas.{left}
 use Rattle.gx_journal.specs.State.{pages_told}
 use Rattle.gx_journal.proofs.CommitLemmas.{spilled_rest, spilled_images, spilled_count, spilled_long, spilled_same, spilled_held, none_spilled}
+use Rattle.gx_journal.specs.Sources.{IsCommitted}
+use Rattle.gx_journal.proofs.PublishLemmas.{failed_stored, done_stored, moved_cached, moved_pages, stored_home}
+use Rattle.gx_journal.proofs.SlotLemmas.{slots_gate}
 use Rattle.gx_journal.proofs.commit.commit.Goals as goal
 
 pub returns-in_err-spill_all-clause-images : goal.returns-in_err-spill_all-clause-images
@@ -105,3 +109,69 @@ returns-clause-at_rest g c told kept count rest =
     let room : 7 + 2 * P ≤ length mid.now.blocks = omega (arith, g.met.D.Device.sized c.spill_all.new.device told, e.size, c.requires.room) in
     let at_slot = c.in_ok-spill_all.ensures.stored told in
     c.in_ok-publish.ensures.at_rest told kept (pages_told tells P old flags rs) (spilled_count P kept old mid count rest e.slots tells told room flags is rs ss e.long (e.same told) at_slot) (spilled_long P kept old mid count rest e.slots tells told room flags is rs ss e.long (e.same told) at_slot) (spilled_rest P kept old mid count rest e.slots) (spilled_same P kept old mid count rest e.slots tells told room flags is rs ss e.long (e.same told) at_slot) (spilled_held P kept old mid count rest e.slots tells told room flags is rs ss e.long (e.same told) at_slot)
+
+pub returns-then-is_empty-clause-closed : goal.returns-then-is_empty-clause-closed
+returns-then-is_empty-clause-closed g c told closed = slots_gate (length c.args.spilled.now.items) _ _ c.spill_all.ensures.slots closed
+
+pub returns-in_err-publish-clause-cached : goal.returns-in_err-publish-clause-cached
+returns-in_err-publish-clause-cached g c told =
+    let content = g.D.Device.content in
+    let P = length c.args.spilled.now.items in
+    let e = c.spill_all.ensures in
+    let is = c.spill_all.new.spilled.items in
+    let rs = c.spill_all.new.frames.resident in
+    let listed = c.spill_all.new.listed.items in
+    let mid = content c.spill_all.new.device in
+    let new = content c.publish.new.device in
+    let rest = subst (λ (k : ℕ). OnlyBlocks (IsCommitted k listed) mid new) e.long c.publish.ensures.rest in
+    moved_cached P mid.now.blocks new.now.blocks is is rs c.publish.new.frames.resident c.publish.ensures.order
+    (failed_stored P is listed e.listed e.long mid new rest) (e.cached told)
+
+pub returns-clause-cached : goal.returns-clause-cached
+returns-clause-cached g c told =
+    let content = g.D.Device.content in
+    let P = length c.args.spilled.now.items in
+    let e = c.spill_all.ensures in
+    let is = c.spill_all.new.spilled.items in
+    let rs = c.spill_all.new.frames.resident in
+    let listed = c.spill_all.new.listed.items in
+    let mid = content c.spill_all.new.device in
+    let new = content c.publish.new.device in
+    let rest = subst (λ (k : ℕ). OnlyBlocks (IsCommitted k listed) mid new) e.long c.publish.ensures.rest in
+    let flags = c.clear.new.spilled.items in
+    let homes = subst (λ (k : ℕ). (p : ℕ) → get_or is p false ≡ true → block_of new.now (home k p) ≡ block_of mid.now (7 + p)) e.long (c.in_ok-publish.ensures.homes told) in
+    let stored = done_stored P is listed e.listed e.long mid new rest flags c.clear.ensures.none homes in
+    moved_cached P mid.now.blocks new.now.blocks is flags rs c.publish.new.frames.resident c.publish.ensures.order stored (e.cached told)
+
+pub returns-clause-same : goal.returns-clause-same
+returns-clause-same g c told q =
+    let content = g.D.Device.content in
+    let P = length c.args.spilled.now.items in
+    let e = c.spill_all.ensures in
+    let is = c.spill_all.new.spilled.items in
+    let rs = c.spill_all.new.frames.resident in
+    let listed = c.spill_all.new.listed.items in
+    let mid = content c.spill_all.new.device in
+    let new = content c.publish.new.device in
+    let rest = subst (λ (k : ℕ). OnlyBlocks (IsCommitted k listed) mid new) e.long c.publish.ensures.rest in
+    let flags = c.clear.new.spilled.items in
+    let homes = subst (λ (k : ℕ). (p : ℕ) → get_or is p false ≡ true → block_of new.now (home k p) ≡ block_of mid.now (7 + p)) e.long (c.in_ok-publish.ensures.homes told) in
+    let stored = done_stored P is listed e.listed e.long mid new rest flags c.clear.ensures.none homes in
+    moved_pages P mid.now.blocks new.now.blocks is flags rs c.publish.new.frames.resident c.publish.ensures.order stored q ∙ e.same told q
+
+pub returns-clause-home : goal.returns-clause-home
+returns-clause-home g c told q =
+    let content = g.D.Device.content in
+    let P = length c.args.spilled.now.items in
+    let e = c.spill_all.ensures in
+    let is = c.spill_all.new.spilled.items in
+    let rs = c.spill_all.new.frames.resident in
+    let listed = c.spill_all.new.listed.items in
+    let mid = content c.spill_all.new.device in
+    let new = content c.publish.new.device in
+    let rest = subst (λ (k : ℕ). OnlyBlocks (IsCommitted k listed) mid new) e.long c.publish.ensures.rest in
+    let flags = c.clear.new.spilled.items in
+    let homes = subst (λ (k : ℕ). (p : ℕ) → get_or is p false ≡ true → block_of new.now (home k p) ≡ block_of mid.now (7 + p)) e.long (c.in_ok-publish.ensures.homes told) in
+    let stored = done_stored P is listed e.listed e.long mid new rest flags c.clear.ensures.none homes in
+    moved_pages P mid.now.blocks new.now.blocks is flags rs c.publish.new.frames.resident c.publish.ensures.order stored q
+    ∙ c.in_ok-spill_all.ensures.stored told q ∙ sym (stored q) ∙ stored_home P new.now.blocks flags c.clear.ensures.none q

@@ -1,5 +1,11 @@
-use Rattle.std.proofs.Common.{◌≡◌, ◌∙◌, List, length, replicate, refl, sym, ap, subst}
+use Rattle.std.proofs.Common.{◌≡◌, ◌∙◌, not, List, length, replicate, refl, sym, ap, subst}
 use Rattle.std.specs.FinMap.{empty}
+use Rattle.gx_leaves.specs.Making.{IsAllFree}
+use Rattle.gx_journal.specs.Journal.{device_of}
+use Rattle.gx_device.specs.Faults.{Counted}
+use Rattle.gx_store.specs.Making.{not_laid}
+use Rattle.gx_store.specs.Store.{is_fault}
+use Rattle.gx_store.proofs.MakeLemmas.{counted_leaves}
 use Rattle.gx_pages.specs.View.{journal_of}
 use Rattle.gx_pages.specs.Paged.{ground_of, working_sheets}
 use Rattle.gx_store.specs.Device.{AreMaps}
@@ -8,9 +14,17 @@ use Rattle.gx_store.proofs.making.make_in.Goals as goal
 
 pub returns-in-Ok-clause-made : goal.returns-in-Ok-clause-made
 returns-in-Ok-clause-made g c = λ told steady free.
-    let all = record { own = free.own; free = free.free } in
+    let all : IsAllFree (ground_of (journal_of c.args.pages)) (working_sheets (journal_of c.args.pages)) = record { own = free.own; free = free.free } in
     let base = ground_of (journal_of c.args.pages) in
     let maps = replicate (length c.args.specs.now) empty in
     subst (λ x. AreMaps base c.args.specs.now maps (working_sheets x)) (sym (c.into_journal.ensures ∙ ap (λ p. journal_of p) c.into_pages.ensures))
     (made_maps c.in-Ok.leaves base c.args.specs.now maps c.in-Ok.ensures.keeps.ground c.in-Ok.ensures.places
     (c.in-Ok.ensures.working told all) (c.in-Ok.ensures.whole told all steady))
+
+pub returns-in-Err-clause-faults : goal.returns-in-Err-clause-faults
+returns-in-Err-clause-faults g c =
+    let before = g.M.Device.faults (device_of (journal_of c.args.pages)) in
+    let out = c.into_device.ensures ∙ ap (λ j. device_of j) c.into_journal-in-Err.ensures in
+    subst (λ w. Counted (not (is_fault w)) before (g.M.Device.faults c.into_device.result)) (sym c.not_made.ensures)
+    (subst (λ d. Counted (not (is_fault (not_laid c.in-Err.why))) before (g.M.Device.faults d)) (sym out)
+    (counted_leaves c.in-Err.why before _ c.in-Err.ensures.cause))

@@ -1,30 +1,50 @@
-use Rattle.std.proofs.Common.{◌≡◌, ◌∙◌, ◌+◌, ◌≤◌, ℕ, List, length, drop, replicate, refl, sym, ap, subst, arith}
+use Rattle.std.proofs.Common.{◌≡◌, ◌∙◌, ℕ, Bool, List, [], get_or, length, drop, replicate, refl, sym, ap, subst}
 use Rattle.std.specs.FinMap.{empty}
-use Rattle.gx_device.specs.Content.{Content}
+use Rattle.std.proofs.lemmas.Result.{on_ok_weaker}
 use Rattle.gx_ports.specs.Sheets.{Ground}
-use Rattle.gx_layout.specs.Layout.{pages_of}
-use Rattle.gx_pages.specs.Owners.{sheets_of}
+use Rattle.gx_layout.specs.Head.{HasMagic}
+use Rattle.gx_leaves.specs.Places.{IsRoomFor}
+use Rattle.gx_journal.specs.Journal.{content_of, head_blocks, working_of}
 use Rattle.gx_pages.specs.Paged.{ground_of}
-use Rattle.gx_journal.specs.Journal.{content_of}
-use Rattle.gx_store.specs.Device.{IsSettled, AreMaps}
-use Rattle.gx_store.proofs.SettledLemmas.{calm_settled}
+use Rattle.gx_store.specs.Device.{IsSettled}
+use Rattle.gx_store.proofs.ShelfLemmas.{silent_after}
+use Rattle.gx_store.proofs.CauseLemmas.{counted_after}
+use Rattle.gx_store.proofs.SettledLemmas.{settled_reopens}
+use Rattle.gx_journal.specs.State.{head_told}
+use Rattle.gx_store.proofs.MakeLemmas.{on_ok_always}
+use Rattle.gx_store.proofs.JournalLemmas.{grounded}
 use Rattle.gx_store.proofs.making.make_over.Goals as goal
 
-pub returns-in-Ok-Ok-clause-settled : goal.returns-in-Ok-Ok-clause-settled
-returns-in-Ok-Ok-clause-settled g c = λ told steady calm schema equation texts.
+pub returns-in-Ok-clause-settled : goal.returns-in-Ok-clause-settled
+returns-in-Ok-clause-settled g c = λ told steady schema equation texts.
     let j = c.args.journal in
     let k = c.in-Ok.journal in
-    let l = c.publish.new.journal in
-    let ground = c.in-Ok.ensures.ground in
-    let sizes = ap (λ (b : Ground). b.size) ground in
-    let heads = ap (λ (b : Ground). b.head) ground in
-    let room = c.requires.room in
-    subst (λ (x : Content). IsSettled schema equation c.args.specs.now (replicate (length c.args.specs.now) empty) x.now.blocks) (sym (ap g.M.Device.content c.into_device.ensures))
-    (calm_settled schema equation c.args.specs.now (replicate (length c.args.specs.now) empty) g.M.Device.tells l.failed (length l.spilled.items) (content_of l) (content_of l)
-    (c.in-Ok-Ok.ensures.calm (content_of j) (c.in-Ok.ensures.calm (content_of j) calm))
-    (omega (arith, l.limit, g.met.M.Device.sized l.device told))
-    (omega (arith, room, sizes, c.publish.ensures.size))
-    (c.in-Ok-Ok.ensures.magic told)
-    (c.publish.ensures.texts ∙ ap (λ (h : List (List ℕ)). drop 1 h) heads ∙ texts)
-    (ground_of j) (sym (c.publish.ensures.size ∙ sizes)) refl
-    (subst (λ (ps : List (List ℕ)). AreMaps (ground_of j) c.args.specs.now (replicate (length c.args.specs.now) empty) (sheets_of ps)) (sym c.in-Ok-Ok.ensures.kept) (c.in-Ok.ensures.made told steady)))
+    on_ok_weaker c.publish.result.0
+    (λ is. grounded j k (working_of k) (g.M.Device.content c.publish.result.1).now.blocks c.in-Ok.ensures.ground is schema equation c.args.specs.now _ texts c.requires.room (c.in-Ok.ensures.made told steady))
+    (c.publish.ensures.settled told (c.in-Ok.ensures.steady.0 steady))
+
+pub returns-in-Ok-clause-left : goal.returns-in-Ok-clause-left
+returns-in-Ok-clause-left g c = λ told steady none schema equation texts magic.
+    let j = c.args.journal in
+    let k = c.in-Ok.journal in
+    let heads = ap (λ (b : Ground). b.head) c.in-Ok.ensures.ground in
+    settled_reopens schema equation c.args.specs.now (replicate (length c.args.specs.now) empty) _
+    (grounded j k (working_of k) (g.M.Device.content c.publish.result.1).now.blocks c.in-Ok.ensures.ground
+    (c.publish.ensures.left told (c.in-Ok.ensures.steady.0 steady)
+    (λ has. none (subst (λ (h : List (List ℕ)). HasMagic (get_or h 0 [])) heads has)) magic)
+    schema equation c.args.specs.now _ texts c.requires.room (c.in-Ok.ensures.made told steady))
+
+pub returns-in-Ok-clause-pages : goal.returns-in-Ok-clause-pages
+returns-in-Ok-clause-pages g c = λ told.
+    on_ok_always c.publish.result.0 (c.publish.ensures.pages told ∙ ap (λ (b : Ground). b.size) c.in-Ok.ensures.ground)
+
+pub returns-in-Ok-clause-silent : goal.returns-in-Ok-clause-silent
+returns-in-Ok-clause-silent g c = silent_after _ (content_of c.in-Ok.journal) _ c.in-Ok.ensures.silent c.publish.ensures.silent
+
+pub returns-in-Ok-clause-faults : goal.returns-in-Ok-clause-faults
+returns-in-Ok-clause-faults g c = counted_after _ _ _ _ (c.in-Ok.ensures.faults.same refl) c.publish.ensures.faults
+
+pub returns-in-Err-clause-left : goal.returns-in-Err-clause-left
+returns-in-Err-clause-left g c = λ told steady none schema equation texts magic.
+    absurd (none (subst (λ (h : List (List ℕ)). HasMagic (get_or h 0 [])) (c.in-Err.ensures.head)
+    (subst (λ (b : Bool). HasMagic (get_or (head_told b (g.M.Device.content c.in-Err.machine)) 0 [])) (sym told) magic)))

@@ -1,13 +1,16 @@
 use Rattle.std.proofs.Common.{◌≡◌, ◌∙◌, ℕ, Bool, List, refl, sym, ap, subst}
 use Rattle.std.specs.Prelude.{Err}
-use Rattle.std.proofs.lemmas.Result.{IfErr-weaker, on_ok_weaker}
+use Rattle.std.proofs.lemmas.Result.{IfOk-weaker, IfErr-weaker, on_ok_weaker}
 use Rattle.gx_device.specs.Content.{Moment, Silent, device_at}
-use Rattle.gx_store.specs.Device.{Reopens}
-use Rattle.gx_store.specs.Opening.{AreOpened, AreUnopened, IsUnopened}
+use Rattle.gx_leaves.specs.Paged.{head_of}
+use Rattle.gx_ports.specs.Sheets.{Ground}
+use Rattle.gx_store.specs.Device.{ReadAlike, Reopens, ground_on}
+use Rattle.gx_store.specs.Opening.{AreOpened, AreUnopened, IsRecoveryOf, IsUnopened}
 use Rattle.gx_store.specs.Store.{machine_left}
-use Rattle.gx_store.proofs.ShelfLemmas.{attached_named, attached_rest, refused_rest}
+use Rattle.gx_store.proofs.ShelfLemmas.{attached_named, attached_at, attached_rest, refused_rest}
 use Rattle.gx_store.proofs.AttachLemmas.{attached_blocks, left_alone, if_err_with, if_ok_with, counted_refusal}
 use Rattle.gx_store.proofs.CauseLemmas.{refused_by, unopened_on, counted_after}
+use Rattle.gx_store.proofs.AlikeLemmas.{alike_itself, headed, recovery_itself}
 use Rattle.gx_store.proofs.opening.open.Goals as goal
 
 pub returns-in-Err-clause-unopened : goal.returns-in-Err-clause-unopened
@@ -64,3 +67,48 @@ pub returns-clause-attaches : goal.returns-clause-attaches
 returns-clause-attaches g c = λ can.
     let o = c.in_default.ensures.opened can.told can.free refl in
     attached_rest c.args.name.now o.blocks (g.M.Device.content c.args.machine) (g.M.Device.content c.attach.new.self) _ can.free o.attached c.open_attached.ensures.silent
+
+pub returns-in-Err-clause-kept : goal.returns-in-Err-clause-kept
+returns-in-Err-clause-kept g c = λ can goes blocks was.
+    (blocks, ap (λ (m : Moment). device_at m c.args.name.now) c.in-Err.ensures.refused.now ∙ was, alike_itself blocks)
+
+pub returns-clause-head : goal.returns-clause-head
+returns-clause-head g c = λ can.
+    headed c.open_attached.result (λ s. head_of s) c.args.schema.now c.args.equation.now c.args.specs.now
+    (g.M.Device.content c.attach.new.self).now.blocks
+    (c.open_attached.ensures.opened can.told)
+    (IfOk-weaker c.open_attached.result _ _ (λ s is. ap (λ (b : Ground). b.head) is) (c.open_attached.ensures.ground can.told))
+    c.open_attached.ensures.specs
+
+pub returns-clause-ground : goal.returns-clause-ground
+returns-clause-ground g c = λ can.
+    let o = c.in_default.ensures.opened can.told can.free refl in
+    IfOk-weaker c.open_attached.result _ _
+    (λ s is. (o.blocks, o.was, is ∙ ap (λ (bs : List (List ℕ)). ground_on bs) o.attached.blocks_are))
+    (c.open_attached.ensures.ground can.told)
+
+pub returns-clause-kept : goal.returns-clause-kept
+returns-clause-kept g c = λ can goes blocks was.
+    let o = c.in_default.ensures.opened can.told can.free refl in
+    let old = g.M.Device.content c.args.machine in
+    let mid = g.M.Device.content c.attach.new.self in
+    let last = g.M.Device.content (machine_left c.open_attached.result) in (
+      last.now.blocks,
+      attached_at c.args.name.now o.blocks old mid last can.free o.attached c.open_attached.ensures.silent,
+      subst (λ (bs : List (List ℕ)). ReadAlike bs last.now.blocks) (sym (attached_blocks c.args.name.now blocks old mid was o)) (c.open_attached.ensures.kept can.told goes),
+    )
+
+pub returns-in-Err-clause-recovered : goal.returns-in-Err-clause-recovered
+returns-in-Err-clause-recovered g c = λ can blocks was.
+    (blocks, ap (λ (m : Moment). device_at m c.args.name.now) c.in-Err.ensures.refused.now ∙ was, recovery_itself blocks)
+
+pub returns-clause-recovered : goal.returns-clause-recovered
+returns-clause-recovered g c = λ can blocks was.
+    let o = c.in_default.ensures.opened can.told can.free refl in
+    let old = g.M.Device.content c.args.machine in
+    let mid = g.M.Device.content c.attach.new.self in
+    let last = g.M.Device.content (machine_left c.open_attached.result) in (
+      last.now.blocks,
+      attached_at c.args.name.now o.blocks old mid last can.free o.attached c.open_attached.ensures.silent,
+      subst (λ (bs : List (List ℕ)). IsRecoveryOf bs last.now.blocks) (sym (attached_blocks c.args.name.now blocks old mid was o)) (c.open_attached.ensures.recovered can.told),
+    )

@@ -1,14 +1,15 @@
-use Rattle.std.proofs.Common.{◌≡◌, ◌∙◌, Bool, true, refl, sym, ap, subst}
+use Rattle.std.proofs.Common.{◌≡◌, ◌∙◌, ℕ, Bool, true, List, refl, sym, ap, subst}
 use Rattle.std.proofs.lemmas.Result.{IfOk-weaker, IfErr-weaker, IfOk-at_ok}
 use Rattle.gx_device.specs.Content.{Silent}
 use Rattle.gx_device.specs.Faults.{Counted}
 use Rattle.gx_journal.specs.Journal.{IsCalm, content_of, head_blocks, device_of}
+use Rattle.gx_pages.specs.Paged.{ground_of}
 use Rattle.gx_pages.specs.Laws.{calm_later}
 use Rattle.gx_leaves.specs.Places.{specs_of}
 use Rattle.gx_leaves.proofs.PlaceLemmas.{specs_back}
 use Rattle.gx_store.specs.Opening.{AreUnread}
 use Rattle.gx_store.specs.Store.{machine_left}
-use Rattle.gx_store.proofs.HeldLemmas.{adopted, if_ok_both, on_ok_always}
+use Rattle.gx_store.proofs.HeldLemmas.{adopted, ground_kept, if_ok_both, on_ok_always}
 use Rattle.gx_store.proofs.LeftLemmas.{left_is, goes_on_is}
 use Rattle.gx_store.proofs.CauseLemmas.{counted_still}
 use Rattle.gx_store.proofs.opening.open_journal.Goals as goal
@@ -42,3 +43,11 @@ returns-in-Ok-None-clause-faults g c =
     subst (λ (b : Bool). Counted b (g.M.Device.faults (device_of c.args.journal)) (g.M.Device.faults (machine_left c.adopt.result))) (sym (goes_on_is c.adopt.result c.adopt.ensures.no_memory))
     (subst (λ d. Counted true (g.M.Device.faults (device_of c.args.journal)) (g.M.Device.faults d)) (sym (left_is c.adopt.result c.texts_differ.new.self c.adopt.ensures.journal c.adopt.ensures.back))
     (counted_still _ _ c.in-Ok-None.ensures.faults.same))
+
+pub returns-in-Ok-None-clause-ground : goal.returns-in-Ok-None-clause-ground
+returns-in-Ok-None-clause-ground g c =
+    IfOk-weaker c.adopt.result _ _ (λ s is. ap (λ x. ground_of x) is ∙ ground_kept c.args.journal c.texts_differ.new.self c.texts_differ.ensures.keeps) c.adopt.ensures.journal
+
+pub returns-in-Ok-None-clause-blocks : goal.returns-in-Ok-None-clause-blocks
+returns-in-Ok-None-clause-blocks g c =
+    ap (λ d. (g.M.Device.content d).now.blocks) (left_is c.adopt.result c.texts_differ.new.self c.adopt.ensures.journal c.adopt.ensures.back) ∙ c.texts_differ.ensures.blocks

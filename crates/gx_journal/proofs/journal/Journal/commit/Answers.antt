@@ -1,9 +1,10 @@
-use Rattle.std.proofs.Common.{◌≡◌, ◌+◌, ◌*◌, ◌≤◌, false, length, refl, arith}
+use Rattle.std.proofs.Common.{◌≡◌, ◌+◌, ◌*◌, ◌≤◌, false, length, refl, arith, ℕ, sym, subst}
 use Rattle.std.proofs.lemmas.Result.{on_ok_weaker}
 use Rattle.gx_layout.specs.Recovered.{view_now}
 use Rattle.gx_journal.specs.State.{pages_told, homes_told}
+use Rattle.gx_journal.specs.Sources.{IsCached}
 use Rattle.gx_journal.proofs.OpenLemmas.{calm_count, calm_rest, opened_calm}
-use Rattle.gx_journal.proofs.CommitLemmas.{either_images, pages_many, calm_committed}
+use Rattle.gx_journal.proofs.CommitLemmas.{either_images, pages_many, calm_committed, committed_still}
 use Rattle.gx_journal.proofs.PageLemmas.{body_head, committed, committed_pages}
 use Rattle.gx_journal.proofs.journal.Journal.commit.Goals as goal
 
@@ -48,3 +49,13 @@ returns-clause-calm g c start is =
     calm_committed c.commit-committed.result tells old.failed c.is_err.result Q after is.steady c.is_err.ensures.value
     (on_ok_weaker c.commit-committed.result (λ rest. opened_calm tells is.told Q after (view_now pages before) count room rest false refl)
     (e.at_rest is.told (view_now (homes_told tells P before) before) (calm_count tells old.failed P start before is) (calm_rest tells old.failed P start before is)))
+
+pub invariant_of-self-clause-closed : goal.invariant_of-self-clause-closed
+invariant_of-self-clause-closed g c told steady =
+    committed_still c.commit-committed.result c.args.self.now.failed c.is_err.result c.is_err.ensures.value steady
+    (λ was. c.commit-committed.ensures.closed told (c.args.self.now.closed told was))
+
+pub invariant_of-self-clause-cached : goal.invariant_of-self-clause-cached
+invariant_of-self-clause-cached g c told =
+    let new = c.commit-committed.new in
+    subst (λ (P : ℕ). IsCached P (g.D.Device.content new.device).now.blocks new.spilled.items new.frames.resident) (sym c.commit-committed.ensures.long) (c.commit-committed.ensures.cached told)

@@ -52,3 +52,9 @@ returns-in-Err-clause-faults g c = record {
   rose = λ e. c.in-Err.ensures.faults.failed;
   same = λ e. absurd (true≢false (sym e));
 }
+
+pub over-requires-clause-count : goal.over-requires-clause-count
+over-requires-clause-count g c = omega (arith, c.blocks-2.ensures, c.in-Ok.ensures, c.format.ensures.size)
+
+pub over-requires-clause-closed : goal.over-requires-clause-closed
+over-requires-clause-closed g c told = c.in-Ok-format.ensures.closed told

@@ -1,5 +1,6 @@
-use Rattle.std.proofs.Common.{length, refl, ap, arith}
-use Rattle.gx_device.specs.Content.{Moment}
+use Rattle.std.proofs.Common.{◌∙◌, length, refl, sym, ap, arith}
+use Rattle.gx_device.specs.Content.{Moment, block_of}
+use Rattle.gx_layout.specs.Layout.{is_open, pages_of}
 use Rattle.gx_layout.proofs.CalmLemmas.{calm_listens}
 use Rattle.gx_journal.proofs.PageLemmas.{still_homes, still_head, still_pages, still_cached, still_calm}
 use Rattle.gx_journal.proofs.journal.Journal.hear.Goals as goal
@@ -11,6 +12,8 @@ invariant_of-self g c =
       few = old.few;
       room = omega (arith, old.room, c.hear.ensures.size);
       limit = omega (arith, old.limit, c.hear.ensures.size);
+      count = old.count ∙ ap pages_of (sym c.hear.ensures.size);
+      closed = λ told steady. ap (λ (m : Moment). is_open (block_of m 1)) c.hear.ensures.rest.now ∙ old.closed told steady;
       pages = old.pages;
       named = old.named;
       space = old.space;

@@ -1,6 +1,7 @@
-use Rattle.std.proofs.Common.{length, refl, sym, ◌∙◌}
+use Rattle.std.proofs.Common.{length, refl, sym, ◌∙◌, ℕ, subst}
 use Rattle.std.proofs.lemmas.Result.{on_ok_weaker}
-use Rattle.gx_journal.proofs.SlotLemmas.{slots_silent}
+use Rattle.gx_journal.specs.Sources.{IsCached}
+use Rattle.gx_journal.proofs.SlotLemmas.{slots_silent, slots_gate}
 use Rattle.gx_journal.proofs.PageLemmas.{homes_same, head_same, calm_same, pages_same, pages_at}
 use Rattle.gx_journal.proofs.journal.Journal.read_page.Goals as goal
 
@@ -32,3 +33,12 @@ pub returns-clause-page : goal.returns-clause-page
 returns-clause-page g c told =
     let old = c.args.self.now in
     on_ok_weaker c.read.result (λ is. is ∙ sym (pages_at g.D.Device.tells (length old.spilled.items) (g.D.Device.content old.device) old.spilled.items old.frames.resident told c.args.p c.requires.below)) (c.read.ensures.page told)
+
+pub invariant_of-self-clause-closed : goal.invariant_of-self-clause-closed
+invariant_of-self-clause-closed g c told steady =
+    slots_gate (length c.args.self.now.spilled.items) _ _ c.read.ensures.slots (c.args.self.now.closed told steady)
+
+pub invariant_of-self-clause-cached : goal.invariant_of-self-clause-cached
+invariant_of-self-clause-cached g c told =
+    let new = c.read.new in
+    subst (λ (P : ℕ). IsCached P (g.D.Device.content new.device).now.blocks new.spilled.items new.frames.resident) (sym c.read.ensures.long) (c.read.ensures.cached told)

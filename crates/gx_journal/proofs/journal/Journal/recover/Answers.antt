@@ -52,3 +52,12 @@ returns-in-Err-clause-images g c told =
     let old = g.D.Device.content c.args.device in
     let many : length (replayed_pages old.now.blocks) ≡ c.pages.result = omega (arith, length-replayed old.now.blocks, c.blocks-2.ensures, c.in-Ok.ensures, c.pages.ensures, g.met.D.Device.sized c.args.device told) in
     c.recover.ensures.images told (view_now (replayed_pages old.now.blocks) old) many (reads_replayed old)
+
+pub over-requires-clause-count : goal.over-requires-clause-count
+over-requires-clause-count g c = omega (arith, c.blocks-2.ensures, c.in-Ok.ensures, c.recover.ensures.size)
+
+pub over-requires-clause-closed : goal.over-requires-clause-closed
+over-requires-clause-closed g c told =
+    let old = g.D.Device.content c.args.device in
+    let many : length (replayed_pages old.now.blocks) ≡ c.pages.result = omega (arith, length-replayed old.now.blocks, c.blocks-2.ensures, c.in-Ok.ensures, c.pages.ensures, g.met.D.Device.sized c.args.device told) in
+    (c.in-Ok-true.ensures.at_rest told (view_now (replayed_pages old.now.blocks) old) many (reads_replayed old) c.in-Ok-true.field-0-test).gate

@@ -1,4 +1,5 @@
-use Rattle.std.proofs.Common.{length, refl, arith}
+use Rattle.std.proofs.Common.{◌∙◌, ℕ, List, [], length, get_or, refl, sym, ap, arith}
+use Rattle.gx_layout.specs.Layout.{is_open, pages_of}
 use Rattle.gx_layout.proofs.CalmLemmas.{calm_speaks}
 use Rattle.gx_journal.proofs.PageLemmas.{still_homes, still_head, still_pages, still_cached, still_calm}
 use Rattle.gx_journal.proofs.journal.Journal.say.Goals as goal
@@ -10,6 +11,8 @@ invariant_of-self g c =
       few = old.few;
       room = omega (arith, old.room, c.say.ensures.size);
       limit = omega (arith, old.limit, c.say.ensures.size);
+      count = old.count ∙ ap pages_of (sym c.say.ensures.size);
+      closed = λ told steady. ap (λ (l : List (List ℕ)). is_open (get_or l 1 [])) c.say.ensures.rest.blocks ∙ old.closed told steady;
       pages = old.pages;
       named = old.named;
       space = old.space;

@@ -1,4 +1,5 @@
-use Rattle.std.proofs.Common.{length, ◌∙◌, arith}
+use Rattle.std.proofs.Common.{◌≡◌, length, ◌∙◌, sym, ap, arith}
+use Rattle.gx_layout.specs.Layout.{is_open, pages_of}
 use Rattle.std.proofs.lemmas.Result.{on_ok_weaker}
 use Rattle.gx_layout.specs.Recovered.{view_now}
 use Rattle.gx_journal.specs.State.{homes_told}
@@ -12,6 +13,8 @@ invariant_of-self g c =
       few = old.few;
       room = omega (arith, old.room, c.seal.ensures.size);
       limit = omega (arith, old.limit, c.seal.ensures.size);
+      count = old.count ∙ ap pages_of (sym c.seal.ensures.size);
+      closed = λ told steady. ap is_open (c.seal.ensures.rest.blocks 1 (λ (e : 1 ≡ 0). absurd (omega (arith, e)))) ∙ old.closed told steady;
       pages = old.pages;
       named = old.named;
       space = old.space;

@@ -1,8 +1,9 @@
-use Rattle.std.proofs.Common.{ℕ, Bool, List, length, get_or, refl, ap, sym, subst, arith}
+use Rattle.std.proofs.Common.{◌∙◌, ℕ, Bool, List, length, get_or, refl, ap, sym, subst, arith}
+use Rattle.gx_layout.specs.Layout.{is_open, pages_of}
 use Rattle.std.specs.Prelude.{IfOk}
 use Rattle.gx_layout.specs.Head.{DifferFirst, text_at, text_area}
 use Rattle.gx_journal.specs.State.{head_told}
-use Rattle.gx_device.specs.Content.{Moment}
+use Rattle.gx_device.specs.Content.{Moment, block_of}
 use Rattle.gx_journal.proofs.PageLemmas.{still_homes, still_head, still_pages, still_cached, still_calm}
 use Rattle.gx_journal.proofs.journal.Journal.texts_differ.Goals as goal
 
@@ -13,6 +14,8 @@ invariant_of-self g c =
       few = old.few;
       room = omega (arith, old.room, c.texts_differ.ensures.size);
       limit = omega (arith, old.limit, c.texts_differ.ensures.size);
+      count = old.count ∙ ap pages_of (sym c.texts_differ.ensures.size);
+      closed = λ told steady. ap (λ (m : Moment). is_open (block_of m 1)) c.texts_differ.ensures.reads.now ∙ old.closed told steady;
       pages = old.pages;
       named = old.named;
       space = old.space;
@@ -44,3 +47,6 @@ returns-clause-place g c told =
     let before = g.D.Device.content c.args.self.now.device in
     subst (λ (head : List (List ℕ)). IfOk c.texts_differ.result (DifferFirst (text_at head) (λ q. get_or (text_area c.args.schema.now c.args.equation.now) q 0)))
     (sym (ap (λ (b : Bool). head_told b before) told)) (c.texts_differ.ensures.place told)
+
+pub returns-clause-blocks : goal.returns-clause-blocks
+returns-clause-blocks g c = ap (λ (m : Moment). m.blocks) c.texts_differ.ensures.reads.now

@@ -1,6 +1,7 @@
-use Rattle.std.proofs.Common.{length, refl}
+use Rattle.std.proofs.Common.{length, refl, ℕ, sym, subst}
 use Rattle.std.proofs.lemmas.Result.{on_ok_weaker}
-use Rattle.gx_journal.proofs.SlotLemmas.{slots_silent}
+use Rattle.gx_journal.specs.Sources.{IsCached}
+use Rattle.gx_journal.proofs.SlotLemmas.{slots_silent, slots_gate}
 use Rattle.gx_journal.proofs.PageLemmas.{homes_same, head_same, calm_same, pages_same, pages_set, err_under}
 use Rattle.gx_journal.proofs.journal.Journal.write_page.Goals as goal
 
@@ -32,3 +33,12 @@ pub returns-clause-failed : goal.returns-clause-failed
 returns-clause-failed g c =
     let old = c.args.self.now in
     err_under c.write.result c.write.ensures.failed (λ same. pages_same g.D.Device.tells (length old.spilled.items) (length c.write.new.spilled.items) (g.D.Device.content old.device) (g.D.Device.content c.write.new.device) old.spilled.items c.write.new.spilled.items old.frames.resident c.write.new.frames.resident c.write.ensures.long same)
+
+pub invariant_of-self-clause-closed : goal.invariant_of-self-clause-closed
+invariant_of-self-clause-closed g c told steady =
+    slots_gate (length c.args.self.now.spilled.items) _ _ c.write.ensures.slots (c.args.self.now.closed told steady)
+
+pub invariant_of-self-clause-cached : goal.invariant_of-self-clause-cached
+invariant_of-self-clause-cached g c told =
+    let new = c.write.new in
+    subst (λ (P : ℕ). IsCached P (g.D.Device.content new.device).now.blocks new.spilled.items new.frames.resident) (sym c.write.ensures.long) (c.write.ensures.cached told)

@@ -1,0 +1,48 @@
+use Rattle.std.proofs.Common.{◌≡◌, ◌∙◌, ℕ, Bool, List, [], get_or, length, sym, ap, subst}
+use Rattle.std.proofs.lemmas.Result.{on_ok_weaker}
+use Rattle.gx_device.specs.Content.{Content, Silent, block_of}
+use Rattle.gx_layout.specs.Layout.{pages_of}
+use Rattle.gx_layout.specs.Head.{HasMagic}
+use Rattle.gx_journal.specs.State.{head_told}
+use Rattle.gx_journal.specs.Journal.{content_of, head_blocks}
+use Rattle.gx_store.specs.Making.{Publishes}
+use Rattle.gx_store.proofs.ShelfLemmas.{silent_after}
+use Rattle.gx_store.proofs.CauseLemmas.{counted_after}
+use Rattle.gx_store.proofs.JournalLemmas.{published}
+use Rattle.gx_store.proofs.MakeLemmas.{on_ok_both}
+use Rattle.gx_store.proofs.making.publish.Goals as goal
+
+pub returns-in-Ok-clause-settled : goal.returns-in-Ok-clause-settled
+returns-in-Ok-clause-settled g c = λ told steady.
+    let old = c.args.journal in
+    let new = c.commit.new.self in
+    let there = c.in-Ok.ensures.steady.0 steady in
+    on_ok_weaker c.seal.result.0
+    (λ magic. published old new (g.M.Device.content c.seal.result.1).now.blocks c.commit.ensures.head c.commit.ensures.size c.in-Ok.ensures.kept (c.seal.ensures.settled told there magic))
+    (c.seal.ensures.magic told)
+
+pub returns-in-Ok-clause-left : goal.returns-in-Ok-clause-left
+returns-in-Ok-clause-left g c = λ told steady none magic.
+    published c.args.journal c.commit.new.self (g.M.Device.content c.seal.result.1).now.blocks c.commit.ensures.head c.commit.ensures.size c.in-Ok.ensures.kept
+    (c.seal.ensures.settled told (c.in-Ok.ensures.steady.0 steady) magic)
+
+pub returns-in-Ok-clause-pages : goal.returns-in-Ok-clause-pages
+returns-in-Ok-clause-pages g c = λ told. c.seal.ensures.pages told ∙ c.commit.ensures.size
+
+pub returns-in-Ok-clause-silent : goal.returns-in-Ok-clause-silent
+returns-in-Ok-clause-silent g c = silent_after _ (content_of c.commit.new.self) _ c.commit.ensures.silent c.seal.ensures.silent
+
+pub returns-in-Ok-clause-faults : goal.returns-in-Ok-clause-faults
+returns-in-Ok-clause-faults g c = counted_after _ _ _ _ (c.in-Ok.ensures.faults.same) c.seal.ensures.faults
+
+pub returns-in-Err-clause-left : goal.returns-in-Err-clause-left
+returns-in-Err-clause-left g c = λ told steady none magic.
+    absurd (none (subst (λ (h : List (List ℕ)). HasMagic (get_or h 0 [])) c.commit.ensures.head
+    (subst (λ (b : Bool). HasMagic (get_or (head_told b (content_of c.commit.new.self)) 0 [])) (sym told)
+    (subst (λ d. HasMagic (block_of (g.M.Device.content d).now 0)) c.into_device.ensures magic))))
+
+pub returns-in-Err-clause-pages : goal.returns-in-Err-clause-pages
+returns-in-Err-clause-pages g c = λ told.
+    let new = c.commit.new.self in
+    ap (λ d. pages_of (length (g.M.Device.content d).now.blocks)) c.into_device.ensures
+    ∙ sym (ap pages_of (g.met.M.Device.sized new.device told)) ∙ sym new.count ∙ c.commit.ensures.size
