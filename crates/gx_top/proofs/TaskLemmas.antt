@@ -73,8 +73,8 @@ try_run words x old middle mid new played s p same is heard ends finished =
     let t = try_task words old.aside.texts x p in
     let task : IsTask words old.aside.texts t = record { to_play = tt; ready = p.ready } in
     let here : IsPlayedAs x.0 x.1 None (empty_state x.0) (λ kept. Unit {0}) old.script old.now.said mid.now.said played =
-        subst (λ (n : List ℕ). IsPlayedAs x.0 x.1 None (empty_state x.0) (λ kept. Unit {0}) old.script n mid.now.said played) (ap (λ n. n.said) same.now)
-        (subst (λ (l : List ℕ). IsPlayedAs x.0 x.1 None (empty_state x.0) (λ kept. Unit {0}) l middle.now.said mid.now.said played) same.script is) in
+    subst (λ (n : List ℕ). IsPlayedAs x.0 x.1 None (empty_state x.0) (λ kept. Unit {0}) old.script n mid.now.said played) (ap (λ n. n.said) same.now)
+    (subst (λ (l : List ℕ). IsPlayedAs x.0 x.1 None (empty_state x.0) (λ kept. Unit {0}) l middle.now.said mid.now.said played) same.script is) in
     record {
       task = task;
       built = x.1;

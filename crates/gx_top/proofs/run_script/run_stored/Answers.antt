@@ -73,7 +73,7 @@ pub returns-in-Err-clause-said : goal.returns-in-Err-clause-said
 returns-in-Err-clause-said g c = λ can words old same stored.
     let content = g.M.Device.content in
     let had = unopened_unhad words c.args.device.now c.args.stored old (content c.args.machine) stored same c.in-Err.why
-        (unopened_told c.args.device.now c.args.stored c.as_slice.result.now c.as_slice-2.result.now c.deref.result.now (content c.args.machine) c.in-Err.why c.as_slice.ensures c.as_slice-2.ensures c.deref.ensures.value (c.in-Err.ensures.unopened can)) in
+    (unopened_told c.args.device.now c.args.stored c.as_slice.result.now c.as_slice-2.result.now c.deref.result.now (content c.args.machine) c.in-Err.why c.as_slice.ensures c.as_slice-2.ensures c.deref.ensures.value (c.in-Err.ensures.unopened can)) in
     unhad_end words old (content c.in-Err.machine) (content c.end-status.new.machine) c.unopened_ending.result c.end-status.result
     (subst (IsUnhad words old) (sym c.unopened_ending.ensures) had)
     ((c.in-Err.ensures.attaches can).said ∙ ap (λ n. n.said) same.now)
@@ -92,7 +92,7 @@ pub returns-in-Err-clause-due : goal.returns-in-Err-clause-due
 returns-in-Err-clause-due g c = λ can words old same stored.
     let content = g.M.Device.content in
     let had = unopened_unhad words c.args.device.now c.args.stored old (content c.args.machine) stored same c.in-Err.why
-        (unopened_told c.args.device.now c.args.stored c.as_slice.result.now c.as_slice-2.result.now c.deref.result.now (content c.args.machine) c.in-Err.why c.as_slice.ensures c.as_slice-2.ensures c.deref.ensures.value (c.in-Err.ensures.unopened can)) in
+    (unopened_told c.args.device.now c.args.stored c.as_slice.result.now c.as_slice-2.result.now c.deref.result.now (content c.args.machine) c.in-Err.why c.as_slice.ensures c.as_slice-2.ensures c.deref.ensures.value (c.in-Err.ensures.unopened can)) in
     unhad_due words old (content c.in-Err.machine) (content c.end-status.new.machine) c.unopened_ending.result c.end-status.result
     (run_task words old.aside.texts c.args.device.now c.args.stored stored)
     (subst (IsUnhad words old) (sym c.unopened_ending.ensures) had)
