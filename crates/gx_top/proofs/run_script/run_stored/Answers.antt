@@ -1,4 +1,4 @@
-use Rattle.std.proofs.Common.{List, Some, sym, ap, subst, ◌∙◌}
+use Rattle.std.proofs.Common.{rules, List, Some, sym, ap, subst, ◌∙◌}
 use Rattle.gx_ports.specs.LeafMaps.{LeafMap}
 use Rattle.gx_leaves.specs.Paged.{pages_of, places_in, head_of}
 use Rattle.gx_leaves.specs.Wholeness.{limits_of}
@@ -27,7 +27,7 @@ returns-in-Ok-clause-said g c = λ can words old same stored.
     let limit = limits_of (ground_of (journal_of (pages_of store))) (places_in store) in
     run_end words (run_task words old.aside.texts c.args.device.now x stored) old mid (content c.finish-status.new.machine) c.play_stored-machine.result.0 c.finish-status.result
     (device_run words c.args.device.now x old middle stored same opened mid limit (λ (maps : List LeafMap). HoldsMaps maps store) c.play_stored-machine.result.0
-    (on_store_told c.args.device.now x schema equation specs middle opened mid limit (λ (maps : List LeafMap). HoldsMaps maps store) c.play_stored-machine.result.0 c.as_slice.ensures c.as_slice-2.ensures c.deref.ensures.value (record {
+    (on_store_told c.args.device.now x schema equation specs middle opened mid limit (λ (maps : List LeafMap). HoldsMaps maps store) c.play_stored-machine.result.0 c.as_slice.ensures c.as_slice-2.ensures (search rules) (record {
       said = (c.in-Ok.ensures.attaches can).said;
       script = (c.in-Ok.ensures.attaches can).script;
       named = c.in-Ok.ensures.named can;
@@ -55,7 +55,7 @@ returns-in-Ok-clause-due g c = λ can words old same stored.
     let limit = limits_of (ground_of (journal_of (pages_of store))) (places_in store) in
     run_due words (run_task words old.aside.texts c.args.device.now x stored) old mid (content c.finish-status.new.machine) c.play_stored-machine.result.0 c.finish-status.result
     (device_run words c.args.device.now x old middle stored same opened mid limit (λ (maps : List LeafMap). HoldsMaps maps store) c.play_stored-machine.result.0
-    (on_store_told c.args.device.now x schema equation specs middle opened mid limit (λ (maps : List LeafMap). HoldsMaps maps store) c.play_stored-machine.result.0 c.as_slice.ensures c.as_slice-2.ensures c.deref.ensures.value (record {
+    (on_store_told c.args.device.now x schema equation specs middle opened mid limit (λ (maps : List LeafMap). HoldsMaps maps store) c.play_stored-machine.result.0 c.as_slice.ensures c.as_slice-2.ensures (search rules) (record {
       said = (c.in-Ok.ensures.attaches can).said;
       script = (c.in-Ok.ensures.attaches can).script;
       named = c.in-Ok.ensures.named can;
@@ -73,7 +73,7 @@ pub returns-in-Err-clause-said : goal.returns-in-Err-clause-said
 returns-in-Err-clause-said g c = λ can words old same stored.
     let content = g.M.Device.content in
     let had = unopened_unhad words c.args.device.now c.args.stored old (content c.args.machine) stored same c.in-Err.why
-    (unopened_told c.args.device.now c.args.stored c.as_slice.result.now c.as_slice-2.result.now c.deref.result.now (content c.args.machine) c.in-Err.why c.as_slice.ensures c.as_slice-2.ensures c.deref.ensures.value (c.in-Err.ensures.unopened can)) in
+        (unopened_told c.args.device.now c.args.stored c.as_slice.result.now c.as_slice-2.result.now c.deref.result.now (content c.args.machine) c.in-Err.why c.as_slice.ensures c.as_slice-2.ensures (search rules) (c.in-Err.ensures.unopened can)) in
     unhad_end words old (content c.in-Err.machine) (content c.end-status.new.machine) c.unopened_ending.result c.end-status.result
     (subst (IsUnhad words old) (sym c.unopened_ending.ensures) had)
     ((c.in-Err.ensures.attaches can).said ∙ ap (λ n. n.said) same.now)
@@ -92,7 +92,7 @@ pub returns-in-Err-clause-due : goal.returns-in-Err-clause-due
 returns-in-Err-clause-due g c = λ can words old same stored.
     let content = g.M.Device.content in
     let had = unopened_unhad words c.args.device.now c.args.stored old (content c.args.machine) stored same c.in-Err.why
-    (unopened_told c.args.device.now c.args.stored c.as_slice.result.now c.as_slice-2.result.now c.deref.result.now (content c.args.machine) c.in-Err.why c.as_slice.ensures c.as_slice-2.ensures c.deref.ensures.value (c.in-Err.ensures.unopened can)) in
+        (unopened_told c.args.device.now c.args.stored c.as_slice.result.now c.as_slice-2.result.now c.deref.result.now (content c.args.machine) c.in-Err.why c.as_slice.ensures c.as_slice-2.ensures (search rules) (c.in-Err.ensures.unopened can)) in
     unhad_due words old (content c.in-Err.machine) (content c.end-status.new.machine) c.unopened_ending.result c.end-status.result
     (run_task words old.aside.texts c.args.device.now c.args.stored stored)
     (subst (IsUnhad words old) (sym c.unopened_ending.ensures) had)
