@@ -207,8 +207,7 @@ module _ (schema : Schema) (ds : List DefinitionTree) (built : Built) (limit : O
   -- a front of the first answers is one of them and the line
   fault_front : IsPlayedFront schema start old.script old.now.said mid.now.said → new.now.said ≡ mid.now.said → Front
   fault_front front same =
-      let m = min front.count (length front.answers) in
-      (
+      let m = min front.count (length front.answers) in (
         front.answers ++ memory_line,
         (front.first.final.kept, inr (inl (record { answers = front.answers; first = front.first; text_is = refl; kept_is = refl }))),
         (m, same ∙ front.said ∙ ap (λ t. old.now.said ++ t) (taken front.answers front.count m refl ∙ sym (take-append-le m front.answers memory_line (omega arith)))),

@@ -73,8 +73,8 @@ try_run words x old middle mid new played s p same is heard ends finished =
     let t = try_task words old.aside.texts x p in
     let task : IsTask words old.aside.texts t = record { to_play = tt; ready = p.ready } in
     let here : IsPlayedAs x.0 x.1 None (empty_state x.0) (λ kept. Unit {0}) old.script old.now.said mid.now.said played =
-        subst (λ (n : List ℕ). IsPlayedAs x.0 x.1 None (empty_state x.0) (λ kept. Unit {0}) old.script n mid.now.said played) (ap (λ n. n.said) same.now)
-        (subst (λ (l : List ℕ). IsPlayedAs x.0 x.1 None (empty_state x.0) (λ kept. Unit {0}) l middle.now.said mid.now.said played) same.script is) in
+    subst (λ (n : List ℕ). IsPlayedAs x.0 x.1 None (empty_state x.0) (λ kept. Unit {0}) old.script n mid.now.said played) (ap (λ n. n.said) same.now)
+    (subst (λ (l : List ℕ). IsPlayedAs x.0 x.1 None (empty_state x.0) (λ kept. Unit {0}) l middle.now.said mid.now.said played) same.script is) in
     record {
       task = task;
       built = x.1;
@@ -101,18 +101,32 @@ device_once a b e = ap device_or e
     device_or (running d) = d
     device_or other = a
 
--- What opening the device of that name gave: what the blocks held that were there, and how the play went from it. It speaks
--- of what was before, `middle`, and of the machine with the device, `opened`.
-pub record IsOnStore (device : List ℕ) (x : Stored) (middle opened mid : Content) (limit : Limits) (Reaches : List LeafMap → Type 0) (played : Result (Unit {0}) Ending) : Type 0 where
+-- What opening the device of that name under these texts gave: what the blocks held that were there, and how the play went from
+-- it. It speaks of what was before, `middle`, and of the machine with the device, `opened`.
+pub record IsOnStore (device : List ℕ) (x : Stored) (schema equation : List ℕ) (specs : List LeafSpec) (middle opened mid : Content) (limit : Limits) (Reaches : List LeafMap → Type 0) (played : Result (Unit {0}) Ending) : Type 0 where
   pub said : opened.now.said ≡ middle.now.said
   pub script : opened.script ≡ middle.script
   pub named : opened.now.shelf.name ≡ Some device
   pub shelf : mid.now.shelf ≡ opened.now.shelf
-  pub had : OfBlocks device middle (AreOpened x.schema_text x.equation_text x.built.specs)
-  pub holds : (blocks : List (List ℕ)) (maps : List LeafMap) → device_at middle.now device ≡ Some blocks → Reopens x.schema_text x.equation_text x.built.specs maps blocks → Reaches maps
-  pub limit_is : (blocks : List (List ℕ)) → device_at middle.now device ≡ Some blocks → limit ≡ limits_on x.built.specs (length blocks)
-  pub answered : (s : State) (maps : List LeafMap) → Reaches maps → AreInternal x.schema x.built.files maps s → IsPlayedAs x.schema x.built (Some limit) s (IsSettledIn x.schema x.built x.schema_text x.equation_text x.built.specs mid.now.blocks) opened.script opened.now.said mid.now.said played
+  pub had : OfBlocks device middle (AreOpened schema equation specs)
+  pub holds : (blocks : List (List ℕ)) (maps : List LeafMap) → device_at middle.now device ≡ Some blocks → Reopens schema equation specs maps blocks → Reaches maps
+  pub limit_is : (blocks : List (List ℕ)) → device_at middle.now device ≡ Some blocks → limit ≡ limits_on specs (length blocks)
+  pub answered : (s : State) (maps : List LeafMap) → Reaches maps → AreInternal x.schema x.built.files maps s → IsPlayedAs x.schema x.built (Some limit) s (IsSettledIn x.schema x.built schema equation specs mid.now.blocks) opened.script opened.now.said mid.now.said played
   pub heard : (s : State) (maps : List LeafMap) → Reaches maps → AreInternal x.schema x.built.files maps s → played ≡ Ok tt → mid.script ≡ []
+
+-- the same of the texts and kinds that are read out of what is stored
+pub on_store_told : (device : List ℕ) (x : Stored) (schema equation : List ℕ) (specs : List LeafSpec) (middle opened mid : Content) (limit : Limits) (Reaches : List LeafMap → Type 0) (played : Result (Unit {0}) Ending) → schema ≡ x.schema_text → equation ≡ x.equation_text → specs ≡ x.built.specs → IsOnStore device x schema equation specs middle opened mid limit Reaches played
+    → IsOnStore device x x.schema_text x.equation_text x.built.specs middle opened mid limit Reaches played
+on_store_told device x schema equation specs middle opened mid limit Reaches played p q k is =
+    subst (λ (t : List ℕ). IsOnStore device x t x.equation_text x.built.specs middle opened mid limit Reaches played) p
+    (subst (λ (t : List ℕ). IsOnStore device x schema t x.built.specs middle opened mid limit Reaches played) q
+    (subst (λ (l : List LeafSpec). IsOnStore device x schema equation l middle opened mid limit Reaches played) k is))
+
+pub unopened_told : (device : List ℕ) (x : Stored) (schema equation : List ℕ) (specs : List LeafSpec) (middle : Content) (why : Unopened) → schema ≡ x.schema_text → equation ≡ x.equation_text → specs ≡ x.built.specs → IsUnopened device schema equation specs middle why → IsUnopened device x.schema_text x.equation_text x.built.specs middle why
+unopened_told device x schema equation specs middle why p q k is =
+    subst (λ (t : List ℕ). IsUnopened device t x.equation_text x.built.specs middle why) p
+    (subst (λ (t : List ℕ). IsUnopened device schema t x.built.specs middle why) q
+    (subst (λ (l : List LeafSpec). IsUnopened device schema equation l middle why) k is))
 
 module _ (words : List (List ℕ)) (device : List ℕ) (x : Stored) (old middle : Content) (p : IsStoredFor words old.aside.texts (running device) x) (same : SameContent old middle) where
   abbrev Run : Task
@@ -131,7 +145,7 @@ module _ (words : List (List ℕ)) (device : List ℕ) (x : Stored) (old middle 
       (subst (λ (k : List LeafSpec). Reopens (schema_text x.schema) (equation_text p.definitions) k maps blocks) (sym p.specs_are) is))
 
   -- where the device that is opened holds a state
-  module _ (opened mid : Content) (limit : Limits) (Reaches : List LeafMap → Type 0) (played : Result (Unit {0}) Ending) (o : IsOnStore device x middle opened mid limit Reaches played) where
+  module _ (opened mid : Content) (limit : Limits) (Reaches : List LeafMap → Type 0) (played : Result (Unit {0}) Ending) (o : IsOnStore device x x.schema_text x.equation_text x.built.specs middle opened mid limit Reaches played) where
     reached : (bound : Option Limits) (start : State) → (h : IsHeldOn Run device old bound start) → Reaches h.maps
     reached bound start h = o.holds h.blocks h.maps (there h.blocks h.there) (reopens h.maps h.blocks h.reopens)
 

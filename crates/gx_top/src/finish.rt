@@ -11,11 +11,7 @@ use std::alloc::Global;
 
 /// Says the line of the end of a play, where it has one, and answers the status. After a failed call
 /// nothing is said.
-pub fn finish<M: Machine>(
-    alloc: Global,
-    played: Result<(), Ending<'_>>,
-    machine: &mut M,
-) -> Status
+pub fn finish<M: Machine>(alloc: Global, played: Result<(), Ending<'_>>, machine: &mut M) -> Status
     ensures finished { IsTrue M.tells →
         IsFinished played.entry (M.content machine.old) (M.content machine.new) result }
     ensures outside { result ≡ Status.Outside →

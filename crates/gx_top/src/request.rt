@@ -70,17 +70,21 @@ pub fn top<M: Machine + Drop>(alloc: Global, words: &[String], machine: M) -> (S
             (status, machine)
         }
         Some(Request::Try { schema, equation }) => try_script(alloc, schema, equation, machine),
-        Some(Request::Make {
-            schema,
-            equation,
-            device,
-            blocks,
-        }) => make_database(alloc, schema, equation, device, blocks, machine),
-        Some(Request::Run {
-            schema,
-            equation,
-            device,
-        }) => run_script(alloc, schema, equation, device, machine),
+        Some(
+            Request::Make {
+                schema,
+                equation,
+                device,
+                blocks,
+            },
+        ) => make_database(alloc, schema, equation, device, blocks, machine),
+        Some(
+            Request::Run {
+                schema,
+                equation,
+                device,
+            },
+        ) => run_script(alloc, schema, equation, device, machine),
         None => {
             let status = end(alloc, Ending::Words, &mut machine);
             (status, machine)

@@ -32,8 +32,10 @@ use gx_store::{Store, close, open};
 use gx_types::Built;
 use std::alloc::Global;
 
-/// Recovers the device of that name, hears the script, and plays it there under the texts of these names;
-/// or says the reason where the request is refused or the device is another than was asked for.
+/// Recovers the device of that name, hears the script, and plays it there under the texts of these
+/// names, from the state that the device holds; or says the reason where the request is refused or
+/// the device is another than was asked for. Where the device held a state, it is settled after
+/// `Done`, `Script`, `Memory` and `Full` with the last state that was kept.
 pub fn run_script<M: Machine + Drop>(
     alloc: Global,
     schema: &str,
@@ -69,12 +71,12 @@ fn run_stored<M: Machine + Drop>(
     machine: M,
 ) -> (Status, M)
     requires { IsStored stored }
-    ensures said { CanAttach M.tells (M.content machine) → (words : List (List ℕ)) (old : Content) →
-        SameContent old (M.content machine) →
+    ensures said { CanAttach M.tells (M.content machine) →
+        (words : List (List ℕ)) (old : Content) → SameContent old (M.content machine) →
         IsStoredFor words old.aside.texts (running device.now) stored →
         IsEnd words old (M.content result.1) result.0 }
-    ensures due { CanAttach M.tells (M.content machine) → (words : List (List ℕ)) (old : Content) →
-        SameContent old (M.content machine) →
+    ensures due { CanAttach M.tells (M.content machine) →
+        (words : List (List ℕ)) (old : Content) → SameContent old (M.content machine) →
         IsStoredFor words old.aside.texts (running device.now) stored →
         IsAsDue words old result.0 }
     ensures outside { result.0 ≡ Status.Outside → Rose (M.faults machine) (M.faults result.1) }
@@ -116,8 +118,8 @@ fn play_stored<'a, M: Machine + Drop>(
 ) -> (Result<(), Ending<'a>>, M)
     requires built { AreFor schema built (length (working_of store)) }
     requires well_formed { IsWellFormed schema }
-    ensures answered { IsTrue M.tells → (s : State) (maps : List LeafMap) → HoldsMaps maps store →
-        AreInternal schema built.files maps s → (texts : List ℕ × List ℕ) →
+    ensures answered { IsTrue M.tells → (s : State) (maps : List LeafMap) →
+        HoldsMaps maps store → AreInternal schema built.files maps s → (texts : List ℕ × List ℕ) →
         IsHeadOf texts.0 texts.1 (specs_of (places_in store)) (head_of store) →
         IsPlayedAs schema built
         (Some (limits_of (ground_of (journal_of (pages_of store))) (places_in store))) s

@@ -10,9 +10,9 @@ returns-in-Ok-clause-said g c = λ told.
     let content = g.M.Device.content in
     let old = content c.args.machine in
     let prepared = c.in-Ok.ensures.prepared told in
-    run_end words (try_task words old.aside.texts _ prepared) old (content c.play_script.result.1) (content c.finish-status.new.machine) c.play_script.result.0 c.finish-status.result
-    (try_run words _ old (content c.prepare.new.machine) (content c.play_script.result.1) (content c.finish-status.new.machine) c.play_script.result.0 c.finish-status.result prepared c.in-Ok.ensures.content
-    (c.play_script.ensures.answered told) (c.play_script.ensures.heard told) c.play_script.ensures.ending (c.finish-status.ensures.finished told))
+    run_end words (try_task words old.aside.texts _ prepared) old (content c.play_script-machine.result.1) (content c.finish-status.new.machine) c.play_script-machine.result.0 c.finish-status.result
+    (try_run words _ old (content c.prepare.new.machine) (content c.play_script-machine.result.1) (content c.finish-status.new.machine) c.play_script-machine.result.0 c.finish-status.result prepared c.in-Ok.ensures.content
+    (c.play_script-machine.ensures.answered told) (c.play_script-machine.ensures.heard told) c.play_script-machine.ensures.ending (c.finish-status.ensures.finished told))
 
 pub returns-in-Ok-clause-due : goal.returns-in-Ok-clause-due
 returns-in-Ok-clause-due g c = λ told.
@@ -20,9 +20,9 @@ returns-in-Ok-clause-due g c = λ told.
     let content = g.M.Device.content in
     let old = content c.args.machine in
     let prepared = c.in-Ok.ensures.prepared told in
-    run_due words (try_task words old.aside.texts _ prepared) old (content c.play_script.result.1) (content c.finish-status.new.machine) c.play_script.result.0 c.finish-status.result
-    (try_run words _ old (content c.prepare.new.machine) (content c.play_script.result.1) (content c.finish-status.new.machine) c.play_script.result.0 c.finish-status.result prepared c.in-Ok.ensures.content
-    (c.play_script.ensures.answered told) (c.play_script.ensures.heard told) c.play_script.ensures.ending (c.finish-status.ensures.finished told))
+    run_due words (try_task words old.aside.texts _ prepared) old (content c.play_script-machine.result.1) (content c.finish-status.new.machine) c.play_script-machine.result.0 c.finish-status.result
+    (try_run words _ old (content c.prepare.new.machine) (content c.play_script-machine.result.1) (content c.finish-status.new.machine) c.play_script-machine.result.0 c.finish-status.result prepared c.in-Ok.ensures.content
+    (c.play_script-machine.ensures.answered told) (c.play_script-machine.ensures.heard told) c.play_script-machine.ensures.ending (c.finish-status.ensures.finished told))
 
 pub returns-in-Err-clause-said : goal.returns-in-Err-clause-said
 returns-in-Err-clause-said g c = λ told.
