@@ -38,9 +38,9 @@ use std::alloc::Global;
 ///   of none, and then `stopped: memory`.
 /// - `Outside`: a front was said of what one of the others says.
 ///
-/// After `Done` of `make` an empty database of the texts is on the device of that name, which wasn't there;
-/// after `Refused` and `Device` all devices are as they were. Whatever is answered, the devices of other
-/// names are, and what is there under the new name is no database or an empty one.
+/// After `Done` of `make` an empty database of the texts is on the device of that name, which wasn't
+/// there; after its `Refused` and `Device` all devices are as they were. Whatever it answers, the devices
+/// of other names are, and what is there under a new name is no database or an empty one.
 ///
 /// What is said of `run` after it has opened its device holds where that held a state. `Outside` comes
 /// only where a call of the machine failed in this one, and with any other status none did: the count of
