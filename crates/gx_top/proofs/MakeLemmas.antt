@@ -1,5 +1,5 @@
 -- A device that is made: what was said of it, that the status is due, and what stands on the devices.
-use Rattle.std.proofs.Common.{◌≡◌, ◌≤◌, ℕ, List, [], ◌++◌, true, false, Result, Ok, Err, Some, None, Option, refl, sym, ap, subst, ◌∙◌, arith, inl, inr, length}
+use Rattle.std.proofs.Common.{◌≡◌, ◌≤◌, ℕ, List, [], ◌++◌, true, false, Result, Ok, Err, Some, None, Option, refl, sym, ap, subst, ◌∙◌, arith, inl, inr, length, get_or}
 use Rattle.std.specs.Prelude.{◌⊎◌, ◌≢◌, OnOk, IfErr, IsSome, is_some, replicate}
 use Rattle.std.specs.FinMap.{empty, get}
 use Rattle.gx_device.specs.Content.{Content, Texts, device_at, with_named}
@@ -13,7 +13,7 @@ use Rattle.gx_typing.specs.declared.typing.Typing.{Typing}
 use Rattle.gx_typing.specs.Typed.{leaves, typing_with}
 use Rattle.gx_engine.proofs.StartLemmas.{start_state}
 use Rattle.gx_layout.specs.Layout.{pages_of}
-use Rattle.gx_store.specs.Device.{IsSize, IsMadeOn}
+use Rattle.gx_store.specs.Device.{IsSize, IsMadeOn, IsNoneOrEmpty}
 use Rattle.gx_store.specs.Making.{IsUnmade}
 use Rattle.gx_store.specs.Opening.{is_untouched}
 use Rattle.gx_store.specs.Store.{Attaches, OfBlocks}
@@ -29,13 +29,13 @@ use Rattle.gx_top.specs.declared.status.Status.TheVariants as status
 use Rattle.gx_top.specs.Checked.{IsStoredFor, IsStored}
 use Rattle.gx_top.specs.Devices.{IsToMake, IsUnmakable, IsWrong, IsBefore, CanMake, IsWrongDevice}
 use Rattle.gx_top.specs.Endings.{status_of, IsEnded}
-use Rattle.gx_top.specs.Made.{making_ending, IsMaking, IsNewDatabase, LeavesMade}
+use Rattle.gx_top.specs.Made.{making_ending, IsMaking, IsNewDatabase, LeavesMade, LeavesMadeBy}
 use Rattle.gx_top.specs.Requests.{IsReady, IsUnprepared}
 use Rattle.gx_top.specs.Say.{SameDevices}
 use Rattle.gx_top.specs.Tasks.{Task, IsTask, IsToPlay}
 use Rattle.gx_top.specs.Tries.{IsAsDue, IsDueStatus}
-use Rattle.gx_top.specs.Words.{Action, checking, making, IsCount}
-use Rattle.gx_top.proofs.CompleteLemmas.{one_acceptance, ready_not_refused}
+use Rattle.gx_top.specs.Words.{Action, checking, trying, making, running, request_words, IsCount}
+use Rattle.gx_top.proofs.CompleteLemmas.{same_words, one_acceptance, ready_not_refused}
 use Rattle.gx_top.proofs.EndLemmas.{IsUnhad, unplayed, not_done, not_device}
 
 -- ---- what making a device did
@@ -65,6 +65,12 @@ making_told x schema equation specs device count old new r p q k is free size un
     (subst (λ (e : List ℕ). IsMaking schema e x.built.specs device count old new (making_ending count r)) q
     (subst (λ (ks : List LeafSpec). IsMaking schema equation ks device count old new (making_ending count r)) k
     (made schema equation specs device count old new r is free size un same)))
+
+pub left_told : (x : Stored) (schema equation : List ℕ) (specs : List LeafSpec) (blocks : List (List ℕ)) → schema ≡ x.schema_text → equation ≡ x.equation_text → specs ≡ x.built.specs → IsNoneOrEmpty schema equation specs blocks → IsNoneOrEmpty x.schema_text x.equation_text x.built.specs blocks
+left_told x schema equation specs blocks p q k is =
+    subst (λ (s : List ℕ). IsNoneOrEmpty s x.equation_text x.built.specs blocks) p
+    (subst (λ (e : List ℕ). IsNoneOrEmpty schema e x.built.specs blocks) q
+    (subst (λ (ks : List LeafSpec). IsNoneOrEmpty schema equation ks blocks) k is))
 
 -- what is said changes no device
 pub devices_same : (old new : Content) → SameDevices old new → (name : List ℕ) → device_at new.now name ≡ device_at old.now name
@@ -116,6 +122,8 @@ to_make words texts device digits count x st counted = record { device = device;
 record SameMake {words : List (List ℕ)} {texts : Texts} {count number : ℕ} (r : IsToMake words texts count) (q : IsToMake words texts number) : Type 0 where
   pub devices : r.device ≡ q.device
   pub counts : count ≡ number
+  pub schemas : r.schema ≡ q.schema
+  pub definitions : r.definitions ≡ q.definitions
   pub typings : r.typing ≡ q.typing
 
 one_make : (words : List (List ℕ)) (texts : Texts) (count number : ℕ) (r : IsToMake words texts count) (q : IsToMake words texts number) → SameMake r q
@@ -124,6 +132,8 @@ one_make words texts count number r q =
     record {
       devices = ap device_in same.actions;
       counts = sym r.counted.value_is ∙ ap (λ a. digits_value (digits_in a)) same.actions ∙ q.counted.value_is;
+      schemas = same.schemas;
+      definitions = same.definitions;
       typings = r.ready.0.3.leaves_are ∙ (λ i. typing_with (leaves (same.schemas i) (same.definitions i))) ∙ sym q.ready.0.3.leaves_are;
     }
   where
@@ -148,8 +158,8 @@ not_played : (words : List (List ℕ)) (texts : Texts) (count : ℕ) (t : Task) 
 not_played words texts count t r is =
     subst IsToPlay (one_acceptance words texts t.action (making r.device r.digits) t.schema r.schema t.definitions r.definitions t.typing r.typing is.ready.0 r.ready.0).actions is.to_play
 
-not_checked : (device digits : List ℕ) → checking ≡ making device digits → ⊥
-not_checked device digits e = cc
+pub not_checking : (device digits : List ℕ) → checking ≡ making device digits → ⊥
+not_checking device digits e = cc
 
 -- ---- the status that is due
 
@@ -245,11 +255,11 @@ module _ (words : List (List ℕ)) (device digits : List ℕ) (count : ℕ) (x :
   wrong_here reason (inr q) = wrong_once words old.aside.texts q.0 count q.1 request old reason q.2
 
   due_by : (why : Ending) (s : Status) → Ways x.schema_text x.equation_text x.built.specs device count mid end why → IsEnded why end new s → (t : Status) → IsDueStatus words old t → s ≢ status.Outside → (s ≡ t) ⊎ (s ≡ status.Memory)
-  due_by why s w e status.Done (inl playable) outside = absurd (not_played words old.aside.texts count playable.task request playable.is)
+  due_by why s w e status.Done (inl playable) outside = absurd (not_played words old.aside.texts count playable.0 request playable.1)
   due_by why s w e status.Done (inr (inl check)) outside =
-      absurd (not_checked device digits (one_acceptance words old.aside.texts checking (making device digits) check.0 x.schema check.1 st.definitions check.2 st.typing check.3 st.ready.0).actions)
+      absurd (not_checking device digits (one_acceptance words old.aside.texts checking (making device digits) check.0 x.schema check.1 st.definitions check.2 st.typing check.3 st.ready.0).actions)
   due_by why s w e status.Done (inr (inr can)) outside = can_due why s w e can outside
-  due_by why s w e status.Script stopped outside = absurd (not_played words old.aside.texts count stopped.2.task request stopped.2.is)
+  due_by why s w e status.Script stopped outside = absurd (not_played words old.aside.texts count stopped.2.0 request stopped.2.1)
   due_by why s w e status.Device wrong outside = wrong_due why s wrong.why w e (wrong_here wrong.why wrong.wrong) outside
   due_by why s w e status.Refused refused outside = absurd (ready_not_refused words old.aside.texts (making device digits) x.schema st.definitions st.typing refused.0 st.ready refused.1)
   due_by why s w e status.Memory due outside = absurd due
@@ -324,16 +334,29 @@ module _ (words : List (List ℕ)) (device digits : List ℕ) (count : ℕ) (x :
       never : status.Outside ≡ status.Device → ⊥
       never f = cc
 
-  left_by : (why : Ending) (s : Status) → IsStored x → Ways x.schema_text x.equation_text x.built.specs device count mid end why → Attaches device mid end → SameDevices end new → IsEnded why end new s → LeavesMade words device old new s
-  left_by why s can w attaches same e = record {
+  -- what may be left after any answer
+  abbrev IsLeft : Type 0
+  IsLeft = device_at mid.now device ≡ None → (blocks : List (List ℕ)) → device_at end.now device ≡ Some blocks → IsNoneOrEmpty x.schema_text x.equation_text x.built.specs blocks
+
+  opens_then : IsLeft → SameDevices end new → device_at old.now device ≡ None → (blocks : List (List ℕ)) → device_at new.now device ≡ Some blocks → (number : ℕ) (r : IsToMake words old.aside.texts number) → IsNoneOrEmpty (schema_text r.schema) (equation_text r.definitions) r.typing.specs blocks
+  opens_then left same free blocks there number r =
+      let once = one_make words old.aside.texts count number request r in
+      subst (λ (s : List ℕ). IsNoneOrEmpty s (equation_text r.definitions) r.typing.specs blocks) (st.schema_text_is ∙ ap schema_text once.schemas)
+      (subst (λ (e : List ℕ). IsNoneOrEmpty x.schema_text e r.typing.specs blocks) (st.equation_text_is ∙ ap equation_text once.definitions)
+      (subst (λ (ks : List LeafSpec). IsNoneOrEmpty x.schema_text x.equation_text ks blocks) (st.specs_are ∙ ap (λ (t : Typing). t.specs) once.typings)
+      (left (subst (λ m. device_at m device ≡ None) (sym before) free) blocks (sym (devices_same end new same device) ∙ there))))
+
+  left_by : (why : Ending) (s : Status) → IsStored x → Ways x.schema_text x.equation_text x.built.specs device count mid end why → Attaches device mid end → IsLeft → SameDevices end new → IsEnded why end new s → LeavesMade words device old new s
+  left_by why s can w attaches left same e = record {
     done = λ is. done_left why can w same (status_is why end new s status.Done e is (λ f. cc) (λ f. cc));
     refused = λ is. absurd (not_refused why w (status_is why end new s status.Refused e is (λ f. cc) (λ f. cc)));
     wrong = λ is. devices_same end new same device ∙ wrong_left why w (status_is why end new s status.Device e is (λ f. cc) (λ f. cc)) ∙ ap (λ m. device_at m device) before;
     others = λ other ne. devices_same end new same other ∙ attaches.others other ne ∙ ap (λ m. device_at m other) before;
+    opens = opens_then left same;
   }
 
-  pub made_left : (why : Ending) (s : Status) → IsStored x → IsMaking x.schema_text x.equation_text x.built.specs device count mid end why → Attaches device mid end → SameDevices end new → IsEnded why end new s → LeavesMade words device old new s
-  made_left why s can m attaches same e = left_by why s can (ways x.schema_text x.equation_text x.built.specs device count mid end why m) attaches same e
+  pub made_left : (why : Ending) (s : Status) → IsStored x → IsMaking x.schema_text x.equation_text x.built.specs device count mid end why → Attaches device mid end → IsLeft → SameDevices end new → IsEnded why end new s → LeavesMade words device old new s
+  made_left why s can m attaches left same e = left_by why s can (ways x.schema_text x.equation_text x.built.specs device count mid end why m) attaches left same e
 
 -- ---- a request that isn't carried out
 
@@ -343,4 +366,26 @@ unprepared_left words device old mid new before now why s is stays same e = reco
   refused = λ d. record { blocks = same.blocks ∙ ap (λ m. m.blocks) stays; shelf = same.shelf ∙ ap (λ m. m.shelf) stays };
   wrong = λ d. absurd (not_device (status_of why) (unplayed words old before now why is) (sym (status_is why mid new s status.Device e d (λ f. cc) (λ f. cc))));
   others = λ other ne. devices_same mid new same other ∙ ap (λ m. device_at m other) stays;
+  opens = λ free blocks there count r. absurd (never blocks (sym there ∙ devices_same mid new same device ∙ ap (λ m. device_at m device) stays ∙ free));
 }
+  where
+    never : (blocks : List (List ℕ)) → ◌≡◌ {A = Option (List (List ℕ))} (Some blocks) None → ⊥
+    never blocks f = cc
+
+-- ---- of all requests
+
+pub made_by_words : (words : List (List ℕ)) (d e m n s t f g : List ℕ) (old new : Content) (given : Status) → words ≡ request_words (making d m) s f → words ≡ request_words (making e n) t g → LeavesMade (request_words (making d m) s f) d old new given → LeavesMade words e old new given
+made_by_words words d e m n s t f g old new given p q left =
+    subst (λ (k : List ℕ). LeavesMade words k old new given) (ap (λ (ws : List (List ℕ)). get_or ws 3 []) (sym p ∙ q))
+    (subst (λ (ws : List (List ℕ)). LeavesMade ws d old new given) (sym p) left)
+
+-- no other request asks for a device to be made
+pub not_made_too : (words : List (List ℕ)) (a : Action) (s e : List ℕ) (old new : Content) (given : Status) → words ≡ request_words a s e → ((device digits : List ℕ) → a ≡ making device digits → ⊥) → LeavesMadeBy words old new given
+not_made_too words a s e old new given is other =
+    λ device digits schema equation counted made free. absurd (other device digits (same_words words a (making device digits) s schema e equation is made).actions)
+
+pub not_trying : (device digits : List ℕ) → trying ≡ making device digits → ⊥
+not_trying device digits e = cc
+
+pub not_running : (name device digits : List ℕ) → running name ≡ making device digits → ⊥
+not_running name device digits e = cc

@@ -1,7 +1,9 @@
 // The request to make a device with an empty database.
-ghost use Rattle.std.specs.Prelude.{◌≡◌, ◌≢◌, ◌≤◌, List, ℕ, false};
+ghost use Rattle.std.specs.Prelude.{◌≡◌, ◌≢◌, ◌≤◌, List, ℕ, false, Some, None};
+ghost use Rattle.gx_device.specs.Content.{device_at};
 ghost use Rattle.gx_device.specs.Faults.{Rose};
 ghost use Rattle.gx_layout.specs.Layout.{pages_of};
+ghost use Rattle.gx_store.specs.Device.{IsNoneOrEmpty};
 ghost use Rattle.gx_store.specs.Store.{CanAttach, Attaches};
 ghost use Rattle.gx_top.specs.Words.{IsCount, making, request_words};
 ghost use Rattle.gx_top.specs.Checked.{IsStored};
@@ -44,7 +46,7 @@ pub fn make_database<M: Machine + Drop>(
     let mut machine = machine;
     match prepare_stored(alloc, schema, equation, &mut machine) {
         Ok(stored) => {
-            let (ending, mut machine) = make_stored(alloc, &stored, device, blocks, machine);
+            let (ending, mut machine) = make_stored(alloc, stored, device, blocks, machine);
             let status = end(alloc, ending, &mut machine);
             (status, machine)
         }
@@ -58,29 +60,39 @@ pub fn make_database<M: Machine + Drop>(
 // Makes the device and an empty database of what is stored on it, and tells how the request ends.
 fn make_stored<'a, M: Machine + Drop>(
     alloc: Global,
-    stored: &Stored,
+    stored: Stored,
     device: &str,
     blocks: u32,
     machine: M,
 ) -> (Ending<'a>, M)
-    requires { IsStored stored.now }
+    requires { IsStored stored }
     ensures made { CanAttach M.tells (M.content machine) →
-        IsMaking stored.now.schema_text stored.now.equation_text stored.now.built.specs device.now
+        IsMaking stored.schema_text stored.equation_text stored.built.specs device.now
         blocks (M.content machine) (M.content result.1) result.0 }
     ensures attaches { CanAttach M.tells (M.content machine) →
         Attaches device.now (M.content machine) (M.content result.1) }
+    ensures left { CanAttach M.tells (M.content machine) →
+        device_at (M.content machine).now device.now ≡ None → (made : List (List ℕ)) →
+        device_at (M.content result.1).now device.now ≡ Some made → IsNoneOrEmpty
+        stored.schema_text stored.equation_text stored.built.specs made }
     ensures fault { result.0 ≡ Ending.Fault → Rose (M.faults machine) (M.faults result.1) }
     ensures counted { is_outside result.0 ≡ false → M.faults result.1 ≡ M.faults machine }
     ensures later { M.faults machine ≤ M.faults result.1 }
 {
+    let Stored {
+        built,
+        schema_text,
+        equation_text,
+        ..
+    } = stored;
     let (made, machine) = make(
         alloc,
         machine,
         device,
         blocks,
-        stored.schema_text.as_slice(),
-        stored.equation_text.as_slice(),
-        &stored.built.specs.0,
+        schema_text.as_slice(),
+        equation_text.as_slice(),
+        &built.specs.0,
     );
     (making_ending(made, blocks), machine)
 }

@@ -1,6 +1,7 @@
 // A request from its words to its end.
 ghost use Rattle.std.specs.Prelude.{IsTrue};
 ghost use Rattle.gx_top.specs.Words.{texts_of};
+ghost use Rattle.gx_top.specs.Made.{LeavesMadeBy};
 ghost use Rattle.gx_top.specs.Requests.{IsFree};
 ghost use Rattle.gx_top.specs.Tries.{IsEnd, IsAsDue, CountsOutside};
 
@@ -37,6 +38,10 @@ use std::alloc::Global;
 ///   of none, and then `stopped: memory`.
 /// - `Outside`: a front was said of what one of the others says.
 ///
+/// After `Done` of `make` an empty database of the texts is on the device of that name, which wasn't
+/// there; after its `Refused` and `Device` all devices are as they were. Whatever it answers, the devices
+/// of other names are, and what is there under a new name is no database or an empty one.
+///
 /// What is said of `run` after it has opened its device holds where that held a state. `Outside` comes
 /// only where a call of the machine failed in this one, and with any other status none did: the count of
 /// faults is as before. Both hold on every machine. So where none failed, a request for whose refusal
@@ -52,6 +57,9 @@ pub fn top<M: Machine + Drop>(alloc: Global, words: &[String], machine: M) -> (S
     // When each status is due.
     ensures due { IsTrue M.tells → IsFree (texts_of words.now) (M.content machine) →
         IsAsDue (texts_of words.now) (M.content machine) result.0 }
+    // What `make` leaves on the devices.
+    ensures made { IsTrue M.tells → LeavesMadeBy (texts_of words.now) (M.content machine)
+        (M.content result.1) result.0 }
     // No failure is passed over, on any machine.
     ensures failures { CountsOutside (M.faults machine) (M.faults result.1) result.0 }
 {

@@ -8,9 +8,15 @@ use gx_tokens::signed_number;
 #[derive(Clone, Copy, Debug)]
 pub enum Request<'a> {
     /// To tell whether the two are accepted.
-    Check { schema: &'a str, equation: &'a str },
+    Check {
+        schema: &'a str,
+        equation: &'a str,
+    },
     /// To play the script over leaves in memory.
-    Try { schema: &'a str, equation: &'a str },
+    Try {
+        schema: &'a str,
+        equation: &'a str,
+    },
     /// To make a device of that name with so many blocks, and an empty database on it.
     Make {
         schema: &'a str,

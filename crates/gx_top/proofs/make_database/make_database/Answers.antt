@@ -10,12 +10,12 @@ returns-in-Ok-clause-said g c = λ can digits counted.
     let words = request_words (making c.args.device.now digits) c.args.schema.now c.args.equation.now in
     let old = g.M.Device.content c.args.machine in
     let mid = g.M.Device.content c.prepare_stored.new.machine in
-    let after = g.M.Device.content c.make_stored.result.1 in
+    let after = g.M.Device.content c.make_stored-machine.result.1 in
     let free : CanAttach g.M.Device.tells mid = record { told = can.told; free = ap (λ n. n.shelf.name) c.in-Ok.ensures.content.now ∙ can.free } in
-    unhad_end words old after (g.M.Device.content c.end-status.new.machine) c.make_stored.result.0 c.end-status.result
-    (unhad words c.args.device.now digits c.args.blocks c.in-Ok.stored old mid after after (c.in-Ok.ensures.ready can.told (making c.args.device.now digits) (_, counted) tt) counted c.in-Ok.ensures.content.now c.make_stored.result.0 (c.make_stored.ensures.made free))
-    ((c.make_stored.ensures.attaches free).said ∙ ap (λ n. n.said) c.in-Ok.ensures.content.now)
-    ((c.make_stored.ensures.attaches free).script ∙ c.in-Ok.ensures.content.script)
+    unhad_end words old after (g.M.Device.content c.end-status.new.machine) c.make_stored-machine.result.0 c.end-status.result
+    (unhad words c.args.device.now digits c.args.blocks c.in-Ok.stored old mid after after (c.in-Ok.ensures.ready can.told (making c.args.device.now digits) (_, counted) tt) counted c.in-Ok.ensures.content.now c.make_stored-machine.result.0 (c.make_stored-machine.ensures.made free))
+    ((c.make_stored-machine.ensures.attaches free).said ∙ ap (λ n. n.said) c.in-Ok.ensures.content.now)
+    ((c.make_stored-machine.ensures.attaches free).script ∙ c.in-Ok.ensures.content.script)
     (record {
       status_is = c.end-status.ensures.status;
       said = c.end-status.ensures.said can.told;
@@ -31,10 +31,10 @@ returns-in-Ok-clause-due g c = λ can digits counted.
     let words = request_words (making c.args.device.now digits) c.args.schema.now c.args.equation.now in
     let old = g.M.Device.content c.args.machine in
     let mid = g.M.Device.content c.prepare_stored.new.machine in
-    let after = g.M.Device.content c.make_stored.result.1 in
+    let after = g.M.Device.content c.make_stored-machine.result.1 in
     let free : CanAttach g.M.Device.tells mid = record { told = can.told; free = ap (λ n. n.shelf.name) c.in-Ok.ensures.content.now ∙ can.free } in
-    made_due words c.args.device.now digits c.args.blocks c.in-Ok.stored old mid after (g.M.Device.content c.end-status.new.machine) (c.in-Ok.ensures.ready can.told (making c.args.device.now digits) (_, counted) tt) counted c.in-Ok.ensures.content.now c.make_stored.result.0 c.end-status.result
-    (c.make_stored.ensures.made free)
+    made_due words c.args.device.now digits c.args.blocks c.in-Ok.stored old mid after (g.M.Device.content c.end-status.new.machine) (c.in-Ok.ensures.ready can.told (making c.args.device.now digits) (_, counted) tt) counted c.in-Ok.ensures.content.now c.make_stored-machine.result.0 c.end-status.result
+    (c.make_stored-machine.ensures.made free)
     (record {
       status_is = c.end-status.ensures.status;
       said = c.end-status.ensures.said can.told;
@@ -50,10 +50,10 @@ returns-in-Ok-clause-left g c = λ can digits counted.
     let words = request_words (making c.args.device.now digits) c.args.schema.now c.args.equation.now in
     let old = g.M.Device.content c.args.machine in
     let mid = g.M.Device.content c.prepare_stored.new.machine in
-    let after = g.M.Device.content c.make_stored.result.1 in
+    let after = g.M.Device.content c.make_stored-machine.result.1 in
     let free : CanAttach g.M.Device.tells mid = record { told = can.told; free = ap (λ n. n.shelf.name) c.in-Ok.ensures.content.now ∙ can.free } in
-    made_left words c.args.device.now digits c.args.blocks c.in-Ok.stored old mid after (g.M.Device.content c.end-status.new.machine) (c.in-Ok.ensures.ready can.told (making c.args.device.now digits) (_, counted) tt) counted c.in-Ok.ensures.content.now c.make_stored.result.0 c.end-status.result
-    c.in-Ok.ensures.stored (c.make_stored.ensures.made free) (c.make_stored.ensures.attaches free) c.end-status.ensures.devices
+    made_left words c.args.device.now digits c.args.blocks c.in-Ok.stored old mid after (g.M.Device.content c.end-status.new.machine) (c.in-Ok.ensures.ready can.told (making c.args.device.now digits) (_, counted) tt) counted c.in-Ok.ensures.content.now c.make_stored-machine.result.0 c.end-status.result
+    c.in-Ok.ensures.stored (c.make_stored-machine.ensures.made free) (c.make_stored-machine.ensures.attaches free) (c.make_stored-machine.ensures.left free) c.end-status.ensures.devices
     (record {
       status_is = c.end-status.ensures.status;
       said = c.end-status.ensures.said can.told;

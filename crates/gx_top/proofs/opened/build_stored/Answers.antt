@@ -4,12 +4,8 @@ use Rattle.gx_types.specs.Build.{heads_built}
 use Rattle.gx_typing.specs.declared.typing.Typing.{Typing}
 use Rattle.gx_engine.proofs.StartLemmas.{are_storable}
 use Rattle.gx_leaves.specs.Kinds.{are_built}
-use Rattle.gx_top.proofs.RequestLemmas.{built_alone, heads_alone, kinds_alone}
+use Rattle.gx_top.proofs.RequestLemmas.{built_alone, kinds_alone}
 use Rattle.gx_top.proofs.opened.build_stored.Goals as goal
-
-pub build-built-requires-clause-built : goal.build-built-requires-clause-built
-build-built-requires-clause-built c =
-    heads_alone c.args.checked.schema (definitions_of c.args.checked.equation.definitions) c.args.checked.typing (sym c.is_built_on_device.ensures ∙ c.if-not-is_built_on_device.false)
 
 pub returns-clause-built : goal.returns-clause-built
 returns-clause-built c = record {

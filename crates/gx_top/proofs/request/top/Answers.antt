@@ -1,8 +1,9 @@
 use Rattle.std.proofs.Common.{refl, sym, ap, subst, ◌∙◌, inl}
 use Rattle.gx_top.specs.Tries.{IsEnd, IsAsDue}
-use Rattle.gx_top.specs.Words.{texts_of, making, running, IsRequest}
+use Rattle.gx_top.specs.Words.{texts_of, checking, trying, making, running, IsRequest}
 use Rattle.gx_top.specs.declared.ending.Ending.TheVariants as ending
 use Rattle.gx_top.proofs.EndLemmas.{unprepared_end, unprepared_due}
+use Rattle.gx_top.proofs.MakeLemmas.{made_by_words, not_made_too, not_checking, not_trying, not_running}
 use Rattle.gx_top.proofs.request.top.Goals as goal
 
 pub returns-in-Some-Check-clause-said : goal.returns-in-Some-Check-clause-said
@@ -72,3 +73,24 @@ returns-in-None-clause-due g c = λ told free.
       silent = c.end-status.ensures.silent told;
       script = c.end-status.ensures.rest.script;
     })
+
+pub returns-in-Some-Check-clause-made : goal.returns-in-Some-Check-clause-made
+returns-in-Some-Check-clause-made g c = λ told.
+    not_made_too (texts_of c.args.words.now) checking _ _ (g.M.Device.content c.args.machine) (g.M.Device.content c.check-status.new.machine) c.check-status.result (subst (IsRequest (texts_of c.args.words.now)) c.in-Some-Check.field-0-is c.in-Some-Check.ensures.some) not_checking
+
+pub returns-in-Some-Try-clause-made : goal.returns-in-Some-Try-clause-made
+returns-in-Some-Try-clause-made g c = λ told.
+    not_made_too (texts_of c.args.words.now) trying _ _ (g.M.Device.content c.args.machine) (g.M.Device.content c.try_script.result.1) c.try_script.result.0 (subst (IsRequest (texts_of c.args.words.now)) c.in-Some-Try.field-0-is c.in-Some-Try.ensures.some) not_trying
+
+pub returns-in-Some-Make-clause-made : goal.returns-in-Some-Make-clause-made
+returns-in-Some-Make-clause-made g c = λ told device digits schema equation counted made free.
+    let is = subst (IsRequest (texts_of c.args.words.now)) c.in-Some-Make.field-0-is c.in-Some-Make.ensures.some in
+    made_by_words (texts_of c.args.words.now) _ device is.0 digits _ schema _ equation (g.M.Device.content c.args.machine) (g.M.Device.content c.make_database.result.1) c.make_database.result.0 is.2 made
+    (c.make_database.ensures.left (record { told = told; free = free }) is.0 is.1)
+
+pub returns-in-Some-Run-clause-made : goal.returns-in-Some-Run-clause-made
+returns-in-Some-Run-clause-made g c = λ told.
+    not_made_too (texts_of c.args.words.now) (running _) _ _ (g.M.Device.content c.args.machine) (g.M.Device.content c.run_script.result.1) c.run_script.result.0 (subst (IsRequest (texts_of c.args.words.now)) c.in-Some-Run.field-0-is c.in-Some-Run.ensures.some) (not_running _)
+
+pub returns-in-None-clause-made : goal.returns-in-None-clause-made
+returns-in-None-clause-made g c = λ told device digits schema equation counted made free. absurd (c.in-None.ensures.none refl (making device digits) schema equation counted made)
