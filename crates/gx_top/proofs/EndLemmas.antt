@@ -416,12 +416,12 @@ pub record IsRun (words : List (List ℕ)) (t : Task) (old mid new : Content) (p
   pub finished : IsFinished played mid new s
 
 -- the status of a play that ends at a line or with a stop
-abbrev IsStopStatus : Status → Type 0
+abbrev pub IsStopStatus : Status → Type 0
 IsStopStatus status.Done = ⊥
 IsStopStatus status.Refused = ⊥
 IsStopStatus s = Unit {0}
 
-stop_status : (why : Ending) → IsPlayEnding why → IsStopStatus (status_of why)
+pub stop_status : (why : Ending) → IsPlayEnding why → IsStopStatus (status_of why)
 stop_status (ending.Line number why) is = tt
 stop_status ending.Fault is = tt
 stop_status ending.NoMemory is = tt

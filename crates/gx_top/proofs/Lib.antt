@@ -13,3 +13,4 @@ mod EndLemmas
 mod TaskLemmas
 mod StoreLemmas
 mod MakeLemmas
+mod RanLemmas

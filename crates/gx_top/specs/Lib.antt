@@ -10,4 +10,5 @@ pub mod Plays
 pub mod Tasks
 pub mod Devices
 pub mod Made
+pub mod Ran
 pub mod Tries

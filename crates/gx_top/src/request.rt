@@ -2,6 +2,7 @@
 ghost use Rattle.std.specs.Prelude.{IsTrue};
 ghost use Rattle.gx_top.specs.Words.{texts_of};
 ghost use Rattle.gx_top.specs.Made.{LeavesMadeBy};
+ghost use Rattle.gx_top.specs.Ran.{LeavesRunBy};
 ghost use Rattle.gx_top.specs.Requests.{IsFree};
 ghost use Rattle.gx_top.specs.Tries.{IsEnd, IsAsDue, CountsOutside};
 
@@ -59,6 +60,9 @@ pub fn top<M: Machine + Drop>(alloc: Global, words: &[String], machine: M) -> (S
         IsAsDue (texts_of words.now) (M.content machine) result.0 }
     // What `make` leaves on the devices.
     ensures made { IsTrue M.tells → LeavesMadeBy (texts_of words.now) (M.content machine)
+        (M.content result.1) result.0 }
+    // What `run` leaves on the devices, beside that which it plays on.
+    ensures ran { IsTrue M.tells → LeavesRunBy (texts_of words.now) (M.content machine)
         (M.content result.1) result.0 }
     // No failure is passed over, on any machine.
     ensures failures { CountsOutside (M.faults machine) (M.faults result.1) result.0 }

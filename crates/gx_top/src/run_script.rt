@@ -19,6 +19,7 @@ ghost use Rattle.gx_top.specs.Checked.{IsStored, IsStoredFor};
 ghost use Rattle.gx_top.specs.Endings.{IsPlayEnding, is_fault};
 ghost use Rattle.gx_top.specs.Plays.{IsPlayedAs};
 ghost use Rattle.gx_top.specs.Tasks.{IsSettledIn};
+ghost use Rattle.gx_top.specs.Ran.{LeavesRun};
 ghost use Rattle.gx_top.specs.Tries.{IsEnd, IsAsDue};
 
 use crate::ending::{Ending, end};
@@ -35,7 +36,8 @@ use std::alloc::Global;
 /// Recovers the device of that name, hears the script, and plays it there under the texts of these
 /// names, from the state that the device holds; or says the reason where the request is refused or
 /// the device is another than was asked for. Where the device held a state, it is settled after
-/// `Done`, `Script`, `Memory` and `Full` with the last state that was kept.
+/// `Done`, `Script`, `Memory` and `Full` with the last state that was kept. Devices of other names stay,
+/// and after `Refused` all.
 pub fn run_script<M: Machine + Drop>(
     alloc: Global,
     schema: &str,
@@ -49,6 +51,8 @@ pub fn run_script<M: Machine + Drop>(
     ensures due { CanAttach M.tells (M.content machine) →
         IsAsDue (request_words (running device.now) schema.now equation.now) (M.content machine)
         result.0 }
+    ensures left { CanAttach M.tells (M.content machine) →
+        LeavesRun device.now (M.content machine) (M.content result.1) result.0 }
     ensures outside { result.0 ≡ Status.Outside → Rose (M.faults machine) (M.faults result.1) }
     ensures counted { result.0 ≢ Status.Outside → M.faults result.1 ≡ M.faults machine }
     ensures later { M.faults machine ≤ M.faults result.1 }
@@ -79,6 +83,8 @@ fn run_stored<M: Machine + Drop>(
         (words : List (List ℕ)) (old : Content) → SameContent old (M.content machine) →
         IsStoredFor words old.aside.texts (running device.now) stored →
         IsAsDue words old result.0 }
+    ensures left { CanAttach M.tells (M.content machine) →
+        LeavesRun device.now (M.content machine) (M.content result.1) result.0 }
     ensures outside { result.0 ≡ Status.Outside → Rose (M.faults machine) (M.faults result.1) }
     ensures counted { result.0 ≢ Status.Outside → M.faults result.1 ≡ M.faults machine }
     ensures later { M.faults machine ≤ M.faults result.1 }

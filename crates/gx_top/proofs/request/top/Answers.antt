@@ -4,6 +4,7 @@ use Rattle.gx_top.specs.Words.{texts_of, checking, trying, making, running, IsRe
 use Rattle.gx_top.specs.declared.ending.Ending.TheVariants as ending
 use Rattle.gx_top.proofs.EndLemmas.{unprepared_end, unprepared_due}
 use Rattle.gx_top.proofs.MakeLemmas.{made_by_words, not_made_too, not_checking, not_trying, not_running}
+use Rattle.gx_top.proofs.RanLemmas.{not_ran, ran_by_words, check_is_no_run, try_is_no_run, make_is_no_run}
 use Rattle.gx_top.proofs.request.top.Goals as goal
 
 pub returns-in-Some-Check-clause-said : goal.returns-in-Some-Check-clause-said
@@ -94,3 +95,25 @@ returns-in-Some-Run-clause-made g c = λ told.
 
 pub returns-in-None-clause-made : goal.returns-in-None-clause-made
 returns-in-None-clause-made g c = λ told device digits schema equation counted made free. absurd (c.in-None.ensures.none refl (making device digits) schema equation counted made)
+
+pub returns-in-Some-Check-clause-ran : goal.returns-in-Some-Check-clause-ran
+returns-in-Some-Check-clause-ran g c = λ told.
+    not_ran (texts_of c.args.words.now) checking _ _ (g.M.Device.content c.args.machine) (g.M.Device.content c.check-status.new.machine) c.check-status.result (subst (IsRequest (texts_of c.args.words.now)) c.in-Some-Check.field-0-is c.in-Some-Check.ensures.some) check_is_no_run
+
+pub returns-in-Some-Try-clause-ran : goal.returns-in-Some-Try-clause-ran
+returns-in-Some-Try-clause-ran g c = λ told.
+    not_ran (texts_of c.args.words.now) trying _ _ (g.M.Device.content c.args.machine) (g.M.Device.content c.try_script.result.1) c.try_script.result.0 (subst (IsRequest (texts_of c.args.words.now)) c.in-Some-Try.field-0-is c.in-Some-Try.ensures.some) try_is_no_run
+
+pub returns-in-Some-Make-clause-ran : goal.returns-in-Some-Make-clause-ran
+returns-in-Some-Make-clause-ran g c = λ told.
+    let is = subst (IsRequest (texts_of c.args.words.now)) c.in-Some-Make.field-0-is c.in-Some-Make.ensures.some in
+    not_ran (texts_of c.args.words.now) (making _ is.0) _ _ (g.M.Device.content c.args.machine) (g.M.Device.content c.make_database.result.1) c.make_database.result.0 is.2 (make_is_no_run _ is.0)
+
+pub returns-in-Some-Run-clause-ran : goal.returns-in-Some-Run-clause-ran
+returns-in-Some-Run-clause-ran g c = λ told device schema equation too free.
+    let is = subst (IsRequest (texts_of c.args.words.now)) c.in-Some-Run.field-0-is c.in-Some-Run.ensures.some in
+    ran_by_words (texts_of c.args.words.now) _ device _ schema _ equation (g.M.Device.content c.args.machine) (g.M.Device.content c.run_script.result.1) c.run_script.result.0 is too
+    (c.run_script.ensures.left (record { told = told; free = free }))
+
+pub returns-in-None-clause-ran : goal.returns-in-None-clause-ran
+returns-in-None-clause-ran g c = λ told device schema equation too free. absurd (c.in-None.ensures.none refl (running device) schema equation tt too)

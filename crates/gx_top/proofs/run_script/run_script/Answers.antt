@@ -2,6 +2,7 @@ use Rattle.std.proofs.Common.{ap, ◌∙◌}
 use Rattle.gx_store.specs.Store.{CanAttach}
 use Rattle.gx_top.specs.Words.{running, request_words}
 use Rattle.gx_top.proofs.EndLemmas.{unprepared_end, unprepared_due}
+use Rattle.gx_top.proofs.RanLemmas.{left_since, unprepared_ran}
 use Rattle.gx_top.proofs.run_script.run_script.Goals as goal
 
 pub returns-in-Ok-clause-said : goal.returns-in-Ok-clause-said
@@ -47,3 +48,13 @@ returns-in-Err-clause-due g c = λ can.
       silent = c.end-status.ensures.silent can.told;
       script = c.end-status.ensures.rest.script;
     })
+
+pub returns-in-Ok-clause-left : goal.returns-in-Ok-clause-left
+returns-in-Ok-clause-left g c = λ can.
+    let mid = g.M.Device.content c.prepare_stored.new.machine in
+    let free : CanAttach g.M.Device.tells mid = record { told = can.told; free = ap (λ n. n.shelf.name) c.in-Ok.ensures.content.now ∙ can.free } in
+    left_since c.args.device.now (g.M.Device.content c.args.machine) mid (g.M.Device.content c.run_stored.result.1) c.run_stored.result.0 c.in-Ok.ensures.content.now (c.run_stored.ensures.left free)
+
+pub returns-in-Err-clause-left : goal.returns-in-Err-clause-left
+returns-in-Err-clause-left g c = λ can.
+    unprepared_ran c.args.device.now (g.M.Device.content c.args.machine) (g.M.Device.content c.prepare_stored.new.machine) (g.M.Device.content c.end-status.new.machine) c.end-status.result c.in-Err.ensures.content.now c.end-status.ensures.devices

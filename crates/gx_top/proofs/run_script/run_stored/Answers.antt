@@ -6,11 +6,13 @@ use Rattle.gx_pages.specs.Paged.{ground_of}
 use Rattle.gx_pages.specs.View.{journal_of}
 use Rattle.gx_store.specs.Device.{IsHeadOf}
 use Rattle.gx_store.specs.Store.{HoldsMaps, machine_of}
+use Rattle.gx_top.specs.Endings.{IsEnded}
 use Rattle.gx_top.specs.Plays.{IsPlayedAs}
 use Rattle.gx_top.specs.Tasks.{IsSettledIn}
 use Rattle.gx_top.proofs.EndLemmas.{IsUnhad, run_end, run_due, unhad_end, unhad_due}
 use Rattle.gx_top.proofs.StoreLemmas.{limit_on}
 use Rattle.gx_top.proofs.TaskLemmas.{run_task, run_is_task, device_run, on_store_told, unopened_told, unopened_unhad}
+use Rattle.gx_top.proofs.RanLemmas.{played_left, unopened_left}
 use Rattle.gx_top.proofs.run_script.run_stored.Goals as goal
 
 pub returns-in-Ok-clause-said : goal.returns-in-Ok-clause-said
@@ -73,7 +75,7 @@ pub returns-in-Err-clause-said : goal.returns-in-Err-clause-said
 returns-in-Err-clause-said g c = λ can words old same stored.
     let content = g.M.Device.content in
     let had = unopened_unhad words c.args.device.now c.args.stored old (content c.args.machine) stored same c.in-Err.why
-        (unopened_told c.args.device.now c.args.stored c.as_slice.result.now c.as_slice-2.result.now c.deref.result.now (content c.args.machine) c.in-Err.why c.as_slice.ensures c.as_slice-2.ensures (search rules) (c.in-Err.ensures.unopened can)) in
+    (unopened_told c.args.device.now c.args.stored c.as_slice.result.now c.as_slice-2.result.now c.deref.result.now (content c.args.machine) c.in-Err.why c.as_slice.ensures c.as_slice-2.ensures (search rules) (c.in-Err.ensures.unopened can)) in
     unhad_end words old (content c.in-Err.machine) (content c.end-status.new.machine) c.unopened_ending.result c.end-status.result
     (subst (IsUnhad words old) (sym c.unopened_ending.ensures) had)
     ((c.in-Err.ensures.attaches can).said ∙ ap (λ n. n.said) same.now)
@@ -92,7 +94,7 @@ pub returns-in-Err-clause-due : goal.returns-in-Err-clause-due
 returns-in-Err-clause-due g c = λ can words old same stored.
     let content = g.M.Device.content in
     let had = unopened_unhad words c.args.device.now c.args.stored old (content c.args.machine) stored same c.in-Err.why
-        (unopened_told c.args.device.now c.args.stored c.as_slice.result.now c.as_slice-2.result.now c.deref.result.now (content c.args.machine) c.in-Err.why c.as_slice.ensures c.as_slice-2.ensures (search rules) (c.in-Err.ensures.unopened can)) in
+    (unopened_told c.args.device.now c.args.stored c.as_slice.result.now c.as_slice-2.result.now c.deref.result.now (content c.args.machine) c.in-Err.why c.as_slice.ensures c.as_slice-2.ensures (search rules) (c.in-Err.ensures.unopened can)) in
     unhad_due words old (content c.in-Err.machine) (content c.end-status.new.machine) c.unopened_ending.result c.end-status.result
     (run_task words old.aside.texts c.args.device.now c.args.stored stored)
     (subst (IsUnhad words old) (sym c.unopened_ending.ensures) had)
@@ -106,3 +108,24 @@ returns-in-Err-clause-due g c = λ can words old same stored.
       silent = c.end-status.ensures.silent can.told;
       script = c.end-status.ensures.rest.script;
     })
+
+pub returns-in-Ok-clause-left : goal.returns-in-Ok-clause-left
+returns-in-Ok-clause-left g c = λ can.
+    let content = g.M.Device.content in
+    played_left c.args.device.now (content c.args.machine) (content (machine_of c.in-Ok.store)) (content c.play_stored-machine.result.1) (content c.finish-status.new.machine) c.play_stored-machine.result.0 c.finish-status.result
+    (c.in-Ok.ensures.attaches can) (c.in-Ok.ensures.named can) c.play_stored-machine.ensures.shelf c.finish-status.ensures.devices c.play_stored-machine.ensures.ending (c.finish-status.ensures.finished can.told)
+
+pub returns-in-Err-clause-left : goal.returns-in-Err-clause-left
+returns-in-Err-clause-left g c = λ can.
+    let content = g.M.Device.content in
+    unopened_left c.args.device.now (content c.args.machine) (content c.in-Err.machine) (content c.end-status.new.machine) c.in-Err.why c.end-status.result
+    (c.in-Err.ensures.attaches can) c.end-status.ensures.devices
+    (subst (λ w. IsEnded w (content c.in-Err.machine) (content c.end-status.new.machine) c.end-status.result) c.unopened_ending.ensures (record {
+      status_is = c.end-status.ensures.status;
+      said = c.end-status.ensures.said can.told;
+      memory = c.end-status.ensures.memory can.told;
+      cut = c.end-status.ensures.cut can.told;
+      fault = c.end-status.ensures.fault;
+      silent = c.end-status.ensures.silent can.told;
+      script = c.end-status.ensures.rest.script;
+    }))
