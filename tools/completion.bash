@@ -4,8 +4,10 @@ _genesis() {
     local word=${COMP_WORDS[COMP_CWORD]}
     COMPREPLY=()
     case $COMP_CWORD in
-        1) mapfile -t COMPREPLY < <(compgen -W 'check try --prove --version --help' -- "$word") ;;
-        2 | 3) [[ ${COMP_WORDS[1]} == @(check|try) ]] &&
+        1) mapfile -t COMPREPLY < <(compgen -W 'check try make run --prove --version --help' -- "$word") ;;
+        2 | 3) [[ ${COMP_WORDS[1]} == @(check|try|make|run) ]] &&
+            mapfile -t COMPREPLY < <(compgen -f -- "$word") ;;
+        4) [[ ${COMP_WORDS[1]} == @(make|run) ]] &&
             mapfile -t COMPREPLY < <(compgen -f -- "$word") ;;
     esac
 }

@@ -1,48 +1,69 @@
--- A request that can be carried out isn't refused, and its schema is one.
+-- A request that can be carried out isn't refused, its device isn't wrong, and its schema is one.
 use Rattle.std.proofs.Common.{◌≡◌, ℕ, ◌<◌, List, [], length, get_or, Bool, true, false, Result, Ok, Err, Option, Some, None, refl, sym, ap, subst, ◌∙◌, arith, inl, inr}
 use Rattle.std.specs.Prelude.{◌⊎◌, ◌≢◌, IsSomeAnd, codes}
 use Rattle.std.specs.FinMap.{get}
-use Rattle.gx_device.specs.Content.{Content, Texts}
+use Rattle.gx_device.specs.Content.{Content, Texts, device_at}
+use Rattle.gx_ports.specs.LeafMaps.{Limits}
 use Rattle.gx_tokens.specs.declared.why.Unread.{Unread}
 use Rattle.gx_tokens.specs.declared.why.Unread.TheVariants as unread
+use Rattle.gx_tokens.specs.Reading.{with_line}
 use Rattle.gx_schema.specs.declared.schema.Schema.{Schema}
+use Rattle.gx_schema.specs.Printing.{schema_text}
+use Rattle.gx_schema.proofs.SchemaLaws.{schema_again, one_schema}
 use Rattle.gx_script.specs.declared.command.LineWhy.{LineWhy}
 use Rattle.gx_script.specs.Lines.{script_lines}
-use Rattle.gx_model.specs.States.{State, empty_state}
-use Rattle.gx_model.specs.Play.{Playing, End, good, stopped, start_at}
-use Rattle.gx_model.proofs.RunLemmas.{play_once}
-use Rattle.gx_top.specs.declared.ending.Ending.{Ending}
-use Rattle.gx_top.specs.declared.ending.Ending.TheVariants as ending
-use Rattle.gx_top.specs.declared.status.Status.{Status}
-use Rattle.gx_top.specs.declared.status.Status.TheVariants as status
-use Rattle.gx_tokens.specs.Reading.{with_line}
-use Rattle.gx_schema.proofs.SchemaLaws.{schema_again, one_schema}
 use Rattle.gx_equation.specs.Grammar.{Means}
+use Rattle.gx_equation.specs.Printing.{equation_text}
 use Rattle.gx_equation.specs.Trees.{DefinitionTree}
 use Rattle.gx_equation.proofs.Again.{meaning_again, one_meaning}
 use Rattle.gx_typing.specs.declared.typing.Typing.{Typing}
 use Rattle.gx_typing.specs.Typed.{IsTyped, leaves, typing_with}
 use Rattle.gx_typing.specs.Typing.{Mistake}
 use Rattle.gx_typing.proofs.TypedLaws.{again as typed_again}
-use Rattle.gx_top.specs.declared.summary.Summary.{Summary}
-use Rattle.gx_top.specs.Built.{is_built, text_length}
-use Rattle.gx_top.specs.Endings.{status_of, IsOutside, IsTryStatus}
-use Rattle.gx_top.specs.Requests.{IsText, IsThere, IsTooLong, IsNamed, IsAsked, AreRead, AreAccepted, AreUnaccepted, IsAccepted, IsRunnable, IsSummary, IsRefused, IsUnprepared, equation_of, text_limit}
-use Rattle.gx_top.specs.Tries.{Says, IsPlay, IsPlayText, IsStoppedText, IsTry, IsPlayable, IsStoppable, IsCheckable}
-use Rattle.gx_top.specs.Words.{Action, checking, trying, request_words, word_of}
+use Rattle.gx_model.specs.States.{State}
+use Rattle.gx_model.specs.Play.{Playing, End, good, stopped, start_at}
+use Rattle.gx_model.proofs.RunLemmas.{play_once}
+use Rattle.gx_layout.specs.Head.{HasMagic}
+use Rattle.gx_store.specs.Device.{IsSize, HasTexts}
+use Rattle.gx_top.specs.declared.ending.DeviceWhy.{DeviceWhy}
+use Rattle.gx_top.specs.declared.ending.DeviceWhy.TheVariants as device_why
+use Rattle.gx_top.specs.declared.ending.Ending.{Ending}
+use Rattle.gx_top.specs.declared.ending.Ending.TheVariants as ending
+use Rattle.gx_top.specs.declared.status.Status.{Status}
+use Rattle.gx_top.specs.declared.status.Status.TheVariants as status
+use Rattle.gx_top.specs.Built.{text_length}
+use Rattle.gx_top.specs.Endings.{status_of, IsOutside}
+use Rattle.gx_top.specs.Requests.{IsText, IsThere, IsTooLong, IsNamed, IsAsked, AreRead, AreAccepted, AreUnaccepted, IsAccepted, is_carried, IsReady, IsRefused, IsUnprepared, equation_of, text_limit}
+use Rattle.gx_top.specs.Played.{IsPlay, IsPlayText, IsStoppedText}
+use Rattle.gx_top.specs.Tasks.{Task, IsTask, IsToPlay, IsHeldOn, IsStart, IsFrom}
+use Rattle.gx_top.specs.Devices.{IsToMake, IsWrongOn, IsWrong, IsBefore}
+use Rattle.gx_top.specs.Tries.{IsCheckable}
+use Rattle.gx_top.specs.Words.{Action, checking, trying, making, running, request_words}
 
 -- the words of one request are those of no other
-word_once : (a b : Action) → word_of a ≡ word_of b → a ≡ b
-word_once checking checking e = refl
-word_once trying trying e = refl
-word_once checking trying e = absurd (never e)
+action_once : (a b : Action) (s t e f : List ℕ) → request_words a s e ≡ request_words b t f → a ≡ b
+action_once checking checking s t e f same = refl
+action_once trying trying s t e f same = refl
+action_once (making d n) (making c m) s t e f same = λ i. making (get_or (same i) 3 []) (get_or (same i) 4 [])
+action_once (running d) (running c) s t e f same = λ i. running (get_or (same i) 3 [])
+action_once checking trying s t e f same = absurd (never (ap (λ (ws : List (List ℕ)). get_or ws 0 []) same))
   where
     never : codes "check" ≡ codes "try" → ⊥
-    never f = cc
-word_once trying checking e = absurd (never e)
+    never g = cc
+action_once trying checking s t e f same = absurd (never (ap (λ (ws : List (List ℕ)). get_or ws 0 []) same))
   where
     never : codes "try" ≡ codes "check" → ⊥
-    never f = cc
+    never g = cc
+action_once checking (making c m) s t e f same = absurd (let many : 3 ≡ 5 = ap (λ (ws : List (List ℕ)). length ws) same in omega (arith, many))
+action_once checking (running c) s t e f same = absurd (let many : 3 ≡ 4 = ap (λ (ws : List (List ℕ)). length ws) same in omega (arith, many))
+action_once trying (making c m) s t e f same = absurd (let many : 3 ≡ 5 = ap (λ (ws : List (List ℕ)). length ws) same in omega (arith, many))
+action_once trying (running c) s t e f same = absurd (let many : 3 ≡ 4 = ap (λ (ws : List (List ℕ)). length ws) same in omega (arith, many))
+action_once (making d n) checking s t e f same = absurd (let many : 5 ≡ 3 = ap (λ (ws : List (List ℕ)). length ws) same in omega (arith, many))
+action_once (making d n) trying s t e f same = absurd (let many : 5 ≡ 3 = ap (λ (ws : List (List ℕ)). length ws) same in omega (arith, many))
+action_once (making d n) (running c) s t e f same = absurd (let many : 5 ≡ 4 = ap (λ (ws : List (List ℕ)). length ws) same in omega (arith, many))
+action_once (running d) checking s t e f same = absurd (let many : 4 ≡ 3 = ap (λ (ws : List (List ℕ)). length ws) same in omega (arith, many))
+action_once (running d) trying s t e f same = absurd (let many : 4 ≡ 3 = ap (λ (ws : List (List ℕ)). length ws) same in omega (arith, many))
+action_once (running d) (making c m) s t e f same = absurd (let many : 4 ≡ 5 = ap (λ (ws : List (List ℕ)). length ws) same in omega (arith, many))
 
 pub record SameWords (a b : Action) (s t e f : List ℕ) : Type 0 where
   pub actions : a ≡ b
@@ -53,7 +74,7 @@ pub same_words : (words : List (List ℕ)) (a b : Action) (s t e f : List ℕ) �
 same_words words a b s t e f p q =
     let same : request_words a s e ≡ request_words b t f = sym p ∙ q in
     record {
-      actions = word_once a b (ap (λ (ws : List (List ℕ)). get_or ws 0 []) same);
+      actions = action_once a b s t e f same;
       schemas = ap (λ (ws : List (List ℕ)). get_or ws 1 []) same;
       equations = ap (λ (ws : List (List ℕ)). get_or ws 2 []) same;
     }
@@ -167,7 +188,7 @@ OnlyUnbuilt ending.NotBuilt = Unit {0}
 OnlyUnbuilt other = ⊥
 
 not_refused : (words : List (List ℕ)) (texts : Texts) (a : Action) (schema : Schema) (ds : List DefinitionTree) (typing : Typing) (why : Ending) → IsAccepted words texts a schema ds typing → IsRefused words texts why → OnlyUnbuilt why
-not_refused words texts a schema ds typing ending.Words is r = r a is.2.schema_name is.2.equation_name is.2.words_are
+not_refused words texts a schema ds typing ending.Words is r = r a is.2.schema_name is.2.equation_name is.2.counted is.2.words_are
 not_refused words texts a schema ds typing (ending.Missing name) is r = not_missing texts name.now (named words texts name.now a is.0 is.1 is.2 r.0) r.1
 not_refused words texts a schema ds typing (ending.TooLong name) is r = not_long texts name.now (named words texts name.now a is.0 is.1 is.2 r.0) r.1
 not_refused words texts a schema ds typing (ending.Schema line why) is r = not_refused_by_texts words texts a is.0 is.1 schema ds typing (ending.Schema line why) is.2 is.3 r
@@ -185,31 +206,35 @@ not_refused words texts a schema ds typing (ending.Line number why) is r = r.4
 
 -- ---- two acceptances of the same words
 
-record SameRequest (a b : Action) (schema other : Schema) (ds fs : List DefinitionTree) : Type 0 where
+pub record SameRequest (a b : Action) (schema other : Schema) (ds fs : List DefinitionTree) (typing more : Typing) : Type 0 where
   pub actions : a ≡ b
   pub schemas : schema ≡ other
   pub definitions : ds ≡ fs
+  pub typings : typing ≡ more
 
-one_acceptance : (words : List (List ℕ)) (texts : Texts) (a b : Action) (schema other : Schema) (ds fs : List DefinitionTree) (typing more : Typing) → IsAccepted words texts a schema ds typing → IsAccepted words texts b other fs more → SameRequest a b schema other ds fs
+pub one_acceptance : (words : List (List ℕ)) (texts : Texts) (a b : Action) (schema other : Schema) (ds fs : List DefinitionTree) (typing more : Typing) → IsAccepted words texts a schema ds typing → IsAccepted words texts b other fs more → SameRequest a b schema other ds fs typing more
 one_acceptance words texts a b schema other ds fs typing more x y =
     let same = one_request words texts a b x.0 y.0 x.1 y.1 x.2 y.2 in
     let read = one_reading y.0 y.1 schema other ds fs x.3.lines y.3.lines (subst (λ t. AreRead t y.1 schema ds x.3.lines) same.schemas (subst (λ f. AreRead x.0 f schema ds x.3.lines) same.equations x.3.read)) y.3.read in
-    record { actions = same.actions; schemas = read.schemas; definitions = read.definitions }
+    record {
+      actions = same.actions;
+      schemas = read.schemas;
+      definitions = read.definitions;
+      typings = x.3.leaves_are ∙ (λ i. typing_with (leaves (read.schemas i) (read.definitions i))) ∙ sym y.3.leaves_are;
+    }
 
--- what is played isn't checked
-pub not_both_asked : trying ≡ checking → ⊥
-not_both_asked e = cc
+-- what can be carried out can be in each reading of the words
+carried_once : (words : List (List ℕ)) (texts : Texts) (a b : Action) (schema other : Schema) (ds fs : List DefinitionTree) (typing more : Typing) → IsAccepted words texts a schema ds typing → IsAccepted words texts b other fs more → is_carried a schema ds typing ≡ true → is_carried b other fs more ≡ true
+carried_once words texts a b schema other ds fs typing more x y is =
+    let same = one_acceptance words texts a b schema other ds fs typing more x y in
+    (λ i. is_carried (sym same.actions i) (sym same.schemas i) (sym same.definitions i) (sym same.typings i)) ∙ is
 
-pub runnable_once : (words : List (List ℕ)) (texts : Texts) (s t : Schema) → IsRunnable words texts s → IsRunnable words texts t → s ≡ t
-runnable_once words texts s t x y = (one_acceptance words texts trying trying s t x.0 y.0 x.1 y.1 x.2 y.2).schemas
-
-pub runnable_not_refused : (words : List (List ℕ)) (texts : Texts) (schema : Schema) (why : Ending) → IsRunnable words texts schema → IsRefused words texts why → ⊥
-runnable_not_refused words texts schema why x r = by_reason why r (not_refused words texts trying schema x.0 x.1 why x.2 r)
+-- what can be carried out is refused for no reason
+pub ready_not_refused : (words : List (List ℕ)) (texts : Texts) (a : Action) (schema : Schema) (ds : List DefinitionTree) (typing : Typing) (why : Ending) → IsReady words texts a schema ds typing → IsRefused words texts why → ⊥
+ready_not_refused words texts a schema ds typing why x r = by_reason why r (not_refused words texts a schema ds typing why x.0 r)
   where
     by_reason : (why : Ending) → IsRefused words texts why → OnlyUnbuilt why → ⊥
-    by_reason ending.NotBuilt r only =
-        let same = one_acceptance words texts trying trying schema r.0 x.0 r.1 x.1 r.2 x.2 r.3 in
-        not_both (is_built r.0 r.1) (subst (λ (k : Schema). is_built k r.1 ≡ true) same.schemas (subst (λ fs. is_built schema fs ≡ true) same.definitions x.3)) r.4
+    by_reason ending.NotBuilt r only = not_both (is_carried r.0 r.1 r.2 r.3) (carried_once words texts a r.0 schema r.1 ds r.2 typing r.3 x.0 r.4 x.1) r.5
     by_reason ending.Words r only = only
     by_reason (ending.Missing name) r only = only
     by_reason (ending.TooLong name) r only = only
@@ -226,78 +251,90 @@ runnable_not_refused words texts schema why x r = by_reason why r (not_refused w
     by_reason (ending.Line number reason) r only = only
 
 pub checkable_not_refused : (words : List (List ℕ)) (before : Content) (why : Ending) → IsCheckable words before → IsRefused words before.aside.texts why → ⊥
-checkable_not_refused words before why x r = by_reason why r (not_refused words before.aside.texts checking x.0 x.1 x.2 why x.3 r)
+checkable_not_refused words before why x r = ready_not_refused words before.aside.texts checking x.0 x.1 x.2 why (x.3, refl) r
+
+-- the words ask for one script to be played
+pub one_task : (words : List (List ℕ)) (texts : Texts) (t u : Task) → IsTask words texts t → IsTask words texts u → t ≡ u
+one_task words texts t u x y =
+    let same = one_acceptance words texts t.action u.action t.schema u.schema t.definitions u.definitions t.typing u.typing x.ready.0 y.ready.0 in
+    λ i. record { action = same.actions i; schema = same.schemas i; definitions = same.definitions i; typing = same.typings i }
+
+-- where they ask for another thing, for none
+pub to_play : (words : List (List ℕ)) (texts : Texts) (t : Task) (a : Action) (schema : Schema) (ds : List DefinitionTree) (typing : Typing) → IsTask words texts t → IsAccepted words texts a schema ds typing → IsToPlay a
+to_play words texts t a schema ds typing x y = subst IsToPlay (one_acceptance words texts t.action a t.schema schema t.definitions ds t.typing typing x.ready.0 y).actions x.to_play
+
+pub checked_no_task : (words : List (List ℕ)) (before : Content) (t : Task) → IsTask words before.aside.texts t → IsCheckable words before → ⊥
+checked_no_task words before t x y = to_play words before.aside.texts t checking y.0 y.1 y.2 x y.3
+
+pub made_no_task : (words : List (List ℕ)) (texts : Texts) (t : Task) (blocks : ℕ) → IsTask words texts t → IsToMake words texts blocks → ⊥
+made_no_task words texts t blocks x y = to_play words texts t (making y.device y.digits) y.schema y.definitions y.typing x y.ready.0
+
+checking_not_making : (device digits : List ℕ) → checking ≡ making device digits → ⊥
+checking_not_making device digits e = cc
+
+pub checked_not_made : (words : List (List ℕ)) (before : Content) (blocks : ℕ) → IsCheckable words before → IsToMake words before.aside.texts blocks → ⊥
+checked_not_made words before blocks x y = checking_not_making y.device y.digits (one_acceptance words before.aside.texts checking (making y.device y.digits) x.0 y.schema x.1 y.definitions x.2 y.typing x.3 y.ready.0).actions
+
+-- a request whose device is wrong isn't refused
+pub wrong_not_refused : (words : List (List ℕ)) (before : Content) (wrong : DeviceWhy) (why : Ending) → IsWrong words before wrong → IsRefused words before.aside.texts why → ⊥
+wrong_not_refused words before wrong why (inl run) r = ready_not_refused words before.aside.texts run.task.action run.task.schema run.task.definitions run.task.typing why run.is.ready r
+wrong_not_refused words before wrong why (inr make) r = ready_not_refused words before.aside.texts (making make.1.device make.1.digits) make.1.schema make.1.definitions make.1.typing why make.1.ready r
+
+-- texts that are to be checked name no device
+pub checked_not_wrong : (words : List (List ℕ)) (before : Content) (wrong : DeviceWhy) → IsCheckable words before → IsWrong words before wrong → ⊥
+checked_not_wrong words before wrong x (inl run) = checked_no_task words before run.task run.is x
+checked_not_wrong words before wrong x (inr make) = checked_not_made words before make.0 x make.1
+
+-- ---- a device that holds a state isn't wrong
+
+some_blocks : (a b : List (List ℕ)) → Some a ≡ Some b → a ≡ b
+some_blocks a b e = ap (λ (o : Option (List (List ℕ))). blocks_or a o) e
   where
-    by_reason : (why : Ending) → IsRefused words before.aside.texts why → OnlyUnbuilt why → ⊥
-    by_reason ending.NotBuilt r only = not_both_asked (sym (one_acceptance words before.aside.texts checking trying x.0 r.0 x.1 r.1 x.2 r.2 x.3 r.3).actions)
-    by_reason ending.Words r only = only
-    by_reason (ending.Missing name) r only = only
-    by_reason (ending.TooLong name) r only = only
-    by_reason (ending.Schema line reason) r only = only
-    by_reason (ending.Equation line reason) r only = only
-    by_reason (ending.Type line reason) r only = only
-    by_reason ending.TextsTooLong r only = only
-    by_reason (ending.Accepted summary) r only = only
-    by_reason ending.Full r only = only
-    by_reason (ending.Device wrong) r only = only
-    by_reason (ending.Made blocks pages) r only = only
-    by_reason ending.NoMemory r only = only
-    by_reason ending.Fault r only = only
-    by_reason (ending.Line number reason) r only = only
+    blocks_or : List (List ℕ) → Option (List (List ℕ)) → List (List ℕ)
+    blocks_or d (Some t) = t
+    blocks_or d None = d
 
--- ---- where the play of the script ends good
+same_blocks : (device : List ℕ) (before : Content) (a b : List (List ℕ)) → device_at before.now device ≡ Some a → device_at before.now device ≡ Some b → a ≡ b
+same_blocks device before a b x y = some_blocks a b (sym x ∙ y)
 
-pub not_stopped : (schema : Schema) (start : State) (old new : Content) (s : Status) → ((answers : List ℕ) × (final : Playing) × IsPlay schema start old.script answers final good) → (s ≡ status.Script → Says (IsStoppedText schema start old.script) old new) → s ≢ status.Script
-not_stopped schema start old new s play stops e =
-    let text = stops e in
-    let once = play_once schema (start_at start) (script_lines old.script) play.0 text.1.2.answers play.1 text.1.2.final good (stopped text.1.0 text.1.1) play.2 text.1.2.play in
-    never text.1.0 text.1.1 once.2
-  where
-    never : (number : ℕ) (why : LineWhy) → ◌≡◌ {A = End} good (stopped number why) → ⊥
-    never number why f = cc
+-- nor one that has a size, the magic and these texts
+pub had_not_wrong : (device : List ℕ) (t : Task) (before : Content) (wrong : DeviceWhy) (blocks : List (List ℕ)) → device_at before.now device ≡ Some blocks → IsSize t.typing.specs (length blocks) → HasMagic (get_or blocks 0 []) → HasTexts (schema_text t.schema) (equation_text t.definitions) blocks → IsBefore wrong → IsWrongOn device t before wrong → ⊥
+had_not_wrong device t before device_why.Missing blocks there size magic texts early is = some_not_none blocks (sym there ∙ is)
+had_not_wrong device t before device_why.Exists blocks there size magic texts early is = is
+had_not_wrong device t before device_why.Size blocks there size magic texts early is =
+    is.2 (subst (λ b. IsSize t.typing.specs (length b)) (same_blocks device before blocks is.0 there is.1) size)
+had_not_wrong device t before device_why.NoDatabase blocks there size magic texts early is =
+    is.2.1 (subst (λ (b : List (List ℕ)). HasMagic (get_or b 0 [])) (same_blocks device before blocks is.0 there is.1) magic)
+had_not_wrong device t before (device_why.OtherEquation place) blocks there size magic texts early is =
+    is.2.2.1 (subst (λ (b : List (List ℕ)). HasTexts (schema_text t.schema) (equation_text t.definitions) b) (same_blocks device before blocks is.0 there is.1) texts place is.2.2.0)
+had_not_wrong device t before (device_why.Damaged block) blocks there size magic texts early is = early
 
-done_or_memory : (s : Status) → IsTryStatus s → s ≢ status.Script → s ≢ status.Outside → (s ≡ status.Done) ⊎ (s ≡ status.Memory)
-done_or_memory status.Done r l o = inl refl
-done_or_memory status.Memory r l o = inr refl
-done_or_memory status.Refused r l o = absurd r
-done_or_memory status.Full r l o = absurd r
-done_or_memory status.Device r l o = absurd r
-done_or_memory status.Script r l o = absurd (l refl)
-done_or_memory status.Outside r l o = absurd (o refl)
+pub held_not_wrong : (device : List ℕ) (t : Task) (before : Content) (limit : Option Limits) (s : State) (wrong : DeviceWhy) → IsBefore wrong → IsWrongOn device t before wrong → IsHeldOn t device before limit s → ⊥
+held_not_wrong device t before limit s wrong early is held = had_not_wrong device t before wrong held.blocks held.there held.reopens.size held.reopens.magic held.reopens.texts early is
 
--- the schema can be played on: it is that of the request
-pub played_complete : (words : List (List ℕ)) (schema : Schema) (old mid new : Content) (s : Status) → IsRunnable words old.aside.texts schema → mid.script ≡ old.script → IsPlayable words old → IsTryStatus s → (s ≡ status.Script → Says (IsStoppedText schema (empty_state schema) mid.script) mid new) → s ≢ status.Outside → (s ≡ status.Done) ⊎ (s ≡ status.Memory)
-played_complete words schema old mid new s accepted script playable refused stops outside =
-    let same = runnable_once words old.aside.texts playable.0 schema playable.1 accepted in
-    let play : (answers : List ℕ) × (final : Playing) × IsPlay schema (empty_state schema) mid.script answers final good = (playable.2.0, playable.2.1, subst (λ (t : List ℕ). IsPlay schema (empty_state schema) t playable.2.0 playable.2.1 good) (sym script) (subst (λ (k : Schema). IsPlay k (empty_state k) old.script playable.2.0 playable.2.1 good) same playable.2.2)) in
-    done_or_memory s refused (not_stopped schema (empty_state schema) mid new s play stops) outside
+-- the same of the words
+pub start_not_wrong : (words : List (List ℕ)) (before : Content) (t : Task) (limit : Option Limits) (s : State) (wrong : DeviceWhy) → IsTask words before.aside.texts t → IsBefore wrong → IsWrong words before wrong → IsFrom t before limit s → ⊥
+start_not_wrong words before t limit s wrong x early (inl run) from =
+    let same = one_task words before.aside.texts t run.task x run.is in
+    held_not_wrong run.device run.task before limit s wrong early run.wrong
+    (subst (λ a. IsStart a run.task before limit s) run.action_is (subst (λ u. IsFrom u before limit s) same from))
+start_not_wrong words before t limit s wrong x early (inr make) from = made_no_task words before.aside.texts t make.0 x make.1
 
--- ---- where it ends at a line
+-- ---- where a script can be played to an end
 
-pub not_done : (schema : Schema) (start : State) (old new : Content) (s : Status) → ((number : ℕ) × (why : LineWhy) × (answers : List ℕ) × (final : Playing) × IsPlay schema start old.script answers final (stopped number why)) → (s ≡ status.Done → Says (IsPlayText schema start old.script good) old new) → s ≢ status.Done
-not_done schema start old new s play dones e =
-    let text = dones e in
-    let once = play_once schema (start_at start) (script_lines old.script) text.1.answers play.2 text.1.final play.3 good (stopped play.0 play.1) text.1.play play.4 in
-    never play.0 play.1 once.2
-  where
-    never : (number : ℕ) (why : LineWhy) → ◌≡◌ {A = End} good (stopped number why) → ⊥
-    never number why f = cc
+good_not_stopped : (number : ℕ) (why : LineWhy) → ◌≡◌ {A = End} good (stopped number why) → ⊥
+good_not_stopped number why e = cc
 
-script_or_memory : (s : Status) → IsTryStatus s → s ≢ status.Done → s ≢ status.Outside → (s ≡ status.Script) ⊎ (s ≡ status.Memory)
-script_or_memory status.Script r d o = inl refl
-script_or_memory status.Memory r d o = inr refl
-script_or_memory status.Refused r d o = absurd r
-script_or_memory status.Full r d o = absurd r
-script_or_memory status.Device r d o = absurd r
-script_or_memory status.Done r d o = absurd (d refl)
-script_or_memory status.Outside r d o = absurd (o refl)
+-- it has one end
+pub one_end : (schema : Schema) (start : State) (script : List ℕ) (answers : List ℕ) (final : Playing) (end close : End) (text : List ℕ) (kept : State) → IsPlay schema start script answers final end → IsPlayText schema start script close text kept → end ≡ close
+one_end schema start script answers final end close text kept play is =
+    (play_once schema (start_at start) (script_lines script) answers is.answers final is.final end close play is.play).2
 
-pub stopped_complete : (words : List (List ℕ)) (schema : Schema) (old mid new : Content) (s : Status) → IsRunnable words old.aside.texts schema → mid.script ≡ old.script → IsStoppable words old → IsTryStatus s → (s ≡ status.Done → Says (IsPlayText schema (empty_state schema) mid.script good) mid new) → s ≢ status.Outside → (s ≡ status.Script) ⊎ (s ≡ status.Memory)
-stopped_complete words schema old mid new s accepted script stoppable refused dones outside =
-    let same = runnable_once words old.aside.texts stoppable.0 schema stoppable.1 accepted in
-    let end : End = stopped stoppable.2.0 stoppable.2.1 in
-    let play : IsPlay schema (empty_state schema) mid.script stoppable.2.2 stoppable.2.3 end = subst (λ (t : List ℕ). IsPlay schema (empty_state schema) t stoppable.2.2 stoppable.2.3 end) (sym script) (subst (λ (k : Schema). IsPlay k (empty_state k) old.script stoppable.2.2 stoppable.2.3 end) same stoppable.2.4) in
-    script_or_memory s refused (not_done schema (empty_state schema) mid new s (stoppable.2.0, stoppable.2.1, stoppable.2.2, stoppable.2.3, play) dones) outside
+pub not_stopped : (schema : Schema) (start : State) (script : List ℕ) (answers : List ℕ) (final : Playing) (text : List ℕ) (kept : State) → IsPlay schema start script answers final good → IsStoppedText schema start script text kept → ⊥
+not_stopped schema start script answers final text kept play is = good_not_stopped is.0 is.1 (one_end schema start script answers final good (stopped is.0 is.1) text kept play is.2)
+
+pub not_good : (schema : Schema) (start : State) (script : List ℕ) (answers : List ℕ) (final : Playing) (number : ℕ) (why : LineWhy) (text : List ℕ) (kept : State) → IsPlay schema start script answers final (stopped number why) → IsPlayText schema start script good text kept → ⊥
+not_good schema start script answers final number why text kept play is = good_not_stopped number why (sym (one_end schema start script answers final (stopped number why) good text kept play is))
 
 -- ---- where the request isn't refused, and can't be carried out
 
@@ -328,10 +365,6 @@ unprepared_memory words texts before now why s (inr out) never is fault outside 
     by_ending ending.TextsTooLong s out is fault outside = absurd out
     by_ending (ending.Line number why) s out is fault outside = absurd out
 
--- what is prepared is what was asked
-pub checked_not_played : (words : List (List ℕ)) (before : Content) (schema : Schema) → IsCheckable words before → IsRunnable words before.aside.texts schema → ⊥
-checked_not_played words before schema x y = not_both_asked (sym (one_acceptance words before.aside.texts checking trying x.0 schema x.1 y.0 x.2 y.1 x.3 y.2).actions)
-
 -- a line that was to be said was said, or there was no memory for it
 pub said_complete : (s : Status) → (s ≢ status.Outside → s ≢ status.Memory → s ≡ status.Done) → s ≢ status.Outside → (s ≡ status.Done) ⊎ (s ≡ status.Memory)
 said_complete status.Done is outside = inl refl
@@ -341,10 +374,6 @@ said_complete status.Refused is outside = inl (is outside (λ e. cc))
 said_complete status.Script is outside = inl (is outside (λ e. cc))
 said_complete status.Full is outside = inl (is outside (λ e. cc))
 said_complete status.Device is outside = inl (is outside (λ e. cc))
-
--- a script isn't heard where it isn't to be played
-pub checked_no_try : (words : List (List ℕ)) (texts : Texts) (summary : Summary) → IsSummary words texts summary → IsTry words → ⊥
-checked_no_try words texts summary is try = not_both_asked (same_words words trying checking try.0 is.3.2.schema_name try.1 is.3.2.equation_name try.2 is.3.2.words_are).actions
 
 -- ---- where there is a reason to refuse
 

@@ -1,32 +1,35 @@
 -- How a request ends: what is said and heard, and that the status is the one that is due.
-use Rattle.std.proofs.Common.{◌≡◌, ℕ, List, [], ◌++◌, refl, sym, ◌∙◌, inl, inr}
-use Rattle.std.specs.Prelude.{◌⊎◌, ◌≢◌}
+use Rattle.std.proofs.Common.{◌≡◌, ℕ, List, [], ◌++◌, take, Result, Ok, Err, Option, refl, sym, ap, subst, ◌∙◌, inl, inr}
+use Rattle.std.specs.Prelude.{◌⊎◌, ◌≢◌, IfErr}
+use Rattle.std.proofs.lemmas.List.{append-nil}
 use Rattle.gx_device.specs.Content.{Content}
 use Rattle.gx_device.specs.Faults.{Rose}
-use Rattle.gx_schema.specs.declared.schema.Schema.{Schema}
-use Rattle.gx_model.specs.States.{empty_state}
-use Rattle.gx_model.specs.Play.{good}
+use Rattle.gx_ports.specs.LeafMaps.{Limits}
+use Rattle.gx_script.specs.declared.command.LineWhy.{LineWhy}
+use Rattle.gx_types.specs.declared.built.Built.{Built}
+use Rattle.gx_types.specs.Build.{AreTreesOfFiles}
+use Rattle.gx_layout.specs.Layout.{pages_of}
+use Rattle.gx_model.specs.States.{State}
+use Rattle.gx_model.specs.Play.{good, stopped}
+use Rattle.gx_top.specs.declared.ending.DeviceWhy.{DeviceWhy}
+use Rattle.gx_top.specs.declared.ending.DeviceWhy.TheVariants as device_why
 use Rattle.gx_top.specs.declared.ending.Ending.{Ending}
 use Rattle.gx_top.specs.declared.ending.Ending.TheVariants as ending
 use Rattle.gx_top.specs.declared.status.Status.{Status}
 use Rattle.gx_top.specs.declared.status.Status.TheVariants as status
 use Rattle.gx_top.specs.declared.summary.Summary.{Summary}
-use Rattle.gx_top.specs.Endings.{line_of, status_of, memory_line, IsOutside, IsTryStatus}
-use Rattle.gx_top.specs.Requests.{IsRunnable, IsSummary, IsUnprepared}
+use Rattle.gx_top.specs.Endings.{line_of, status_of, memory_line, device_line, made_line, IsOutside, IsPlayEnding, IsEnded, IsFinished}
+use Rattle.gx_top.specs.Requests.{IsRefused, IsSummary, IsUnprepared}
 use Rattle.gx_top.specs.Say.{IsCut}
-use Rattle.gx_top.specs.Tries.{Says, SaysFront, IsPlayText, IsStoppedText, IsShortText, IsTryText, IsSaid, IsEnd, IsAsDue}
-use Rattle.gx_top.proofs.TryLemmas.{refused_says, memory_says, unprepared_front, check_done, check_front, run_done, run_says, run_memory, run_front}
-use Rattle.gx_top.proofs.CompleteLemmas.{refused_status, unprepared_memory, unprepared_refuses, runnable_not_refused, checkable_not_refused, checked_not_played, checked_no_try, said_complete, played_complete, stopped_complete}
-
--- what was said of an ending, and the status that it gave
-pub record IsEnded (why : Ending) (old new : Content) (s : Status) : Type 0 where
-  pub status_is : s ≢ status.Outside → s ≢ status.Memory → s ≡ status_of why
-  pub said : s ≢ status.Outside → s ≢ status.Memory → new.now.said ≡ old.now.said ++ line_of why
-  pub memory : s ≡ status.Memory → new.now.said ≡ old.now.said ++ memory_line
-  pub cut : s ≡ status.Outside → IsCut (line_of why) memory_line old new
-  pub fault : why ≡ ending.Fault → s ≡ status.Outside
-  pub silent : why ≡ ending.Fault → new.now.said ≡ old.now.said
-  pub script : new.script ≡ old.script
+use Rattle.gx_top.specs.Played.{Says, SaysFront, SaysKeeping, IsPlayText, IsStoppedText, IsShortText, IsFullText, IsPlayedText}
+use Rattle.gx_top.specs.Plays.{IsPlayedAs}
+use Rattle.gx_top.specs.Tasks.{Task, IsTask, IsFrom, IsLeft}
+use Rattle.gx_top.specs.Devices.{IsToMake, IsWrong, IsBefore, SaysWrong}
+use Rattle.gx_top.specs.Tries.{IsDoneText, IsOtherText, CanPlayTo, IsSaid, IsEnd, IsDueStatus, IsAsDue}
+use Rattle.gx_top.specs.Words.{making}
+use Rattle.gx_top.proofs.TryLemmas.{refused_says, memory_says, unprepared_front, check_done, check_front}
+use Rattle.gx_top.proofs.RowLemmas.{done_row, stopped_row, short_row, full_row, front_row}
+use Rattle.gx_top.proofs.CompleteLemmas.{refused_status, unprepared_memory, unprepared_refuses, ready_not_refused, checkable_not_refused, wrong_not_refused, checked_no_task, checked_not_made, checked_not_wrong, made_no_task, start_not_wrong, one_task, not_stopped, not_good, said_complete}
 
 done_not_outside : (s : Status) → s ≡ status.Done → s ≢ status.Outside
 done_not_outside s is e = never (sym is ∙ e)
@@ -60,14 +63,14 @@ outside_status before now (ending.Made blocks pages) is = absurd is
 outside_status before now (ending.Line number reason) is = absurd is
 
 -- the status of such a request
-abbrev IsUnplayed : Status → Type 0
+abbrev pub IsUnplayed : Status → Type 0
 IsUnplayed s = (s ≡ status.Refused) ⊎ (s ≡ status.Outside) ⊎ (s ≡ status.Memory)
 
-unplayed : (words : List (List ℕ)) (old : Content) (before now : ℕ) (why : Ending) → IsUnprepared words old.aside.texts before now why → IsUnplayed (status_of why)
+pub unplayed : (words : List (List ℕ)) (old : Content) (before now : ℕ) (why : Ending) → IsUnprepared words old.aside.texts before now why → IsUnplayed (status_of why)
 unplayed words old before now why (inl refused) = inl (refused_status words old.aside.texts why refused)
 unplayed words old before now why (inr out) = inr (outside_status before now why out)
 
-not_done : (s : Status) → IsUnplayed s → status.Done ≡ s → ⊥
+pub not_done : (s : Status) → IsUnplayed s → status.Done ≡ s → ⊥
 not_done s (inl is) e = never (e ∙ is)
   where
     never : status.Done ≡ status.Refused → ⊥
@@ -109,7 +112,7 @@ not_full s (inr (inr is)) e = never (e ∙ is)
     never : status.Full ≡ status.Memory → ⊥
     never f = cc
 
-not_device : (s : Status) → IsUnplayed s → status.Device ≡ s → ⊥
+pub not_device : (s : Status) → IsUnplayed s → status.Device ≡ s → ⊥
 not_device s (inl is) e = never (e ∙ is)
   where
     never : status.Device ≡ status.Refused → ⊥
@@ -125,8 +128,8 @@ not_device s (inr (inr is)) e = never (e ∙ is)
 
 unprepared_said : (words : List (List ℕ)) (old mid new : Content) (before now : ℕ) (why : Ending) (s : Status) → IsUnprepared words old.aside.texts before now why → mid.now.said ≡ old.now.said → IsEnded why mid new s → IsSaid words old new s
 unprepared_said words old mid new before now why status.Refused is unsaid e = refused_says words old mid new before now why is (sym (e.status_is (λ f. cc) (λ f. cc))) (e.said (λ f. cc) (λ f. cc)) unsaid
-unprepared_said words old mid new before now why status.Memory is unsaid e = memory_says words old mid new (e.memory refl) unsaid
-unprepared_said words old mid new before now why status.Outside is unsaid e = unprepared_front words old mid new before now why is e.silent (e.cut refl) unsaid
+unprepared_said words old mid new before now why status.Memory is unsaid e = inl (memory_says words old mid new (e.memory refl) unsaid)
+unprepared_said words old mid new before now why status.Outside is unsaid e = inl (unprepared_front words old mid new before now why is e.silent (e.cut refl) unsaid)
 unprepared_said words old mid new before now why status.Done is unsaid e = absurd (not_done (status_of why) (unplayed words old before now why is) (e.status_is (λ f. cc) (λ f. cc)))
 unprepared_said words old mid new before now why status.Script is unsaid e = absurd (not_script (status_of why) (unplayed words old before now why is) (e.status_is (λ f. cc) (λ f. cc)))
 unprepared_said words old mid new before now why status.Full is unsaid e = absurd (not_full (status_of why) (unplayed words old before now why is) (e.status_is (λ f. cc) (λ f. cc)))
@@ -135,29 +138,34 @@ unprepared_said words old mid new before now why status.Device is unsaid e = abs
 pub unprepared_end : (words : List (List ℕ)) (old mid new : Content) (before now : ℕ) (why : Ending) (s : Status) → IsUnprepared words old.aside.texts before now why → mid.now.said ≡ old.now.said → mid.script ≡ old.script → IsEnded why mid new s → IsEnd words old new s
 unprepared_end words old mid new before now why s is unsaid unheard e = record {
   said = unprepared_said words old mid new before now why s is unsaid e;
-  heard = λ done try. absurd (not_done (status_of why) (unplayed words old before now why is) (sym done ∙ e.status_is (done_not_outside s done) (done_not_memory s done)));
+  heard = λ done t task limit start from. absurd (not_done (status_of why) (unplayed words old before now why is) (sym done ∙ e.status_is (done_not_outside s done) (done_not_memory s done)));
   unheard = λ none. e.script ∙ unheard;
 }
 
 pub unprepared_due : (words : List (List ℕ)) (old mid new : Content) (before now : ℕ) (why : Ending) (s : Status) → IsUnprepared words old.aside.texts before now why → IsEnded why mid new s → IsAsDue words old s
-unprepared_due words old mid new before now why s is e status.Done (inl playable) outside =
-    inr (unprepared_memory words old.aside.texts before now why s is (runnable_not_refused words old.aside.texts playable.0 why playable.1) e.status_is e.fault outside)
-unprepared_due words old mid new before now why s is e status.Done (inr checkable) outside =
-    inr (unprepared_memory words old.aside.texts before now why s is (checkable_not_refused words old why checkable) e.status_is e.fault outside)
-unprepared_due words old mid new before now why s is e status.Script stoppable outside =
-    inr (unprepared_memory words old.aside.texts before now why s is (runnable_not_refused words old.aside.texts stoppable.0 why stoppable.1) e.status_is e.fault outside)
-unprepared_due words old mid new before now why s is e status.Refused refused outside = unprepared_refuses words old.aside.texts before now why s is e.status_is e.fault outside
-unprepared_due words old mid new before now why s is e status.Memory due outside = absurd due
-unprepared_due words old mid new before now why s is e status.Full due outside = absurd due
-unprepared_due words old mid new before now why s is e status.Device due outside = absurd due
-unprepared_due words old mid new before now why s is e status.Outside due outside = absurd due
+unprepared_due words old mid new before now why s is e due can outside = by_due due can
+  where
+    -- where it isn't refused, there was no memory
+    memory : (¬ IsRefused words old.aside.texts why) → s ≡ status.Memory
+    memory never = unprepared_memory words old.aside.texts before now why s is never e.status_is e.fault outside
+
+    by_due : (due : Status) → IsDueStatus words old due → (s ≡ due) ⊎ (s ≡ status.Memory)
+    by_due status.Done (inl (t, task, play)) = inr (memory (ready_not_refused words old.aside.texts t.action t.schema t.definitions t.typing why task.ready))
+    by_due status.Done (inr (inl checkable)) = inr (memory (checkable_not_refused words old why checkable))
+    by_due status.Done (inr (inr can)) = inr (memory (ready_not_refused words old.aside.texts (making can.request.device can.request.digits) can.request.schema can.request.definitions can.request.typing why can.request.ready))
+    by_due status.Script (number, reason, (t, task, play)) = inr (memory (ready_not_refused words old.aside.texts t.action t.schema t.definitions t.typing why task.ready))
+    by_due status.Device wrong = inr (memory (wrong_not_refused words old wrong.why why wrong.wrong))
+    by_due status.Refused refused = unprepared_refuses words old.aside.texts before now why s is e.status_is e.fault outside
+    by_due status.Memory due = absurd due
+    by_due status.Full due = absurd due
+    by_due status.Outside due = absurd due
 
 -- ---- texts that are checked
 
 check_said : (words : List (List ℕ)) (old mid new : Content) (summary : Summary) (s : Status) → IsSummary words old.aside.texts summary → mid.now.said ≡ old.now.said → IsEnded (ending.Accepted summary) mid new s → IsSaid words old new s
-check_said words old mid new summary status.Done is unsaid e = check_done words old mid new summary is unsaid (e.said (λ f. cc) (λ f. cc))
-check_said words old mid new summary status.Memory is unsaid e = memory_says words old mid new (e.memory refl) unsaid
-check_said words old mid new summary status.Outside is unsaid e = check_front words old mid new summary is unsaid (e.cut refl)
+check_said words old mid new summary status.Done is unsaid e = inl (check_done words old mid new summary is unsaid (e.said (λ f. cc) (λ f. cc)))
+check_said words old mid new summary status.Memory is unsaid e = inl (memory_says words old mid new (e.memory refl) unsaid)
+check_said words old mid new summary status.Outside is unsaid e = inl (check_front words old mid new summary is unsaid (e.cut refl))
 check_said words old mid new summary status.Refused is unsaid e = absurd (never (e.status_is (λ f. cc) (λ f. cc)))
   where
     never : status.Refused ≡ status.Done → ⊥
@@ -178,56 +186,409 @@ check_said words old mid new summary status.Device is unsaid e = absurd (never (
 pub check_end : (words : List (List ℕ)) (old mid new : Content) (summary : Summary) (s : Status) → IsSummary words old.aside.texts summary → mid.now.said ≡ old.now.said → mid.script ≡ old.script → IsEnded (ending.Accepted summary) mid new s → IsEnd words old new s
 check_end words old mid new summary s is unsaid unheard e = record {
   said = check_said words old mid new summary s is unsaid e;
-  heard = λ done try. absurd (checked_no_try words old.aside.texts summary is try);
+  heard = λ done t task limit start from. absurd (checked_no_task words old t task (is.0, is.1, is.2, is.3));
   unheard = λ none. e.script ∙ unheard;
 }
 
 pub check_due : (words : List (List ℕ)) (old mid new : Content) (summary : Summary) (s : Status) → IsSummary words old.aside.texts summary → IsEnded (ending.Accepted summary) mid new s → IsAsDue words old s
-check_due words old mid new summary s is e status.Done (inl playable) outside = absurd (checked_not_played words old playable.0 (is.0, is.1, is.2, is.3) playable.1)
-check_due words old mid new summary s is e status.Done (inr checkable) outside = said_complete s e.status_is outside
-check_due words old mid new summary s is e status.Script stoppable outside = absurd (checked_not_played words old stoppable.0 (is.0, is.1, is.2, is.3) stoppable.1)
-check_due words old mid new summary s is e status.Refused refused outside = absurd (checkable_not_refused words old refused.0 (is.0, is.1, is.2, is.3) refused.1)
-check_due words old mid new summary s is e status.Memory due outside = absurd due
-check_due words old mid new summary s is e status.Full due outside = absurd due
-check_due words old mid new summary s is e status.Device due outside = absurd due
-check_due words old mid new summary s is e status.Outside due outside = absurd due
+check_due words old mid new summary s is e due can outside = by_due due can
+  where
+    by_due : (due : Status) → IsDueStatus words old due → (s ≡ due) ⊎ (s ≡ status.Memory)
+    by_due status.Done (inl (t, task, play)) = absurd (checked_no_task words old t task (is.0, is.1, is.2, is.3))
+    by_due status.Done (inr (inl checkable)) = said_complete s e.status_is outside
+    by_due status.Done (inr (inr can)) = absurd (checked_not_made words old can.blocks (is.0, is.1, is.2, is.3) can.request)
+    by_due status.Script (number, reason, (t, task, play)) = absurd (checked_no_task words old t task (is.0, is.1, is.2, is.3))
+    by_due status.Device wrong = absurd (checked_not_wrong words old wrong.why (is.0, is.1, is.2, is.3) wrong.wrong)
+    by_due status.Refused refused = absurd (checkable_not_refused words old refused.0 (is.0, is.1, is.2, is.3) refused.1)
+    by_due status.Memory due = absurd due
+    by_due status.Full due = absurd due
+    by_due status.Outside due = absurd due
+
+-- ---- a device that was made, or that wasn't had
+
+-- how a request ends where its device was made or wasn't had
+abbrev pub IsUnhad : List (List ℕ) → Content → Ending → Type 0
+IsUnhad words old (ending.Made blocks pages) = IsToMake words old.aside.texts blocks × (pages ≡ pages_of blocks)
+IsUnhad words old (ending.Device why) = IsWrong words old why × IsBefore why
+IsUnhad words old ending.Fault = Unit {0}
+IsUnhad words old ending.NoMemory = Unit {0}
+IsUnhad words old why = ⊥
+
+by_unhad : (words : List (List ℕ)) (old : Content) (P : Ending → Type 0) (why : Ending) → IsUnhad words old why
+    → ((blocks pages : ℕ) → IsToMake words old.aside.texts blocks → pages ≡ pages_of blocks → P (ending.Made blocks pages))
+    → ((wrong : DeviceWhy) → IsWrong words old wrong → IsBefore wrong → P (ending.Device wrong))
+    → P ending.NoMemory → P ending.Fault → P why
+by_unhad words old P (ending.Made blocks pages) is made device memory fault = made blocks pages is.0 is.1
+by_unhad words old P (ending.Device wrong) is made device memory fault = device wrong is.0 is.1
+by_unhad words old P ending.NoMemory is made device memory fault = memory
+by_unhad words old P ending.Fault is made device memory fault = fault
+by_unhad words old P ending.Full is made device memory fault = absurd is
+by_unhad words old P ending.Words is made device memory fault = absurd is
+by_unhad words old P (ending.Missing name) is made device memory fault = absurd is
+by_unhad words old P (ending.TooLong name) is made device memory fault = absurd is
+by_unhad words old P (ending.Schema line why) is made device memory fault = absurd is
+by_unhad words old P (ending.Equation line why) is made device memory fault = absurd is
+by_unhad words old P (ending.Type line why) is made device memory fault = absurd is
+by_unhad words old P ending.TextsTooLong is made device memory fault = absurd is
+by_unhad words old P ending.NotBuilt is made device memory fault = absurd is
+by_unhad words old P (ending.Accepted summary) is made device memory fault = absurd is
+by_unhad words old P (ending.Line number why) is made device memory fault = absurd is
+
+made_done : (words : List (List ℕ)) (old : Content) (blocks pages : ℕ) → IsToMake words old.aside.texts blocks → pages ≡ pages_of blocks → IsDoneText words old (made_line blocks pages)
+made_done words old blocks pages is pages_are = inr (blocks, is, ap (λ n. made_line blocks n) pages_are)
+
+before_says : (wrong : DeviceWhy) (old new : Content) → IsBefore wrong → new.now.said ≡ old.now.said ++ device_line wrong → SaysWrong wrong old new
+before_says device_why.Missing old new early said = said
+before_says device_why.Exists old new early said = said
+before_says device_why.Size old new early said = said
+before_says device_why.NoDatabase old new early said = said
+before_says (device_why.OtherEquation place) old new early said = said
+before_says (device_why.Damaged block) old new early said = absurd early
+
+-- a front of a line, where nothing was said before
+other_front : (words : List (List ℕ)) (old mid new : Content) (line : List ℕ) → IsOtherText words old line → mid.now.said ≡ old.now.said → IsCut line memory_line mid new → SaysFront (IsOtherText words old) old new
+other_front words old mid new line is unsaid (n, inl said) = (line, is, (n, said ∙ ap (λ t. t ++ take n line) unsaid))
+other_front words old mid new line is unsaid (n, inr said) = (memory_line, inr (inl refl), (n, said ∙ ap (λ t. t ++ take n memory_line) unsaid))
+
+unhad_front : (words : List (List ℕ)) (old mid new : Content) (why : Ending) → IsUnhad words old why → mid.now.said ≡ old.now.said → IsEnded why mid new status.Outside → SaysFront (IsOtherText words old) old new
+unhad_front words old mid new why is unsaid =
+    by_unhad words old (λ w. IsEnded w mid new status.Outside → SaysFront (IsOtherText words old) old new) why is
+    (λ blocks pages make pages_are e. other_front words old mid new (made_line blocks pages) (inr (inr (inl (made_done words old blocks pages make pages_are)))) unsaid (e.cut refl))
+    (λ wrong device early e. other_front words old mid new (device_line wrong) (inr (inr (inr (wrong, device, refl)))) unsaid (e.cut refl))
+    (λ e. other_front words old mid new memory_line (inr (inl refl)) unsaid (e.cut refl))
+    (λ e. (memory_line, inr (inl refl), (0, e.silent refl ∙ unsaid ∙ sym (append-nil old.now.said))))
+
+-- the status of such an ending
+abbrev IsUnhadStatus : Status → Type 0
+IsUnhadStatus status.Script = ⊥
+IsUnhadStatus status.Refused = ⊥
+IsUnhadStatus status.Full = ⊥
+IsUnhadStatus s = Unit {0}
+
+unhad_status : (words : List (List ℕ)) (old : Content) (why : Ending) → IsUnhad words old why → IsUnhadStatus (status_of why)
+unhad_status words old why is = by_unhad words old (λ w. IsUnhadStatus (status_of w)) why is (λ blocks pages make pages_are. tt) (λ wrong device early. tt) tt tt
+
+no_done : {A : Type 0} → status.Done ≡ status.Device → A
+no_done e = absurd (never e)
+  where
+    never : status.Done ≡ status.Device → ⊥
+    never f = cc
+
+done_memory : {A : Type 0} → status.Done ≡ status.Memory → A
+done_memory e = absurd (never e)
+  where
+    never : status.Done ≡ status.Memory → ⊥
+    never f = cc
+
+done_outside : {A : Type 0} → status.Done ≡ status.Outside → A
+done_outside e = absurd (never e)
+  where
+    never : status.Done ≡ status.Outside → ⊥
+    never f = cc
+
+device_memory : {A : Type 0} → status.Device ≡ status.Memory → A
+device_memory e = absurd (never e)
+  where
+    never : status.Device ≡ status.Memory → ⊥
+    never f = cc
+
+device_outside : {A : Type 0} → status.Device ≡ status.Outside → A
+device_outside e = absurd (never e)
+  where
+    never : status.Device ≡ status.Outside → ⊥
+    never f = cc
+
+unhad_done : (words : List (List ℕ)) (old mid new : Content) (why : Ending) → IsUnhad words old why → mid.now.said ≡ old.now.said → IsEnded why mid new status.Done → Says (IsDoneText words old) old new
+unhad_done words old mid new why is unsaid =
+    by_unhad words old (λ w. IsEnded w mid new status.Done → Says (IsDoneText words old) old new) why is
+    (λ blocks pages make pages_are e. (made_line blocks pages, made_done words old blocks pages make pages_are, e.said (λ f. cc) (λ f. cc) ∙ ap (λ t. t ++ made_line blocks pages) unsaid))
+    (λ wrong device early e. no_done (e.status_is (λ f. cc) (λ f. cc)))
+    (λ e. done_memory (e.status_is (λ f. cc) (λ f. cc)))
+    (λ e. done_outside (e.status_is (λ f. cc) (λ f. cc)))
+
+abbrev SaysDevice : List (List ℕ) → Content → Content → Type 0
+SaysDevice words old new = (wrong : DeviceWhy) × IsWrong words old wrong × SaysWrong wrong old new
+
+unhad_device : (words : List (List ℕ)) (old mid new : Content) (why : Ending) → IsUnhad words old why → mid.now.said ≡ old.now.said → IsEnded why mid new status.Device → SaysDevice words old new
+unhad_device words old mid new why is unsaid =
+    by_unhad words old (λ w. IsEnded w mid new status.Device → SaysDevice words old new) why is
+    (λ blocks pages make pages_are e. no_done (sym (e.status_is (λ f. cc) (λ f. cc))))
+    (λ wrong device early e. (wrong, device, before_says wrong old new early (e.said (λ f. cc) (λ f. cc) ∙ ap (λ t. t ++ device_line wrong) unsaid)))
+    (λ e. device_memory (e.status_is (λ f. cc) (λ f. cc)))
+    (λ e. device_outside (e.status_is (λ f. cc) (λ f. cc)))
+
+unhad_said : (words : List (List ℕ)) (old mid new : Content) (why : Ending) (s : Status) → IsUnhad words old why → mid.now.said ≡ old.now.said → IsEnded why mid new s → IsSaid words old new s
+unhad_said words old mid new why status.Done is unsaid e = inl (unhad_done words old mid new why is unsaid e)
+unhad_said words old mid new why status.Memory is unsaid e = inl (memory_says words old mid new (e.memory refl) unsaid)
+unhad_said words old mid new why status.Outside is unsaid e = inl (unhad_front words old mid new why is unsaid e)
+unhad_said words old mid new why status.Device is unsaid e = unhad_device words old mid new why is unsaid e
+unhad_said words old mid new why status.Script is unsaid e = absurd (subst IsUnhadStatus (sym (e.status_is (λ f. cc) (λ f. cc))) (unhad_status words old why is))
+unhad_said words old mid new why status.Refused is unsaid e = absurd (subst IsUnhadStatus (sym (e.status_is (λ f. cc) (λ f. cc))) (unhad_status words old why is))
+unhad_said words old mid new why status.Full is unsaid e = absurd (subst IsUnhadStatus (sym (e.status_is (λ f. cc) (λ f. cc))) (unhad_status words old why is))
+
+-- where the script was to be played, nothing is done
+unhad_undone : (words : List (List ℕ)) (old mid new : Content) (why : Ending) (t : Task) → IsUnhad words old why → IsTask words old.aside.texts t → IsEnded why mid new status.Done → ⊥
+unhad_undone words old mid new why t is task =
+    by_unhad words old (λ w. IsEnded w mid new status.Done → ⊥) why is
+    (λ blocks pages make pages_are e. made_no_task words old.aside.texts t blocks task make)
+    (λ wrong device early e. no_done (e.status_is (λ f. cc) (λ f. cc)))
+    (λ e. done_memory (e.status_is (λ f. cc) (λ f. cc)))
+    (λ e. done_outside (e.status_is (λ f. cc) (λ f. cc)))
+
+pub unhad_end : (words : List (List ℕ)) (old mid new : Content) (why : Ending) (s : Status) → IsUnhad words old why → mid.now.said ≡ old.now.said → mid.script ≡ old.script → IsEnded why mid new s → IsEnd words old new s
+unhad_end words old mid new why s is unsaid unheard e = record {
+  said = unhad_said words old mid new why s is unsaid e;
+  heard = λ done t task limit start from. absurd (unhad_undone words old mid new why t is task (subst (IsEnded why mid new) done e));
+  unheard = λ none. e.script ∙ unheard;
+}
+
+-- of a script that was to be played, where its device wasn't had, there was no memory for its line, or the device is wrong
+unhad_memory : (words : List (List ℕ)) (old mid new : Content) (why : Ending) (s : Status) (t : Task) → IsUnhad words old why → IsTask words old.aside.texts t → IsEnded why mid new s → s ≢ status.Outside → (s ≡ status.Memory) ⊎ ((s ≡ status.Device) ⊎ (s ≡ status.Memory)) × ((wrong : DeviceWhy) × IsWrong words old wrong × IsBefore wrong)
+unhad_memory words old mid new why s t is task =
+    by_unhad words old (λ w. IsEnded w mid new s → s ≢ status.Outside → (s ≡ status.Memory) ⊎ ((s ≡ status.Device) ⊎ (s ≡ status.Memory)) × ((wrong : DeviceWhy) × IsWrong words old wrong × IsBefore wrong)) why is
+    (λ blocks pages make pages_are e outside. absurd (made_no_task words old.aside.texts t blocks task make))
+    (λ wrong device early e outside. inr (device_or_memory s e.status_is outside, (wrong, device, early)))
+    (λ e outside. inl (memory_or s e.status_is outside))
+    (λ e outside. absurd (outside (e.fault refl)))
+  where
+    device_or_memory : (s : Status) → (s ≢ status.Outside → s ≢ status.Memory → s ≡ status.Device) → s ≢ status.Outside → (s ≡ status.Device) ⊎ (s ≡ status.Memory)
+    device_or_memory status.Memory is outside = inr refl
+    device_or_memory status.Device is outside = inl refl
+    device_or_memory status.Outside is outside = absurd (outside refl)
+    device_or_memory status.Done is outside = inl (is (λ f. cc) (λ f. cc))
+    device_or_memory status.Refused is outside = inl (is (λ f. cc) (λ f. cc))
+    device_or_memory status.Script is outside = inl (is (λ f. cc) (λ f. cc))
+    device_or_memory status.Full is outside = inl (is (λ f. cc) (λ f. cc))
+
+    memory_or : (s : Status) → (s ≢ status.Outside → s ≢ status.Memory → s ≡ status.Memory) → s ≢ status.Outside → s ≡ status.Memory
+    memory_or status.Memory is outside = refl
+    memory_or status.Outside is outside = absurd (outside refl)
+    memory_or status.Device is outside = is (λ f. cc) (λ f. cc)
+    memory_or status.Done is outside = is (λ f. cc) (λ f. cc)
+    memory_or status.Refused is outside = is (λ f. cc) (λ f. cc)
+    memory_or status.Script is outside = is (λ f. cc) (λ f. cc)
+    memory_or status.Full is outside = is (λ f. cc) (λ f. cc)
+
+pub unhad_due : (words : List (List ℕ)) (old mid new : Content) (why : Ending) (s : Status) (t : Task) → IsUnhad words old why → IsTask words old.aside.texts t → IsEnded why mid new s → IsAsDue words old s
+unhad_due words old mid new why s t is task e due can outside = by_due due can (unhad_memory words old mid new why s t is task e outside)
+  where
+    playable : (u : Task) (limit : Option Limits) (start : State) → IsTask words old.aside.texts u → IsFrom u old limit start → ((s ≡ status.Memory) ⊎ ((s ≡ status.Device) ⊎ (s ≡ status.Memory)) × ((wrong : DeviceWhy) × IsWrong words old wrong × IsBefore wrong)) → s ≡ status.Memory
+    playable u limit start other from (inl memory) = memory
+    playable u limit start other from (inr (device, (wrong, is_wrong, early))) = absurd (start_not_wrong words old u limit start wrong other early is_wrong from)
+
+    as_device : ((s ≡ status.Memory) ⊎ ((s ≡ status.Device) ⊎ (s ≡ status.Memory)) × ((wrong : DeviceWhy) × IsWrong words old wrong × IsBefore wrong)) → (s ≡ status.Device) ⊎ (s ≡ status.Memory)
+    as_device (inl memory) = inr memory
+    as_device (inr (device, wrong)) = device
+
+    by_due : (due : Status) → IsDueStatus words old due → ((s ≡ status.Memory) ⊎ ((s ≡ status.Device) ⊎ (s ≡ status.Memory)) × ((wrong : DeviceWhy) × IsWrong words old wrong × IsBefore wrong)) → (s ≡ due) ⊎ (s ≡ status.Memory)
+    by_due status.Done (inl (u, other, play)) had = inr (playable u play.limit play.start other play.from had)
+    by_due status.Done (inr (inl checkable)) had = absurd (checked_no_task words old t task checkable)
+    by_due status.Done (inr (inr can)) had = absurd (made_no_task words old.aside.texts t can.blocks task can.request)
+    by_due status.Script (number, reason, (u, other, play)) had = inr (playable u play.limit play.start other play.from had)
+    by_due status.Device wrong had = as_device had
+    by_due status.Refused refused had = absurd (ready_not_refused words old.aside.texts t.action t.schema t.definitions t.typing refused.0 task.ready refused.1)
+    by_due status.Memory due had = absurd due
+    by_due status.Full due had = absurd due
+    by_due status.Outside due had = absurd due
 
 -- ---- a script that is played
 
--- what was said of the play, and the status that it gave
-pub record IsRun (schema : Schema) (old new : Content) (s : Status) : Type 0 where
-  pub done : s ≡ status.Done → Says (IsPlayText schema (empty_state schema) old.script good) old new
-  pub heard : s ≡ status.Done → new.script ≡ []
-  pub stopped : s ≡ status.Script → Says (IsStoppedText schema (empty_state schema) old.script) old new
-  pub memory : s ≡ status.Memory → Says (IsShortText schema (empty_state schema) old.script) old new
-  pub cut : s ≡ status.Outside → SaysFront (IsTryText schema (empty_state schema) old.script) old new
-  pub played : IsTryStatus s
+-- what was said of the play from a start state on, by the status
+abbrev Row : Task → Option Limits → State → Content → Content → Status → Type 0
+Row t limit start old new status.Done = SaysKeeping (IsPlayText t.schema start old.script good) (IsLeft t new) old new
+Row t limit start old new status.Script = SaysKeeping (IsStoppedText t.schema start old.script) (IsLeft t new) old new
+Row t limit start old new status.Memory = SaysKeeping (IsShortText t.schema start old.script) (IsLeft t new) old new
+Row t limit start old new status.Full = SaysKeeping (IsFullText t.schema t.definitions limit start old.script) (IsLeft t new) old new
+Row t limit start old new status.Outside = SaysFront (IsPlayedText t.schema t.definitions limit start old.script) old new
+Row t limit start old new status.Refused = ⊥
+Row t limit start old new status.Device = ⊥
 
-run_said : (words : List (List ℕ)) (schema : Schema) (old mid new : Content) (s : Status) → IsRunnable words old.aside.texts schema → mid.script ≡ old.script → mid.now.said ≡ old.now.said → IsRun schema mid new s → IsSaid words old new s
-run_said words schema old mid new status.Done can script unsaid r = run_done words schema old mid new can script unsaid (r.done refl)
-run_said words schema old mid new status.Script can script unsaid r = run_says (λ k. IsStoppedText k (empty_state k)) words schema old mid new can script unsaid (r.stopped refl)
-run_said words schema old mid new status.Memory can script unsaid r = run_memory words schema old mid new can script unsaid (r.memory refl)
-run_said words schema old mid new status.Outside can script unsaid r = run_front words schema old mid new can script unsaid (r.cut refl)
-run_said words schema old mid new status.Refused can script unsaid r = absurd r.played
-run_said words schema old mid new status.Full can script unsaid r = absurd r.played
-run_said words schema old mid new status.Device can script unsaid r = absurd r.played
+-- a script that was played for a task, and how that ended
+pub record IsRun (words : List (List ℕ)) (t : Task) (old mid new : Content) (played : Result (Unit {0}) Ending) (s : Status) : Type 0 where
+  pub task : IsTask words old.aside.texts t
+  pub built : Built
+  pub trees : AreTreesOfFiles 0 t.schema.files t.definitions built.files
+  pub answered : (limit : Option Limits) (start : State) → IsFrom t old limit start → IsPlayedAs t.schema built limit start (IsLeft t new) old.script old.now.said mid.now.said played
+  pub heard : (limit : Option Limits) (start : State) → IsFrom t old limit start → played ≡ Ok tt → mid.script ≡ []
+  pub play_ending : IfErr played IsPlayEnding
+  pub damaged : (block : ℕ) → played ≡ Err (ending.Device (device_why.Damaged block)) → IsWrong words old (device_why.Damaged block)
+  pub right : (wrong : DeviceWhy) → IsBefore wrong → IsWrong words old wrong → ⊥
+  pub finished : IsFinished played mid new s
 
-pub run_end : (words : List (List ℕ)) (schema : Schema) (old mid new : Content) (s : Status) → IsRunnable words old.aside.texts schema → mid.script ≡ old.script → mid.now.said ≡ old.now.said → IsRun schema mid new s → IsEnd words old new s
-run_end words schema old mid new s can script unsaid r = record {
-  said = run_said words schema old mid new s can script unsaid r;
-  heard = λ done try. r.heard done;
-  unheard = λ none. absurd (none schema can);
+-- the status of a play that ends at a line or with a stop
+abbrev pub IsStopStatus : Status → Type 0
+IsStopStatus status.Done = ⊥
+IsStopStatus status.Refused = ⊥
+IsStopStatus s = Unit {0}
+
+pub stop_status : (why : Ending) → IsPlayEnding why → IsStopStatus (status_of why)
+stop_status (ending.Line number why) is = tt
+stop_status ending.Fault is = tt
+stop_status ending.NoMemory is = tt
+stop_status ending.Full is = tt
+stop_status (ending.Device wrong) is = tt
+stop_status ending.Words is = absurd is
+stop_status (ending.Missing name) is = absurd is
+stop_status (ending.TooLong name) is = absurd is
+stop_status (ending.Schema line why) is = absurd is
+stop_status (ending.Equation line why) is = absurd is
+stop_status (ending.Type line why) is = absurd is
+stop_status ending.TextsTooLong is = absurd is
+stop_status ending.NotBuilt is = absurd is
+stop_status (ending.Accepted summary) is = absurd is
+stop_status (ending.Made blocks pages) is = absurd is
+
+not_fault : (why : Ending) (old new : Content) → IsEnded why old new status.Memory → why ≢ ending.Fault
+not_fault why old new e f = never (e.fault f)
+  where
+    never : status.Memory ≡ status.Outside → ⊥
+    never g = cc
+
+-- where it began with a state, no damage was found
+device_unplayed : (why : Ending) {P : Type 0} (t : Task) (Holds : State → Type 0) (built : Built) (limit : Option Limits) (start : State) (script before now : List ℕ) → IsPlayedAs t.schema built limit start Holds script before now (Err why) → status.Device ≡ status_of why → P
+device_unplayed (ending.Line number reason) t Holds built limit start script before now is e = absurd (never e)
+  where
+    never : status.Device ≡ status.Script → ⊥
+    never f = cc
+device_unplayed ending.NoMemory t Holds built limit start script before now is e = device_memory e
+device_unplayed ending.Fault t Holds built limit start script before now is e = device_outside e
+device_unplayed ending.Full t Holds built limit start script before now is e = absurd (never e)
+  where
+    never : status.Device ≡ status.Full → ⊥
+    never f = cc
+device_unplayed (ending.Device wrong) t Holds built limit start script before now is e = absurd is
+device_unplayed ending.Words t Holds built limit start script before now is e = absurd is
+device_unplayed (ending.Missing name) t Holds built limit start script before now is e = absurd is
+device_unplayed (ending.TooLong name) t Holds built limit start script before now is e = absurd is
+device_unplayed (ending.Schema line why) t Holds built limit start script before now is e = absurd is
+device_unplayed (ending.Equation line why) t Holds built limit start script before now is e = absurd is
+device_unplayed (ending.Type line why) t Holds built limit start script before now is e = absurd is
+device_unplayed ending.TextsTooLong t Holds built limit start script before now is e = absurd is
+device_unplayed ending.NotBuilt t Holds built limit start script before now is e = absurd is
+device_unplayed (ending.Accepted summary) t Holds built limit start script before now is e = absurd is
+device_unplayed (ending.Made blocks pages) t Holds built limit start script before now is e = absurd is
+
+module _ (t : Task) (built : Built) (trees : AreTreesOfFiles 0 t.schema.files t.definitions built.files) (limit : Option Limits) (start : State) (old mid new : Content) where
+  abbrev As : Result (Unit {0}) Ending → Type 0
+  As = IsPlayedAs t.schema built limit start (IsLeft t new) old.script old.now.said mid.now.said
+
+  stop_row : (why : Ending) (s : Status) → As (Err why) → IsPlayEnding why → IsEnded why mid new s → Row t limit start old new s
+  stop_row why status.Done is ends e = absurd (subst IsStopStatus (sym (e.status_is (λ f. cc) (λ f. cc))) (stop_status why ends))
+  stop_row why status.Refused is ends e = absurd (subst IsStopStatus (sym (e.status_is (λ f. cc) (λ f. cc))) (stop_status why ends))
+  stop_row why status.Script is ends e = stopped_row t.schema t.definitions built limit start (IsLeft t new) trees old mid new why is (e.said (λ f. cc) (λ f. cc)) (sym (e.status_is (λ f. cc) (λ f. cc)))
+  stop_row why status.Memory is ends e = short_row t.schema t.definitions built limit start (IsLeft t new) trees old mid new why is (not_fault why mid new e) (e.memory refl)
+  stop_row why status.Full is ends e = full_row t.schema t.definitions built limit start (IsLeft t new) trees old mid new why is (e.said (λ f. cc) (λ f. cc)) (sym (e.status_is (λ f. cc) (λ f. cc)))
+  stop_row why status.Outside is ends e = front_row t.schema t.definitions built limit start (IsLeft t new) trees old mid new why is e.silent (e.cut refl)
+  stop_row why status.Device is ends e = device_unplayed why t (IsLeft t new) built limit start old.script old.now.said mid.now.said is (e.status_is (λ f. cc) (λ f. cc))
+
+  row : (played : Result (Unit {0}) Ending) (s : Status) → As played → IfErr played IsPlayEnding → IsFinished played mid new s → Row t limit start old new s
+  row (Ok x) s is ends e =
+      subst (Row t limit start old new) (sym e.0)
+      (done_row t.schema t.definitions built limit start (IsLeft t new) trees old mid new
+      (subst (λ (c : Content). IsPlayedAs t.schema built limit start (IsLeft t new) old.script old.now.said c.now.said (Ok tt)) (sym e.1) is))
+  row (Err why) s is ends e = stop_row why s is ends e
+
+module _ (words : List (List ℕ)) (t : Task) (old mid new : Content) (played : Result (Unit {0}) Ending) (s : Status) (r : IsRun words t old mid new played s) where
+  run_row : (limit : Option Limits) (start : State) → IsFrom t old limit start → Row t limit start old new s
+  run_row limit start from = row t r.built r.trees limit start old mid new played s (r.answered limit start from) r.play_ending r.finished
+
+-- damage that was found
+damage_said : (words : List (List ℕ)) (old mid new : Content) (why : Ending) → IsPlayEnding why → IsEnded why mid new status.Device → ((block : ℕ) → why ≡ ending.Device (device_why.Damaged block) → IsWrong words old (device_why.Damaged block)) → SaysDevice words old new
+damage_said words old mid new (ending.Device (device_why.Damaged block)) ends e damaged = (device_why.Damaged block, damaged block refl, (mid.now.said, e.said (λ f. cc) (λ f. cc)))
+damage_said words old mid new (ending.Device device_why.Missing) ends e damaged = absurd ends
+damage_said words old mid new (ending.Device device_why.Exists) ends e damaged = absurd ends
+damage_said words old mid new (ending.Device device_why.Size) ends e damaged = absurd ends
+damage_said words old mid new (ending.Device device_why.NoDatabase) ends e damaged = absurd ends
+damage_said words old mid new (ending.Device (device_why.OtherEquation place)) ends e damaged = absurd ends
+damage_said words old mid new ending.NoMemory ends e damaged = device_memory (e.status_is (λ f. cc) (λ f. cc))
+damage_said words old mid new ending.Fault ends e damaged = device_outside (e.status_is (λ f. cc) (λ f. cc))
+damage_said words old mid new ending.Full ends e damaged = absurd (never (e.status_is (λ f. cc) (λ f. cc)))
+  where
+    never : status.Device ≡ status.Full → ⊥
+    never f = cc
+damage_said words old mid new (ending.Line number reason) ends e damaged = absurd (never (e.status_is (λ f. cc) (λ f. cc)))
+  where
+    never : status.Device ≡ status.Script → ⊥
+    never f = cc
+damage_said words old mid new ending.Words ends e damaged = absurd ends
+damage_said words old mid new (ending.Missing name) ends e damaged = absurd ends
+damage_said words old mid new (ending.TooLong name) ends e damaged = absurd ends
+damage_said words old mid new (ending.Schema line why) ends e damaged = absurd ends
+damage_said words old mid new (ending.Equation line why) ends e damaged = absurd ends
+damage_said words old mid new (ending.Type line why) ends e damaged = absurd ends
+damage_said words old mid new ending.TextsTooLong ends e damaged = absurd ends
+damage_said words old mid new ending.NotBuilt ends e damaged = absurd ends
+damage_said words old mid new (ending.Accepted summary) ends e damaged = absurd ends
+damage_said words old mid new (ending.Made blocks pages) ends e damaged = absurd ends
+
+run_device : (words : List (List ℕ)) (t : Task) (old mid new : Content) (played : Result (Unit {0}) Ending) → IsRun words t old mid new played status.Device → SaysDevice words old new
+run_device words t old mid new (Ok x) r = no_done (sym r.finished.0)
+run_device words t old mid new (Err why) r = damage_said words old mid new why r.play_ending r.finished (λ block is. r.damaged block (ap Err is))
+
+run_unrefused : (words : List (List ℕ)) (t : Task) (old mid new : Content) (played : Result (Unit {0}) Ending) → IsRun words t old mid new played status.Refused → ⊥
+run_unrefused words t old mid new (Ok x) r = never r.finished.0
+  where
+    never : status.Refused ≡ status.Done → ⊥
+    never f = cc
+run_unrefused words t old mid new (Err why) r = subst IsStopStatus (sym (r.finished.status_is (λ f. cc) (λ f. cc))) (stop_status why r.play_ending)
+
+run_said : (words : List (List ℕ)) (t : Task) (old mid new : Content) (played : Result (Unit {0}) Ending) (s : Status) → IsRun words t old mid new played s → IsSaid words old new s
+run_said words t old mid new played status.Done r = inr (t, r.task, run_row words t old mid new played status.Done r)
+run_said words t old mid new played status.Script r = (t, r.task, run_row words t old mid new played status.Script r)
+run_said words t old mid new played status.Memory r = inr (t, r.task, run_row words t old mid new played status.Memory r)
+run_said words t old mid new played status.Full r = (t, r.task, run_row words t old mid new played status.Full r)
+run_said words t old mid new played status.Outside r = inr (t, r.task, run_row words t old mid new played status.Outside r)
+run_said words t old mid new played status.Device r = run_device words t old mid new played r
+run_said words t old mid new played status.Refused r = absurd (run_unrefused words t old mid new played r)
+
+run_heard : (words : List (List ℕ)) (t : Task) (old mid new : Content) (played : Result (Unit {0}) Ending) (s : Status) → IsRun words t old mid new played s → s ≡ status.Done → (limit : Option Limits) (start : State) → IsFrom t old limit start → new.script ≡ []
+run_heard words t old mid new (Ok x) s r done limit start from = ap (λ (c : Content). c.script) r.finished.1 ∙ r.heard limit start from refl
+run_heard words t old mid new (Err why) s r done limit start from = absurd (subst IsStopStatus (sym (r.finished.status_is (done_not_outside s done) (done_not_memory s done)) ∙ done) (stop_status why r.play_ending))
+
+pub run_end : (words : List (List ℕ)) (t : Task) (old mid new : Content) (played : Result (Unit {0}) Ending) (s : Status) → IsRun words t old mid new played s → IsEnd words old new s
+run_end words t old mid new played s r = record {
+  said = run_said words t old mid new played s r;
+  heard = λ done u other limit start from. run_heard words t old mid new played s r done limit start (subst (λ v. IsFrom v old limit start) (one_task words old.aside.texts u t other r.task) from);
+  unheard = λ none. absurd (none t r.task);
 }
 
-pub run_due : (words : List (List ℕ)) (schema : Schema) (old mid new : Content) (s : Status) → IsRunnable words old.aside.texts schema → mid.script ≡ old.script → IsRun schema mid new s → IsAsDue words old s
-run_due words schema old mid new s can script r status.Done (inl playable) outside = played_complete words schema old mid new s can script playable r.played r.stopped outside
-run_due words schema old mid new s can script r status.Done (inr checkable) outside = absurd (checked_not_played words old schema checkable can)
-run_due words schema old mid new s can script r status.Script stoppable outside = stopped_complete words schema old mid new s can script stoppable r.played r.done outside
-run_due words schema old mid new s can script r status.Refused refused outside = absurd (runnable_not_refused words old.aside.texts schema refused.0 can refused.1)
-run_due words schema old mid new s can script r status.Memory due outside = absurd due
-run_due words schema old mid new s can script r status.Full due outside = absurd due
-run_due words schema old mid new s can script r status.Device due outside = absurd due
-run_due words schema old mid new s can script r status.Outside due outside = absurd due
+-- ---- the status that is due
+
+good_status : (t : Task) (old new : Content) (s : Status) (can : CanPlayTo t old good) → Row t can.limit can.start old new s → s ≢ status.Outside → (s ≡ status.Done) ⊎ (s ≡ status.Memory)
+good_status t old new status.Done can row outside = inl refl
+good_status t old new status.Memory can row outside = inr refl
+good_status t old new status.Outside can row outside = absurd (outside refl)
+good_status t old new status.Script can row outside = absurd (not_stopped t.schema can.start old.script can.answers can.final row.0 row.1 can.play row.2)
+good_status t old new status.Full can row outside = absurd (can.roomy row.2.answers row.2.final row.2.full)
+good_status t old new status.Refused can row outside = absurd row
+good_status t old new status.Device can row outside = absurd row
+
+line_status : (t : Task) (old new : Content) (number : ℕ) (why : LineWhy) (s : Status) (can : CanPlayTo t old (stopped number why)) → Row t can.limit can.start old new s → s ≢ status.Outside → (s ≡ status.Script) ⊎ (s ≡ status.Memory)
+line_status t old new number why status.Script can row outside = inl refl
+line_status t old new number why status.Memory can row outside = inr refl
+line_status t old new number why status.Outside can row outside = absurd (outside refl)
+line_status t old new number why status.Done can row outside = absurd (not_good t.schema can.start old.script can.answers can.final number why row.0 row.1 can.play row.2)
+line_status t old new number why status.Full can row outside = absurd (can.roomy row.2.answers row.2.final row.2.full)
+line_status t old new number why status.Refused can row outside = absurd row
+line_status t old new number why status.Device can row outside = absurd row
+
+pub run_due : (words : List (List ℕ)) (t : Task) (old mid new : Content) (played : Result (Unit {0}) Ending) (s : Status) → IsRun words t old mid new played s → IsAsDue words old s
+run_due words t old mid new played s r due can outside = by_due due can
+  where
+    by_due : (due : Status) → IsDueStatus words old due → (s ≡ due) ⊎ (s ≡ status.Memory)
+    by_due status.Done (inl (u, other, play)) =
+        let here = subst (λ (v : Task). CanPlayTo v old good) (one_task words old.aside.texts u t other r.task) play in
+        good_status t old new s here (run_row words t old mid new played s r here.limit here.start here.from) outside
+    by_due status.Done (inr (inl checkable)) = absurd (checked_no_task words old t r.task checkable)
+    by_due status.Done (inr (inr make)) = absurd (made_no_task words old.aside.texts t make.blocks r.task make.request)
+    by_due status.Script (number, reason, (u, other, play)) =
+        let here = subst (λ (v : Task). CanPlayTo v old (stopped number reason)) (one_task words old.aside.texts u t other r.task) play in
+        line_status t old new number reason s here (run_row words t old mid new played s r here.limit here.start here.from) outside
+    by_due status.Device wrong = absurd (r.right wrong.why wrong.is_before wrong.wrong)
+    by_due status.Refused refused = absurd (ready_not_refused words old.aside.texts t.action t.schema t.definitions t.typing refused.0 r.task.ready refused.1)
+    by_due status.Memory due = absurd due
+    by_due status.Full due = absurd due
+    by_due status.Outside due = absurd due
 
 -- ---- words that are no request
 

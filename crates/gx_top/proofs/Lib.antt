@@ -4,7 +4,13 @@ mod LineLemmas
 mod RequestLemmas
 mod PlayLemmas
 mod TryLemmas
+mod RowLemmas
 mod HoldingLemmas
+mod StoredLemmas
 mod CompleteLemmas
 mod OnceLemmas
 mod EndLemmas
+mod TaskLemmas
+mod StoreLemmas
+mod MakeLemmas
+mod RanLemmas

@@ -12,8 +12,8 @@ use Rattle.gx_schema.specs.Reading.{schema_of}
 use Rattle.gx_schema.proofs.SchemaLaws.{schema_again, one_schema}
 use Rattle.gx_script.specs.Lines.{script_lines}
 use Rattle.gx_equation.specs.Trees.{DefinitionTree}
-use Rattle.gx_model.specs.States.{empty_state}
-use Rattle.gx_model.specs.Play.{End, good, stopped, end_text, start_at}
+use Rattle.gx_model.specs.States.{State}
+use Rattle.gx_model.specs.Play.{End, end_text, start_at}
 use Rattle.gx_model.proofs.RunLemmas.{play_once}
 use Rattle.gx_typing.specs.declared.typing.Typing.{Typing}
 use Rattle.gx_typing.specs.Typed.{leaves, typing_with}
@@ -24,10 +24,12 @@ use Rattle.gx_top.specs.declared.ending.Ending.{Ending}
 use Rattle.gx_top.specs.declared.ending.Ending.TheVariants as ending
 use Rattle.gx_top.specs.Built.{text_length}
 use Rattle.gx_top.specs.Endings.{line_of}
-use Rattle.gx_top.specs.Requests.{IsThere, IsNamed, IsAsked, AreRead, AreAccepted, AreUnaccepted, IsRunnable, IsRefused, equation_of, text_limit}
-use Rattle.gx_top.specs.Tries.{IsPlayText, IsWholeText, IsTryUnder, PlayOneScript}
-use Rattle.gx_top.specs.Words.{Action, checking, trying, request_words}
-use Rattle.gx_top.proofs.CompleteLemmas.{SameWords, same_words, one_request, named, not_missing, not_long, text_once, equation_read, not_both_asked}
+use Rattle.gx_top.specs.Requests.{IsThere, IsNamed, IsAsked, AreRead, AreAccepted, AreUnaccepted, IsRefused, equation_of, text_limit}
+use Rattle.gx_top.specs.Played.{IsPlayText}
+use Rattle.gx_top.specs.Tasks.{Task, IsTask}
+use Rattle.gx_top.specs.Tries.{IsWholeText, IsUnder, PlayOneScript}
+use Rattle.gx_top.specs.Words.{Action, request_words, IsCounted}
+use Rattle.gx_top.proofs.CompleteLemmas.{SameWords, same_words, one_request, named, not_missing, not_long, text_once, equation_read}
 
 -- ---- the line of a refusal, from what stands in the texts
 
@@ -85,7 +87,7 @@ accepted_line s e schema ds typing is = read_at s e schema ds is.lines (Ok (typi
 -- ---- why a request is refused: its words, a text that isn't had, or what stands in the texts
 
 abbrev AreNoRequest : List (List ℕ) → List ℕ → Type 0
-AreNoRequest words line = ((a : Action) (schema equation : List ℕ) → words ≢ request_words a schema equation) × (line ≡ line_of ending.Words)
+AreNoRequest words line = ((a : Action) (schema equation : List ℕ) → IsCounted a → words ≢ request_words a schema equation) × (line ≡ line_of ending.Words)
 
 record IsLost (words : List (List ℕ)) (texts : Texts) (line : List ℕ) : Type 0 where
   pub name : List ℕ
@@ -117,7 +119,7 @@ reason : (words : List (List ℕ)) (texts : Texts) (why : Ending) → IsRefused 
 reason words texts ending.Words r = inl (r, refl)
 reason words texts (ending.Missing name) r = inr (inl (record { name = name.now; is_named = r.0; not_there = λ there. not_missing texts name.now there r.1; line_is = missing_line name.now (get texts name.now) r.1 }))
 reason words texts (ending.TooLong name) r = inr (inl (record { name = name.now; is_named = r.0; not_there = λ there. not_long texts name.now there r.1; line_is = long_line name.now (get texts name.now) r.1 }))
-reason words texts ending.NotBuilt r = inr (inr (record { asked = trying; schema = r.3.0; equation = r.3.1; is_asked = r.3.2; line_is = accepted_line r.3.0 r.3.1 r.0 r.1 r.2 r.3.3 }))
+reason words texts ending.NotBuilt r = inr (inr (record { asked = r.0; schema = r.4.0; equation = r.4.1; is_asked = r.4.2; line_is = accepted_line r.4.0 r.4.1 r.1 r.2 r.3 r.4.3 }))
 reason words texts (ending.Schema line why) r = judged words texts (ending.Schema line why) r
 reason words texts (ending.Equation line why) r = judged words texts (ending.Equation line why) r
 reason words texts (ending.Type line why) r = judged words texts (ending.Type line why) r
@@ -145,12 +147,12 @@ name_once words texts name other x y lost missed = by_place x.first y.first
 
 line_once : (words : List (List ℕ)) (texts : Texts) (line other : List ℕ) → HasReason words texts line → HasReason words texts other → line ≡ other
 line_once words texts line other (inl x) (inl y) = x.1 ∙ sym y.1
-line_once words texts line other (inl x) (inr (inl y)) = absurd (x.0 y.is_named.asked y.is_named.schema_name y.is_named.equation_name y.is_named.words_are)
-line_once words texts line other (inl x) (inr (inr y)) = absurd (x.0 y.asked y.is_asked.schema_name y.is_asked.equation_name y.is_asked.words_are)
-line_once words texts line other (inr (inl x)) (inl y) = absurd (y.0 x.is_named.asked x.is_named.schema_name x.is_named.equation_name x.is_named.words_are)
+line_once words texts line other (inl x) (inr (inl y)) = absurd (x.0 y.is_named.asked y.is_named.schema_name y.is_named.equation_name y.is_named.counted y.is_named.words_are)
+line_once words texts line other (inl x) (inr (inr y)) = absurd (x.0 y.asked y.is_asked.schema_name y.is_asked.equation_name y.is_asked.counted y.is_asked.words_are)
+line_once words texts line other (inr (inl x)) (inl y) = absurd (y.0 x.is_named.asked x.is_named.schema_name x.is_named.equation_name x.is_named.counted x.is_named.words_are)
 line_once words texts line other (inr (inl x)) (inr (inl y)) = x.line_is ∙ ap (λ n. fetch_line (get texts n) n) (name_once words texts x.name y.name x.is_named y.is_named x.not_there y.not_there) ∙ sym y.line_is
 line_once words texts line other (inr (inl x)) (inr (inr y)) = absurd (x.not_there (named words texts x.name y.asked y.schema y.equation y.is_asked x.is_named))
-line_once words texts line other (inr (inr x)) (inl y) = absurd (y.0 x.asked x.is_asked.schema_name x.is_asked.equation_name x.is_asked.words_are)
+line_once words texts line other (inr (inr x)) (inl y) = absurd (y.0 x.asked x.is_asked.schema_name x.is_asked.equation_name x.is_asked.counted x.is_asked.words_are)
 line_once words texts line other (inr (inr x)) (inr (inl y)) = absurd (y.not_there (named words texts y.name x.asked x.schema x.equation x.is_asked y.is_named))
 line_once words texts line other (inr (inr x)) (inr (inr y)) =
     let same = one_request words texts x.asked y.asked x.schema y.schema x.equation y.equation x.is_asked y.is_asked in
@@ -161,32 +163,20 @@ refused_once words texts why other x y = line_once words texts (line_of why) (li
 
 -- ---- one script under one schema
 
-record IsPlayed (words : List (List ℕ)) (before : Content) (text : List ℕ) : Type 0 where
-  pub schema : Schema
-  pub runnable : IsRunnable words before.aside.texts schema
-  pub end : End
-  pub is : IsPlayText schema (empty_state schema) before.script end text
-
-is_played : (words : List (List ℕ)) (before : Content) (under text : List ℕ) → IsTryUnder words before.aside.texts under → IsWholeText words before text → IsPlayed words before text
-is_played words before under text try (inl (inl run)) = record { schema = run.0; runnable = run.1; end = good; is = run.2 }
-is_played words before under text try (inl (inr is)) = absurd (not_both_asked (same_words words trying checking try.0 is.3.2.schema_name try.1 is.3.2.equation_name try.2 is.3.2.words_are).actions)
-is_played words before under text try (inr run) = record { schema = run.0; runnable = run.1; end = stopped run.2.0 run.2.1; is = run.2.2 }
-
 -- the schema that is played on is that of the schema text
-schema_under : (words : List (List ℕ)) (texts : Texts) (under : List ℕ) (schema : Schema) → IsTryUnder words texts under → IsRunnable words texts schema → IsSchemaText under schema
-schema_under words texts under schema try is =
-    let asked = is.2.2 in
-    let same = same_words words trying trying asked.schema_name try.0 asked.equation_name try.1 asked.words_are try.2 in
-    subst (λ t. IsSchemaText t schema) (text_once texts asked.schema_name try.0 is.2.0 under same.schemas asked.schema_there.0 try.3) is.2.3.read.schema_means
+schema_under : (words : List (List ℕ)) (texts : Texts) (under : List ℕ) (t : Task) → IsUnder words texts under → IsTask words texts t → IsSchemaText under t.schema
+schema_under words texts under t is task =
+    let asked = task.ready.0.2 in
+    let same = same_words words t.action is.0 asked.schema_name is.1 asked.equation_name is.2 asked.words_are is.3 in
+    subst (λ s. IsSchemaText s t.schema) (text_once texts asked.schema_name is.1 task.ready.0.0 under same.schemas asked.schema_there.0 is.4) task.ready.0.3.read.schema_means
 
-text_of_play : (schema : Schema) (script : List ℕ) (end close : End) (a b : List ℕ) → IsPlayText schema (empty_state schema) script end a → IsPlayText schema (empty_state schema) script close b → a ≡ b
-text_of_play schema script end close a b x y =
-    let once = play_once schema (start_at (empty_state schema)) (script_lines script) x.answers y.answers x.final y.final end close x.play y.play in
+text_of_play : (schema : Schema) (start : State) (script : List ℕ) (end close : End) (a b : List ℕ) (kept left : State) → IsPlayText schema start script end a kept → IsPlayText schema start script close b left → a ≡ b
+text_of_play schema start script end close a b kept left x y =
+    let once = play_once schema (start_at start) (script_lines script) x.answers y.answers x.final y.final end close x.play y.play in
     x.text_is ∙ (λ i. once.0 i ++ end_text (once.2 i)) ∙ sym y.text_is
 
-pub one_script_once : (words others : List (List ℕ)) (before other : Content) (text more : List ℕ) → PlayOneScript words others before other → IsWholeText words before text → IsWholeText others other more → text ≡ more
-one_script_once words others before other text more one x y =
-    let p = is_played words before one.schema text one.under x in
-    let q = is_played others other one.schema more one.other_under y in
-    let same = one_schema one.schema p.schema q.schema (schema_under words before.aside.texts one.schema p.schema one.under p.runnable) (schema_under others other.aside.texts one.schema q.schema one.other_under q.runnable) in
-    text_of_play q.schema other.script p.end q.end text more (subst (λ (t : List ℕ). IsPlayText q.schema (empty_state q.schema) t p.end text) one.script (subst (λ (k : Schema). IsPlayText k (empty_state k) before.script p.end text) same p.is)) q.is
+pub one_script_once : (words others : List (List ℕ)) (before other : Content) (start : State) (text more : List ℕ) → PlayOneScript words others before other → IsWholeText words before start text → IsWholeText others other start more → text ≡ more
+one_script_once words others before other start text more one x y =
+    let same = one_schema one.schema x.task.schema y.task.schema (schema_under words before.aside.texts one.schema x.task one.under x.is) (schema_under others other.aside.texts one.schema y.task one.other_under y.is) in
+    text_of_play y.task.schema start other.script x.end y.end text more x.kept y.kept
+    (subst (λ (t : List ℕ). IsPlayText y.task.schema start t x.end text x.kept) one.script (subst (λ (k : Schema). IsPlayText k start before.script x.end text x.kept) same x.played)) y.played

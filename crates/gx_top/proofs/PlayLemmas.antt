@@ -26,7 +26,8 @@ use Rattle.gx_engine.specs.Steps.{schema_of, built_of, leaves_of, is_open, IsDue
 use Rattle.gx_ports.specs.declared.stop.Stop.TheVariants as stop
 use Rattle.gx_top.specs.declared.play.PlayEnd.{PlayEnd}
 use Rattle.gx_top.specs.declared.play.PlayEnd.TheVariants as play_end
-use Rattle.gx_top.specs.Plays.{IsLinePlayed, IsLineCut, IsCommandCut, HasPlayCause, IsBadAt, IsPlayedUp, IsPlayedPart, IsPlayedTo, IsLineEnd, IsSoFar, IsShortLine, IsShortAt, IsGivenUp, HasKept, is_play_fault}
+use Rattle.gx_top.specs.Plays.{IsLinePlayed, IsLineCut, IsCommandCut, HasPlayCause, IsBadAt, IsPlayedUp, IsPlayedPart, IsPlayedTo, IsLineEnd, IsSoFar, IsShortLine, IsGivenUp, KeepsState, is_play_fault}
+use Rattle.gx_top.specs.Played.{IsShortAt}
 
 -- no line was played yet
 pub at_start : {S : Type 0} (g : Ghosts S) (start : Playing) (all : Lines) (e : Engine S) → IsAt g start e → IsSoFar g start all all 0 e e
@@ -108,13 +109,21 @@ at_bad_line g start all before left number line reason old e schema_is before_is
 -- ---- a line that is given up
 
 -- what was last committed stays the last kept state
-kept_after : {S : Type 0} (g : Ghosts S) (p : Playing) (old e new : Engine S) → schema_of e ≡ schema_of old → built_of e ≡ built_of old → IsAt g p e → Keeps g (leaves_of e) (leaves_of new) → HasKept g (schema_of old) (built_of old) p (leaves_of new)
-kept_after g p old e new schema_is built_is at keeps = record {
-  is = subst (λ (b : Built). AreInternal (schema_of old) b.files (g.kept (leaves_of new)) p.kept) built_is
+kept_after : {S : Type 0} (g : Ghosts S) (p : Playing) (old e new : Engine S) → schema_of e ≡ schema_of old → built_of e ≡ built_of old → IsAt g p e → Keeps g (leaves_of e) (leaves_of new) → KeepsState g (schema_of old) (built_of old) (leaves_of new) p.kept
+kept_after g p old e new schema_is built_is at keeps = (
+  subst (λ (b : Built). AreInternal (schema_of old) b.files (g.kept (leaves_of new)) p.kept) built_is
       (subst (λ (s : Schema). AreInternal s (built_of e).files (g.kept (leaves_of new)) p.kept) schema_is
-      (subst (λ maps. AreInternal (schema_of e) (built_of e).files maps p.kept) (sym keeps.kept) at.stands.kept_is));
-  whole_is = keeps.kept_whole.0 at.kept_whole_is;
-}
+      (subst (λ maps. AreInternal (schema_of e) (built_of e).files maps p.kept) (sym keeps.kept) at.stands.kept_is)),
+  keeps.kept_whole.0 at.kept_whole_is,
+)
+
+-- the same where the play ends
+pub kept_at : {S : Type 0} (g : Ghosts S) (p : Playing) (old e : Engine S) → schema_of e ≡ schema_of old → built_of e ≡ built_of old → IsAt g p e → KeepsState g (schema_of old) (built_of old) (leaves_of e) p.kept
+kept_at g p old e schema_is built_is at = (
+  subst (λ (b : Built). AreInternal (schema_of old) b.files (g.kept (leaves_of e)) p.kept) built_is
+      (subst (λ (s : Schema). AreInternal s (built_of e).files (g.kept (leaves_of e)) p.kept) schema_is at.stands.kept_is),
+  at.kept_whole_is,
+)
 
 -- the pages may be too few for the line
 short_at : {S : Type 0} (g : Ghosts S) (p : Playing) (before left : Lines) (line : List ℕ) (old e : Engine S) → schema_of e ≡ schema_of old → built_of e ≡ built_of old → g.limit (leaves_of e) ≡ g.limit (leaves_of old) → before ≡ with_line line left → IsAt g p e → IsShortLine g e p line → IsShortAt (schema_of old) (built_of old) (g.limit (leaves_of old)) p before.lines
@@ -125,7 +134,7 @@ short_at g p before left line old e schema_is built_is limit_is before_is at (co
     (record { line = line; later = left.lines; lines_are = ap (λ (ls : Lines). ls.lines) before_is; command = command; means = means; placed = placed; maps = g.working (leaves_of e); before = at.stands.working_is; short = short })))
 
 -- the answers of the lines before it
-part_before : {S : Type 0} (g : Ghosts S) (start : Playing) (all before : Lines) (number : ℕ) (old e new : Engine S) (why : Stop) → (so : IsSoFar g start all before number old e) → (g.content (leaves_of new)).now.said ≡ (g.content (leaves_of e)).now.said → (why ≢ stop.Fault → HasKept g (schema_of old) (built_of old) so.now (leaves_of new)) → (why ≡ stop.Full → IsShortAt (schema_of old) (built_of old) (g.limit (leaves_of old)) so.now before.lines) → IsPlayedPart g start all old new why
+part_before : {S : Type 0} (g : Ghosts S) (start : Playing) (all before : Lines) (number : ℕ) (old e new : Engine S) (why : Stop) → (so : IsSoFar g start all before number old e) → (g.content (leaves_of new)).now.said ≡ (g.content (leaves_of e)).now.said → (why ≢ stop.Fault → KeepsState g (schema_of old) (built_of old) (leaves_of new) so.now.kept) → (why ≡ stop.Full → IsShortAt (schema_of old) (built_of old) (g.limit (leaves_of old)) so.now before.lines) → IsPlayedPart g start all old new why
 part_before g start all before number old e new why so unsaid kept short = record {
   ran = so.ran;
   later = before.lines;

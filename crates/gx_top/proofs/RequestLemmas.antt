@@ -1,23 +1,27 @@
 -- Why a request isn't carried out, from why its texts aren't accepted.
-use Rattle.std.proofs.Common.{◌≡◌, ◌≤◌, ℕ, List, true, Result, Ok, Err, sym, subst, arith, inl, inr, length}
-use Rattle.std.specs.Prelude.{IfOk, IfErr, IsErrAnd}
+use Rattle.std.proofs.Common.{◌≡◌, ◌≤◌, ℕ, List, Bool, true, false, refl, Result, Ok, Err, sym, ap, subst, ◌∙◌, arith, inl, inr, length}
+use Rattle.std.specs.Prelude.{IfOk, IfErr, IsErrAnd, ◌&&◌, ◌==◌}
 use Rattle.std.proofs.lemmas.List.{length-map}
 use Rattle.gx_device.specs.Content.{Texts}
 use Rattle.gx_schema.specs.declared.schema.Schema.{Schema}
+use Rattle.gx_schema.specs.Printing.{schema_text}
 use Rattle.gx_equation.specs.Seen.{definitions_of}
 use Rattle.gx_equation.specs.Trees.{DefinitionTree}
+use Rattle.gx_leaves.specs.Kinds.{are_built}
+use Rattle.gx_types.specs.Build.{heads_built, AreTreesOfFiles}
 use Rattle.gx_types.specs.declared.built.Built.{Built}
 use Rattle.gx_typing.specs.declared.typing.Typing.{Typing}
 use Rattle.gx_typing.specs.Typed.{leaves, spec_of}
 use Rattle.gx_top.specs.declared.ending.Ending.{Ending}
 use Rattle.gx_top.specs.declared.ending.Ending.TheVariants as ending
+use Rattle.gx_top.specs.declared.opened.Stored.{Stored}
 use Rattle.gx_top.specs.declared.reading.Checked.{Checked}
 use Rattle.gx_top.specs.declared.summary.Summary.{Summary}
-use Rattle.gx_top.specs.Built.{is_built}
-use Rattle.gx_top.specs.Checked.{AreChecked, IsAcceptedAs, IsBuiltFor, IsUnbuilt}
-use Rattle.gx_top.specs.Requests.{IsAsked, IsAccepted, AreAccepted, AreUnchecked, IsRunnable, IsSummary, IsUnprepared}
+use Rattle.gx_top.specs.Built.{is_built, is_built_on_device}
+use Rattle.gx_top.specs.Checked.{AreChecked, IsAcceptedAs, IsBuiltFor, IsUnbuilt, IsUnbuiltBy, IsStoredOf, IsUnstored, IsStoredFor}
+use Rattle.gx_top.specs.Requests.{IsAsked, IsAccepted, is_carried, AreAccepted, AreUnchecked, IsReady, IsRunnable, IsSummary, IsUnprepared}
 use Rattle.gx_top.specs.Summaries.{summary_of}
-use Rattle.gx_top.specs.Words.{Action, checking, trying}
+use Rattle.gx_top.specs.Words.{Action, checking, trying, making, running, IsOnDevice}
 
 -- as many leaves as a typed equation may have
 pub few_leaves : (s e : List ℕ) (schema : Schema) (ds : List DefinitionTree) (typing : Typing) → AreAccepted s e schema ds typing → length typing.specs ≤ 255
@@ -50,26 +54,26 @@ all_accepted words texts a s e (Ok c) asked h = (s, e, asked, h)
 all_accepted words texts a s e (Err why) asked h = tt
 
 -- accepted texts that can't be carried out
-unbuilt : (words : List (List ℕ)) (texts : Texts) (before now : ℕ) (c : Checked) (why : Ending) → IsAcceptedAs words texts trying c → IsUnbuilt c why → IsUnprepared words texts before now why
-unbuilt words texts before now c ending.NotBuilt is un = inl (c.schema, definitions_of c.equation.definitions, c.typing, is, un)
-unbuilt words texts before now c ending.NoMemory is un = inr tt
-unbuilt words texts before now c (ending.Schema line reason) is un = absurd un
-unbuilt words texts before now c (ending.Equation line reason) is un = absurd un
-unbuilt words texts before now c (ending.Type line reason) is un = absurd un
-unbuilt words texts before now c ending.TextsTooLong is un = absurd un
-unbuilt words texts before now c (ending.Accepted summary) is un = absurd un
-unbuilt words texts before now c ending.Full is un = absurd un
-unbuilt words texts before now c (ending.Device wrong) is un = absurd un
-unbuilt words texts before now c (ending.Made blocks pages) is un = absurd un
-unbuilt words texts before now c ending.Words is un = absurd un
-unbuilt words texts before now c (ending.Missing name) is un = absurd un
-unbuilt words texts before now c (ending.TooLong name) is un = absurd un
-unbuilt words texts before now c (ending.Line number reason) is un = absurd un
-unbuilt words texts before now c ending.Fault is un = absurd un
+unbuilt : (words : List (List ℕ)) (texts : Texts) (before now : ℕ) (a : Action) (c : Checked) (can : Bool) (why : Ending) → IsAcceptedAs words texts a c → is_carried a c.schema (definitions_of c.equation.definitions) c.typing ≡ can → IsUnbuiltBy can why → IsUnprepared words texts before now why
+unbuilt words texts before now a c can ending.NotBuilt is carried un = inl (a, c.schema, definitions_of c.equation.definitions, c.typing, is, carried ∙ un)
+unbuilt words texts before now a c can ending.NoMemory is carried un = inr tt
+unbuilt words texts before now a c can (ending.Schema line reason) is carried un = absurd un
+unbuilt words texts before now a c can (ending.Equation line reason) is carried un = absurd un
+unbuilt words texts before now a c can (ending.Type line reason) is carried un = absurd un
+unbuilt words texts before now a c can ending.TextsTooLong is carried un = absurd un
+unbuilt words texts before now a c can (ending.Accepted summary) is carried un = absurd un
+unbuilt words texts before now a c can ending.Full is carried un = absurd un
+unbuilt words texts before now a c can (ending.Device wrong) is carried un = absurd un
+unbuilt words texts before now a c can (ending.Made blocks pages) is carried un = absurd un
+unbuilt words texts before now a c can ending.Words is carried un = absurd un
+unbuilt words texts before now a c can (ending.Missing name) is carried un = absurd un
+unbuilt words texts before now a c can (ending.TooLong name) is carried un = absurd un
+unbuilt words texts before now a c can (ending.Line number reason) is carried un = absurd un
+unbuilt words texts before now a c can ending.Fault is carried un = absurd un
 
 pub all_unbuilt : (words : List (List ℕ)) (texts : Texts) (before now : ℕ) (c : Checked) (result : Result (Schema × Built) Ending) → IsAcceptedAs words texts trying c → IfErr result (IsUnbuilt c) → IfErr result (IsUnprepared words texts before now)
 all_unbuilt words texts before now c (Ok x) is h = tt
-all_unbuilt words texts before now c (Err why) is h = unbuilt words texts before now c why is h
+all_unbuilt words texts before now c (Err why) is h = unbuilt words texts before now trying c (is_built c.schema (definitions_of c.equation.definitions)) why is refl h
 
 pub all_runnable : (words : List (List ℕ)) (texts : Texts) (c : Checked) (result : Result (Schema × Built) Ending) → IsAcceptedAs words texts trying c → IfOk result (IsBuiltFor c) → IfOk result (λ x. IsRunnable words texts x.0)
 all_runnable words texts c (Err why) is h = tt
@@ -82,6 +86,55 @@ pub summary : (words : List (List ℕ)) (texts : Texts) (c : Checked) (given : S
 summary words texts c given is same = (c.schema, definitions_of c.equation.definitions, c.typing, is, same)
 
 -- an error that is passed on as it is
-pub passed_on : (words : List (List ℕ)) (texts : Texts) (before now : ℕ) (why : Ending) (result : Result (Schema × Built) Ending) → IsUnprepared words texts before now why → IsErrAnd result (λ e. e ≡ why) → IfErr result (IsUnprepared words texts before now)
+pub passed_on : {T : Type 0} (words : List (List ℕ)) (texts : Texts) (before now : ℕ) (why : Ending) (result : Result T Ending) → IsUnprepared words texts before now why → IsErrAnd result (λ e. e ≡ why) → IfErr result (IsUnprepared words texts before now)
 passed_on words texts before now why (Ok x) un is = tt
 passed_on words texts before now why (Err e) un is = subst (IsUnprepared words texts before now) (sym is) un
+
+-- ---- on a device
+
+-- it is carried out there where it is built
+carried_on_device : (a : Action) (schema : Schema) (ds : List DefinitionTree) (typing : Typing) → IsOnDevice a → is_carried a schema ds typing ≡ is_built_on_device schema ds typing
+carried_on_device checking schema ds typing is = absurd is
+carried_on_device trying schema ds typing is = absurd is
+carried_on_device (making device blocks) schema ds typing is = refl
+carried_on_device (running device) schema ds typing is = refl
+
+pub all_unstored : (words : List (List ℕ)) (texts : Texts) (before now : ℕ) (a : Action) (c : Checked) (result : Result Stored Ending) → IsOnDevice a → IsAcceptedAs words texts a c → IfErr result (IsUnstored c) → IfErr result (IsUnprepared words texts before now)
+all_unstored words texts before now a c (Ok x) device is h = tt
+all_unstored words texts before now a c (Err why) device is h =
+    unbuilt words texts before now a c (is_built_on_device c.schema (definitions_of c.equation.definitions) c.typing) why is (carried_on_device a c.schema (definitions_of c.equation.definitions) c.typing device) h
+
+pub all_stored : (words : List (List ℕ)) (texts : Texts) (a : Action) (c : Checked) (result : Result Stored Ending) → IsOnDevice a → IsAcceptedAs words texts a c → IfOk result (IsStoredOf c) → IfOk result (IsStoredFor words texts a)
+all_stored words texts a c (Err why) device is h = tt
+all_stored words texts a c (Ok x) device is h =
+    let ds = definitions_of c.equation.definitions in
+    record {
+      definitions = ds;
+      typing = c.typing;
+      ready = subst (λ (k : Schema). IsReady words texts a k ds c.typing) (sym h.schema_is) (is, carried_on_device a c.schema ds c.typing device ∙ h.built);
+      specs_are = h.specs_are;
+      trees = subst (λ (k : Schema). AreTreesOfFiles 0 k.files ds x.built.files) (sym h.schema_is) h.trees;
+      schema_text_is = h.schema_text_is ∙ ap schema_text (sym h.schema_is);
+      equation_text_is = h.equation_text_is;
+    }
+
+-- what is stored of checked texts can be played, and fits a device
+and_left : (a b : Bool) → (a && b) ≡ true → a ≡ true
+and_left true b is = refl
+and_left false b is = is
+
+and_right : (a b : Bool) → (a && b) ≡ true → b ≡ true
+and_right true b is = is
+and_right false b is = absurd (never is)
+  where
+    never : false ≡ true → ⊥
+    never e = cc
+
+pub built_alone : (schema : Schema) (ds : List DefinitionTree) (typing : Typing) → is_built_on_device schema ds typing ≡ true → is_built schema ds ≡ true
+built_alone schema ds typing is = and_left (is_built schema ds) (are_built typing.specs) is
+
+pub heads_alone : (schema : Schema) (ds : List DefinitionTree) (typing : Typing) → is_built_on_device schema ds typing ≡ true → heads_built ds ≡ true
+heads_alone schema ds typing is = and_right (length schema.links == 0) (heads_built ds) (built_alone schema ds typing is)
+
+pub kinds_alone : (schema : Schema) (ds : List DefinitionTree) (typing : Typing) → is_built_on_device schema ds typing ≡ true → are_built typing.specs ≡ true
+kinds_alone schema ds typing is = and_right (is_built schema ds) (are_built typing.specs) is

@@ -1,11 +1,14 @@
 -- How a request ends that isn't played to its end: its line and its status.
-use Rattle.std.specs.Prelude.{ℕ, Bool, true, false, Result, Ok, Err, List, [], ◌++◌, codes}
+use Rattle.std.specs.Prelude.{◌≡◌, ◌≢◌, ℕ, Bool, true, false, Result, Ok, Err, List, [], ◌++◌, codes}
 use Rattle.std.specs.Fmt.{decimal}
+use Rattle.gx_device.specs.Content.{Content}
 use Rattle.gx_device.specs.Faults.{Rose}
 use Rattle.gx_tokens.specs.Whys.{word_of as why_word}
 use Rattle.gx_script.specs.LineWhys.{word_of as line_word}
 use Rattle.gx_typing.specs.Reasons.{words_of as type_words}
 use Rattle.gx_ports.specs.declared.stop.Stop.TheVariants as stop
+use Rattle.gx_store.specs.declared.unopened.Unopened.{Unopened}
+use Rattle.gx_store.specs.declared.unopened.Unopened.TheVariants as unopened
 use Rattle.gx_top.specs.declared.ending.DeviceWhy.{DeviceWhy}
 use Rattle.gx_top.specs.declared.ending.DeviceWhy.TheVariants as device_why
 use Rattle.gx_top.specs.declared.ending.Ending.{Ending}
@@ -14,6 +17,7 @@ use Rattle.gx_top.specs.declared.play.PlayEnd.{PlayEnd}
 use Rattle.gx_top.specs.declared.play.PlayEnd.TheVariants as play_end
 use Rattle.gx_top.specs.declared.status.Status.{Status}
 use Rattle.gx_top.specs.declared.status.Status.TheVariants as status
+use Rattle.gx_top.specs.Say.{IsCut}
 use Rattle.gx_top.specs.Summaries.{accepted_line}
 
 abbrev pub memory_line : List ℕ
@@ -61,6 +65,16 @@ ending_of (play_end.Stop stop.Full) = ending.Full
 ending_of (play_end.Stop (stop.Damaged block)) = ending.Device (device_why.Damaged block)
 ending_of (play_end.Stop stop.Fault) = ending.Fault
 
+-- how it ends where its device isn't had
+abbrev pub unopened_ending : Unopened → Ending
+unopened_ending unopened.Missing = ending.Device device_why.Missing
+unopened_ending unopened.Exists = ending.Device device_why.Exists
+unopened_ending unopened.Size = ending.Device device_why.Size
+unopened_ending unopened.NoDatabase = ending.Device device_why.NoDatabase
+unopened_ending (unopened.OtherTexts place) = ending.Device (device_why.OtherEquation place)
+unopened_ending unopened.Fault = ending.Fault
+unopened_ending unopened.NoMemory = ending.NoMemory
+
 abbrev pub status_of : Ending → Status
 status_of (ending.Accepted summary) = status.Done
 status_of (ending.Line number why) = status.Script
@@ -95,17 +109,19 @@ IsPlayEnding ending.Full = Unit {0}
 IsPlayEnding (ending.Device (device_why.Damaged block)) = Unit {0}
 IsPlayEnding _ = ⊥
 
--- the same on leaves without a limit, which are whole
-abbrev pub IsTryEnding : Ending → Type 0
-IsTryEnding (ending.Line number why) = Unit {0}
-IsTryEnding ending.Fault = Unit {0}
-IsTryEnding ending.NoMemory = Unit {0}
-IsTryEnding _ = ⊥
+-- ---- what was said of an ending
 
--- the status of a script that is played on such leaves
-abbrev pub IsTryStatus : Status → Type 0
-IsTryStatus status.Done = Unit {0}
-IsTryStatus status.Script = Unit {0}
-IsTryStatus status.Outside = Unit {0}
-IsTryStatus status.Memory = Unit {0}
-IsTryStatus _ = ⊥
+-- what was said of it, and the status that it gave
+pub record IsEnded (why : Ending) (old new : Content) (s : Status) : Type 0 where
+  pub status_is : s ≢ status.Outside → s ≢ status.Memory → s ≡ status_of why
+  pub said : s ≢ status.Outside → s ≢ status.Memory → new.now.said ≡ old.now.said ++ line_of why
+  pub memory : s ≡ status.Memory → new.now.said ≡ old.now.said ++ memory_line
+  pub cut : s ≡ status.Outside → IsCut (line_of why) memory_line old new
+  pub fault : why ≡ ending.Fault → s ≡ status.Outside
+  pub silent : why ≡ ending.Fault → new.now.said ≡ old.now.said
+  pub script : new.script ≡ old.script
+
+-- the same of a play, which says nothing more where it ends at no line
+abbrev pub IsFinished : Result (Unit {0}) Ending → Content → Content → Status → Type 0
+IsFinished (Ok x) old new s = (s ≡ status.Done) × (new ≡ old)
+IsFinished (Err why) old new s = IsEnded why old new s

@@ -1,9 +1,14 @@
 pub mod Words
 pub mod Built
 pub mod Summaries
+pub mod Say
 pub mod Endings
 pub mod Requests
 pub mod Checked
-pub mod Say
-pub mod Tries
+pub mod Played
 pub mod Plays
+pub mod Tasks
+pub mod Devices
+pub mod Made
+pub mod Ran
+pub mod Tries

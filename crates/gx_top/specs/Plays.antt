@@ -8,19 +8,23 @@ use Rattle.gx_script.specs.declared.command.LineWhy.{LineWhy}
 use Rattle.gx_script.specs.Commands.{place_reason}
 use Rattle.gx_script.specs.Grammar.{IsLineOf}
 use Rattle.gx_script.specs.Lines.{Lines, stopped as stopped_lines}
-use Rattle.gx_ports.specs.LeafMaps.{LeafMap, Limits, IsCrowdedBy, entry_count}
+use Rattle.gx_ports.specs.LeafMaps.{Limits, IsCrowdedBy}
 use Rattle.gx_ports.specs.Calls.{Keeps}
 use Rattle.gx_ports.specs.declared.view.View.{Ghosts}
 use Rattle.gx_ports.specs.Stops.{is_outside}
 use Rattle.gx_ports.specs.declared.stop.Stop.{Stop}
 use Rattle.gx_ports.specs.declared.stop.Stop.TheVariants as stop
 use Rattle.gx_model.specs.States.{State}
-use Rattle.gx_model.specs.Play.{Playing, End, good, stopped, is_inside, seen_state, next_of, IsAnswered}
+use Rattle.gx_model.specs.Play.{Playing, End, good, stopped, is_inside, next_of, IsAnswered}
 use Rattle.gx_types.specs.declared.built.Built.{Built}
 use Rattle.gx_model.specs.Runs.{Runs, IsBadLine, IsPlayFrom}
 use Rattle.gx_engine.specs.declared.engine.Engine.{Engine}
-use Rattle.gx_engine.specs.Internal.{AreInternal, entries_from}
+use Rattle.gx_engine.specs.Internal.{AreInternal}
 use Rattle.gx_engine.specs.Steps.{IsAt, IsShortFor, schema_of, built_of, leaves_of}
+use Rattle.gx_top.specs.declared.ending.Ending.{Ending}
+use Rattle.gx_top.specs.declared.ending.Ending.TheVariants as ending
+use Rattle.gx_top.specs.Endings.{ending_of}
+use Rattle.gx_top.specs.Played.{IsPlay, AreFirst, IsShortAt, IsFullAt}
 use Rattle.gx_top.specs.declared.play.PlayEnd.{PlayEnd}
 use Rattle.gx_top.specs.declared.play.PlayEnd.TheVariants as play_end
 
@@ -78,23 +82,9 @@ pub record IsGivenUp {S : Type 0} (g : Ghosts S) (p : Playing) (line : List ℕ)
 
 -- ---- where a play ends
 
--- the kept leaves are whole, and stand for the last kept state
-pub record HasKept {S : Type 0} (g : Ghosts S) (schema : Schema) (built : Built) (p : Playing) (leaves : S) : Type 0 where
-  pub is : AreInternal schema built.files (g.kept leaves) p.kept
-  pub whole_is : g.kept_whole leaves
-
--- The first of these lines has a command for which the pages may be too few: for the entries of the state before it
--- and of that behind it.
-pub record IsShortAt (schema : Schema) (built : Built) (limit : Option Limits) (p : Playing) (lines : List (List ℕ)) : Type 0 where
-  pub line : List ℕ
-  pub later : List (List ℕ)
-  pub lines_are : lines ≡ line ∷ later
-  pub command : Command
-  pub means : IsLineOf schema line command
-  pub placed : place_reason (is_inside p) command ≡ None
-  pub maps : List LeafMap
-  pub before : AreInternal schema built.files maps (seen_state p)
-  pub short : IsCrowdedBy limit (entry_count maps + entries_from built.files (seen_state (next_of schema p command)).files)
+-- the kept leaves are whole, and hold this state
+abbrev pub KeepsState : {S : Type 0} → Ghosts S → Schema → Built → S → State → Type 0
+KeepsState g schema built leaves s = AreInternal schema built.files (g.kept leaves) s × g.kept_whole leaves
 
 -- the lines were played from a moment on, up to this end, their answers were said, and the engine stands there
 pub record IsPlayedUp {S : Type 0} (g : Ghosts S) (p : Playing) (lines : Lines) (old new : Engine S) (end : End) : Type 0 where
@@ -115,7 +105,7 @@ pub record IsPlayedPart {S : Type 0} (g : Ghosts S) (p : Playing) (lines : Lines
   pub runs : Runs (schema_of old) p ran text final
   pub front : (n : ℕ) × ((g.content (leaves_of new)).now.said ≡ (g.content (leaves_of old)).now.said ++ take n text)
   pub whole : why ≢ stop.Fault → (g.content (leaves_of new)).now.said ≡ (g.content (leaves_of old)).now.said ++ text
-  pub kept : why ≢ stop.Fault → HasKept g (schema_of old) (built_of old) final (leaves_of new)
+  pub kept : why ≢ stop.Fault → KeepsState g (schema_of old) (built_of old) (leaves_of new) final.kept
   pub short : why ≡ stop.Full → IsShortAt (schema_of old) (built_of old) (g.limit (leaves_of old)) final later
 
 -- the same for the end that a play answers
@@ -141,7 +131,7 @@ abbrev pub IsLineEnd : Lines → ℕ → PlayEnd → Type 0
 IsLineEnd lines number (play_end.Line n why) = (n ≡ number + 1) × (lines ≡ stopped_lines why)
 IsLineEnd lines number (play_end.Stop stop) = ⊥
 
--- ---- over leaves that hold a state
+-- ---- a script over leaves that hold a state
 
 -- the leaves are whole, hold this state, and nothing of it is still to be committed
 pub record IsHolding {S : Type 0} (g : Ghosts S) (schema : Schema) (built : Built) (s : State) (leaves : S) : Type 0 where
@@ -149,3 +139,48 @@ pub record IsHolding {S : Type 0} (g : Ghosts S) (schema : Schema) (built : Buil
   pub kept_same : g.kept leaves ≡ g.working leaves
   pub whole_is : g.whole leaves
   pub kept_whole_is : g.kept_whole leaves
+
+-- The script was played from a state up to this end. What was said before grew by its answers, and its last kept state is
+-- held.
+pub record IsPlayedOut (schema : Schema) (start : State) (Holds : State → Type 0) (script before now : List ℕ) (end : End) : Type 0 where
+  pub answers : List ℕ
+  pub final : Playing
+  pub play : IsPlay schema start script answers final end
+  pub said : now ≡ before ++ answers
+  pub holds : Holds final.kept
+
+-- the same of its first lines
+pub record IsPlayedFirst (schema : Schema) (start : State) (Holds : State → Type 0) (script before now : List ℕ) : Type 0 where
+  pub answers : List ℕ
+  pub first : AreFirst schema start script answers
+  pub said : now ≡ before ++ answers
+  pub holds : Holds first.final.kept
+
+-- the same, where the pages may be too few for the command of the next line
+pub record IsPlayedFull (schema : Schema) (built : Built) (limit : Option Limits) (start : State) (Holds : State → Type 0) (script before now : List ℕ) : Type 0 where
+  pub answers : List ℕ
+  pub final : Playing
+  pub full : IsFullAt schema built limit start script answers final
+  pub said : now ≡ before ++ answers
+  pub holds : Holds final.kept
+
+-- a front of the answers of its first lines was said
+pub record IsPlayedFront (schema : Schema) (start : State) (script before now : List ℕ) : Type 0 where
+  pub answers : List ℕ
+  pub first : AreFirst schema start script answers
+  pub count : ℕ
+  pub said : now ≡ before ++ take count answers
+
+-- how the play of a script ended, before the line of the end is said
+abbrev pub IsPlayedAs : Schema → Built → Option Limits → State → (State → Type 0) → List ℕ → List ℕ → List ℕ → Result (Unit {0}) Ending → Type 0
+IsPlayedAs schema built limit start Holds script before now (Ok x) = IsPlayedOut schema start Holds script before now good
+IsPlayedAs schema built limit start Holds script before now (Err (ending.Line number why)) = IsPlayedOut schema start Holds script before now (stopped number why)
+IsPlayedAs schema built limit start Holds script before now (Err ending.NoMemory) = IsPlayedFirst schema start Holds script before now
+IsPlayedAs schema built limit start Holds script before now (Err ending.Full) = IsPlayedFull schema built limit start Holds script before now
+IsPlayedAs schema built limit start Holds script before now (Err ending.Fault) = IsPlayedFront schema start script before now
+IsPlayedAs schema built limit start Holds script before now (Err _) = ⊥
+
+-- what an end of the play means for the request
+abbrev pub IsEndingOf : Result (Unit {0}) PlayEnd → Result (Unit {0}) Ending → Type 0
+IsEndingOf (Ok x) result = result ≡ Ok tt
+IsEndingOf (Err end) result = result ≡ Err (ending_of end)

@@ -1,7 +1,7 @@
 -- When a request is refused, by the first reason, and when it is ready to be carried out.
 use Rattle.std.specs.Prelude.{◌≡◌, ◌≢◌, ◌⊎◌, ℕ, ◌<◌, ◌≤◌, List, [], ◌++◌, length, Bool, true, false, IsTrue, Some, None, Result, Err, IsSomeAnd}
 use Rattle.std.specs.FinMap.{get}
-use Rattle.gx_device.specs.Content.{Texts}
+use Rattle.gx_device.specs.Content.{Content, Texts}
 use Rattle.gx_tokens.specs.declared.why.Unread.{Unread}
 use Rattle.gx_tokens.specs.declared.why.Unread.TheVariants as unread
 use Rattle.gx_tokens.specs.Reading.{map_ok, with_line}
@@ -17,8 +17,8 @@ use Rattle.gx_typing.specs.Whole.{typing_of}
 use Rattle.gx_top.specs.declared.ending.Ending.{Ending}
 use Rattle.gx_top.specs.declared.ending.Ending.TheVariants as ending
 use Rattle.gx_top.specs.declared.summary.Summary.{Summary}
-use Rattle.gx_top.specs.Words.{Action, checking, trying, request_words}
-use Rattle.gx_top.specs.Built.{is_built, text_length}
+use Rattle.gx_top.specs.Words.{Action, checking, trying, making, running, request_words, IsCounted, IsOnDevice}
+use Rattle.gx_top.specs.Built.{is_built, is_built_on_device, text_length}
 use Rattle.gx_top.specs.Endings.{IsOutside}
 use Rattle.gx_top.specs.Summaries.{summary_of}
 
@@ -43,6 +43,7 @@ pub record IsAsked (words : List (List ℕ)) (texts : Texts) (a : Action) (schem
   pub schema_name : List ℕ
   pub equation_name : List ℕ
   pub words_are : words ≡ request_words a schema_name equation_name
+  pub counted : IsCounted a
   pub schema_there : IsText texts schema_name schema
   pub equation_there : IsText texts equation_name equation
 
@@ -52,6 +53,7 @@ pub record IsNamed (words : List (List ℕ)) (texts : Texts) (name : List ℕ) :
   pub schema_name : List ℕ
   pub equation_name : List ℕ
   pub words_are : words ≡ request_words asked schema_name equation_name
+  pub counted : IsCounted asked
   pub first : (name ≡ schema_name) ⊎ (IsThere texts schema_name × (name ≡ equation_name))
 
 -- ---- of the two texts alone
@@ -93,6 +95,21 @@ AreUnchecked schema_text equation_text why = AreUnaccepted schema_text equation_
 abbrev pub IsAccepted : List (List ℕ) → Texts → Action → Schema → List DefinitionTree → Typing → Type 0
 IsAccepted words texts a schema ds typing = (s : List ℕ) × (e : List ℕ) × IsAsked words texts a s e × AreAccepted s e schema ds typing
 
+-- whether what is asked for can be carried out on what is built
+abbrev pub is_carried : Action → Schema → List DefinitionTree → Typing → Bool
+is_carried checking schema ds typing = true
+is_carried trying schema ds typing = is_built schema ds
+is_carried (making device blocks) schema ds typing = is_built_on_device schema ds typing
+is_carried (running device) schema ds typing = is_built_on_device schema ds typing
+
+-- a request that isn't refused
+abbrev pub IsReady : List (List ℕ) → Texts → Action → Schema → List DefinitionTree → Typing → Type 0
+IsReady words texts a schema ds typing = IsAccepted words texts a schema ds typing × (is_carried a schema ds typing ≡ true)
+
+-- no device is attached where the words name one
+abbrev pub IsFree : List (List ℕ) → Content → Type 0
+IsFree words c = (a : Action) (schema equation : List ℕ) → IsOnDevice a → words ≡ request_words a schema equation → c.now.shelf.name ≡ None
+
 -- a script that can be played on this schema
 abbrev pub IsRunnable : List (List ℕ) → Texts → Schema → Type 0
 IsRunnable words texts schema = (ds : List DefinitionTree) × (typing : Typing) × IsAccepted words texts trying schema ds typing × (is_built schema ds ≡ true)
@@ -103,10 +120,10 @@ IsSummary words texts summary = (schema : Schema) × (ds : List DefinitionTree) 
 
 -- why a request is refused: the first reason in the order of words, texts, schema, equation, types, lengths, and what is built
 abbrev pub IsRefused : List (List ℕ) → Texts → Ending → Type 0
-IsRefused words texts ending.Words = (a : Action) (schema equation : List ℕ) → words ≢ request_words a schema equation
+IsRefused words texts ending.Words = (a : Action) (schema equation : List ℕ) → IsCounted a → words ≢ request_words a schema equation
 IsRefused words texts (ending.Missing name) = IsNamed words texts name.now × (get texts name.now ≡ None)
 IsRefused words texts (ending.TooLong name) = IsNamed words texts name.now × IsTooLong texts name.now
-IsRefused words texts ending.NotBuilt = (schema : Schema) × (ds : List DefinitionTree) × (typing : Typing) × IsAccepted words texts trying schema ds typing × (is_built schema ds ≡ false)
+IsRefused words texts ending.NotBuilt = (a : Action) × (schema : Schema) × (ds : List DefinitionTree) × (typing : Typing) × IsAccepted words texts a schema ds typing × (is_carried a schema ds typing ≡ false)
 IsRefused words texts why = (a : Action) × (s : List ℕ) × (e : List ℕ) × IsAsked words texts a s e × AreUnaccepted s e why
 
 -- why nothing is to be done: the request is refused, or its texts can't be had for the machine or for want of memory

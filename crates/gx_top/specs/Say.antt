@@ -4,10 +4,16 @@ use Rattle.gx_device.specs.declared.device.Failed.{Failed}
 use Rattle.gx_device.specs.Content.{Content}
 use Rattle.gx_device.specs.Faults.{HasCause}
 
--- nothing changed but what was said
+-- nothing changed but what was said and the blocks
 pub record OnlySays (old new : Content) : Type 0 where
+  pub shelf : new.now.shelf ≡ old.now.shelf
   pub script : new.script ≡ old.script
   pub aside : new.aside ≡ old.aside
+
+-- the blocks and the other devices are as they were
+pub record SameDevices (old new : Content) : Type 0 where
+  pub blocks : new.now.blocks ≡ old.now.blocks
+  pub shelf : new.now.shelf ≡ old.now.shelf
 
 -- all of the piece, or after a failure a front of it
 pub record SaysAll {T : Type 0} (tells : Bool) (old new : Content) (before now : ℕ) (piece : List ℕ) (result : Result T Failed) : Type 0 where

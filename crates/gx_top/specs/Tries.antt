@@ -1,65 +1,29 @@
--- What the program says: the play of the script, what the checker says, or why the request is refused, or as much of it as
--- can be said.
-use Rattle.std.specs.Prelude.{◌≡◌, ◌≢◌, ◌⊎◌, ℕ, ◌≤◌, List, [], ◌++◌, take, Result, Ok, Err, Some}
+-- What the program says of a request: the play of the script, what the checker says, what was made, why the request is refused or
+-- its device is wrong, or as much of it as can be said.
+use Rattle.std.specs.Prelude.{◌≡◌, ◌≢◌, ◌⊎◌, ℕ, ◌≤◌, List, [], Option, Some}
 use Rattle.std.specs.FinMap.{get}
 use Rattle.gx_device.specs.Content.{Content, Texts}
 use Rattle.gx_device.specs.Faults.{Rose}
+use Rattle.gx_ports.specs.LeafMaps.{Limits}
 use Rattle.gx_schema.specs.declared.schema.Schema.{Schema}
 use Rattle.gx_script.specs.declared.command.LineWhy.{LineWhy}
-use Rattle.gx_script.specs.Lines.{script_lines}
-use Rattle.gx_model.specs.States.{State, empty_state}
-use Rattle.gx_model.specs.Play.{Playing, End, good, stopped, start_at, end_text}
-use Rattle.gx_model.specs.Runs.{IsPlayFrom, AreFirstAnswersFrom}
-use Rattle.gx_top.specs.declared.ending.Ending.{Ending}
-use Rattle.gx_top.specs.declared.ending.Ending.TheVariants as ending
-use Rattle.gx_top.specs.declared.play.PlayEnd.{PlayEnd}
-use Rattle.gx_top.specs.declared.status.Status.{Status}
-use Rattle.gx_top.specs.declared.status.Status.TheVariants as status
-use Rattle.gx_top.specs.Endings.{line_of, status_of, memory_line, ending_of}
 use Rattle.gx_equation.specs.Trees.{DefinitionTree}
 use Rattle.gx_typing.specs.declared.typing.Typing.{Typing}
-use Rattle.gx_top.specs.Requests.{IsRefused, IsAccepted, IsRunnable}
+use Rattle.gx_model.specs.States.{State}
+use Rattle.gx_model.specs.Play.{Playing, End, good, stopped}
+use Rattle.gx_top.specs.declared.ending.Ending.{Ending}
+use Rattle.gx_top.specs.declared.status.Status.{Status}
+use Rattle.gx_top.specs.declared.status.Status.TheVariants as status
+use Rattle.gx_top.specs.Endings.{line_of, status_of, memory_line}
+use Rattle.gx_top.specs.Requests.{IsRefused, IsAccepted}
 use Rattle.gx_top.specs.Summaries.{summary_of, accepted_line}
-use Rattle.gx_top.specs.Words.{checking, trying, request_words}
+use Rattle.gx_top.specs.Played.{Says, SaysFront, SaysKeeping, IsPlay, IsPlayText, IsStoppedText, IsShortText, IsFull, IsFullText, IsPlayedText}
+use Rattle.gx_top.specs.Tasks.{Task, IsTask, IsFrom, IsLeft}
+use Rattle.gx_top.specs.declared.ending.DeviceWhy.{DeviceWhy}
+use Rattle.gx_top.specs.Devices.{IsMadeText, IsDeviceText, IsWrong, SaysWrong, CanMake, IsWrongDevice}
+use Rattle.gx_top.specs.Words.{Action, checking, request_words}
 
--- such a text was said
-abbrev pub Says : (List ℕ → Type 0) → Content → Content → Type 0
-Says P old new = (text : List ℕ) × P text × (new.now.said ≡ old.now.said ++ text)
-
--- a front of such a text was said
-abbrev pub SaysFront : (List ℕ → Type 0) → Content → Content → Type 0
-SaysFront P old new = (text : List ℕ) × P text × ((count : ℕ) × (new.now.said ≡ old.now.said ++ take count text))
-
--- ---- of a schema, a start state and a script
-
--- the play of a whole script from a state on: its answers, its last states and its end
-abbrev pub IsPlay : Schema → State → List ℕ → List ℕ → Playing → End → Type 0
-IsPlay schema start script = IsPlayFrom schema (start_at start) (script_lines script)
-
--- the answers of the script's first lines from a state on
-abbrev pub AreFirst : Schema → State → List ℕ → List ℕ → Type 0
-AreFirst schema start script = AreFirstAnswersFrom schema (start_at start) script
-
--- the answers of the script's play from a state up to this end, and then the line of the end
-pub record IsPlayText (schema : Schema) (start : State) (script : List ℕ) (end : End) (text : List ℕ) : Type 0 where
-  pub answers : List ℕ
-  pub final : Playing
-  pub play : IsPlay schema start script answers final end
-  pub text_is : text ≡ answers ++ end_text end
-
--- the same, where the play ends at a line
-abbrev pub IsStoppedText : Schema → State → List ℕ → List ℕ → Type 0
-IsStoppedText schema start script text = (number : ℕ) × (why : LineWhy) × IsPlayText schema start script (stopped number why) text
-
--- the answers of the script's first lines, and then the line that there was no memory
-abbrev pub IsShortText : Schema → State → List ℕ → List ℕ → Type 0
-IsShortText schema start script text = (answers : List ℕ) × AreFirst schema start script answers × (text ≡ answers ++ memory_line)
-
--- one of these
-abbrev pub IsTryText : Schema → State → List ℕ → List ℕ → Type 0
-IsTryText schema start script text = ((end : End) × IsPlayText schema start script end text) ⊎ IsShortText schema start script text
-
--- ---- of a request
+-- ---- texts of requests that aren't played
 
 -- the line of the first reason why the request is refused
 pub record IsRefusalText (words : List (List ℕ)) (before : Content) (text : List ℕ) : Type 0 where
@@ -68,64 +32,75 @@ pub record IsRefusalText (words : List (List ℕ)) (before : Content) (text : Li
   pub status_is : status_of ending ≡ status.Refused
   pub text_is : text ≡ line_of ending
 
--- the script can be played, and `P` holds of its schema, the script and the text
-abbrev pub IsRunText : (Schema → List ℕ → List ℕ → Type 0) → List (List ℕ) → Content → List ℕ → Type 0
-IsRunText P words before text = (schema : Schema) × IsRunnable words before.aside.texts schema × P schema before.script text
-
 -- the line of the leaves of the accepted texts that are to be checked
 abbrev pub IsAcceptedText : List (List ℕ) → Content → List ℕ → Type 0
 IsAcceptedText words before text = (schema : Schema) × (ds : List DefinitionTree) × (typing : Typing) × IsAccepted words before.aside.texts checking schema ds typing × (text ≡ accepted_line (summary_of typing.specs))
 
--- all that was asked: the answers of a script whose play ends at no line, or what the checker says
+-- what was found of texts, or made
 abbrev pub IsDoneText : List (List ℕ) → Content → List ℕ → Type 0
-IsDoneText words before text = IsRunText (λ schema script. IsPlayText schema (empty_state schema) script good) words before text ⊎ IsAcceptedText words before text
+IsDoneText words before text = IsAcceptedText words before text ⊎ IsMadeText words before text
 
--- the line that there was no memory, behind the answers of the script's first lines or of none
-abbrev pub IsMemoryText : List (List ℕ) → Content → List ℕ → Type 0
-IsMemoryText words before text = (text ≡ memory_line) ⊎ IsRunText (λ schema. IsShortText schema (empty_state schema)) words before text
+-- one of these, or that there was no memory
+abbrev pub IsOtherText : List (List ℕ) → Content → List ℕ → Type 0
+IsOtherText words before text = IsRefusalText words before text ⊎ (text ≡ memory_line) ⊎ IsDoneText words before text ⊎ IsDeviceText words before text
 
--- one of these
-abbrev pub IsRequestText : List (List ℕ) → Content → List ℕ → Type 0
-IsRequestText words before text = IsRefusalText words before text ⊎ (text ≡ memory_line) ⊎ IsAcceptedText words before text ⊎ IsRunText (λ schema. IsTryText schema (empty_state schema)) words before text
+-- ---- texts of scripts that are played
 
--- the words ask for a script to be played
-abbrev pub IsTry : List (List ℕ) → Type 0
-IsTry words = (schema : List ℕ) × (equation : List ℕ) × (words ≡ request_words trying schema equation)
+-- Under the texts of the task, which the words ask for, from each state from which it is played: such a text was said, and the
+-- state that goes with it is left.
+abbrev pub Plays : (Task → Option Limits → State → List ℕ → State → Type 0) → List (List ℕ) → Content → Content → Type 0
+Plays P words old new =
+    (t : Task) × IsTask words old.aside.texts t
+    × ((limit : Option Limits) (s : State) → IsFrom t old limit s → SaysKeeping (P t limit s) (IsLeft t new) old new)
 
--- a script can be played, and its play ends at no line
-abbrev pub IsPlayable : List (List ℕ) → Content → Type 0
-IsPlayable words before = (schema : Schema) × IsRunnable words before.aside.texts schema × ((answers : List ℕ) × (final : Playing) × IsPlay schema (empty_state schema) before.script answers final good)
-
--- a script can be played, and its play ends at a line
-abbrev pub IsStoppable : List (List ℕ) → Content → Type 0
-IsStoppable words before = (schema : Schema) × IsRunnable words before.aside.texts schema × ((number : ℕ) × (why : LineWhy) × (answers : List ℕ) × (final : Playing) × IsPlay schema (empty_state schema) before.script answers final (stopped number why))
-
--- the texts to be checked are accepted
-abbrev pub IsCheckable : List (List ℕ) → Content → Type 0
-IsCheckable words before = (schema : Schema) × (ds : List DefinitionTree) × (typing : Typing) × IsAccepted words before.aside.texts checking schema ds typing
+-- the same of a front of a text that a play may say
+abbrev pub PlaysFront : List (List ℕ) → Content → Content → Type 0
+PlaysFront words old new =
+    (t : Task) × IsTask words old.aside.texts t
+    × ((limit : Option Limits) (s : State) → IsFrom t old limit s → SaysFront (IsPlayedText t.schema t.definitions limit s old.script) old new)
 
 -- ---- how a request ends
 
 -- what was said, by the status
 abbrev pub IsSaid : List (List ℕ) → Content → Content → Status → Type 0
-IsSaid words old new status.Done = Says (IsDoneText words old) old new
-IsSaid words old new status.Script = Says (IsRunText (λ schema. IsStoppedText schema (empty_state schema)) words old) old new
+IsSaid words old new status.Done = Says (IsDoneText words old) old new ⊎ Plays (λ t limit s. IsPlayText t.schema s old.script good) words old new
+IsSaid words old new status.Script = Plays (λ t limit s. IsStoppedText t.schema s old.script) words old new
 IsSaid words old new status.Refused = Says (IsRefusalText words old) old new
-IsSaid words old new status.Memory = Says (IsMemoryText words old) old new
-IsSaid words old new status.Full = ⊥
-IsSaid words old new status.Device = ⊥
-IsSaid words old new status.Outside = SaysFront (IsRequestText words old) old new
+IsSaid words old new status.Memory = Says (λ text. text ≡ memory_line) old new ⊎ Plays (λ t limit s. IsShortText t.schema s old.script) words old new
+IsSaid words old new status.Full = Plays (λ t limit s. IsFullText t.schema t.definitions limit s old.script) words old new
+IsSaid words old new status.Device = (why : DeviceWhy) × IsWrong words old why × SaysWrong why old new
+IsSaid words old new status.Outside = SaysFront (IsOtherText words old) old new ⊎ PlaysFront words old new
 
 -- the same, and what was heard: the script to its end where all of it was played, and none of it where none is to be played
 pub record IsEnd (words : List (List ℕ)) (old new : Content) (s : Status) : Type 0 where
   pub said : IsSaid words old new s
-  pub heard : s ≡ status.Done → IsTry words → new.script ≡ []
-  pub unheard : ((schema : Schema) → IsRunnable words old.aside.texts schema → ⊥) → new.script ≡ old.script
+  pub heard : s ≡ status.Done → (t : Task) → IsTask words old.aside.texts t → (limit : Option Limits) (start : State) → IsFrom t old limit start → new.script ≡ []
+  pub unheard : ((t : Task) → ¬ IsTask words old.aside.texts t) → new.script ≡ old.script
+
+-- ---- when each status is due
+
+-- The script of a task can be played from a state on, its play ends so, and at no command are the pages too few.
+pub record CanPlayTo (t : Task) (before : Content) (end : End) : Type 0 where
+  pub limit : Option Limits
+  pub start : State
+  pub from : IsFrom t before limit start
+  pub answers : List ℕ
+  pub final : Playing
+  pub play : IsPlay t.schema start before.script answers final end
+  pub roomy : (first : List ℕ) (p : Playing) → ¬ IsFull t.schema t.definitions limit start before.script first p
+
+abbrev pub IsPlayable : List (List ℕ) → Content → End → Type 0
+IsPlayable words before end = (t : Task) × IsTask words before.aside.texts t × CanPlayTo t before end
+
+-- the texts to be checked are accepted
+abbrev pub IsCheckable : List (List ℕ) → Content → Type 0
+IsCheckable words before = (schema : Schema) × (ds : List DefinitionTree) × (typing : Typing) × IsAccepted words before.aside.texts checking schema ds typing
 
 -- the status that a request is due
 abbrev pub IsDueStatus : List (List ℕ) → Content → Status → Type 0
-IsDueStatus words before status.Done = IsPlayable words before ⊎ IsCheckable words before
-IsDueStatus words before status.Script = IsStoppable words before
+IsDueStatus words before status.Done = IsPlayable words before good ⊎ IsCheckable words before ⊎ CanMake words before
+IsDueStatus words before status.Script = (number : ℕ) × (why : LineWhy) × IsPlayable words before (stopped number why)
+IsDueStatus words before status.Device = IsWrongDevice words before
 IsDueStatus words before status.Refused = (why : Ending) × IsRefused words before.aside.texts why
 IsDueStatus words before other = ⊥
 
@@ -141,40 +116,21 @@ pub record CountsOutside (before now : ℕ) (s : Status) : Type 0 where
 
 -- ---- of two requests
 
--- all that a request says that ends with Done or Script
-abbrev pub IsWholeText : List (List ℕ) → Content → List ℕ → Type 0
-IsWholeText words before text = IsDoneText words before text ⊎ IsRunText (λ schema. IsStoppedText schema (empty_state schema)) words before text
+-- all that is said of a script that is played from this state to its end, or to the line that ends it
+pub record IsWholeText (words : List (List ℕ)) (before : Content) (start : State) (text : List ℕ) : Type 0 where
+  pub task : Task
+  pub is : IsTask words before.aside.texts task
+  pub end : End
+  pub kept : State
+  pub played : IsPlayText task.schema start before.script end text kept
 
--- the words ask for a script to be played under the schema that this text means
-abbrev pub IsTryUnder : List (List ℕ) → Texts → List ℕ → Type 0
-IsTryUnder words texts schema = (schema_name : List ℕ) × (equation_name : List ℕ) × (words ≡ request_words trying schema_name equation_name) × (get texts schema_name ≡ Some schema)
+-- the words name this text as the schema
+abbrev pub IsUnder : List (List ℕ) → Texts → List ℕ → Type 0
+IsUnder words texts schema = (a : Action) × (schema_name : List ℕ) × (equation_name : List ℕ) × (words ≡ request_words a schema_name equation_name) × (get texts schema_name ≡ Some schema)
 
 -- two requests ask for one script to be played under one schema, whatever their equations are
 pub record PlayOneScript (words others : List (List ℕ)) (before other : Content) : Type 0 where
   pub schema : List ℕ
-  pub under : IsTryUnder words before.aside.texts schema
-  pub other_under : IsTryUnder others other.aside.texts schema
+  pub under : IsUnder words before.aside.texts schema
+  pub other_under : IsUnder others other.aside.texts schema
   pub script : before.script ≡ other.script
-
--- ---- before the line of the end is said
-
--- the script was played from a state up to this end, and its answers were said
-pub record IsPlayedOut (schema : Schema) (start : State) (old new : Content) (end : End) : Type 0 where
-  pub answers : List ℕ
-  pub final : Playing
-  pub play : IsPlay schema start old.script answers final end
-  pub said : new.now.said ≡ old.now.said ++ answers
-
--- what was said for how playing the script ends
-abbrev pub IsPlayedAs : Schema → State → Content → Content → Result (Unit {0}) Ending → Type 0
-IsPlayedAs schema start old new (Ok x) = IsPlayedOut schema start old new good
-IsPlayedAs schema start old new (Err (ending.Line number why)) = IsPlayedOut schema start old new (stopped number why)
-IsPlayedAs schema start old new (Err ending.NoMemory) = Says (AreFirst schema start old.script) old new
-IsPlayedAs schema start old new (Err ending.Full) = Says (AreFirst schema start old.script) old new
-IsPlayedAs schema start old new (Err ending.Fault) = SaysFront (AreFirst schema start old.script) old new
-IsPlayedAs schema start old new (Err _) = ⊥
-
--- what an end of the play means for the request
-abbrev pub IsEndingOf : Result (Unit {0}) PlayEnd → Result (Unit {0}) Ending → Type 0
-IsEndingOf (Ok x) result = result ≡ Ok tt
-IsEndingOf (Err end) result = result ≡ Err (ending_of end)

@@ -6,7 +6,7 @@ ghost use Rattle.gx_tokens.specs.Whys.{word_of as why_word};
 ghost use Rattle.gx_script.specs.LineWhys.{word_of as line_word};
 ghost use Rattle.gx_top.specs.Summaries.{accepted_line};
 ghost use Rattle.gx_top.specs.Endings.{line_of, status_of, memory_line, device_line, made_line};
-ghost use Rattle.gx_top.specs.Say.{IsCut, OnlySays};
+ghost use Rattle.gx_top.specs.Say.{IsCut, OnlySays, SameDevices};
 
 use crate::play::PlayEnd;
 use crate::say::say_all;
@@ -120,6 +120,7 @@ pub fn end<M: Machine>(alloc: Global, ending: Ending<'_>, machine: &mut M) -> St
     ensures fault { ending.entry ≡ Ending.Fault → result ≡ Status.Outside }
     ensures silent { IsTrue M.tells → ending.entry ≡ Ending.Fault → (M.content machine.new).now.said ≡ (M.content machine.old).now.said }
     ensures rest { OnlySays (M.content machine.old) (M.content machine.new) }
+    ensures devices { SameDevices (M.content machine.old) (M.content machine.new) }
     ensures counted { result ≢ Status.Outside → M.faults machine.new ≡ M.faults machine.old }
     ensures later { M.faults machine.old ≤ M.faults machine.new }
 {
@@ -138,6 +139,7 @@ fn say_line<M: Machine>(machine: &mut M, line: &[u8], status: Status) -> Status
     ensures same { status ≡ Status.Outside → result ≡ Status.Outside }
     ensures none { IsTrue M.tells → line.now ≡ [] → (M.content machine.new).now.said ≡ (M.content machine.old).now.said }
     ensures rest { OnlySays (M.content machine.old) (M.content machine.new) }
+    ensures devices { SameDevices (M.content machine.old) (M.content machine.new) }
     ensures counted { result ≢ Status.Outside → M.faults machine.new ≡ M.faults machine.old }
     ensures later { M.faults machine.old ≤ M.faults machine.new }
 {

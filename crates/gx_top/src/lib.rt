@@ -5,11 +5,15 @@
 mod built;
 mod check;
 mod ending;
+mod finish;
 mod laws;
+mod make_database;
+mod opened;
 mod over_leaves;
 mod play;
 mod reading;
 mod request;
+mod run_script;
 mod say;
 mod script;
 mod status;

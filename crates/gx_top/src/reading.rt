@@ -9,7 +9,7 @@ ghost use Rattle.gx_equation.specs.Grammar.{Means};
 ghost use Rattle.gx_equation.specs.Printing.{AreWritten};
 ghost use Rattle.gx_equation.specs.Seen.{definitions_of};
 ghost use Rattle.gx_typing.specs.Typed.{IsTyped, leaves, typing_with};
-ghost use Rattle.gx_top.specs.Words.{Action, request_words};
+ghost use Rattle.gx_top.specs.Words.{Action, request_words, IsCounted};
 ghost use Rattle.gx_top.specs.Checked.{IsUnread, IsUnreadEquation, IsUntyped, IsChecked, IsAcceptedAs, AreChecked};
 ghost use Rattle.gx_top.specs.Endings.{is_fault};
 ghost use Rattle.gx_top.specs.Requests.{AreUnchecked, IsUnprepared, equation_of, text_limit};
@@ -43,11 +43,11 @@ pub fn read_texts<'a, M: Machine>(
     equation: &'a str,
     machine: &mut M,
 ) -> Result<Checked, Ending<'a>>
-    ensures accepted { IsTrue M.tells → (a : Action) → IfOk result
+    ensures accepted { IsTrue M.tells → (a : Action) → IsCounted a → IfOk result
         (IsAcceptedAs (request_words a schema.now equation.now)
         (M.content machine.old).aside.texts a) }
     ensures checked { IfOk result IsChecked }
-    ensures unaccepted { IsTrue M.tells → (a : Action) → IfErr result
+    ensures unaccepted { IsTrue M.tells → (a : Action) → IsCounted a → IfErr result
         (IsUnprepared (request_words a schema.now equation.now)
         (M.content machine.old).aside.texts (M.faults machine.old) (M.faults machine.new)) }
     ensures fault { IsErrOf result Ending.Fault → Rose (M.faults machine.old) (M.faults machine.new) }

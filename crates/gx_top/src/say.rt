@@ -1,6 +1,6 @@
 // Saying a whole piece.
 ghost use Rattle.gx_engine.specs.Steps.{leaves_of, IsSame};
-ghost use Rattle.gx_top.specs.Say.{SaysAll};
+ghost use Rattle.gx_top.specs.Say.{SaysAll, SameDevices};
 
 use gx_device::{Device, Failed};
 use gx_engine::Engine;
@@ -9,8 +9,9 @@ use gx_ports::Leaves;
 /// Says the whole piece on a device: where only a part is taken, the rest is offered next. After
 /// `Failed` a front of the piece was said.
 pub fn say_all<D: Device>(device: &mut D, piece: &[u8]) -> Result<(), Failed>
-    ensures { SaysAll D.tells (D.content device.old) (D.content device.new) (D.faults device.old)
-        (D.faults device.new) piece.now result }
+    ensures says { SaysAll D.tells (D.content device.old) (D.content device.new)
+        (D.faults device.old) (D.faults device.new) piece.now result }
+    ensures devices { SameDevices (D.content device.old) (D.content device.new) }
 {
     let mut rest = piece;
     while !rest.is_empty() {

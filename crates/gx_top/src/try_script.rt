@@ -1,19 +1,21 @@
 // The request to play a script under two texts.
-ghost use Rattle.std.specs.Prelude.{◌≡◌, ◌≢◌, ◌≤◌, [], Ok, true, false, length, IsTrue, IsErrOf, IfOk, IfErr};
+ghost use Rattle.std.specs.Prelude.{◌≡◌, ◌≢◌, ◌≤◌, [], Ok, None, true, false, length, IsTrue, IsErrOf, IfOk, IfErr};
 ghost use Rattle.gx_device.specs.Content.{SameContent};
 ghost use Rattle.gx_device.specs.Faults.{Rose};
 ghost use Rattle.gx_schema.specs.WellFormed.{IsWellFormed};
 ghost use Rattle.gx_model.specs.States.{empty_state};
-ghost use Rattle.gx_model.specs.Play.{good};
 ghost use Rattle.gx_engine.specs.Steps.{AreFor};
 ghost use Rattle.gx_top.specs.Words.{trying, request_words};
 ghost use Rattle.gx_top.specs.Checked.{IsChecked, IsBuiltFor, IsUnbuilt, CanPlay};
-ghost use Rattle.gx_top.specs.Endings.{IsTryEnding, IsTryStatus, is_fault};
-ghost use Rattle.gx_top.specs.Requests.{IsRunnable, IsUnprepared};
-ghost use Rattle.gx_top.specs.Tries.{Says, SaysFront, IsPlayText, IsStoppedText, IsShortText, IsTryText, IsPlayedAs, IsEnd, IsAsDue};
+ghost use Rattle.gx_top.specs.Endings.{IsPlayEnding, is_fault};
+ghost use Rattle.gx_top.specs.Requests.{IsUnprepared};
+ghost use Rattle.gx_top.specs.Plays.{IsPlayedAs};
+ghost use Rattle.gx_top.specs.Tasks.{IsPrepared};
+ghost use Rattle.gx_top.specs.Tries.{IsEnd, IsAsDue};
 
 use crate::built::is_built;
 use crate::ending::{Ending, end};
+use crate::finish::finish;
 use crate::over_leaves::play_over;
 use crate::reading::{Checked, read_texts};
 use crate::status::Status;
@@ -43,7 +45,11 @@ pub fn try_script<M: Machine + Drop>(
 {
     let mut machine = machine;
     match prepare(alloc, schema, equation, &mut machine) {
-        Ok((schema, built)) => run_script(alloc, schema, built, machine),
+        Ok((schema, built)) => {
+            let (played, mut machine) = play_script(alloc, schema, built, machine);
+            let status = finish(alloc, played, &mut machine);
+            (status, machine)
+        }
         Err(ending) => {
             let status = end(alloc, ending, &mut machine);
             (status, machine)
@@ -58,9 +64,9 @@ fn prepare<'a, M: Machine>(
     equation: &'a str,
     machine: &mut M,
 ) -> Result<(Schema, Built), Ending<'a>>
-    ensures runnable { IsTrue M.tells → IfOk result (λ x.
-        IsRunnable (request_words trying schema.now equation.now)
-        (M.content machine.old).aside.texts x.0) }
+    ensures prepared { IsTrue M.tells → IfOk result
+        (IsPrepared (request_words trying schema.now equation.now)
+        (M.content machine.old).aside.texts trying) }
     ensures unprepared { IsTrue M.tells → IfErr result
         (IsUnprepared (request_words trying schema.now equation.now)
         (M.content machine.old).aside.texts (M.faults machine.old) (M.faults machine.new)) }
@@ -74,8 +80,8 @@ fn prepare<'a, M: Machine>(
     build_nodes(alloc, checked)
 }
 
-// The same of accepted texts.
-fn build_nodes<'a>(alloc: Global, checked: Checked) -> Result<(Schema, Built), Ending<'a>>
+/// The same of accepted texts.
+pub fn build_nodes<'a>(alloc: Global, checked: Checked) -> Result<(Schema, Built), Ending<'a>>
     requires { IsChecked checked }
     ensures built { IfOk result (IsBuiltFor checked) }
     ensures can_play { IfOk result CanPlay }
@@ -93,35 +99,6 @@ fn build_nodes<'a>(alloc: Global, checked: Checked) -> Result<(Schema, Built), E
     Ok((schema, built))
 }
 
-// Plays the script, and says why it ends early.
-fn run_script<M: Machine + Drop>(
-    alloc: Global,
-    schema: Schema,
-    built: Built,
-    machine: M,
-) -> (Status, M)
-    requires built { AreFor schema built (length built.specs) }
-    requires well_formed { IsWellFormed schema }
-    ensures done { IsTrue M.tells → result.0 ≡ Status.Done → Says (IsPlayText schema (empty_state schema) (M.content machine).script good) (M.content machine) (M.content result.1) }
-    ensures heard { IsTrue M.tells → result.0 ≡ Status.Done → (M.content result.1).script ≡ [] }
-    ensures stopped { IsTrue M.tells → result.0 ≡ Status.Script → Says (IsStoppedText schema (empty_state schema) (M.content machine).script) (M.content machine) (M.content result.1) }
-    ensures memory { IsTrue M.tells → result.0 ≡ Status.Memory → Says (IsShortText schema (empty_state schema) (M.content machine).script) (M.content machine) (M.content result.1) }
-    ensures cut { IsTrue M.tells → result.0 ≡ Status.Outside → SaysFront (IsTryText schema (empty_state schema) (M.content machine).script) (M.content machine) (M.content result.1) }
-    ensures outside { result.0 ≡ Status.Outside → Rose (M.faults machine) (M.faults result.1) }
-    ensures played { IsTryStatus result.0 }
-    ensures counted { result.0 ≢ Status.Outside → M.faults result.1 ≡ M.faults machine }
-    ensures later { M.faults machine ≤ M.faults result.1 }
-{
-    let (played, mut machine) = play_script(alloc, schema, built, machine);
-    match played {
-        Ok(()) => (Status::Done, machine),
-        Err(ending) => {
-            let status = end(alloc, ending, &mut machine);
-            (status, machine)
-        }
-    }
-}
-
 // Hears the script and plays it on leaves in memory.
 fn play_script<'a, M: Machine + Drop>(
     alloc: Global,
@@ -131,10 +108,13 @@ fn play_script<'a, M: Machine + Drop>(
 ) -> (Result<(), Ending<'a>>, M)
     requires built { AreFor schema built (length built.specs) }
     requires well_formed { IsWellFormed schema }
-    ensures answered { IsTrue M.tells → IsPlayedAs schema (empty_state schema) (M.content machine) (M.content result.1) result.0 }
+    ensures answered { IsTrue M.tells →
+        IsPlayedAs schema built None (empty_state schema) (λ kept. Unit {0})
+        (M.content machine).script (M.content machine).now.said (M.content result.1).now.said
+        result.0 }
     ensures heard { IsTrue M.tells → result.0 ≡ Ok tt → (M.content result.1).script ≡ [] }
     ensures fault { IsErrOf result.0 Ending.Fault → Rose (M.faults machine) (M.faults result.1) }
-    ensures ending { IfErr result.0 IsTryEnding }
+    ensures ending { IfErr result.0 IsPlayEnding }
     ensures counted { is_fault result.0 ≡ false → M.faults result.1 ≡ M.faults machine }
     ensures later { M.faults machine ≤ M.faults result.1 }
 {

@@ -8,7 +8,7 @@ pub returns-in-Ok-clause-said : goal.returns-in-Ok-clause-said
 returns-in-Ok-clause-said g c = λ told.
     let words = request_words checking c.args.schema.now c.args.equation.now in
     check_end words (g.M.Device.content c.args.machine.now) (g.M.Device.content c.read_texts.new.machine) (g.M.Device.content c.end.new.machine) c.summarize-summary.result c.end.result
-    (summary words _ c.in-Ok.checked c.summarize-summary.result (c.in-Ok.ensures.accepted told checking) c.summarize-summary.ensures)
+    (summary words _ c.in-Ok.checked c.summarize-summary.result (c.in-Ok.ensures.accepted told checking tt) c.summarize-summary.ensures)
     (ap (λ n. n.said) c.in-Ok.ensures.content.now) c.in-Ok.ensures.content.script
     (record {
       status_is = c.end.ensures.status;
@@ -24,7 +24,7 @@ pub returns-in-Ok-clause-due : goal.returns-in-Ok-clause-due
 returns-in-Ok-clause-due g c = λ told.
     let words = request_words checking c.args.schema.now c.args.equation.now in
     check_due words (g.M.Device.content c.args.machine.now) (g.M.Device.content c.read_texts.new.machine) (g.M.Device.content c.end.new.machine) c.summarize-summary.result c.end.result
-    (summary words _ c.in-Ok.checked c.summarize-summary.result (c.in-Ok.ensures.accepted told checking) c.summarize-summary.ensures)
+    (summary words _ c.in-Ok.checked c.summarize-summary.result (c.in-Ok.ensures.accepted told checking tt) c.summarize-summary.ensures)
     (record {
       status_is = c.end.ensures.status;
       said = c.end.ensures.said told;
@@ -39,7 +39,7 @@ pub returns-in-Err-clause-said : goal.returns-in-Err-clause-said
 returns-in-Err-clause-said g c = λ told.
     let words = request_words checking c.args.schema.now c.args.equation.now in
     unprepared_end words (g.M.Device.content c.args.machine.now) (g.M.Device.content c.read_texts.new.machine) (g.M.Device.content c.end-in-Err.new.machine) _ _ c.in-Err.ending c.end-in-Err.result
-    (c.in-Err.ensures.unaccepted told checking) (ap (λ n. n.said) c.in-Err.ensures.content.now) c.in-Err.ensures.content.script
+    (c.in-Err.ensures.unaccepted told checking tt) (ap (λ n. n.said) c.in-Err.ensures.content.now) c.in-Err.ensures.content.script
     (record {
       status_is = c.end-in-Err.ensures.status;
       said = c.end-in-Err.ensures.said told;
@@ -54,7 +54,7 @@ pub returns-in-Err-clause-due : goal.returns-in-Err-clause-due
 returns-in-Err-clause-due g c = λ told.
     let words = request_words checking c.args.schema.now c.args.equation.now in
     unprepared_due words (g.M.Device.content c.args.machine.now) (g.M.Device.content c.read_texts.new.machine) (g.M.Device.content c.end-in-Err.new.machine) _ _ c.in-Err.ending c.end-in-Err.result
-    (c.in-Err.ensures.unaccepted told checking)
+    (c.in-Err.ensures.unaccepted told checking tt)
     (record {
       status_is = c.end-in-Err.ensures.status;
       said = c.end-in-Err.ensures.said told;

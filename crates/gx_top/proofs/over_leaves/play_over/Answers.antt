@@ -1,18 +1,16 @@
-use Rattle.std.proofs.Common.{rules, refl, sym, ap, subst, ◌∙◌, arith}
+use Rattle.std.proofs.Common.{refl, sym, ap, subst, ◌∙◌, arith}
 use Rattle.gx_model.specs.Play.{start_at}
 use Rattle.gx_ports.specs.declared.stop.Stop.TheVariants as stop
-use Rattle.gx_script.specs.Lines.{script_lines}
-use Rattle.gx_ports.specs.LeafMaps.{IsCrowdedBy}
-use Rattle.gx_engine.specs.Steps.{schema_of, leaves_of}
-use Rattle.gx_top.specs.Plays.{IsPlayedTo}
+use Rattle.gx_engine.specs.Steps.{leaves_of}
 use Rattle.gx_top.specs.Requests.{IsHeard}
-use Rattle.gx_top.specs.Tries.{IsPlayedAs}
-use Rattle.gx_top.proofs.HoldingLemmas.{holding_after, at_first}
-use Rattle.gx_top.proofs.TryLemmas.{played_as, unheard, heard_to_end, play_ending, outside_ending, stop_of_ending, wrong_device, rose_before}
+use Rattle.gx_top.proofs.HoldingLemmas.{holding_after, at_first, kept_in}
+use Rattle.gx_top.proofs.TryLemmas.{played_as, played_over, unheard, heard_to_end, play_ending, outside_ending, stop_of_ending, rose_before}
 use Rattle.gx_top.proofs.over_leaves.play_over.Goals as goal
 
 pub returns-in-Err-clause-answered : goal.returns-in-Err-clause-answered
-returns-in-Err-clause-answered g c = λ told s holds. unheard c.args.schema s (g.B.View.content c.args.leaves) (g.B.View.content c.hear_script.new.leaves) _ _ c.in-Err.ending (ap (λ n. n.said) c.in-Err.ensures.rest.now) c.in-Err.ensures.unheard
+returns-in-Err-clause-answered g c = λ told s holds.
+    unheard c.args.schema c.args.built _ s _ _ _ _ _ _ c.in-Err.ending (ap (λ n. n.said) c.in-Err.ensures.rest.now) c.in-Err.ensures.unheard
+    (kept_in g.B.View c.args.schema c.args.built s c.args.leaves c.hear_script.new.leaves c.in-Err.ensures.keeps holds)
 
 pub returns-in-Err-clause-ending : goal.returns-in-Err-clause-ending
 returns-in-Err-clause-ending g c = outside_ending _ _ c.in-Err.ending c.in-Err.ensures.unheard
@@ -22,13 +20,14 @@ returns-clause-answered g c = λ told s holds.
     let heard = holding_after g.B.View c.args.schema c.args.built s c.args.leaves c.hear_script.new.leaves c.in-Ok.ensures.keeps holds in
     let at = at_first g.B.View c.args.schema c.args.built s c.hear_script.new.leaves c.start-engine.result heard c.start-engine.ensures.leaves (c.start-engine.ensures.stands s heard.working_is heard.kept_same) in
     let content = g.B.View.content in
-    subst (λ k. IsPlayedAs k s (content c.args.leaves) (content c.into_leaves.result) c.ended.result) c.start-engine.ensures.schema
-    (subst (λ l. IsPlayedAs (schema_of c.start-engine.result) s (content c.args.leaves) (content l) c.ended.result) (sym c.into_leaves.ensures)
-    (played_as g.B.View s (content c.args.leaves) c.start-engine.result c.play-played.new.engine (content c.hear_script.new.leaves).script c.deref.result.now
+    played_over g.B.View c.args.schema c.args.built s (content c.args.leaves).script (content c.args.leaves).now.said c.start-engine.result c.play-played.new.engine c.args.leaves c.into_leaves.result c.ended.result
+    c.start-engine.ensures.schema c.start-engine.ensures.built (ap g.B.View.limit c.start-engine.ensures.leaves ∙ c.in-Ok.ensures.keeps.limit) c.into_leaves.ensures
+    (played_as g.B.View s (content c.args.leaves).script (content c.hear_script.new.leaves).script c.deref.result.now (content c.args.leaves).now.said c.start-engine.result c.play-played.new.engine
     (ap (λ l. (content l).now.said) c.start-engine.ensures.leaves ∙ ap (λ n. n.said) c.in-Ok.ensures.rest.now)
+    c.play-played.ensures.schema c.play-played.ensures.built
     (subst (λ t. IsHeard (content c.args.leaves).script (content c.hear_script.new.leaves).script t) (sym c.deref.ensures.value) (c.in-Ok.ensures.heard told))
     c.play-played.result c.ended.result c.ended.ensures (λ block e. c.play-played.ensures.cause (start_at s) at (stop.Damaged block) e)
-    (c.play-played.ensures.played told (start_at s) at)))
+    (c.play-played.ensures.played told (start_at s) at))
 
 pub returns-clause-heard : goal.returns-clause-heard
 returns-clause-heard g c = λ told s holds e.
@@ -39,20 +38,6 @@ returns-clause-heard g c = λ told s holds e.
     ∙ heard_to_end g.B.View s c.start-engine.result c.play-played.new.engine (content c.args.leaves).script (content c.hear_script.new.leaves).script c.deref.result.now c.play-played.result c.ended.result
     (subst (λ t. IsHeard (content c.args.leaves).script (content c.hear_script.new.leaves).script t) (sym c.deref.ensures.value) (c.in-Ok.ensures.heard told))
     c.ended.ensures (c.play-played.ensures.played told (start_at s) at) e
-
-pub returns-clause-sound : goal.returns-clause-sound
-returns-clause-sound g c = λ s holds why e.
-    let heard = holding_after g.B.View c.args.schema c.args.built s c.args.leaves c.hear_script.new.leaves c.in-Ok.ensures.keeps holds in
-    let at = at_first g.B.View c.args.schema c.args.built s c.hear_script.new.leaves c.start-engine.result heard c.start-engine.ensures.leaves (c.start-engine.ensures.stands s heard.working_is heard.kept_same) in
-    let found = wrong_device c.play-played.result c.ended.result why c.ended.ensures e in
-    c.play-played.ensures.cause (start_at s) at (stop.Damaged found.0) found.1
-
-pub returns-clause-crowded : goal.returns-clause-crowded
-returns-clause-crowded g c = λ s holds e.
-    let heard = holding_after g.B.View c.args.schema c.args.built s c.args.leaves c.hear_script.new.leaves c.in-Ok.ensures.keeps holds in
-    let at = at_first g.B.View c.args.schema c.args.built s c.hear_script.new.leaves c.start-engine.result heard c.start-engine.ensures.leaves (c.start-engine.ensures.stands s heard.working_is heard.kept_same) in
-    let full = c.play-played.ensures.cause (start_at s) at stop.Full (stop_of_ending c.play-played.result c.ended.result stop.Full c.ended.ensures e) in
-    (full.0, subst (λ l. IsCrowdedBy l full.0) (ap g.B.View.limit c.start-engine.ensures.leaves ∙ c.in-Ok.ensures.keeps.limit) full.1)
 
 pub returns-clause-ending : goal.returns-clause-ending
 returns-clause-ending g c = play_ending c.play-played.result c.ended.result c.ended.ensures

@@ -5,13 +5,14 @@ use Rattle.gx_top.proofs.RequestLemmas.{all_accepted, all_unaccepted}
 use Rattle.gx_top.proofs.reading.read_texts.Goals as goal
 
 pub returns-clause-accepted : goal.returns-clause-accepted
-returns-clause-accepted g c = λ told a.
+returns-clause-accepted g c = λ told a counted.
     let texts = (g.M.Device.content c.args.machine.now).aside.texts in
     let words = request_words a c.args.schema.now c.args.equation.now in
     let asked : IsAsked words texts a c.deref.result.now c.deref-2.result.now = record {
       schema_name = c.args.schema.now;
       equation_name = c.args.equation.now;
       words_are = refl;
+      counted = counted;
       schema_there = subst (λ (text : List ℕ). IsText texts c.args.schema.now text) (sym c.deref.ensures.value) (c.in_ok-schema_text.ensures.text told);
       equation_there =
           subst (λ (text : List ℕ). IsText texts c.args.equation.now text) (sym c.deref-2.ensures.value)
@@ -20,13 +21,14 @@ returns-clause-accepted g c = λ told a.
     all_accepted words texts a c.deref.result.now c.deref-2.result.now c.check_texts.result asked c.check_texts.ensures.accepted
 
 pub returns-clause-unaccepted : goal.returns-clause-unaccepted
-returns-clause-unaccepted g c = λ told a.
+returns-clause-unaccepted g c = λ told a counted.
     let texts = (g.M.Device.content c.args.machine.now).aside.texts in
     let words = request_words a c.args.schema.now c.args.equation.now in
     let asked : IsAsked words texts a c.deref.result.now c.deref-2.result.now = record {
       schema_name = c.args.schema.now;
       equation_name = c.args.equation.now;
       words_are = refl;
+      counted = counted;
       schema_there = subst (λ (text : List ℕ). IsText texts c.args.schema.now text) (sym c.deref.ensures.value) (c.in_ok-schema_text.ensures.text told);
       equation_there =
           subst (λ (text : List ℕ). IsText texts c.args.equation.now text) (sym c.deref-2.ensures.value)

@@ -9,6 +9,8 @@ invariant-loop-rest g l =
       part : (taken : ℕ) × (l.rest ≡ drop taken l.piece) × (IsTrue g.D.Device.tells → (content l.device).now.said ≡ (content l.fn.device).now.said ++ take taken l.piece);
       script : (content l.device).script ≡ (content l.fn.device).script;
       aside : (content l.device).aside ≡ (content l.fn.device).aside;
+      blocks : (content l.device).now.blocks ≡ (content l.fn.device).now.blocks;
+      shelf : (content l.device).now.shelf ≡ (content l.fn.device).now.shelf;
       counted : g.D.Device.faults l.device ≡ g.D.Device.faults l.fn.device;
     }
 

@@ -1,36 +1,28 @@
-use Rattle.std.proofs.Common.{ap, subst}
-use Rattle.gx_top.specs.Requests.{IsRunnable}
+use Rattle.std.proofs.Common.{ap}
 use Rattle.gx_top.specs.Words.{trying, request_words}
 use Rattle.gx_top.proofs.EndLemmas.{unprepared_end, unprepared_due, run_end, run_due}
+use Rattle.gx_top.proofs.TaskLemmas.{try_task, try_run}
 use Rattle.gx_top.proofs.try_script.try_script.Goals as goal
 
 pub returns-in-Ok-clause-said : goal.returns-in-Ok-clause-said
 returns-in-Ok-clause-said g c = λ told.
     let words = request_words trying c.args.schema.now c.args.equation.now in
-    run_end words c.in-Ok.schema (g.M.Device.content c.args.machine) (g.M.Device.content c.prepare.new.machine) (g.M.Device.content c.run_script.result.1) c.run_script.result.0
-    (subst (IsRunnable words (g.M.Device.content c.args.machine).aside.texts) c.in-Ok.schema-is (c.in-Ok.ensures.runnable told)) c.in-Ok.ensures.content.script (ap (λ n. n.said) c.in-Ok.ensures.content.now)
-    (record {
-      done = c.run_script.ensures.done told;
-      heard = c.run_script.ensures.heard told;
-      stopped = c.run_script.ensures.stopped told;
-      memory = c.run_script.ensures.memory told;
-      cut = c.run_script.ensures.cut told;
-      played = c.run_script.ensures.played;
-    })
+    let content = g.M.Device.content in
+    let old = content c.args.machine in
+    let prepared = c.in-Ok.ensures.prepared told in
+    run_end words (try_task words old.aside.texts _ prepared) old (content c.play_script-machine.result.1) (content c.finish-status.new.machine) c.play_script-machine.result.0 c.finish-status.result
+    (try_run words _ old (content c.prepare.new.machine) (content c.play_script-machine.result.1) (content c.finish-status.new.machine) c.play_script-machine.result.0 c.finish-status.result prepared c.in-Ok.ensures.content
+    (c.play_script-machine.ensures.answered told) (c.play_script-machine.ensures.heard told) c.play_script-machine.ensures.ending (c.finish-status.ensures.finished told))
 
 pub returns-in-Ok-clause-due : goal.returns-in-Ok-clause-due
 returns-in-Ok-clause-due g c = λ told.
     let words = request_words trying c.args.schema.now c.args.equation.now in
-    run_due words c.in-Ok.schema (g.M.Device.content c.args.machine) (g.M.Device.content c.prepare.new.machine) (g.M.Device.content c.run_script.result.1) c.run_script.result.0
-    (subst (IsRunnable words (g.M.Device.content c.args.machine).aside.texts) c.in-Ok.schema-is (c.in-Ok.ensures.runnable told)) c.in-Ok.ensures.content.script
-    (record {
-      done = c.run_script.ensures.done told;
-      heard = c.run_script.ensures.heard told;
-      stopped = c.run_script.ensures.stopped told;
-      memory = c.run_script.ensures.memory told;
-      cut = c.run_script.ensures.cut told;
-      played = c.run_script.ensures.played;
-    })
+    let content = g.M.Device.content in
+    let old = content c.args.machine in
+    let prepared = c.in-Ok.ensures.prepared told in
+    run_due words (try_task words old.aside.texts _ prepared) old (content c.play_script-machine.result.1) (content c.finish-status.new.machine) c.play_script-machine.result.0 c.finish-status.result
+    (try_run words _ old (content c.prepare.new.machine) (content c.play_script-machine.result.1) (content c.finish-status.new.machine) c.play_script-machine.result.0 c.finish-status.result prepared c.in-Ok.ensures.content
+    (c.play_script-machine.ensures.answered told) (c.play_script-machine.ensures.heard told) c.play_script-machine.ensures.ending (c.finish-status.ensures.finished told))
 
 pub returns-in-Err-clause-said : goal.returns-in-Err-clause-said
 returns-in-Err-clause-said g c = λ told.

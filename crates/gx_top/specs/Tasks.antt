@@ -1,0 +1,103 @@
+-- Which script is to be played, under which texts, and from which state on.
+use Rattle.std.specs.Prelude.{◌≡◌, ℕ, ◌+◌, List, length, Option, Some, None}
+use Rattle.gx_device.specs.Content.{Content, Texts, device_at}
+use Rattle.gx_ports.specs.declared.kinds.LeafSpec.{LeafSpec}
+use Rattle.gx_ports.specs.LeafMaps.{LeafMap, Limits}
+use Rattle.gx_ports.specs.Roots.{root_pages}
+use Rattle.gx_schema.specs.declared.schema.Schema.{Schema}
+use Rattle.gx_schema.specs.Printing.{schema_text}
+use Rattle.gx_equation.specs.Trees.{DefinitionTree}
+use Rattle.gx_equation.specs.Printing.{equation_text}
+use Rattle.gx_typing.specs.declared.typing.Typing.{Typing}
+use Rattle.gx_types.specs.declared.built.Built.{Built}
+use Rattle.gx_types.specs.Build.{AreTreesOfFiles}
+use Rattle.gx_model.specs.States.{State, empty_state}
+use Rattle.gx_engine.specs.Internal.{AreInternal}
+use Rattle.gx_layout.specs.Layout.{pages_of}
+use Rattle.gx_store.specs.Device.{Reopens, IsSettled}
+use Rattle.gx_top.specs.Words.{Action, checking, trying, making, running}
+use Rattle.gx_top.specs.Requests.{IsReady}
+
+-- a script that is to be played, and what the texts mean under which it is
+pub record Task : Type 0 where
+  pub action : Action
+  pub schema : Schema
+  pub definitions : List DefinitionTree
+  pub typing : Typing
+
+-- what is asked for is to play it
+abbrev pub IsToPlay : Action → Type 0
+IsToPlay checking = ⊥
+IsToPlay trying = Unit {0}
+IsToPlay (making device blocks) = ⊥
+IsToPlay (running device) = Unit {0}
+
+-- the words ask for it, and the request isn't refused
+pub record IsTask (words : List (List ℕ)) (texts : Texts) (t : Task) : Type 0 where
+  pub to_play : IsToPlay t.action
+  pub ready : IsReady words texts t.action t.schema t.definitions t.typing
+
+-- the words ask for this of texts that mean the schema, and these are the nodes of the equation
+pub record IsPrepared (words : List (List ℕ)) (texts : Texts) (a : Action) (x : Schema × Built) : Type 0 where
+  pub definitions : List DefinitionTree
+  pub typing : Typing
+  pub ready : IsReady words texts a x.0 definitions typing
+  pub trees : AreTreesOfFiles 0 x.0.files definitions x.1.files
+
+-- ---- the state that a device holds
+
+-- the maps are the internal form of the state: nodes that the definitions mean hold it in them
+pub record IsInternalOf (schema : Schema) (ds : List DefinitionTree) (maps : List LeafMap) (s : State) : Type 0 where
+  pub built : Built
+  pub trees : AreTreesOfFiles 0 schema.files ds built.files
+  pub is : AreInternal schema built.files maps s
+
+-- the pages of a device of so many blocks, and those that the leaves take from the start on
+abbrev pub limits_on : List LeafSpec → ℕ → Limits
+limits_on specs blocks = record { pages = pages_of blocks; fixed = 16 + root_pages specs }
+
+-- the blocks of the device of that name reopen to the internal form of the state
+pub record IsHeldOn (t : Task) (device : List ℕ) (before : Content) (limit : Option Limits) (s : State) : Type 0 where
+  pub blocks : List (List ℕ)
+  pub there : device_at before.now device ≡ Some blocks
+  pub limit_is : limit ≡ Some (limits_on t.typing.specs (length blocks))
+  pub maps : List LeafMap
+  pub reopens : Reopens (schema_text t.schema) (equation_text t.definitions) t.typing.specs maps blocks
+  pub internal : IsInternalOf t.schema t.definitions maps s
+
+-- ---- where the play begins
+
+-- over leaves in memory, without a limit, with the empty state; on a device with a state that it holds
+abbrev pub IsStart : Action → Task → Content → Option Limits → State → Type 0
+IsStart checking t before limit s = ⊥
+IsStart trying t before limit s = (limit ≡ None) × (s ≡ empty_state t.schema)
+IsStart (making device blocks) t before limit s = ⊥
+IsStart (running device) t before limit s = IsHeldOn t device before limit s
+
+abbrev pub IsFrom : Task → Content → Option Limits → State → Type 0
+IsFrom t before limit s = IsStart t.action t before limit s
+
+-- ---- what is left of it
+
+-- the blocks are settled with maps in which these nodes hold the state
+abbrev pub IsSettledIn : Schema → Built → List ℕ → List ℕ → List LeafSpec → List (List ℕ) → State → Type 0
+IsSettledIn schema built schema_text equation_text specs blocks s =
+    (maps : List LeafMap) × IsSettled schema_text equation_text specs maps blocks × AreInternal schema built.files maps s
+
+-- the device of that name is settled with the internal form of the state
+pub record IsSettledOn (t : Task) (device : List ℕ) (after : Content) (s : State) : Type 0 where
+  pub blocks : List (List ℕ)
+  pub there : device_at after.now device ≡ Some blocks
+  pub maps : List LeafMap
+  pub settled : IsSettled (schema_text t.schema) (equation_text t.definitions) t.typing.specs maps blocks
+  pub internal : IsInternalOf t.schema t.definitions maps s
+
+-- nothing of leaves in memory; on a device the state
+abbrev pub IsLeftBy : Action → Task → Content → State → Type 0
+IsLeftBy checking t after s = Unit {0}
+IsLeftBy trying t after s = Unit {0}
+IsLeftBy (making device blocks) t after s = Unit {0}
+IsLeftBy (running device) t after s = IsSettledOn t device after s
+
+abbrev pub IsLeft : Task → Content → State → Type 0
+IsLeft t after s = IsLeftBy t.action t after s

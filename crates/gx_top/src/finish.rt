@@ -1,0 +1,28 @@
+// How a script that was played ends for the request.
+ghost use Rattle.std.specs.Prelude.{◌≡◌, ◌≢◌, ◌≤◌, ◌⊎◌, false, IsTrue, IsErrOf};
+ghost use Rattle.gx_device.specs.Faults.{Rose};
+ghost use Rattle.gx_top.specs.Say.{SameDevices};
+ghost use Rattle.gx_top.specs.Endings.{IsFinished, is_fault};
+
+use crate::ending::{Ending, end};
+use crate::status::Status;
+use gx_device::Machine;
+use std::alloc::Global;
+
+/// Says the line of the end of a play, where it has one, and answers the status. After a failed call
+/// nothing is said.
+pub fn finish<M: Machine>(alloc: Global, played: Result<(), Ending<'_>>, machine: &mut M) -> Status
+    ensures finished { IsTrue M.tells →
+        IsFinished played.entry (M.content machine.old) (M.content machine.new) result }
+    ensures outside { result ≡ Status.Outside →
+        IsErrOf played.entry Ending.Fault ⊎ Rose (M.faults machine.old) (M.faults machine.new) }
+    ensures no_fault { result ≢ Status.Outside → is_fault played.entry ≡ false }
+    ensures counted { result ≢ Status.Outside → M.faults machine.new ≡ M.faults machine.old }
+    ensures devices { SameDevices (M.content machine.old) (M.content machine.new) }
+    ensures later { M.faults machine.old ≤ M.faults machine.new }
+{
+    match played {
+        Ok(()) => Status::Done,
+        Err(ending) => end(alloc, ending, machine),
+    }
+}

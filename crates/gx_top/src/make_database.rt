@@ -1,0 +1,115 @@
+// The request to make a device with an empty database.
+ghost use Rattle.std.specs.Prelude.{◌≡◌, ◌≢◌, ◌≤◌, List, ℕ, false, Some, None};
+ghost use Rattle.gx_device.specs.Content.{device_at};
+ghost use Rattle.gx_device.specs.Faults.{Rose};
+ghost use Rattle.gx_layout.specs.Layout.{pages_of};
+ghost use Rattle.gx_store.specs.Device.{IsNoneOrEmpty};
+ghost use Rattle.gx_store.specs.Store.{CanAttach, Attaches};
+ghost use Rattle.gx_top.specs.Words.{IsCount, making, request_words};
+ghost use Rattle.gx_top.specs.Checked.{IsStored};
+ghost use Rattle.gx_top.specs.Endings.{is_outside};
+ghost use Rattle.gx_top.specs.Made.{making_ending, IsMaking, LeavesMade};
+ghost use Rattle.gx_top.specs.Tries.{IsEnd, IsAsDue};
+
+use crate::ending::{Ending, end};
+use crate::opened::{Stored, prepare_stored, unopened_ending};
+use crate::status::Status;
+use gx_device::Machine;
+use gx_store::{Unopened, make};
+use std::alloc::Global;
+
+/// Makes a device of that name with so many blocks, and an empty database on it under the texts of
+/// these names, and says what was made; or says the reason where the request is refused, or where the
+/// size or the name can't be had. Then no device is made or changed. After `Memory` and `Outside` there
+/// may be a device without a database.
+pub fn make_database<M: Machine + Drop>(
+    alloc: Global,
+    schema: &str,
+    equation: &str,
+    device: &str,
+    blocks: u32,
+    machine: M,
+) -> (Status, M)
+    ensures said { CanAttach M.tells (M.content machine) → (digits : List ℕ) → IsCount digits blocks →
+        IsEnd (request_words (making device.now digits) schema.now equation.now)
+        (M.content machine) (M.content result.1) result.0 }
+    ensures due { CanAttach M.tells (M.content machine) → (digits : List ℕ) → IsCount digits blocks →
+        IsAsDue (request_words (making device.now digits) schema.now equation.now)
+        (M.content machine) result.0 }
+    ensures left { CanAttach M.tells (M.content machine) → (digits : List ℕ) → IsCount digits blocks →
+        LeavesMade (request_words (making device.now digits) schema.now equation.now) device.now
+        (M.content machine) (M.content result.1) result.0 }
+    ensures outside { result.0 ≡ Status.Outside → Rose (M.faults machine) (M.faults result.1) }
+    ensures counted { result.0 ≢ Status.Outside → M.faults result.1 ≡ M.faults machine }
+    ensures later { M.faults machine ≤ M.faults result.1 }
+{
+    let mut machine = machine;
+    match prepare_stored(alloc, schema, equation, &mut machine) {
+        Ok(stored) => {
+            let (ending, mut machine) = make_stored(alloc, stored, device, blocks, machine);
+            let status = end(alloc, ending, &mut machine);
+            (status, machine)
+        }
+        Err(ending) => {
+            let status = end(alloc, ending, &mut machine);
+            (status, machine)
+        }
+    }
+}
+
+// Makes the device and an empty database of what is stored on it, and tells how the request ends.
+fn make_stored<'a, M: Machine + Drop>(
+    alloc: Global,
+    stored: Stored,
+    device: &str,
+    blocks: u32,
+    machine: M,
+) -> (Ending<'a>, M)
+    requires { IsStored stored }
+    ensures made { CanAttach M.tells (M.content machine) →
+        IsMaking stored.schema_text stored.equation_text stored.built.specs device.now
+        blocks (M.content machine) (M.content result.1) result.0 }
+    ensures attaches { CanAttach M.tells (M.content machine) →
+        Attaches device.now (M.content machine) (M.content result.1) }
+    ensures left { CanAttach M.tells (M.content machine) →
+        device_at (M.content machine).now device.now ≡ None → (made : List (List ℕ)) →
+        device_at (M.content result.1).now device.now ≡ Some made → IsNoneOrEmpty
+        stored.schema_text stored.equation_text stored.built.specs made }
+    ensures fault { result.0 ≡ Ending.Fault → Rose (M.faults machine) (M.faults result.1) }
+    ensures counted { is_outside result.0 ≡ false → M.faults result.1 ≡ M.faults machine }
+    ensures later { M.faults machine ≤ M.faults result.1 }
+{
+    let Stored {
+        built,
+        schema_text,
+        equation_text,
+        ..
+    } = stored;
+    let (made, machine) = make(
+        alloc,
+        machine,
+        device,
+        blocks,
+        schema_text.as_slice(),
+        equation_text.as_slice(),
+        &built.specs.0,
+    );
+    (making_ending(made, blocks), machine)
+}
+
+// How the request ends where making its device ended so.
+fn making_ending<'a>(made: Result<(), Unopened>, blocks: u32) -> Ending<'a>
+    ensures { result ≡ making_ending blocks made }
+{
+    match made {
+        Ok(()) => Ending::Made(blocks, page_count(blocks)),
+        Err(why) => unopened_ending(why),
+    }
+}
+
+// How many pages a device of so many blocks has.
+fn page_count(blocks: u32) -> u32
+    ensures { result ≡ pages_of blocks }
+{
+    blocks.saturating_sub(7) / 2
+}
