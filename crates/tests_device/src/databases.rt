@@ -4,9 +4,9 @@ ghost use Rattle.gx_leaves.specs.Kinds.{are_built};
 ghost use Rattle.gx_ports.specs.Roots.{root_pages};
 
 use gx_device::{Device, Machine};
-use gx_memory_machine::MemoryMachine;
 use gx_journal::Journal;
 use gx_leaves::PagedLeaves;
+use gx_memory_machine::MemoryMachine;
 use gx_pages::Paged;
 use gx_ports::{Entries, LeafKind, LeafSpec, Leaves, Pages, Stop};
 use gx_store::{Store, Unopened, make, open};

@@ -7,8 +7,8 @@ ghost use Rattle.gx_pages.specs.View.{journal_of};
 
 use Step::{Abort, Claim, ClaimAt, Commit, Free, Write};
 use gx_device::{Device, Machine};
-use gx_memory_machine::MemoryMachine;
 use gx_journal::Journal;
+use gx_memory_machine::MemoryMachine;
 use gx_pages::Paged;
 use gx_ports::{MAX_OWNER, PAGE_LEN, Pages, Stop};
 use std::alloc::Global;
