@@ -19,7 +19,7 @@ use Rattle.gx_top.specs.declared.reading.Checked.{Checked}
 use Rattle.gx_top.specs.declared.summary.Summary.{Summary}
 use Rattle.gx_top.specs.Built.{is_built, is_built_on_device}
 use Rattle.gx_top.specs.Checked.{AreChecked, IsAcceptedAs, IsBuiltFor, IsUnbuilt, IsUnbuiltBy, IsStoredOf, IsUnstored, IsStoredFor}
-use Rattle.gx_top.specs.Requests.{IsAsked, IsAccepted, is_carried, AreAccepted, AreUnchecked, IsReady, IsRunnable, IsSummary, IsUnprepared}
+use Rattle.gx_top.specs.Requests.{IsAsked, IsAccepted, is_carried, AreAccepted, AreUnchecked, IsReady, IsSummary, IsUnprepared}
 use Rattle.gx_top.specs.Summaries.{summary_of}
 use Rattle.gx_top.specs.Words.{Action, checking, trying, making, running, IsOnDevice}
 
@@ -74,12 +74,6 @@ unbuilt words texts before now a c can ending.Fault is carried un = absurd un
 pub all_unbuilt : (words : List (List ℕ)) (texts : Texts) (before now : ℕ) (c : Checked) (result : Result (Schema × Built) Ending) → IsAcceptedAs words texts trying c → IfErr result (IsUnbuilt c) → IfErr result (IsUnprepared words texts before now)
 all_unbuilt words texts before now c (Ok x) is h = tt
 all_unbuilt words texts before now c (Err why) is h = unbuilt words texts before now trying c (is_built c.schema (definitions_of c.equation.definitions)) why is refl h
-
-pub all_runnable : (words : List (List ℕ)) (texts : Texts) (c : Checked) (result : Result (Schema × Built) Ending) → IsAcceptedAs words texts trying c → IfOk result (IsBuiltFor c) → IfOk result (λ x. IsRunnable words texts x.0)
-all_runnable words texts c (Err why) is h = tt
-all_runnable words texts c (Ok x) is h =
-    let ds = definitions_of c.equation.definitions in
-    (ds, c.typing, subst (λ k. IsAccepted words texts trying k ds c.typing) (sym h.0) is, subst (λ k. is_built k ds ≡ true) (sym h.0) h.1)
 
 -- what the checker says of them
 pub summary : (words : List (List ℕ)) (texts : Texts) (c : Checked) (given : Summary) → IsAcceptedAs words texts checking c → given ≡ summary_of c.typing.specs → IsSummary words texts given

@@ -110,10 +110,6 @@ IsReady words texts a schema ds typing = IsAccepted words texts a schema ds typi
 abbrev pub IsFree : List (List ℕ) → Content → Type 0
 IsFree words c = (a : Action) (schema equation : List ℕ) → IsOnDevice a → words ≡ request_words a schema equation → c.now.shelf.name ≡ None
 
--- a script that can be played on this schema
-abbrev pub IsRunnable : List (List ℕ) → Texts → Schema → Type 0
-IsRunnable words texts schema = (ds : List DefinitionTree) × (typing : Typing) × IsAccepted words texts trying schema ds typing × (is_built schema ds ≡ true)
-
 -- what the checker says of accepted texts
 abbrev pub IsSummary : List (List ℕ) → Texts → Summary → Type 0
 IsSummary words texts summary = (schema : Schema) × (ds : List DefinitionTree) × (typing : Typing) × IsAccepted words texts checking schema ds typing × (summary ≡ summary_of typing.specs)
