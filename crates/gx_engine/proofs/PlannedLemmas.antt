@@ -1,6 +1,6 @@
--- The records that meet the conditions of a `find`, by the span of its plan.
-use Rattle.std.proofs.Common.{[], ◌≡◌, ◌≢◌, ℕ, zero, suc, ◌<◌, ◌≤◌, List, ◌∷◌, ◌++◌, length, take, Bool, true, false, cond, eqb, Option, Some, None, Result, Ok, Err, refl, sym, ap, subst, ◌∙◌, arith, inl, inr, append-nil}
-use Rattle.std.specs.Prelude.{◌&&◌, ◌⊎◌, IfSome, OnOk}
+-- The records that meet the conditions of a `find`, by its plan.
+use Rattle.std.proofs.Common.{[], ◌≡◌, ◌≢◌, ℕ, zero, suc, ◌<◌, ◌≤◌, List, ◌∷◌, ◌++◌, length, map, take, drop, get_or, Bool, true, false, cond, eqb, Option, Some, None, Result, Ok, Err, refl, sym, ap, subst, ◌∙◌, arith, inl, inr, append-nil}
+use Rattle.std.specs.Prelude.{◌&&◌, ◌⊎◌, IfSome, OnOk, pos, unwrap_or}
 use Rattle.std.specs.List.{list_all, slice_get}
 use Rattle.std.specs.Option.{option_map}
 use Rattle.std.proofs.lemmas.Bool.{cases_Bool, eqb-true}
@@ -9,31 +9,34 @@ use Rattle.gx_values.specs.declared.values.Kind.TheVariants as kind
 use Rattle.gx_values.specs.declared.values.Op.{Op}
 use Rattle.gx_values.specs.declared.values.Op.TheVariants as op
 use Rattle.gx_values.specs.declared.values.Value.{Value}
+use Rattle.gx_values.specs.declared.values.Value.TheVariants as value
+use Rattle.gx_values.specs.declared.records.Field.{Field}
 use Rattle.gx_values.specs.declared.keys.Span.{Span}
 use Rattle.gx_values.specs.Values.{Fits, AreFit, value_cmp, is_met}
 use Rattle.gx_values.specs.Keys.{bytes_of, key_of, is_inside, width_of, IsKeyKind}
 use Rattle.gx_values.specs.Spans.{IsSpanKind, IsValueSpan, HoldsThoseMet}
 use Rattle.gx_schema.specs.declared.schema.FileDef.{FileDef}
-use Rattle.gx_schema.specs.Lookups.{key_kind}
+use Rattle.gx_schema.specs.Lookups.{no_field, field_at, key_kind}
 use Rattle.gx_script.specs.declared.command.Cond.{Cond}
 use Rattle.gx_script.specs.declared.command.Find.{Find}
 use Rattle.gx_ports.specs.declared.leaves.TheConstants.{MAX_KEY_LEN}
 use Rattle.gx_mapping.specs.Rule.{In}
+use Rattle.gx_mapping.proofs.FieldLemmas.{fit_at}
 use Rattle.gx_stack.specs.Selected.{IsKeySpan}
+use Rattle.gx_stack.specs.Tree.{Tree}
+use Rattle.gx_stack.specs.Indexed.{is_indexed as is_tree_indexed}
+use Rattle.gx_types.specs.declared.any.AnyMapping.{AnyMapping}
+use Rattle.gx_types.specs.Any.{any_rule}
 use Rattle.gx_typing.specs.Dues.{file_form}
 use Rattle.gx_planner.specs.declared.plans.Plan.{Plan}
-use Rattle.gx_planner.specs.declared.plans.Plan.TheVariants.{Key, KeyRange}
+use Rattle.gx_planner.specs.declared.plans.Plan.TheVariants.{Key, Index, KeyRange, IndexRange}
 use Rattle.gx_planner.specs.Plans.{rank_of, rank_by, is_indexed, HasRank, Applies}
-use Rattle.gx_model.specs.States.{Row}
+use Rattle.gx_model.specs.States.{Row, IsRowOf}
 use Rattle.gx_model.specs.Found.{value_at, meets_cond, meets_conds}
 use Rattle.gx_scan.proofs.FileLemmas.{key_of_form}
-use Rattle.gx_engine.specs.Planned.{Covers, HoldsKeysMet}
+use Rattle.gx_engine.specs.Planned.{HoldsKeysMet, fields_indexed}
 
 -- ---- what may be there
-
-pub if_seen : {A B : Type 0} (o : Option A) (view : A → B) (P : B → Type 0) (r : Option B) → option_map view o ≡ r → ((x : B) → r ≡ Some x → P x) → IfSome o (λ a. P (view a))
-if_seen None view P r e h = tt
-if_seen (Some a) view P r e h = h (view a) (sym e)
 
 pub if_so : {A : Type 0} (o : Option A) (P Q : A → Type 0) → IfSome o P → ((x : A) → P x → Q x) → IfSome o Q
 if_so None P Q h more = tt
@@ -43,47 +46,106 @@ pub ok_so : {A E : Type 0} (r : Result A E) (P Q : Type 0) → OnOk r P → (P �
 ok_so (Ok x) P Q h more = more h
 ok_so (Err e) P Q h more = tt
 
--- ---- the condition of a plan by the key
-
--- a plan by the key has a condition of one of two ranks
-pub by_key : (q : Find) (indexed : List Bool) (plan : Plan) (number : ℕ) → (plan ≡ Key number) ⊎ (plan ≡ KeyRange number) → Applies q indexed plan → (n : ℕ) × HasRank q indexed n number × ((n ≡ 1) ⊎ (n ≡ 4))
-by_key q indexed plan number (inl e) a = (1, subst (Applies q indexed) e a, inl refl)
-by_key q indexed plan number (inr e) a = (4, subst (Applies q indexed) e a, inr refl)
-
-abbrev pub IsOnKey : Cond → Type 0
-IsOnKey c = (c.field ≡ 0) × (c.op ≢ op.Unequal)
-
-not_unequal : (o : Op) (n : ℕ) → rank_by 1 4 o ≡ n → (n ≡ 1) ⊎ (n ≡ 4) → o ≢ op.Unequal
-not_unequal o n e h is =
-    let six : 6 ≡ n = ap (rank_by 1 4) (sym is) ∙ e in
-    elim h [ inl a ↦ absurd (omega arith) | inr b ↦ absurd (omega arith) ]
-
-by_index : (o : Op) (n : ℕ) → rank_by 3 5 o ≡ n → (n ≡ 1) ⊎ (n ≡ 4) → ⊥
-by_index op.Equal n e h = elim h [ inl a ↦ omega arith | inr b ↦ omega arith ]
-by_index op.Unequal n e h = elim h [ inl a ↦ omega arith | inr b ↦ omega arith ]
-by_index op.Less n e h = elim h [ inl a ↦ omega arith | inr b ↦ omega arith ]
-by_index op.AtMost n e h = elim h [ inl a ↦ omega arith | inr b ↦ omega arith ]
-by_index op.Greater n e h = elim h [ inl a ↦ omega arith | inr b ↦ omega arith ]
-by_index op.AtLeast n e h = elim h [ inl a ↦ omega arith | inr b ↦ omega arith ]
-
-on_key_from : (c : Cond) (key indexed : Bool) (n : ℕ) → eqb c.field 0 ≡ key → cond key (rank_by 1 4 c.op) (cond indexed (rank_by 3 5 c.op) 6) ≡ n → (n ≡ 1) ⊎ (n ≡ 4) → IsOnKey c
-on_key_from c true indexed n k e h = (eqb-true c.field 0 k, not_unequal c.op n e h)
-on_key_from c false true n k e h = absurd (by_index c.op n e h)
-on_key_from c false false n k e h = elim h [ inl a ↦ absurd (omega arith) | inr b ↦ absurd (omega arith) ]
+-- ---- the condition of a plan
 
 some_is : {A : Type 0} (x y : A) → Some x ≡ Some y → x ≡ y
 some_is x y e = cc
 
--- a condition with the rank of a plan by the key is on the key
-pub on_key : (q : Find) (indexed : List Bool) (n number : ℕ) (c : Cond) → HasRank q indexed n number → slice_get q.conds number ≡ Some c → (n ≡ 1) ⊎ (n ≡ 4) → IsOnKey c
-on_key q indexed n number c has there h =
-    let same : Some (rank_of indexed c) ≡ Some n = sym (ap (option_map (rank_of indexed)) there) ∙ has in
-    on_key_from c (eqb c.field 0) (is_indexed indexed c.field) n refl (some_is (rank_of indexed c) n same) h
+none_is : {A : Type 0} (x : A) → None ≡ Some x → ⊥
+none_is x e = cc
 
-pub at_place : {A : Type 0} (xs : List A) (i : ℕ) (x : A) → slice_get xs i ≡ Some x → In x xs
-at_place [] i x e = absurd cc
-at_place (y ∷ ys) zero x e = let same : y ≡ x = cc in inl (sym same)
-at_place (y ∷ ys) (suc i) x e = inr (at_place ys i x e)
+-- a condition that has a rank is there
+pub ranked_there : (q : Find) (indexed : List Bool) (n number : ℕ) → HasRank q indexed n number → number < length q.conds
+ranked_there q indexed n number has = go q.conds number has
+  where
+    go : (cs : List Cond) (i : ℕ) → option_map (rank_of indexed) (slice_get cs i) ≡ Some n → i < length cs
+    go [] i e = absurd (none_is n e)
+    go (c ∷ cs) zero e = omega arith
+    go (c ∷ cs) (suc i) e = omega (arith, go cs i e)
+
+ranked : (q : Find) (indexed : List Bool) (n number : ℕ) (c : Cond) → HasRank q indexed n number → slice_get q.conds number ≡ Some c → rank_of indexed c ≡ n
+ranked q indexed n number c has there = some_is (rank_of indexed c) n (sym (ap (option_map (rank_of indexed)) there) ∙ has)
+
+-- a plan by the key or by an index has a condition of one of two ranks
+abbrev pub IsOneOf : ℕ → ℕ → ℕ → Type 0
+IsOneOf a b n = (n ≡ a) ⊎ (n ≡ b)
+
+pub by_key : (q : Find) (indexed : List Bool) (plan : Plan) (number : ℕ) → (plan ≡ Key number) ⊎ (plan ≡ KeyRange number) → Applies q indexed plan → (n : ℕ) × HasRank q indexed n number × IsOneOf 1 4 n
+by_key q indexed plan number (inl e) a = (1, subst (Applies q indexed) e a, inl refl)
+by_key q indexed plan number (inr e) a = (4, subst (Applies q indexed) e a, inr refl)
+
+pub by_index : (q : Find) (indexed : List Bool) (plan : Plan) (number : ℕ) → (plan ≡ Index number) ⊎ (plan ≡ IndexRange number) → Applies q indexed plan → (n : ℕ) × HasRank q indexed n number × IsOneOf 3 5 n
+by_index q indexed plan number (inl e) a = (3, subst (Applies q indexed) e a, inl refl)
+by_index q indexed plan number (inr e) a = (5, subst (Applies q indexed) e a, inr refl)
+
+abbrev pub IsOnKey : Cond → Type 0
+IsOnKey c = (c.field ≡ 0) × (c.op ≢ op.Unequal)
+
+-- on a field other than the key, which is indexed
+pub record IsOnIndex (indexed : List Bool) (c : Cond) : Type 0 where
+  pub past_key : 0 < c.field
+  pub op : c.op ≢ op.Unequal
+  pub indexed_is : is_indexed indexed c.field ≡ true
+
+not_unequal : (equal range : ℕ) (o : Op) (n : ℕ) → equal < 6 → range < 6 → rank_by equal range o ≡ n → IsOneOf equal range n → o ≢ op.Unequal
+not_unequal equal range o n less below e h is =
+    let six : 6 ≡ n = ap (rank_by equal range) (sym is) ∙ e in
+    elim h [ inl a ↦ absurd (omega arith) | inr b ↦ absurd (omega arith) ]
+
+of_index : (o : Op) (n : ℕ) → rank_by 3 5 o ≡ n → IsOneOf 1 4 n → ⊥
+of_index op.Equal n e h = elim h [ inl a ↦ omega arith | inr b ↦ omega arith ]
+of_index op.Unequal n e h = elim h [ inl a ↦ omega arith | inr b ↦ omega arith ]
+of_index op.Less n e h = elim h [ inl a ↦ omega arith | inr b ↦ omega arith ]
+of_index op.AtMost n e h = elim h [ inl a ↦ omega arith | inr b ↦ omega arith ]
+of_index op.Greater n e h = elim h [ inl a ↦ omega arith | inr b ↦ omega arith ]
+of_index op.AtLeast n e h = elim h [ inl a ↦ omega arith | inr b ↦ omega arith ]
+
+of_key : (o : Op) (n : ℕ) → rank_by 1 4 o ≡ n → IsOneOf 3 5 n → ⊥
+of_key op.Equal n e h = elim h [ inl a ↦ omega arith | inr b ↦ omega arith ]
+of_key op.Unequal n e h = elim h [ inl a ↦ omega arith | inr b ↦ omega arith ]
+of_key op.Less n e h = elim h [ inl a ↦ omega arith | inr b ↦ omega arith ]
+of_key op.AtMost n e h = elim h [ inl a ↦ omega arith | inr b ↦ omega arith ]
+of_key op.Greater n e h = elim h [ inl a ↦ omega arith | inr b ↦ omega arith ]
+of_key op.AtLeast n e h = elim h [ inl a ↦ omega arith | inr b ↦ omega arith ]
+
+-- the rank of a condition, where it is known whether its field is the key and whether it is indexed
+abbrev Ranks : Cond → Bool → Bool → ℕ → Type 0
+Ranks c key indexed n = cond key (rank_by 1 4 c.op) (cond indexed (rank_by 3 5 c.op) 6) ≡ n
+
+on_key_from : (c : Cond) (key indexed : Bool) (n : ℕ) → eqb c.field 0 ≡ key → Ranks c key indexed n → IsOneOf 1 4 n → IsOnKey c
+on_key_from c true indexed n k e h = (eqb-true c.field 0 k, not_unequal 1 4 c.op n (omega arith) (omega arith) e h)
+on_key_from c false true n k e h = absurd (of_index c.op n e h)
+on_key_from c false false n k e h = elim h [ inl a ↦ absurd (omega arith) | inr b ↦ absurd (omega arith) ]
+
+not_key : (n : ℕ) → eqb n 0 ≡ false → 0 < n
+not_key zero e = absurd cc
+not_key (suc n) e = omega arith
+
+on_index_from : (fields : List Bool) (c : Cond) (key indexed : Bool) (n : ℕ) → eqb c.field 0 ≡ key → is_indexed fields c.field ≡ indexed → Ranks c key indexed n → IsOneOf 3 5 n → IsOnIndex fields c
+on_index_from fields c true indexed n k i e h = absurd (of_key c.op n e h)
+on_index_from fields c false true n k i e h = record {
+  past_key = not_key c.field k;
+  op = not_unequal 3 5 c.op n (omega arith) (omega arith) e h;
+  indexed_is = i;
+}
+on_index_from fields c false false n k i e h = elim h [ inl a ↦ absurd (omega arith) | inr b ↦ absurd (omega arith) ]
+
+-- a condition with the rank of a plan by the key is on the key
+pub on_key : (q : Find) (indexed : List Bool) (n number : ℕ) (c : Cond) → HasRank q indexed n number → slice_get q.conds number ≡ Some c → IsOneOf 1 4 n → IsOnKey c
+on_key q indexed n number c has there h = on_key_from c (eqb c.field 0) (is_indexed indexed c.field) n refl (ranked q indexed n number c has there) h
+
+-- one with the rank of a plan by an index is on an indexed field
+pub on_index : (q : Find) (indexed : List Bool) (n number : ℕ) (c : Cond) → HasRank q indexed n number → slice_get q.conds number ≡ Some c → IsOneOf 3 5 n → IsOnIndex indexed c
+on_index q indexed n number c has there h = on_index_from indexed c (eqb c.field 0) (is_indexed indexed c.field) n refl refl (ranked q indexed n number c has there) h
+
+-- the field is indexed in the tree
+pub indexed_at : (t : Tree AnyMapping) (file : FileDef) (field : ℕ) → is_indexed (fields_indexed t file) field ≡ true → is_tree_indexed any_rule t (field_at file field).name ≡ true
+indexed_at t file field e = go file.fields field e
+  where
+    go : (fs : List Field) (i : ℕ) → unwrap_or (slice_get (map (λ f. is_tree_indexed any_rule t f.name) fs) i) false ≡ true → is_tree_indexed any_rule t (get_or fs i no_field).name ≡ true
+    go [] i h = absurd cc
+    go (f ∷ fs) zero h = h
+    go (f ∷ fs) (suc i) h = go fs i h
 
 -- ---- the span of a condition on the key
 
@@ -124,11 +186,29 @@ one_met p [] x h all = absurd h
 one_met p (y ∷ ys) x (inl e) all = ap p e ∙ (both (p y) (list_all p ys) all).0
 one_met p (y ∷ ys) x (inr h) all = one_met p ys x h (both (p y) (list_all p ys) all).1
 
-pub covered_by : (file : FileDef) (c : Cond) (conds : List Cond) (s : Span) → In c conds → HoldsKeysMet file c s → Covers file conds s
-covered_by file c conds s there holds r fits met = holds r fits ∙ one_met (meets_cond r) conds c there met
+-- the key of a record that meets all of them is inside the span of one
+pub covered_by : (file : FileDef) (c : Cond) (conds : List Cond) (s : Span) (r : Row) → In c conds → HoldsKeysMet file c s → Fits (key_kind file) r.0 → meets_conds conds r ≡ true → is_inside s.lo s.hi (bytes_of r.0) ≡ true
+covered_by file c conds s r there holds fits met = holds r fits ∙ one_met (meets_cond r) conds c there met
 
 pub none_of : (r : Row) (c : Cond) (conds : List Cond) → In c conds → meets_cond r c ≡ false → meets_conds conds r ≡ false
 none_of r c conds there unmet = elim (cases_Bool (meets_conds conds r)) [
   | inl t ↦ let met = one_met (meets_cond r) conds c there t in absurd cc
   | inr f ↦ f
 ]
+
+-- ---- the span of a condition on a data field
+
+all_fit : (fs : List Field) (k : Value) (vs : List Value) → 0 < length fs → Fits (get_or fs 0 no_field).kind k → AreFit (drop 1 fs) vs → AreFit fs (k ∷ vs)
+all_fit [] k vs some fit fits = absurd (omega arith)
+all_fit (f ∷ fs) k vs some fit fits = (fit, fits)
+
+value_kind : (file : FileDef) (r : Row) (field : ℕ) → IsRowOf file r → field < length file.fields → Fits (field_at file field).kind (value_at r field)
+value_kind file r field fit lt = fit_at field file.fields (r.0 ∷ r.1) no_field (value.Int (pos 0)) (all_fit file.fields r.0 r.1 (omega arith) fit.0 fit.1) lt
+
+-- a record's field is inside the span exactly where the record meets the condition
+pub field_met : (file : FileDef) (c : Cond) (s : Span) (r : Row) → c.field < length file.fields → HoldsThoseMet (field_at file c.field).kind c.op c.bound s → IsRowOf file r → is_inside s.lo s.hi (bytes_of (value_at r c.field)) ≡ meets_cond r c
+field_met file c s r lt holds fit =
+    ap (is_inside s.lo s.hi) (sym (append-nil (bytes_of (value_at r c.field)))) ∙ holds (value_at r c.field) [] (value_kind file r c.field fit lt)
+
+pub field_unmet : (file : FileDef) (c : Cond) (r : Row) → c.field < length file.fields → ((v : Value) → Fits (field_at file c.field).kind v → is_met c.op (value_cmp v c.bound) ≡ false) → IsRowOf file r → meets_cond r c ≡ false
+field_unmet file c r lt nothing fit = nothing (value_at r c.field) (value_kind file r c.field fit lt)

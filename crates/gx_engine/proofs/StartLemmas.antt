@@ -23,7 +23,7 @@ use Rattle.gx_types.specs.Any.{any_rule}
 use Rattle.gx_types.specs.Nodes.{tree_at}
 use Rattle.gx_model.specs.States.{Link, IsRowOf, empty_state}
 use Rattle.gx_scan.specs.Files.{rec_of, records_of, IsInternal}
-use Rattle.gx_scan.proofs.StorableLemmas.{rules_at, file_stored}
+use Rattle.gx_scan.proofs.StorableLemmas.{rules_at, file_stored, file_named}
 use Rattle.gx_engine.specs.Internal.{AreInternal, AreStorable}
 use Rattle.gx_engine.specs.Steps.{AreFor}
 
@@ -39,6 +39,7 @@ no_links (l ∷ links) rest e = absurd (never (length links) rest e)
 pub are_storable : (schema : Schema) (rest : Bool) → IsSchema schema → ((length schema.links == 0) && rest) ≡ true → AreStorable schema
 are_storable schema rest is built = record {
   files = λ i lt. file_stored (file_at schema i) (rules_at [] schema.files i is.files lt);
+  named = λ i lt. file_named (file_at schema i) (rules_at [] schema.files i is.files lt);
   links = no_links schema.links rest built;
 }
 

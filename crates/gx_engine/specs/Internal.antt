@@ -15,6 +15,7 @@ use Rattle.gx_types.specs.Nodes.{tree_at}
 use Rattle.gx_model.specs.States.{File, State, file_in}
 use Rattle.gx_model.specs.Play.{Playing, seen_state, is_inside, next_of, IsAnswered}
 use Rattle.gx_scan.specs.Files.{records_of, IsInternal, IsStorable}
+use Rattle.gx_scan.specs.Where.{AreNamed}
 
 -- the same for all files of a schema without links
 pub record AreInternal (schema : Schema) (nodes : List (Node AnyMapping)) (maps : List LeafMap) (s : State) : Type 0 where
@@ -32,6 +33,7 @@ pub record Stands (schema : Schema) (nodes : List (Node AnyMapping)) (inside : B
 -- so each file of the schema has, and there is no link
 pub record AreStorable (schema : Schema) : Type 0 where
   pub files : (i : ℕ) → i < length schema.files → IsStorable (file_at schema i)
+  pub named : (i : ℕ) → i < length schema.files → AreNamed (file_at schema i)
   pub links : schema.links ≡ []
 
 -- the working maps after a command on one file: its tree holds the records after it, and all other leaves stay

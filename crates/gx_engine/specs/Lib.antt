@@ -1,3 +1,4 @@
 pub mod Internal
 pub mod Steps
 pub mod Planned
+pub mod Work

@@ -20,6 +20,7 @@ use Rattle.gx_model.specs.Play.{Playing, seen_state, next_of}
 use Rattle.gx_engine.specs.declared.engine.Engine.{Engine}
 use Rattle.gx_engine.specs.declared.engine.StepStop.{StepStop}
 use Rattle.gx_engine.specs.declared.engine.StepStop.TheVariants.{Now, Stopped}
+use Rattle.gx_engine.specs.Work.{IsBounded}
 use Rattle.gx_engine.specs.Internal.{AreStorable, Stands, IsCarried, entries_from}
 
 -- ---- what contracts see of an engine
@@ -122,6 +123,10 @@ pub record KeepsEngine {S E : Type 0} (g : Ghosts S) (old new : Engine S) (c : C
   pub kept_whole : OnOk result (g.whole (leaves_of old) → g.kept_whole (leaves_of old) → g.kept_whole (leaves_of new))
   pub keeps : is_commit c ≡ false → Keeps g (leaves_of old) (leaves_of new)
   pub work : selects c ≡ false → g.work (leaves_of new) ≡ g.work (leaves_of old)
+
+-- the steps that the command took are bounded by what the state has that it sees
+abbrev pub TakesFewSteps : {S : Type 0} → Ghosts S → Playing → Command → Engine S → Engine S → Type 0
+TakesFewSteps g p c old new = IsBounded (schema_of old) (nodes_of old) (length (g.working (leaves_of old))) (seen_state p) c (g.work (leaves_of old)) (g.work (leaves_of new))
 
 pub record IsStep {S : Type 0} (g : Ghosts S) (old new : Engine S) (c : Command) (out now : List ℕ) (result : Result (Unit {0}) Stop) : Type 0 where
   pub carried : (p : Playing) → IsAt g p old → OnOk result (CarriesOut g p c old new out now)

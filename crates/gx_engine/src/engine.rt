@@ -47,7 +47,7 @@ pub struct Engine<B: Leaves + Drop> {
 impl<B: Leaves + Drop> Engine<B> {
     ghost use Rattle.gx_script.specs.declared.command.Command.TheVariants as command;
     ghost use Rattle.gx_engine.specs.Internal.{AreInternal};
-    ghost use Rattle.gx_engine.specs.Steps.{schema_of, built_of, nodes_of, leaves_of, is_open, commits_of, stop_of, is_fault_now, AreFor, IsReady, IsDue, StandsFor, IsAt, IsShortFor, CarriesOut, AreFresh, KeepsEngine, HasStepCause, IsStep, IsServed, IsSame};
+    ghost use Rattle.gx_engine.specs.Steps.{schema_of, built_of, nodes_of, leaves_of, is_open, commits_of, stop_of, is_fault_now, AreFor, IsReady, IsDue, StandsFor, IsAt, IsShortFor, CarriesOut, AreFresh, KeepsEngine, HasStepCause, IsStep, TakesFewSteps, IsServed, IsSame};
     ghost use Rattle.gx_engine.specs.declared.engine.StepStop.TheVariants.{Now, Stopped};
 
     /// An engine over leaves, which hold the records of each file of the schema as it is built. No
@@ -98,7 +98,9 @@ impl<B: Leaves + Drop> Engine<B> {
     /// of block 0 where the stored form of each is whole. `Now(NoMemory)`: there was no memory.
     ///
     /// After `ReorganizeFile` each leaf of the file is fresh. `Begin`, `Commit`, `Abort` and a line without a
-    /// command take no step. Each command but `Commit` leaves what was last committed as it is.
+    /// command take no step. `Get` and `Find` take at most `2 * (c + 1) * (w + l)`, where c is the number of
+    /// records that meet the one condition of the plan, w the greatest number of leaf entries of a record,
+    /// and l the number of leaves. Each command but `Commit` leaves what was last committed as it is.
     pub fn step(
         &mut self,
         alloc: Global,
@@ -111,6 +113,8 @@ impl<B: Leaves + Drop> Engine<B> {
             OnOk result (CarriesOut B.View p command.now self.old self.new out.old out.new) }
         ensures full { (p : Playing) → IsAt B.View p self.old → result ≡ Err (Now Stop.Full) →
             IsShortFor B.View self.old p command.now }
+        ensures few_steps { (p : Playing) → IsAt B.View p self.old →
+            OnOk result (TakesFewSteps B.View p command.now self.old self.new) }
         ensures fresh { B.whole (leaves_of self.old) →
             OnOk result (AreFresh B.View command.now self.new) }
         ensures unsaid { OnErr result (out.new ≡ out.old) }
@@ -145,7 +149,9 @@ impl<B: Leaves + Drop> Engine<B> {
     fn carry_out(&mut self, alloc: Global, command: &Command, out: &mut Octets) -> Result<(), Stop>
         requires ready { IsReady B.View self.old }
         requires due { IsDue self.old command.now }
-        ensures { IsStep B.View self.old self.new command.now out.old out.new result }
+        ensures step { IsStep B.View self.old self.new command.now out.old out.new result }
+        ensures few_steps { (p : Playing) → IsAt B.View p self.old →
+            OnOk result (TakesFewSteps B.View p command.now self.old self.new) }
     {
         match command {
             Command::Begin => self.begin(out),
@@ -283,8 +289,10 @@ impl<B: Leaves + Drop> Engine<B> {
     fn get(&mut self, alloc: Global, file: u16, key: &Value, out: &mut Octets) -> Result<(), Stop>
         requires ready { IsReady B.View self.old }
         requires due { IsDue self.old (command.Get file key.now) }
-        ensures { IsStep B.View self.old self.new (command.Get file key.now) out.old out.new
+        ensures step { IsStep B.View self.old self.new (command.Get file key.now) out.old out.new
             result }
+        ensures few_steps { (p : Playing) → IsAt B.View p self.old →
+            OnOk result (TakesFewSteps B.View p (command.Get file key.now) self.old self.new) }
     {
         let def = file_def(&self.schema, file);
         let node = file_node(&self.built, file);
@@ -300,7 +308,10 @@ impl<B: Leaves + Drop> Engine<B> {
     fn find(&mut self, alloc: Global, find: &Find, out: &mut Octets) -> Result<(), Stop>
         requires ready { IsReady B.View self.old }
         requires due { IsDue self.old (command.Find find.now) }
-        ensures { IsStep B.View self.old self.new (command.Find find.now) out.old out.new result }
+        ensures step { IsStep B.View self.old self.new (command.Find find.now) out.old out.new
+            result }
+        ensures few_steps { (p : Playing) → IsAt B.View p self.old →
+            OnOk result (TakesFewSteps B.View p (command.Find find.now) self.old self.new) }
     {
         let def = file_def(&self.schema, find.file);
         let node = file_node(&self.built, find.file);
@@ -341,7 +352,16 @@ impl<B: Leaves + Drop> Engine<B> {
     pub fn into_leaves(self) -> B
         ensures { result ≡ leaves_of self }
     {
-        self.leaves
+        // All fields are named here: an engine with one more doesn't compile.
+        let Engine {
+            schema: _,
+            built: _,
+            leaves,
+            inside: _,
+            commits: _,
+            stopped: _,
+        } = self;
+        leaves
     }
 }
 

@@ -2,7 +2,10 @@ pub mod FileLemmas
 pub mod RecordLemmas
 mod EntryLemmas
 mod PlaceLemmas
-mod ListingLemmas
+pub mod ListingLemmas
 mod ScanLemmas
 pub mod SelectLemmas
 pub mod StorableLemmas
+pub mod WhereLemmas
+mod DistinctLemmas
+pub mod StepLemmas

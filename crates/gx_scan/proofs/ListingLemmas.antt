@@ -21,7 +21,7 @@ pub same_filter : {A : Type 0} (p q : A → Bool) (xs : List A) → ((x : A) →
 same_filter p q [] same = refl
 same_filter {A} p q (x ∷ xs) same = (λ i. cond (same x (inl refl) i) (x ∷ filter p xs) (filter p xs)) ∙ ap (λ (l : List A). cond (q x) (x ∷ l) l) (same_filter p q xs (λ y h. same y (inr h)))
 
-filter_true : {A : Type 0} (xs : List A) → filter (λ _. true) xs ≡ xs
+pub filter_true : {A : Type 0} (xs : List A) → filter (λ _. true) xs ≡ xs
 filter_true [] = refl
 filter_true {A} (x ∷ xs) = ap (λ (l : List A). x ∷ l) (filter_true xs)
 

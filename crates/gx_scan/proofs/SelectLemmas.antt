@@ -37,7 +37,7 @@ key_inside : (span : Span) (r : Row) → is_inside span.lo span.hi (key_of (rec_
 key_inside span r = ap (is_inside span.lo span.hi) (append-nil (bytes_of r.0))
 
 -- the selection has the file's records within the span, in the order of the file
-selected_is : (f : File) (span : Span) (found : List Rec) → IsSelection (records_of f) span found → found ≡ map rec_of (filter (λ r. is_inside span.lo span.hi (bytes_of r.0)) (fin.entries f))
+pub selected_is : (f : File) (span : Span) (found : List Rec) → IsSelection (records_of f) span found → found ≡ map rec_of (filter (λ r. is_inside span.lo span.hi (bytes_of r.0)) (fin.entries f))
 selected_is f span found is =
     let test = λ (r : Row). is_inside span.lo span.hi (bytes_of r.0) in
     let rs = filter test (fin.entries f) in
@@ -88,17 +88,17 @@ ends_empty form span l h = record {
   hi_whole = λ key rest fits e. nothing_left (key_of key) rest (sym h ∙ e);
 }
 
+pub second_alone : (a b : Bool) → (b ≡ true → a ≡ true) → (a && b) ≡ b
+second_alone a true h = ap (λ (x : Bool). x && true) (h refl)
+second_alone true false h = refl
+second_alone false false h = refl
+
 -- where the span has all records that meet the conditions, those within it are all that meet them
 pub covered_added : (span : Span) (conds : List Cond) (f : File) (before now : List Row) → ((r : Row) → In r (fin.entries f) → meets_conds conds r ≡ true → is_inside span.lo span.hi (bytes_of r.0) ≡ true) → before ≡ [] → AreAdded span conds f before now → IsPermutation (filter (meets_conds conds) (fin.entries f)) now
 covered_added span conds f before now covers none is =
     let items : now ≡ is.added = is.appended ∙ ap (λ (l : List Row). l ++ is.added) none in
-    let same = same_filter (is_within span conds) (meets_conds conds) (fin.entries f) (λ r h. second (is_inside span.lo span.hi (bytes_of r.0)) (meets_conds conds r) (covers r h)) in
+    let same = same_filter (is_within span conds) (meets_conds conds) (fin.entries f) (λ r h. second_alone (is_inside span.lo span.hi (bytes_of r.0)) (meets_conds conds r) (covers r h)) in
     subst (λ (l : List Row). IsPermutation l now) same (subst (IsPermutation (filter (is_within span conds) (fin.entries f))) (sym items) is.those)
-  where
-    second : (a b : Bool) → (b ≡ true → a ≡ true) → (a && b) ≡ b
-    second a true h = ap (λ (x : Bool). x && true) (h refl)
-    second true false h = refl
-    second false false h = refl
 
 -- where no record meets the conditions, none is all of them
 pub none_added : (test : Row → Bool) (f : File) (now : List Row) → ((r : Row) → In r (fin.entries f) → test r ≡ false) → now ≡ [] → IsPermutation (filter test (fin.entries f)) now

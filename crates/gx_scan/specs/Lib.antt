@@ -3,3 +3,5 @@ pub mod Records
 pub mod Entries
 pub mod Scan
 pub mod Within
+pub mod Where
+pub mod Steps

@@ -1,12 +1,14 @@
 // Finding by entries: where records stand whole in leaves, conditions are tested on the bytes of entries.
-ghost use Rattle.std.specs.Prelude.{◌≡◌, ◌++◌, ℕ, length, filter, OnOk, IsErrOf};
+ghost use Rattle.std.specs.Prelude.{◌≡◌, ◌≤◌, ◌+◌, ◌*◌, ◌++◌, ℕ, length, filter, OnOk, IsErrOf};
 ghost use Rattle.gx_ports.specs.Calls.{Reads, Ends};
 ghost use Rattle.gx_ports.specs.LeafMaps.{Extends};
+ghost use Rattle.gx_stack.specs.Tree.{leaves_of};
 ghost use Rattle.gx_stack.specs.Seen.{tree_of};
 ghost use Rattle.gx_model.specs.States.{File as FileMap};
 ghost use Rattle.gx_scan.specs.Files.{IsInternal, HasFile, IsStorable, IsTreeFor};
 ghost use Rattle.gx_scan.specs.Entries.{ArePlaces, IsPlaceOf, rows_at};
 ghost use Rattle.gx_scan.specs.Within.{is_within, AreAdded};
+ghost use Rattle.gx_scan.specs.Steps.{HaveAtMost, is_key_inside, rows_inside};
 
 use crate::places::Place;
 use crate::records::NO_BLOCK;
@@ -38,6 +40,11 @@ pub(crate) fn add_by_entries<B: Leaves>(
     ensures rows { (f : FileMap) → B.whole leaves.old →
         IsInternal file.now (tree_of node.now) (B.working leaves.old) f →
         OnOk result (AreAdded span.now conds.now f rows.old.items rows.new.items) }
+    ensures steps { (f : FileMap) (most : ℕ) → B.whole leaves.old →
+        IsInternal file.now (tree_of node.now) (B.working leaves.old) f →
+        HaveAtMost most (tree_of node.now) f → OnOk result
+        (B.work leaves.new
+        ≤ B.work leaves.old + (length (leaves_of (tree_of node.now)) + length (rows_inside span.now f) * most)) }
     ensures front { Extends rows.old.items rows.new.items }
     ensures reads { Reads B.View leaves.old leaves.new }
     ensures ends { Ends B.View
@@ -71,6 +78,11 @@ fn add_at<B: Leaves>(
         (rows.new.items
         ≡ rows.old.items ++ filter (is_within span.now conds.now)
         (rows_at (tree_of node.now) place.leaf f)) }
+    ensures steps { (f : FileMap) → B.whole leaves.old →
+        IsInternal file.now (tree_of node.now) (B.working leaves.old) f → OnOk result
+        (B.work leaves.new
+        ≤ B.work leaves.old
+        + (1 + length (filter (is_key_inside span.now) (rows_at (tree_of node.now) place.leaf f)))) }
     ensures front { Extends rows.old.items rows.new.items }
     ensures reads { Reads B.View leaves.old leaves.new }
     ensures ends { Ends B.View

@@ -1,16 +1,18 @@
 // Finding by records: a node gives those within a span, and the ones that meet conditions are kept.
-ghost use Rattle.std.specs.Prelude.{◌≡◌, ◌<◌, ◌++◌, ℕ, length, map, filter, OnOk, IsErrOf};
+ghost use Rattle.std.specs.Prelude.{◌≡◌, ◌<◌, ◌≤◌, ◌+◌, ◌*◌, ◌++◌, ℕ, length, map, filter, OnOk, IsErrOf};
 ghost use Rattle.gx_values.specs.declared.records.Rec.{Rec as Record};
 ghost use Rattle.gx_ports.specs.Calls.{Reads, Ends};
 ghost use Rattle.gx_ports.specs.LeafMaps.{Extends};
 ghost use Rattle.gx_mapping.specs.Rule.{In, IsOf};
 ghost use Rattle.gx_stack.specs.Selected.{IsKeySpan};
+ghost use Rattle.gx_stack.specs.Tree.{leaves_of};
 ghost use Rattle.gx_stack.specs.Seen.{tree_of};
 ghost use Rattle.gx_typing.specs.Dues.{file_form};
 ghost use Rattle.gx_model.specs.States.{File as FileMap};
 ghost use Rattle.gx_model.specs.Found.{meets_cond, meets_conds};
 ghost use Rattle.gx_scan.specs.Files.{IsInternal, HasFile, IsStorable, IsTreeFor};
 ghost use Rattle.gx_scan.specs.Within.{row_of, AreAdded};
+ghost use Rattle.gx_scan.specs.Steps.{HaveAtMost, rows_inside};
 
 use gx_ports::{Leaves, Stop};
 use gx_rows::{Row, field_value};
@@ -37,6 +39,11 @@ pub(crate) fn add_by_records<B: Leaves>(
     ensures rows { (f : FileMap) → B.whole leaves.old →
         IsInternal file.now (tree_of node.now) (B.working leaves.old) f →
         OnOk result (AreAdded span.now conds.now f rows.old.items rows.new.items) }
+    ensures steps { (f : FileMap) (most : ℕ) → B.whole leaves.old →
+        IsInternal file.now (tree_of node.now) (B.working leaves.old) f →
+        HaveAtMost most (tree_of node.now) f → OnOk result
+        (B.work leaves.new
+        ≤ B.work leaves.old + (length (leaves_of (tree_of node.now)) + length (rows_inside span.now f) * most)) }
     ensures front { Extends rows.old.items rows.new.items }
     ensures reads { Reads B.View leaves.old leaves.new }
     ensures ends { Ends B.View
@@ -74,7 +81,7 @@ fn add_met(
 }
 
 // A record of the file as a row.
-fn into_row(file: &FileDef, rec: Rec) -> Row
+pub(crate) fn into_row(file: &FileDef, rec: Rec) -> Row
     requires keyed { 0 < length file.now.fields }
     requires fits { IsOf (file_form file.now) rec }
     ensures { result ≡ row_of rec }
@@ -88,7 +95,7 @@ fn into_row(file: &FileDef, rec: Rec) -> Row
     }
 }
 
-fn meets_all(conds: &[Cond], row: &Row) -> bool
+pub(crate) fn meets_all(conds: &[Cond], row: &Row) -> bool
     ensures { result ≡ meets_conds conds.now row.now }
 {
     conds.iter().all(|cond| meets_one(cond, row))

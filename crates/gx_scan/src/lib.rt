@@ -3,11 +3,13 @@
 #![tactic(auto)]
 
 mod by_entries;
+mod by_index;
 mod by_records;
 mod places;
 mod records;
 mod scan;
 mod within;
 
+pub use by_index::rows_where;
 pub use records::find_record;
 pub use within::{rows_within, whole_span};

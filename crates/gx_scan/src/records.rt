@@ -1,5 +1,5 @@
 // The record at a key of a file.
-ghost use Rattle.std.specs.Prelude.{◌≡◌, ◌<◌, ◌≤◌, ℕ, length, IfOk, IfSome, IsErrOf, Option};
+ghost use Rattle.std.specs.Prelude.{◌≡◌, ◌<◌, ◌≤◌, ◌+◌, ℕ, length, IfOk, IfSome, OnOk, IsErrOf, Option};
 ghost use Rattle.gx_values.specs.Values.{Fits};
 ghost use Rattle.gx_values.specs.Keys.{bytes_of};
 ghost use Rattle.gx_values.specs.declared.records.Rec.{Rec as Record};
@@ -8,11 +8,13 @@ ghost use Rattle.gx_ports.specs.Calls.{Reads, Ends};
 ghost use Rattle.gx_ports.specs.declared.leaves.TheConstants.{MAX_KEY_LEN};
 ghost use Rattle.gx_values.specs.declared.records.Form.{Form as TheForm};
 ghost use Rattle.gx_mapping.specs.Rule.{In, IsOf};
+ghost use Rattle.gx_stack.specs.Tree.{leaves_of};
 ghost use Rattle.gx_stack.specs.Seen.{tree_of};
 ghost use Rattle.gx_typing.specs.Dues.{file_form};
 ghost use Rattle.gx_model.specs.States.{File as FileMap};
 ghost use Rattle.gx_scan.specs.Files.{IsInternal, HasFile, IsStorable, IsTreeFor};
 ghost use Rattle.gx_scan.specs.Records.{record_at, list_of_one};
+ghost use Rattle.gx_scan.specs.Steps.{HaveAtMost};
 
 use gx_ports::{Leaves, Stop};
 use gx_schema::FileDef;
@@ -44,7 +46,8 @@ fn key_span(key: &Value) -> Span
     }
 }
 
-/// The record with this key, where there is one.
+/// The record with this key, where there is one. It takes a step for each leaf, and one for each leaf entry
+/// of the record.
 pub fn find_record<B: Leaves>(
     alloc: Global,
     file: &FileDef,
@@ -59,6 +62,11 @@ pub fn find_record<B: Leaves>(
         IsInternal file.now (tree_of node.now) (B.working leaves.old) f →
         IfOk result (λ found. found ≡ record_at f key.now) }
     ensures fits { IfOk result (λ found. IfSome found (IsOf (file_form file.now))) }
+    ensures steps { (f : FileMap) (most : ℕ) → B.whole leaves.old →
+        IsInternal file.now (tree_of node.now) (B.working leaves.old) f →
+        HaveAtMost most (tree_of node.now) f → OnOk result
+        (B.work leaves.new
+        ≤ B.work leaves.old + (length (leaves_of (tree_of node.now)) + most)) }
     ensures reads { Reads B.View leaves.old leaves.new }
     ensures ends { Ends B.View
         (B.whole leaves.old × HasFile file.now (tree_of node.now) (B.working leaves.old))

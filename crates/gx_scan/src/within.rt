@@ -1,15 +1,17 @@
 // The records of a file within a span that meet conditions.
-ghost use Rattle.std.specs.Prelude.{◌≡◌, ℕ, List, length, true, OnOk, IsErrOf};
+ghost use Rattle.std.specs.Prelude.{◌≡◌, ◌≤◌, ◌+◌, ◌*◌, ℕ, List, length, true, OnOk, IsErrOf};
 ghost use Rattle.gx_values.specs.declared.records.Form.{Form as TheForm};
 ghost use Rattle.gx_values.specs.Keys.{is_inside};
 ghost use Rattle.gx_ports.specs.Calls.{Reads, Ends};
 ghost use Rattle.gx_ports.specs.LeafMaps.{Extends};
 ghost use Rattle.gx_stack.specs.Selected.{IsKeySpan};
+ghost use Rattle.gx_stack.specs.Tree.{leaves_of};
 ghost use Rattle.gx_stack.specs.Seen.{tree_of};
 ghost use Rattle.gx_typing.specs.Dues.{file_form};
 ghost use Rattle.gx_model.specs.States.{File as FileMap};
 ghost use Rattle.gx_scan.specs.Files.{IsInternal, HasFile, IsStorable, IsTreeFor};
 ghost use Rattle.gx_scan.specs.Within.{AreAdded};
+ghost use Rattle.gx_scan.specs.Steps.{HaveAtMost, rows_inside};
 
 use crate::by_entries::add_by_entries;
 use crate::by_records::add_by_records;
@@ -25,7 +27,8 @@ use std::alloc::Global;
 
 /// Appends the records of the file within the span that meet the conditions, in any order. Where each
 /// layer of the node passes its records whole, the conditions are tested on the bytes of leaf entries,
-/// and no other record is made.
+/// and no other record is made. It takes a step for each leaf, and one for each leaf entry of a record
+/// within the span.
 ///
 /// After an error `rows` may have more at its end. `Damaged`: some leaf's stored form isn't whole, or the
 /// leaves hold no file, which is said of block 0. `Fault`: the count of faults rose; with any other answer
@@ -45,6 +48,11 @@ pub fn rows_within<B: Leaves>(
     ensures rows { (f : FileMap) → B.whole leaves.old →
         IsInternal file.now (tree_of node.now) (B.working leaves.old) f →
         OnOk result (AreAdded span.now conds.now f rows.old.items rows.new.items) }
+    ensures steps { (f : FileMap) (most : ℕ) → B.whole leaves.old →
+        IsInternal file.now (tree_of node.now) (B.working leaves.old) f →
+        HaveAtMost most (tree_of node.now) f → OnOk result
+        (B.work leaves.new
+        ≤ B.work leaves.old + (length (leaves_of (tree_of node.now)) + length (rows_inside span.now f) * most)) }
     ensures front { Extends rows.old.items rows.new.items }
     ensures reads { Reads B.View leaves.old leaves.new }
     ensures ends { Ends B.View

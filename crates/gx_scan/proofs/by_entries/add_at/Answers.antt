@@ -1,14 +1,17 @@
-use Rattle.std.proofs.Common.{rules, ◌∙◌, ◌++◌, List, filter, refl, sym, ap}
+use Rattle.std.proofs.Common.{rules, ◌∙◌, ◌++◌, ◌-◌, List, filter, length, refl, sym, ap, arith}
 use Rattle.std.proofs.lemmas.Bool.{true≢false}
+use Rattle.std.proofs.lemmas.List.{length-map}
 use Rattle.gx_values.specs.Keys.{bytes_of, is_inside}
 use Rattle.gx_model.specs.States.{Row}
 use Rattle.gx_model.specs.Found.{meets_conds}
 use Rattle.gx_stack.specs.Seen.{tree_of}
 use Rattle.gx_scan.specs.Files.{records_of}
-use Rattle.gx_scan.specs.Entries.{rows_at}
+use Rattle.gx_scan.specs.Entries.{entry_of_row, rows_at}
 use Rattle.gx_scan.proofs.EntryLemmas.{span_entries}
 use Rattle.gx_scan.proofs.ListingLemmas.{filter_twice}
 use Rattle.gx_scan.proofs.PlaceLemmas.{place_entries, place_there, rows_fit, filter_fits}
+use Rattle.gx_ports.specs.LeafMaps.{entry_of}
+use Rattle.gx_scan.proofs.StepLemmas.{counted_most}
 use Rattle.gx_scan.proofs.by_entries.add_at.Goals as goal
 
 pub select-requires : goal.select-requires
@@ -53,3 +56,18 @@ returns-clause-ends g c = record {
       let all = (c.in_ok-add_chosen_rows.ensures.chosen (filter inside (rows_at t p.leaf f)) fit same).0 in
       true≢false (sym all ∙ c.if-branch.false);
 }
+
+pub returns-then-branch-clause-steps : goal.returns-then-branch-clause-steps
+returns-then-branch-clause-steps g c = λ f whole is.
+    let file = c.args.file.now in
+    let t = tree_of c.args.node.now in
+    let p = c.args.place in
+    let maps = g.B.View.working c.args.leaves.now in
+    let lo = c.args.span.now.lo in
+    let hi = c.args.span.now.hi in
+    let rows = filter (λ (r : Row). is_inside lo hi (bytes_of r.0)) (rows_at t p.leaf f) in
+    let union = (c.internal_is_union.ensures (records_of f) maps).0 is.held in
+    let stored = place_entries file t _ maps f c.requires.storable c.requires.tree is.fit union p c.requires.place in
+    let same = span_entries _ p.lengths (rows_at t p.leaf f) lo hi _ _ _ stored c.new-entries.ensures (c.in_ok-select.ensures.ok whole) refl in
+    counted_most _ _ (length c.select.new.out - length c.new-entries.result) (length rows) c.in_ok-select.ensures.steps
+    (omega (arith, ap length same, length-map rows (λ (r : Row). entry_of (entry_of_row p.lengths r)), ap length c.new-entries.ensures))

@@ -1,4 +1,7 @@
-use Rattle.std.proofs.Common.{rules, ◌≡◌, ◌∙◌, ◌++◌, [], List, Err, filter, get_or, refl, sym, ap, subst, arith, append-nil, append_assoc}
+use Rattle.std.proofs.Common.{rules, ◌≡◌, ◌∙◌, ◌++◌, ◌+◌, [], List, Err, filter, get_or, refl, sym, ap, subst, arith, length, length-append, append-nil, append_assoc}
+use Rattle.std.specs.FinMap as fin
+use Rattle.std.proofs.lemmas.List.{length-take, length-map}
+use Rattle.std.proofs.lemmas.List.Sorted.{length_permutation}
 use Rattle.std.proofs.lemmas.Result.{err_from_is_err_and}
 use Rattle.gx_ports.specs.declared.stop.Stop.TheVariants as stop
 use Rattle.gx_ports.specs.LeafMaps.{LeafMap}
@@ -11,13 +14,18 @@ use Rattle.gx_scan.specs.declared.places.Place.{Place}
 use Rattle.gx_scan.specs.Files.{IsInternal}
 use Rattle.gx_scan.specs.Entries.{rows_at}
 use Rattle.gx_scan.specs.Within.{is_within}
-use Rattle.gx_scan.proofs.PlaceLemmas.{IsOnce, leaves_once, leaf_there, get_or_any}
+use Rattle.gx_scan.specs.Steps.{is_key_inside, rows_inside}
+use Rattle.gx_stack.specs.Tree.{leaves_of}
+use Rattle.gx_stack.proofs.Lists.{in_filter}
+use Rattle.gx_scan.proofs.PlaceLemmas.{IsOnce, leaves_once, leaf_there, get_or_any, number}
+use Rattle.gx_scan.proofs.StepLemmas.{whole_most}
 use Rattle.gx_scan.proofs.ListingLemmas.{none_chosen, place_chosen, all_chosen}
 use Rattle.gx_scan.proofs.by_entries.add_by_entries.Goals as goal
 
 pub loop-place-init : goal.loop-place-init
 loop-place-init g c = record {
   rows = λ f whole is. ([], sym (append-nil c.args.rows.now.items), none_chosen (tree_of c.args.node.now) (is_within c.args.span.now c.args.conds.now) f [] refl);
+  steps = λ f whole is. ([], none_chosen (tree_of c.args.node.now) (is_key_inside c.args.span.now) f [] refl, omega arith);
   front = ([], sym (append-nil c.args.rows.now.items));
   reads = reads_itself g.B.View c.args.leaves.now;
   whole = λ h. h;
@@ -55,6 +63,15 @@ loop-place-preserved g c =
             now ∙ ap (λ (l : List Row). l ++ more) so_far.1 ∙ append_assoc c.args.rows.now.items so_far.0 more,
             place_chosen t test f ps i p so_far.0 (so_far.0 ++ more) (subst IsOnce (sym are.leaves) (leaves_once any_rule t c.requires.tree.valid)) c.loop-place-test.true (get_or_any ps i _ p c.loop-place-test.true) so_far.2 refl,
           );
+      steps = λ f whole is.
+          let inside = is_key_inside c.args.span.now in
+          let so_far = inv.steps f whole is in
+          let more = filter inside (rows_at t p.leaf f) in
+          let now = e.steps f (inv.whole whole) (subst (λ (maps : List LeafMap). IsInternal c.args.file.now t maps f) (sym inv.reads.working) is) in (
+            so_far.0 ++ more,
+            place_chosen t inside f ps i p so_far.0 (so_far.0 ++ more) (subst IsOnce (sym are.leaves) (leaves_once any_rule t c.requires.tree.valid)) c.loop-place-test.true (get_or_any ps i _ p c.loop-place-test.true) so_far.1 refl,
+            omega (arith, so_far.2, now, length-append so_far.0 more, length-take i ps, length-take (i + 1) ps),
+          );
       front = (inv.front.0 ++ e.front.0, e.front.1 ∙ ap (λ (l : List Row). l ++ e.front.0) inv.front.1 ∙ append_assoc c.args.rows.now.items inv.front.0 e.front.0);
       reads = reads_joined b inv.reads e.reads;
       whole = λ h. e.ends.whole (inv.whole h);
@@ -88,3 +105,16 @@ returns-clause-rows g c = λ f whole is.
       those = all_chosen t (is_within c.args.span.now c.args.conds.now) f ps c.loop-place.place-index so_far.0 (omega (arith, c.loop-place-test.false))
           (leaf_there c.args.file.now t _ (g.B.View.working c.args.leaves.now) f c.requires.storable c.requires.tree is.fit ps c.requires.places) so_far.2;
     }
+
+pub returns-clause-steps : goal.returns-clause-steps
+returns-clause-steps g c = λ f most whole is few.
+    let file = c.args.file.now in
+    let t = tree_of c.args.node.now in
+    let ps = c.args.places.now in
+    let i = c.loop-place.place-index in
+    let inside = is_key_inside c.args.span.now in
+    let so_far = c.loop-place.invariant.steps f whole is in
+    let all = all_chosen t inside f ps i so_far.0 (omega (arith, c.loop-place-test.false)) (leaf_there file t _ (g.B.View.working c.args.leaves.now) f c.requires.storable c.requires.tree is.fit ps c.requires.places) so_far.1 in
+    let many = length_permutation (rows_inside c.args.span.now f) so_far.0 all in
+    let one = whole_most file t f most ps (rows_inside c.args.span.now f) c.requires.places c.requires.tree.form c.requires.storable.keyed is.fit few (λ r h. (in_filter inside r (fin.entries f) h).0) in
+    omega (arith, so_far.2, many, one, length-take i ps, ap length c.requires.places.leaves, length-map ps number)

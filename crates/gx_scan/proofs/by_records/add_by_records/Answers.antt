@@ -1,15 +1,17 @@
-use Rattle.std.proofs.Common.{rules, ◌≡◌, ◌∙◌, ◌++◌, List, Err, map, filter, sym, ap, subst}
+use Rattle.std.proofs.Common.{rules, ◌≡◌, ◌∙◌, ◌++◌, List, Err, map, filter, sym, ap, subst, arith}
 use Rattle.std.proofs.lemmas.Result.{err_from_is_err_and}
 use Rattle.gx_values.specs.declared.records.Rec.{Rec}
 use Rattle.gx_ports.specs.declared.stop.Stop.TheVariants as stop
 use Rattle.gx_mapping.specs.Rule.{In, IsOf}
 use Rattle.gx_stack.specs.Internal.{IsSet}
+use Rattle.gx_stack.specs.Seen.{tree_of}
 use Rattle.gx_stack.specs.Selected.{IsKeySpan}
 use Rattle.gx_model.specs.Found.{meets_conds}
 use Rattle.gx_scan.specs.Files.{records_of}
 use Rattle.gx_scan.specs.Within.{row_of}
 use Rattle.gx_scan.proofs.FileLemmas.{set_of}
 use Rattle.gx_scan.proofs.SelectLemmas.{selected_added}
+use Rattle.gx_scan.proofs.StepLemmas.{inside_total}
 use Rattle.gx_scan.proofs.by_records.add_by_records.Goals as goal
 
 pub select-requires-clause-span : goal.select-requires-clause-span
@@ -44,3 +46,9 @@ returns-clause-rows g c = λ f whole is.
     let all = found.appended ∙ ap (λ (before : List Rec). before ++ found.found) c.new-found.ensures in
     selected_added f c.args.span.now c.args.conds.now found.found c.args.rows.now.items _ (found.selected whole (records_of f) set is.held)
     (c.in_ok-add_met.ensures.kept ∙ ap (λ (rs : List Rec). c.args.rows.now.items ++ filter (meets_conds c.args.conds.now) (map row_of rs)) all)
+
+pub returns-clause-steps : goal.returns-clause-steps
+returns-clause-steps g c = λ f most whole is few.
+    let found = c.in_ok-select.ensures.found in
+    let set = subst (λ form. IsSet form (records_of f)) (sym c.requires.tree.form) (set_of c.args.file.now f c.requires.storable.keyed is.fit) in
+    omega (arith, found.few_steps, inside_total (tree_of c.args.node.now) f c.args.span.now most found.found (found.selected whole (records_of f) set is.held) few)

@@ -1,4 +1,4 @@
-use Rattle.std.proofs.Common.{rules, ◌≡◌, ◌∙◌, ◌++◌, List, Err, sym, ap, subst}
+use Rattle.std.proofs.Common.{rules, ◌≡◌, ◌∙◌, ◌++◌, List, Err, sym, ap, subst, arith}
 use Rattle.std.proofs.lemmas.Result.{err_from_is_err_and}
 use Rattle.gx_values.specs.declared.records.Rec.{Rec}
 use Rattle.gx_ports.specs.declared.stop.Stop.TheVariants as stop
@@ -6,7 +6,9 @@ use Rattle.gx_stack.specs.Internal.{IsSet}
 use Rattle.gx_stack.specs.Selected.{IsKeySpan}
 use Rattle.gx_scan.specs.Files.{records_of}
 use Rattle.gx_scan.specs.Records.{record_at}
+use Rattle.gx_stack.specs.Seen.{tree_of}
 use Rattle.gx_scan.proofs.FileLemmas.{span_of_key, set_of, one_found}
+use Rattle.gx_scan.proofs.StepLemmas.{one_total}
 use Rattle.gx_scan.proofs.records.find_record.Goals as goal
 
 pub select-requires-clause-span : goal.select-requires-clause-span
@@ -35,3 +37,11 @@ returns-clause-found g c = λ f whole is.
     let set = subst (λ form. IsSet form (records_of f)) (sym c.requires.tree.form) (set_of c.args.file.now f c.requires.storable.keyed is.fit) in
     let one = one_found c.args.file.now f c.args.key.now c.key_span.result found.found c.requires.storable.keyed c.requires.storable.key c.requires.key is.fit c.key_span.ensures.lo c.key_span.ensures.hi (found.selected whole (records_of f) set is.held) in
     c.last_record.ensures.last (record_at f c.args.key.now) (found.appended ∙ ap (λ (before : List Rec). before ++ found.found) c.new-found.ensures ∙ one)
+
+pub returns-clause-steps : goal.returns-clause-steps
+returns-clause-steps g c = λ f most whole is few.
+    let found = c.in_ok-select.ensures.found in
+    let set = subst (λ form. IsSet form (records_of f)) (sym c.requires.tree.form) (set_of c.args.file.now f c.requires.storable.keyed is.fit) in
+    let those = found.selected whole (records_of f) set is.held in
+    let one = one_found c.args.file.now f c.args.key.now c.key_span.result found.found c.requires.storable.keyed c.requires.storable.key c.requires.key is.fit c.key_span.ensures.lo c.key_span.ensures.hi those in
+    omega (arith, found.few_steps, one_total (tree_of c.args.node.now) f most (record_at f c.args.key.now) found.found one few (λ r h. (those.sound r h).0))

@@ -4,7 +4,12 @@ use Rattle.std.specs.List.{AllByRecursion}
 use Rattle.gx_script.specs.Commands.{IsCondOf}
 use Rattle.gx_stack.specs.Seen.{tree_of}
 use Rattle.gx_scan.specs.Files.{IsTreeFor}
-use Rattle.gx_engine.proofs.StepLemmas.{internal_at, file_cause, find_carried}
+use Rattle.gx_scan.specs.Where.{AreNamed}
+use Rattle.gx_model.specs.Play.{seen_state}
+use Rattle.gx_scan.proofs.StepLemmas.{leaves_few}
+use Rattle.gx_engine.specs.Work.{most_with}
+use Rattle.gx_engine.proofs.StepLemmas.{internal_at, file_cause, find_carried, no_of}
+use Rattle.gx_engine.proofs.WorkLemmas.{have_most, find_within}
 use Rattle.gx_engine.proofs.engine.Engine.find.Goals as goal
 
 pub found_text-requires-clause-tree : goal.found_text-requires-clause-tree
@@ -15,8 +20,11 @@ pub found_text-requires-clause-conds : goal.found_text-requires-clause-conds
 found_text-requires-clause-conds g c =
     subst (λ (file : FileDef). AllByRecursion (IsCondOf file) c.args.find.now.conds) (sym c.file_def-def.ensures) c.requires.due.of_schema.conds
 
-pub returns : goal.returns
-returns g c =
+pub found_text-requires-clause-named : goal.found_text-requires-clause-named
+found_text-requires-clause-named g c = subst AreNamed (sym c.file_def-def.ensures) (c.requires.ready.storable.named c.args.find.now.file c.requires.due.of_schema.file)
+
+pub returns-clause-step : goal.returns-clause-step
+returns-clause-step g c =
     let e = c.args.self.now in
     record {
       carried = λ p at.
@@ -34,8 +42,8 @@ returns g c =
       block = search rules;
     }
 
-pub returns-in_err-text : goal.returns-in_err-text
-returns-in_err-text g c =
+pub returns-in_err-text-clause-step : goal.returns-in_err-text-clause-step
+returns-in_err-text-clause-step g c =
     let e = c.args.self.now in
     record {
       carried = search rules;
@@ -48,3 +56,16 @@ returns-in_err-text g c =
       cause = file_cause g.B.View e _ c.args.find.now.file c.file_def-def.result.now (tree_of c.file_node-node.result.now) _ c.from_residual.result c.requires.due.of_schema.file c.file_def-def.ensures c.file_node-node.ensures.tree c.in_err-text.ensures.ends c.from_residual.ensures.1;
       block = search rules;
     }
+
+pub returns-clause-few_steps : goal.returns-clause-few_steps
+returns-clause-few_steps g c = λ p at.
+    let e = c.args.self.now in
+    let q = c.args.find.now in
+    let s = seen_state p in
+    let t = tree_of c.file_node-node.result.now in
+    let maps = g.B.View.working e.leaves in
+    let fit = c.file_node-node.ensures.fit e.schema _ c.requires.ready.nodes in
+    let is = internal_at e.schema e.built.files q.file c.file_def-def.result.now t maps _ c.file_def-def.ensures c.file_node-node.ensures.tree (at.stands.working_is.each q.file c.requires.due.of_schema.file) in
+    let few = have_most e.schema e.built.files _ s q.file t q.of c.requires.ready.nodes at.stands.working_is.files_many c.requires.due.of_schema.file c.file_node-node.ensures.tree in
+    find_within e.schema e.built.files (length maps) s q c.file_def-def.result.now t _ _ _ c.file_def-def.ensures c.file_node-node.ensures.tree (no_of e.schema q.file q.of c.requires.ready.storable.links c.requires.due.of_schema.of)
+    (leaves_few t (length maps) fit.valid fit.below) (c.in_ok-text.ensures.steps _ (most_with e.built.files s q.of) at.whole_is is few)

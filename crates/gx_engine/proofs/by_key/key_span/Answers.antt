@@ -5,7 +5,7 @@ use Rattle.gx_values.specs.Spans.{HoldsThoseMet}
 use Rattle.gx_schema.specs.Lookups.{key_kind}
 use Rattle.gx_engine.specs.Planned.{HoldsKeysMet}
 use Rattle.gx_engine.proofs.PlannedLemmas.{if_so, keys_met}
-use Rattle.gx_engine.proofs.planned.key_span.Goals as goal
+use Rattle.gx_engine.proofs.by_key.key_span.Goals as goal
 
 pub returns-clause-meets : goal.returns-clause-meets
 returns-clause-meets c =

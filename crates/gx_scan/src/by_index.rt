@@ -1,0 +1,162 @@
+// Finding by an index: it gives the keys of records, and each record there is tested.
+ghost use Rattle.std.specs.Prelude.{◌≡◌, ◌++◌, ◌<◌, ◌≤◌, ◌+◌, ◌*◌, ℕ, List, true, length, filter, flat_map, OnOk, IsErrOf};
+ghost use Rattle.gx_values.specs.Values.{AreFit};
+ghost use Rattle.gx_values.specs.Spans.{IsValueSpan};
+ghost use Rattle.gx_values.specs.declared.values.Value.{Value as FieldValue};
+ghost use Rattle.gx_schema.specs.Lookups.{field_at};
+ghost use Rattle.gx_ports.specs.Calls.{Reads, Ends};
+ghost use Rattle.gx_mapping.specs.Rule.{In};
+ghost use Rattle.gx_stack.specs.Tree.{leaves_of};
+ghost use Rattle.gx_stack.specs.Seen.{tree_of};
+ghost use Rattle.gx_stack.specs.Indexed.{is_indexed};
+ghost use Rattle.gx_types.specs.Any.{any_rule};
+ghost use Rattle.gx_typing.specs.Dues.{file_form};
+ghost use Rattle.gx_model.specs.States.{File as FileMap};
+ghost use Rattle.gx_model.specs.Found.{meets_conds};
+ghost use Rattle.gx_scan.specs.Files.{IsInternal, HasFile, IsStorable, IsTreeFor};
+ghost use Rattle.gx_scan.specs.Where.{AreNamed, AreAddedWhere, rows_at_key};
+ghost use Rattle.gx_scan.specs.Steps.{HaveAtMost, rows_with};
+
+use crate::by_records::{into_row, meets_all};
+use crate::records::find_record;
+use gx_ports::{Leaves, Stop};
+use gx_rows::Row;
+use gx_schema::FileDef;
+use gx_script::Cond;
+use gx_stack::{Keys, Node};
+use gx_types::AnyMapping;
+use gx_values::{Name, Span, Values};
+use std::alloc::Global;
+
+/// Appends the records of the file whose value of an indexed data field, of this number, is within the
+/// span, and that meet the conditions, in any order. No record is read but those that the index gives. It
+/// takes a step for each leaf and each of these records, one for each leaf besides, and two for each leaf
+/// entry of these records.
+///
+/// After an error `rows` may have more at its end. `Damaged`: some leaf's stored form isn't whole, or the
+/// leaves hold no file, which is said of block 0. `Fault`: the count of faults rose; with any other answer
+/// it stays. `NoMemory`: there was none.
+pub fn rows_where<B: Leaves>(
+    alloc: Global,
+    file: &FileDef,
+    node: &Node<AnyMapping>,
+    field: u16,
+    span: &Span,
+    conds: &[Cond],
+    leaves: &mut B,
+    rows: &mut Vec<Row>,
+) -> Result<(), Stop>
+    requires tree { IsTreeFor file.now (tree_of node.now) (length (B.working leaves.old)) }
+    requires storable { IsStorable file.now }
+    requires named { AreNamed file.now }
+    requires past_key { 0 < field }
+    requires in_file { field < length file.now.fields }
+    requires indexed { is_indexed any_rule (tree_of node.now) (field_at file.now field).name ≡ true }
+    requires span { IsValueSpan (field_at file.now field).kind span.now }
+    ensures rows { (f : FileMap) → B.whole leaves.old →
+        IsInternal file.now (tree_of node.now) (B.working leaves.old) f →
+        OnOk result (AreAddedWhere field span.now conds.now f rows.old.items rows.new.items) }
+    ensures steps { (f : FileMap) (most : ℕ) → B.whole leaves.old →
+        IsInternal file.now (tree_of node.now) (B.working leaves.old) f →
+        HaveAtMost most (tree_of node.now) f → OnOk result
+        (B.work leaves.new
+        ≤ B.work leaves.old + ((length (rows_with field span.now f) + 1) * length (leaves_of (tree_of node.now))
+        + 2 * (length (rows_with field span.now f) * most))) }
+    ensures reads { Reads B.View leaves.old leaves.new }
+    ensures ends { Ends B.View
+        (B.whole leaves.old × HasFile file.now (tree_of node.now) (B.working leaves.old))
+        leaves.old leaves.new result }
+    ensures block { (n : ℕ) → IsErrOf result (Stop.Damaged n) → B.whole leaves.old → n ≡ 0 }
+    ensures not_full { ¬ IsErrOf result Stop.Full }
+{
+    let name = field_name(file, field);
+    let mut keys = Keys::new(alloc);
+    node.keys_where(alloc, leaves, name, span, &mut keys)?;
+    add_by_keys(alloc, file, node, keys.0.as_slice(), conds, leaves, rows)?;
+    Ok(())
+}
+
+fn field_name(file: &FileDef, field: u16) -> &Name
+    requires { field < length file.now.fields }
+    ensures { result.now ≡ (field_at file.now field).name }
+{
+    &file.fields.0[usize::from(field)].name
+}
+
+// Appends the records at these keys that meet the conditions.
+fn add_by_keys<B: Leaves>(
+    alloc: Global,
+    file: &FileDef,
+    node: &Node<AnyMapping>,
+    keys: &[Values],
+    conds: &[Cond],
+    leaves: &mut B,
+    rows: &mut Vec<Row>,
+) -> Result<(), Stop>
+    requires tree { IsTreeFor file.now (tree_of node.now) (length (B.working leaves.old)) }
+    requires storable { IsStorable file.now }
+    requires fit { (key : List FieldValue) → In key keys.now →
+        AreFit (file_form file.now).keys key }
+    ensures rows { (f : FileMap) → B.whole leaves.old →
+        IsInternal file.now (tree_of node.now) (B.working leaves.old) f → OnOk result
+        (rows.new.items
+        ≡ rows.old.items ++ filter (meets_conds conds.now) (flat_map (rows_at_key f) keys.now)) }
+    ensures steps { (f : FileMap) (most : ℕ) → B.whole leaves.old →
+        IsInternal file.now (tree_of node.now) (B.working leaves.old) f →
+        HaveAtMost most (tree_of node.now) f → OnOk result
+        (B.work leaves.new
+        ≤ B.work leaves.old + length keys.now * (length (leaves_of (tree_of node.now)) + most)) }
+    ensures reads { Reads B.View leaves.old leaves.new }
+    ensures ends { Ends B.View
+        (B.whole leaves.old × HasFile file.now (tree_of node.now) (B.working leaves.old))
+        leaves.old leaves.new result }
+    ensures block { (n : ℕ) → IsErrOf result (Stop.Damaged n) → B.whole leaves.old → n ≡ 0 }
+    ensures not_full { ¬ IsErrOf result Stop.Full }
+{
+    for key in keys {
+        add_by_key(alloc, file, node, key, conds, leaves, rows)?;
+    }
+    Ok(())
+}
+
+// Appends the record at a key, where there is one and it meets the conditions.
+fn add_by_key<B: Leaves>(
+    alloc: Global,
+    file: &FileDef,
+    node: &Node<AnyMapping>,
+    key: &Values,
+    conds: &[Cond],
+    leaves: &mut B,
+    rows: &mut Vec<Row>,
+) -> Result<(), Stop>
+    requires tree { IsTreeFor file.now (tree_of node.now) (length (B.working leaves.old)) }
+    requires storable { IsStorable file.now }
+    requires fit { AreFit (file_form file.now).keys key.now }
+    ensures rows { (f : FileMap) → B.whole leaves.old →
+        IsInternal file.now (tree_of node.now) (B.working leaves.old) f → OnOk result
+        (rows.new.items
+        ≡ rows.old.items ++ filter (meets_conds conds.now) (rows_at_key f key.now)) }
+    ensures steps { (f : FileMap) (most : ℕ) → B.whole leaves.old →
+        IsInternal file.now (tree_of node.now) (B.working leaves.old) f →
+        HaveAtMost most (tree_of node.now) f → OnOk result
+        (B.work leaves.new
+        ≤ B.work leaves.old + (length (leaves_of (tree_of node.now)) + most)) }
+    ensures reads { Reads B.View leaves.old leaves.new }
+    ensures ends { Ends B.View
+        (B.whole leaves.old × HasFile file.now (tree_of node.now) (B.working leaves.old))
+        leaves.old leaves.new result }
+    ensures block { (n : ℕ) → IsErrOf result (Stop.Damaged n) → B.whole leaves.old → n ≡ 0 }
+    ensures not_full { ¬ IsErrOf result Stop.Full }
+{
+    let Some(key) = key.0.first() else {
+        unreachable!()
+    };
+    let Some(rec) = find_record(alloc, file, node, key, leaves)? else {
+        return Ok(());
+    };
+    let row = into_row(file, rec);
+    if meets_all(conds, &row) {
+        rows.push(row)?;
+    }
+    Ok(())
+}
