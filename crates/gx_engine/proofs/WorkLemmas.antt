@@ -116,6 +116,11 @@ have_most schema nodes leaves s i t o of many lt is = λ r h.
 
 -- ---- commands
 
+-- a command whose steps aren't counted
+pub nothing_counted : {A E : Type 0} (r : Result A E) → OnOk r (Unit {0})
+nothing_counted (Ok x) = tt
+nothing_counted (Err e) = tt
+
 pub find_within : (schema : Schema) (nodes : List (Node AnyMapping)) (leaves : ℕ) (s : State) (q : Find) (file : FileDef) (t : Tree AnyMapping) (few before after : ℕ) → file ≡ file_at schema q.file → t ≡ tree_at nodes q.file → q.of ≡ None → few ≤ leaves
     → after ≤ before + step_bound (length (rows_meeting (condition_of q (plan_for t file q)) (file_in s q.file))) (most_with nodes s q.of) few → after ≤ before + find_bound schema nodes leaves s q
 find_within schema nodes leaves s q file t few before after is tree none le steps =

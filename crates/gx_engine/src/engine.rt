@@ -146,6 +146,7 @@ impl<B: Leaves + Drop> Engine<B> {
             AreInternal (schema_of self.now) (nodes_of self.now) maps t → s ≡ t }
     {}
 
+    #[tactic(auto, using(crate::proofs::WorkLemmas::nothing_counted))]
     fn carry_out(&mut self, alloc: Global, command: &Command, out: &mut Octets) -> Result<(), Stop>
         requires ready { IsReady B.View self.old }
         requires due { IsDue self.old command.now }
