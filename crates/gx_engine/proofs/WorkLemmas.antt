@@ -1,6 +1,6 @@
 -- The bound on the steps of commands that read.
-use Rattle.std.proofs.Common.{[], ◌≡◌, ℕ, zero, suc, ◌+◌, ◌*◌, ◌<◌, ◌≤◌, List, ◌∷◌, length, get_or, Bool, true, false, Option, Some, None, Result, Ok, Err, inl, inr, refl, sym, ap, subst, ◌∙◌, arith}
-use Rattle.std.specs.Prelude.{filter, max, ◌⊎◌, OnOk}
+use Rattle.std.proofs.Common.{[], ◌≡◌, ℕ, zero, suc, ◌+◌, ◌*◌, ◌<◌, ◌≤◌, List, ◌∷◌, length, get_or, true, Option, Some, None, Result, Ok, Err, inl, inr, refl, sym, ap, subst, ◌∙◌, arith}
+use Rattle.std.specs.Prelude.{◌⊎◌, OnOk}
 use Rattle.std.specs.List.{slice_get}
 use Rattle.std.specs.FinMap as fin
 use Rattle.std.proofs.Math.Nat.{mul-le-mul_left}
@@ -24,12 +24,12 @@ use Rattle.gx_types.specs.Nodes.{tree_at, AreNodes}
 use Rattle.gx_planner.specs.declared.plans.Plan.{Plan}
 use Rattle.gx_planner.specs.declared.plans.Plan.TheVariants.{Key, Link, Index, KeyRange, IndexRange, Scan}
 use Rattle.gx_model.specs.States.{File, State, Row, IsRowOf, IsFileOf, file_in}
-use Rattle.gx_model.specs.Found.{value_at, meets_cond, meets_of}
+use Rattle.gx_model.specs.Found.{value_at, meets_of}
 use Rattle.gx_scan.specs.Files.{rec_of}
 use Rattle.gx_scan.specs.Steps.{HaveAtMost, is_key_inside, rows_inside, rows_with}
 use Rattle.gx_scan.proofs.ListingLemmas.{same_filter}
 use Rattle.gx_engine.specs.Planned.{HoldsKeysMet}
-use Rattle.gx_engine.specs.Work.{plan_for, condition_of, meets_one, rows_meeting, is_candidate, candidates, most_of, most_entries, most_owned, most_with, step_bound, find_bound}
+use Rattle.gx_engine.specs.Work.{plan_for, condition_of, meets_one, rows_meeting, is_candidate, candidates, most_of, most_entries, most_with, step_bound, find_bound}
 use Rattle.gx_engine.proofs.PlannedLemmas.{field_met}
 
 -- ---- the records that are looked at

@@ -1,5 +1,5 @@
 -- The records of a file whose keys an index gives.
-use Rattle.std.proofs.Common.{[], ◌≡◌, ℕ, zero, suc, ◌+◌, ◌<◌, ◌≤◌, List, ◌∷◌, ◌++◌, ◌⊎◌, length, map, drop, get_or, Bool, true, false, cond, Option, Some, None, inl, inr, refl, sym, ap, subst, ◌∙◌, arith, append_assoc, append-nil}
+use Rattle.std.proofs.Common.{[], ◌≡◌, ℕ, zero, suc, ◌+◌, ◌<◌, ◌≤◌, List, ◌∷◌, ◌++◌, length, map, drop, get_or, Bool, true, false, Option, Some, inl, inr, refl, sym, ap, subst, ◌∙◌, arith, append_assoc, append-nil}
 use Rattle.std.specs.Prelude.{filter, flat_map, ◌&&◌, pos}
 use Rattle.std.specs.Option.{option_map}
 use Rattle.std.specs.declared.cmp.Ordering.TheVariants.{Less}
@@ -7,7 +7,6 @@ use Rattle.std.specs.FinMap as fin
 use Rattle.std.specs.List.Sorted.{IsPermutation}
 use Rattle.std.proofs.lemmas.List.{drop_all}
 use Rattle.std.proofs.lemmas.List.Elements.{filter-append}
-use Rattle.std.proofs.lemmas.List.Sorted.{IsPermutation-refl, IsPermutation-sym, IsPermutation-trans, IsPermutation-cons, IsPermutation-middle}
 use Rattle.gx_values.specs.declared.values.Kind.{Kind}
 use Rattle.gx_values.specs.declared.values.Kind.TheVariants as kind
 use Rattle.gx_values.specs.declared.values.Value.{Value}
@@ -25,11 +24,11 @@ use Rattle.gx_schema.specs.Lookups.{no_field, field_at, data_fields}
 use Rattle.gx_script.specs.declared.command.Cond.{Cond}
 use Rattle.gx_actual.specs.Bodies.{IsShort}
 use Rattle.gx_actual.proofs.BodyLemmas.{item_short}
-use Rattle.gx_mapping.specs.Rule.{In, is_field, first_in, kind_in, value_in}
+use Rattle.gx_mapping.specs.Rule.{In, is_field, first_in, kind_in}
 use Rattle.gx_mapping.proofs.FieldLemmas.{first_kind, first_value}
 use Rattle.gx_stack.specs.Tree.{Tree, tree_form}
 use Rattle.gx_stack.specs.Indexed.{is_where, is_value_inside, AreUnderOwnKeys, AreKeysOf}
-use Rattle.gx_stack.proofs.Lists.{in_left, in_right, in_cases, in_map, from_map, in_filter, filter_in, all_at, some_same, each_next}
+use Rattle.gx_stack.proofs.Lists.{in_map, from_map, in_filter, filter_in, all_at, some_same, each_next}
 use Rattle.gx_stack.proofs.Orders.{Ascends, not_before_itself}
 use Rattle.gx_types.specs.declared.any.AnyMapping.{AnyMapping}
 use Rattle.gx_types.specs.Any.{any_rule}

@@ -15,7 +15,6 @@ use Rattle.gx_scan.specs.Files.{IsInternal}
 use Rattle.gx_scan.specs.Entries.{rows_at}
 use Rattle.gx_scan.specs.Within.{is_within}
 use Rattle.gx_scan.specs.Steps.{is_key_inside, rows_inside}
-use Rattle.gx_stack.specs.Tree.{leaves_of}
 use Rattle.gx_stack.proofs.Lists.{in_filter}
 use Rattle.gx_scan.proofs.PlaceLemmas.{IsOnce, leaves_once, leaf_there, get_or_any, number}
 use Rattle.gx_scan.proofs.StepLemmas.{whole_most}
