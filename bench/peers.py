@@ -27,7 +27,7 @@ EQUATION = "part = actual(bplus)\n"
 BLOCKS = 65543
 PEERS = {"sqlite": ["-lsqlite3"], "lmdb": ["-llmdb"]}
 RECORDS = 100_000
-DEVICE_RECORDS = 20_000
+DEVICE_RECORDS = 2_000
 
 
 class Lines(Work):
@@ -104,14 +104,14 @@ def on_device():
         ones.commit()
     yield "1,000 transactions of one insert", ones
     hundreds = Lines(3)
-    numbers = hundreds.shuffled(100_000)
-    for at in range(0, len(numbers), 1_000):
-        hundreds.inserted(0, numbers[at : at + 1_000])
-    yield "100 transactions of 1,000 inserts", hundreds
-    records = Lines(1).inserted(DEVICE_RECORDS)
-    yield f"{DEVICE_RECORDS:,} inserts in one transaction", records
-    yield f"the same, and 1,000 gets", Lines(1).inserted(DEVICE_RECORDS).many(1_000, lambda it: f"get part {it.randrange(DEVICE_RECORDS)}")
-    yield f"the same, and a scan", Lines(1).inserted(DEVICE_RECORDS).many(1, lambda it: "find part")
+    numbers = hundreds.shuffled(DEVICE_RECORDS)
+    for at in range(0, len(numbers), 100):
+        hundreds.inserted(0, numbers[at : at + 100])
+    yield f"{DEVICE_RECORDS // 100:,} transactions of 100 inserts", hundreds
+    whole = f"{DEVICE_RECORDS:,} inserts in one transaction"
+    yield whole, Lines(1).inserted(DEVICE_RECORDS)
+    yield f"{whole}, and 1,000 gets", Lines(1).inserted(DEVICE_RECORDS).many(1_000, lambda it: f"get part {it.randrange(DEVICE_RECORDS)}")
+    yield f"{whole}, and 10 scans", Lines(1).inserted(DEVICE_RECORDS).many(10, lambda it: "find part")
 
 
 def built(folder):
@@ -208,11 +208,13 @@ def main():
     words.add_argument("rounds", nargs="?", type=int, default=3)
     words.add_argument("--counts", action="store_true")
     words.add_argument("--device")
-    words.add_argument("--equation", default=EQUATION)
+    words.add_argument("--equation")
     asked = words.parse_args()
+    # A device has heaps alone so far.
+    equation = asked.equation or ("part = actual(heap)" if asked.device else EQUATION)
     with tempfile.TemporaryDirectory() as folder:
         pathlib.Path(f"{folder}/schema").write_text(SCHEMA, encoding="utf-8")
-        pathlib.Path(f"{folder}/equation").write_text(asked.equation.rstrip() + "\n", encoding="utf-8")
+        pathlib.Path(f"{folder}/equation").write_text(equation.rstrip() + "\n", encoding="utf-8")
         program, peers = os.path.abspath(asked.program), built(folder)
         if asked.device:
             device_table(program, peers, folder, asked.rounds, os.path.abspath(asked.device))

@@ -131,4 +131,5 @@ def main():
         work.write(folder, name)
 
 
-main()
+if __name__ == "__main__":
+    main()
