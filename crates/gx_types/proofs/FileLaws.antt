@@ -1,5 +1,5 @@
 -- The nodes of a typed equation's files are what an engine needs.
-use Rattle.std.proofs.Common.{◌≡◌, ℕ, zero, suc, ◌+◌, ◌<◌, ◌≤◌, true, List, [], ◌∷◌, ◌++◌, length, map, refl, sym, ap, ◌∙◌, arith, length-append}
+use Rattle.std.proofs.Common.{◌≡◌, ℕ, zero, suc, ◌+◌, ◌<◌, ◌≤◌, true, List, [], ◌∷◌, ◌++◌, length, get_or, map, refl, sym, ap, ◌∙◌, arith, length-append}
 use Rattle.std.specs.Prelude.{slice_index_or}
 use Rattle.gx_values.specs.declared.records.Form.{Form}
 use Rattle.gx_mapping.specs.Rule.{In}
@@ -101,6 +101,12 @@ files_ready schema ds is written typed built =
     ready_from schema.files [] schema.files schema.links ds 0 is.files written.each typed.definitions built (omega (arith, all_count 0 _ ds typed.definitions built, typed.few))
 
 -- ---- the nodes
+
+-- the node of a number has the tree of this number
+pub tree_read : (xs : List (Node AnyMapping)) (i : ℕ) (x : Node AnyMapping) → i < length xs → x ≡ get_or xs i x → tree_of x ≡ tree_at xs i
+tree_read [] i x lt is = absurd (omega arith)
+tree_read (y ∷ xs) zero x lt is = ap tree_of is
+tree_read (y ∷ xs) (suc i) x lt is = tree_read xs i x (omega arith) is
 
 node_valid : (n : ℕ) (files : List FileDef) (ds : List DefinitionTree) (xs : List (Node AnyMapping)) (i : ℕ) → AreReadyFiles n files ds → AreTreesOfFiles n files ds xs → i < length files
     → IsValid any_rule (tree_at xs i) × (tree_form any_rule (tree_at xs i) ≡ file_form (slice_index_or files i no_file))

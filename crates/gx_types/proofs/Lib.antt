@@ -2,6 +2,7 @@ pub mod CodeExamples
 pub mod FileLaws
 pub mod FormLaws
 pub mod HeadLaws
+pub mod IndexedLaws
 pub mod MakerLaws
 pub mod NodeSteps
 pub mod ReadyLaws

@@ -33,3 +33,17 @@ pub struct Built {
     /// for each leaf the number of its file, from 0
     pub owners: Owners,
 }
+
+impl Built {
+    ghost use Rattle.std.specs.Prelude.{◌≡◌, ◌<◌, length};
+    ghost use Rattle.gx_stack.specs.Seen.{tree_of};
+    ghost use Rattle.gx_types.specs.Nodes.{tree_at};
+
+    /// The node of the file of this number.
+    pub fn node(&self, file: u16) -> &Node<AnyMapping>
+        requires { file < length self.now.files }
+        ensures { tree_of result.now ≡ tree_at self.now.files file }
+    {
+        &self.files.0[usize::from(file)]
+    }
+}
