@@ -297,16 +297,20 @@ some_blocks a b e = ap (λ (o : Option (List (List ℕ))). blocks_or a o) e
 same_blocks : (device : List ℕ) (before : Content) (a b : List (List ℕ)) → device_at before.now device ≡ Some a → device_at before.now device ≡ Some b → a ≡ b
 same_blocks device before a b x y = some_blocks a b (sym x ∙ y)
 
+-- nor one that has a size, the magic and these texts
+pub had_not_wrong : (device : List ℕ) (t : Task) (before : Content) (wrong : DeviceWhy) (blocks : List (List ℕ)) → device_at before.now device ≡ Some blocks → IsSize t.typing.specs (length blocks) → HasMagic (get_or blocks 0 []) → HasTexts (schema_text t.schema) (equation_text t.definitions) blocks → IsBefore wrong → IsWrongOn device t before wrong → ⊥
+had_not_wrong device t before device_why.Missing blocks there size magic texts early is = some_not_none blocks (sym there ∙ is)
+had_not_wrong device t before device_why.Exists blocks there size magic texts early is = is
+had_not_wrong device t before device_why.Size blocks there size magic texts early is =
+    is.2 (subst (λ b. IsSize t.typing.specs (length b)) (same_blocks device before blocks is.0 there is.1) size)
+had_not_wrong device t before device_why.NoDatabase blocks there size magic texts early is =
+    is.2.1 (subst (λ (b : List (List ℕ)). HasMagic (get_or b 0 [])) (same_blocks device before blocks is.0 there is.1) magic)
+had_not_wrong device t before (device_why.OtherEquation place) blocks there size magic texts early is =
+    is.2.2.1 (subst (λ (b : List (List ℕ)). HasTexts (schema_text t.schema) (equation_text t.definitions) b) (same_blocks device before blocks is.0 there is.1) texts place is.2.2.0)
+had_not_wrong device t before (device_why.Damaged block) blocks there size magic texts early is = early
+
 pub held_not_wrong : (device : List ℕ) (t : Task) (before : Content) (limit : Option Limits) (s : State) (wrong : DeviceWhy) → IsBefore wrong → IsWrongOn device t before wrong → IsHeldOn t device before limit s → ⊥
-held_not_wrong device t before limit s device_why.Missing early is held = some_not_none held.blocks (sym held.there ∙ is)
-held_not_wrong device t before limit s device_why.Exists early is held = is
-held_not_wrong device t before limit s device_why.Size early is held =
-    is.2 (subst (λ b. IsSize t.typing.specs (length b)) (same_blocks device before held.blocks is.0 held.there is.1) held.reopens.size)
-held_not_wrong device t before limit s device_why.NoDatabase early is held =
-    is.2.1 (subst (λ (b : List (List ℕ)). HasMagic (get_or b 0 [])) (same_blocks device before held.blocks is.0 held.there is.1) held.reopens.magic)
-held_not_wrong device t before limit s (device_why.OtherEquation place) early is held =
-    is.2.2.1 (subst (λ (b : List (List ℕ)). HasTexts (schema_text t.schema) (equation_text t.definitions) b) (same_blocks device before held.blocks is.0 held.there is.1) held.reopens.texts place is.2.2.0)
-held_not_wrong device t before limit s (device_why.Damaged block) early is held = early
+held_not_wrong device t before limit s wrong early is held = had_not_wrong device t before wrong held.blocks held.there held.reopens.size held.reopens.magic held.reopens.texts early is
 
 -- the same of the words
 pub start_not_wrong : (words : List (List ℕ)) (before : Content) (t : Task) (limit : Option Limits) (s : State) (wrong : DeviceWhy) → IsTask words before.aside.texts t → IsBefore wrong → IsWrong words before wrong → IsFrom t before limit s → ⊥

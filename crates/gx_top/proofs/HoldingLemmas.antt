@@ -22,10 +22,10 @@ holding_after g schema built s a b talks h = record {
 
 -- nor of what they keep
 pub kept_in : {S : Type 0} (g : Ghosts S) (schema : Schema) (built : Built) (s : State) (a b : S) → Talks g a b → IsHolding g schema built s a → KeepsState g schema built b s
-kept_in g schema built s a b talks h = record {
-  is = subst (λ maps. AreInternal schema built.files maps s) (sym (talks.kept ∙ h.kept_same)) h.working_is;
-  whole_is = talks.kept_whole.0 h.kept_whole_is;
-}
+kept_in g schema built s a b talks h = (
+  subst (λ maps. AreInternal schema built.files maps s) (sym (talks.kept ∙ h.kept_same)) h.working_is,
+  talks.kept_whole.0 h.kept_whole_is,
+)
 
 -- the engine stands for the start of a play
 pub at_first : {S : Type 0} (g : Ghosts S) (schema : Schema) (built : Built) (s : State) (leaves : S) (e : Engine S) → IsHolding g schema built s leaves → leaves_of e ≡ leaves → StandsFor g e (start_at s) → IsAt g (start_at s) e

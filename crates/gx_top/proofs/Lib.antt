@@ -10,4 +10,5 @@ mod StoredLemmas
 mod CompleteLemmas
 mod OnceLemmas
 mod EndLemmas
+mod TaskLemmas
 mod MakeLemmas

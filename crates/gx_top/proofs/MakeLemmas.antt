@@ -28,7 +28,7 @@ use Rattle.gx_top.specs.declared.status.Status.{Status}
 use Rattle.gx_top.specs.declared.status.Status.TheVariants as status
 use Rattle.gx_top.specs.Checked.{IsStoredFor, IsStored}
 use Rattle.gx_top.specs.Devices.{IsToMake, IsUnmakable, IsWrong, IsBefore, CanMake, IsWrongDevice}
-use Rattle.gx_top.specs.Endings.{status_of}
+use Rattle.gx_top.specs.Endings.{status_of, IsEnded}
 use Rattle.gx_top.specs.Made.{making_ending, IsMaking, IsNewDatabase, LeavesMade}
 use Rattle.gx_top.specs.Requests.{IsReady, IsUnprepared}
 use Rattle.gx_top.specs.Say.{SameDevices}
@@ -36,7 +36,7 @@ use Rattle.gx_top.specs.Tasks.{Task, IsTask, IsToPlay}
 use Rattle.gx_top.specs.Tries.{IsAsDue, IsDueStatus}
 use Rattle.gx_top.specs.Words.{Action, checking, making, IsCount}
 use Rattle.gx_top.proofs.CompleteLemmas.{one_acceptance, ready_not_refused}
-use Rattle.gx_top.proofs.EndLemmas.{IsEnded, IsUnhad, unplayed, not_done, not_device}
+use Rattle.gx_top.proofs.EndLemmas.{IsUnhad, unplayed, not_done, not_device}
 
 -- ---- what making a device did
 

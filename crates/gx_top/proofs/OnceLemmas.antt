@@ -12,8 +12,8 @@ use Rattle.gx_schema.specs.Reading.{schema_of}
 use Rattle.gx_schema.proofs.SchemaLaws.{schema_again, one_schema}
 use Rattle.gx_script.specs.Lines.{script_lines}
 use Rattle.gx_equation.specs.Trees.{DefinitionTree}
-use Rattle.gx_model.specs.States.{empty_state}
-use Rattle.gx_model.specs.Play.{End, good, stopped, end_text, start_at}
+use Rattle.gx_model.specs.States.{State}
+use Rattle.gx_model.specs.Play.{End, end_text, start_at}
 use Rattle.gx_model.proofs.RunLemmas.{play_once}
 use Rattle.gx_typing.specs.declared.typing.Typing.{Typing}
 use Rattle.gx_typing.specs.Typed.{leaves, typing_with}
@@ -24,10 +24,12 @@ use Rattle.gx_top.specs.declared.ending.Ending.{Ending}
 use Rattle.gx_top.specs.declared.ending.Ending.TheVariants as ending
 use Rattle.gx_top.specs.Built.{text_length}
 use Rattle.gx_top.specs.Endings.{line_of}
-use Rattle.gx_top.specs.Requests.{IsThere, IsNamed, IsAsked, AreRead, AreAccepted, AreUnaccepted, IsRunnable, IsRefused, equation_of, text_limit}
-use Rattle.gx_top.specs.Tries.{IsPlayText, IsWholeText, IsTryUnder, PlayOneScript}
-use Rattle.gx_top.specs.Words.{Action, checking, trying, request_words, IsCounted}
-use Rattle.gx_top.proofs.CompleteLemmas.{SameWords, same_words, one_request, named, not_missing, not_long, text_once, equation_read, not_both_asked}
+use Rattle.gx_top.specs.Requests.{IsThere, IsNamed, IsAsked, AreRead, AreAccepted, AreUnaccepted, IsRefused, equation_of, text_limit}
+use Rattle.gx_top.specs.Played.{IsPlayText}
+use Rattle.gx_top.specs.Tasks.{Task, IsTask}
+use Rattle.gx_top.specs.Tries.{IsWholeText, IsUnder, PlayOneScript}
+use Rattle.gx_top.specs.Words.{Action, request_words, IsCounted}
+use Rattle.gx_top.proofs.CompleteLemmas.{SameWords, same_words, one_request, named, not_missing, not_long, text_once, equation_read}
 
 -- ---- the line of a refusal, from what stands in the texts
 
@@ -161,32 +163,20 @@ refused_once words texts why other x y = line_once words texts (line_of why) (li
 
 -- ---- one script under one schema
 
-record IsPlayed (words : List (List ℕ)) (before : Content) (text : List ℕ) : Type 0 where
-  pub schema : Schema
-  pub runnable : IsRunnable words before.aside.texts schema
-  pub end : End
-  pub is : IsPlayText schema (empty_state schema) before.script end text
-
-is_played : (words : List (List ℕ)) (before : Content) (under text : List ℕ) → IsTryUnder words before.aside.texts under → IsWholeText words before text → IsPlayed words before text
-is_played words before under text try (inl (inl run)) = record { schema = run.0; runnable = run.1; end = good; is = run.2 }
-is_played words before under text try (inl (inr is)) = absurd (not_both_asked (same_words words trying checking try.0 is.3.2.schema_name try.1 is.3.2.equation_name try.2 is.3.2.words_are).actions)
-is_played words before under text try (inr run) = record { schema = run.0; runnable = run.1; end = stopped run.2.0 run.2.1; is = run.2.2 }
-
 -- the schema that is played on is that of the schema text
-schema_under : (words : List (List ℕ)) (texts : Texts) (under : List ℕ) (schema : Schema) → IsTryUnder words texts under → IsRunnable words texts schema → IsSchemaText under schema
-schema_under words texts under schema try is =
-    let asked = is.2.2 in
-    let same = same_words words trying trying asked.schema_name try.0 asked.equation_name try.1 asked.words_are try.2 in
-    subst (λ t. IsSchemaText t schema) (text_once texts asked.schema_name try.0 is.2.0 under same.schemas asked.schema_there.0 try.3) is.2.3.read.schema_means
+schema_under : (words : List (List ℕ)) (texts : Texts) (under : List ℕ) (t : Task) → IsUnder words texts under → IsTask words texts t → IsSchemaText under t.schema
+schema_under words texts under t is task =
+    let asked = task.ready.0.2 in
+    let same = same_words words t.action is.0 asked.schema_name is.1 asked.equation_name is.2 asked.words_are is.3 in
+    subst (λ s. IsSchemaText s t.schema) (text_once texts asked.schema_name is.1 task.ready.0.0 under same.schemas asked.schema_there.0 is.4) task.ready.0.3.read.schema_means
 
-text_of_play : (schema : Schema) (script : List ℕ) (end close : End) (a b : List ℕ) → IsPlayText schema (empty_state schema) script end a → IsPlayText schema (empty_state schema) script close b → a ≡ b
-text_of_play schema script end close a b x y =
-    let once = play_once schema (start_at (empty_state schema)) (script_lines script) x.answers y.answers x.final y.final end close x.play y.play in
+text_of_play : (schema : Schema) (start : State) (script : List ℕ) (end close : End) (a b : List ℕ) (kept left : State) → IsPlayText schema start script end a kept → IsPlayText schema start script close b left → a ≡ b
+text_of_play schema start script end close a b kept left x y =
+    let once = play_once schema (start_at start) (script_lines script) x.answers y.answers x.final y.final end close x.play y.play in
     x.text_is ∙ (λ i. once.0 i ++ end_text (once.2 i)) ∙ sym y.text_is
 
-pub one_script_once : (words others : List (List ℕ)) (before other : Content) (text more : List ℕ) → PlayOneScript words others before other → IsWholeText words before text → IsWholeText others other more → text ≡ more
-one_script_once words others before other text more one x y =
-    let p = is_played words before one.schema text one.under x in
-    let q = is_played others other one.schema more one.other_under y in
-    let same = one_schema one.schema p.schema q.schema (schema_under words before.aside.texts one.schema p.schema one.under p.runnable) (schema_under others other.aside.texts one.schema q.schema one.other_under q.runnable) in
-    text_of_play q.schema other.script p.end q.end text more (subst (λ (t : List ℕ). IsPlayText q.schema (empty_state q.schema) t p.end text) one.script (subst (λ (k : Schema). IsPlayText k (empty_state k) before.script p.end text) same p.is)) q.is
+pub one_script_once : (words others : List (List ℕ)) (before other : Content) (start : State) (text more : List ℕ) → PlayOneScript words others before other → IsWholeText words before start text → IsWholeText others other start more → text ≡ more
+one_script_once words others before other start text more one x y =
+    let same = one_schema one.schema x.task.schema y.task.schema (schema_under words before.aside.texts one.schema x.task one.under x.is) (schema_under others other.aside.texts one.schema y.task one.other_under y.is) in
+    text_of_play y.task.schema start other.script x.end y.end text more x.kept y.kept
+    (subst (λ (t : List ℕ). IsPlayText y.task.schema start t x.end text x.kept) one.script (subst (λ (k : Schema). IsPlayText k start before.script x.end text x.kept) same x.played)) y.played

@@ -1,5 +1,5 @@
 -- From the play of lines to what a request says.
-use Rattle.std.proofs.Common.{◌≡◌, ℕ, ◌+◌, ◌<◌, ◌≤◌, List, [], ◌∷◌, ◌++◌, length, take, Bool, true, Result, Ok, Err, Option, Some, None, refl, sym, ap, subst, ◌∙◌, arith, inl, inr}
+use Rattle.std.proofs.Common.{◌≡◌, ℕ, ◌+◌, ◌<◌, ◌≤◌, List, [], ◌∷◌, ◌++◌, length, take, Bool, true, false, Result, Ok, Err, Option, Some, None, refl, sym, ap, subst, ◌∙◌, arith, inl, inr}
 use Rattle.std.specs.Prelude.{◌⊎◌, ◌≢◌, nat_lt, if◌then◌else◌, IfErr, IsErrOf}
 use Rattle.std.proofs.lemmas.Bool.Decides.{nat_tests}
 use Rattle.std.proofs.lemmas.List.{append-nil, take-append-le}
@@ -54,10 +54,10 @@ module _ {S : Type 0} (g : Ghosts S) (start : State) (script left heard before :
   abbrev Kept : State → Type 0
   Kept = KeepsState g (schema_of e) (built_of e) (leaves_of f)
 
-  abbrev now : List ℕ
-  now = (g.content (leaves_of f)).now.said
+  abbrev Spoken : List ℕ
+  Spoken = (g.content (leaves_of f)).now.said
 
-  played_out : (end : End) → IsPlayedUp g (start_at start) (script_lines heard) e f end → IsPlayedOut (schema_of e) start Kept script before now end
+  played_out : (end : End) → IsPlayedUp g (start_at start) (script_lines heard) e f end → IsPlayedOut (schema_of e) start Kept script before Spoken end
   played_out end played = record {
     answers = played.text;
     final = played.final;
@@ -79,7 +79,7 @@ module _ {S : Type 0} (g : Ghosts S) (start : State) (script left heard before :
     runs = part.runs;
   }
 
-  first_whole : (why : Stop) → why ≢ stop.Fault → IsPlayedPart g (start_at start) (script_lines heard) e f why → IsPlayedFirst (schema_of e) start Kept script before now
+  first_whole : (why : Stop) → why ≢ stop.Fault → IsPlayedPart g (start_at start) (script_lines heard) e f why → IsPlayedFirst (schema_of e) start Kept script before Spoken
   first_whole why other part = record {
     answers = part.text;
     first = first_answers why part;
@@ -87,7 +87,7 @@ module _ {S : Type 0} (g : Ghosts S) (start : State) (script left heard before :
     holds = part.kept other;
   }
 
-  first_full : IsPlayedPart g (start_at start) (script_lines heard) e f stop.Full → IsPlayedFull (schema_of e) (built_of e) (g.limit (leaves_of e)) start Kept script before now
+  first_full : IsPlayedPart g (start_at start) (script_lines heard) e f stop.Full → IsPlayedFull (schema_of e) (built_of e) (g.limit (leaves_of e)) start Kept script before Spoken
   first_full part = record {
     answers = part.text;
     final = part.final;
@@ -102,7 +102,7 @@ module _ {S : Type 0} (g : Ghosts S) (start : State) (script left heard before :
     holds = part.kept (λ f. cc);
   }
 
-  first_front : (why : Stop) → IsPlayedPart g (start_at start) (script_lines heard) e f why → IsPlayedFront (schema_of e) start script before now
+  first_front : (why : Stop) → IsPlayedPart g (start_at start) (script_lines heard) e f why → IsPlayedFront (schema_of e) start script before Spoken
   first_front why part = record {
     answers = part.text;
     first = first_answers why part;
@@ -111,7 +111,7 @@ module _ {S : Type 0} (g : Ghosts S) (start : State) (script left heard before :
   }
 
   abbrev As : Result (Unit {0}) Ending → Type 0
-  As = IsPlayedAs (schema_of e) (built_of e) (g.limit (leaves_of e)) start Kept script before now
+  As = IsPlayedAs (schema_of e) (built_of e) (g.limit (leaves_of e)) start Kept script before Spoken
 
   -- no damage is found there
   pub played_as : (played : Result (Unit {0}) PlayEnd) (result : Result (Unit {0}) Ending) → IsEndingOf played result → ((block : ℕ) → played ≡ Err (play_end.Stop (stop.Damaged block)) → ⊥) → IsPlayedTo g (start_at start) (script_lines heard) e f played → As result
@@ -126,11 +126,30 @@ module _ {S : Type 0} (g : Ghosts S) (start : State) (script left heard before :
 pub played_over : {S : Type 0} (g : Ghosts S) (schema : Schema) (built : Built) (start : State) (script before : List ℕ) (e f : Engine S) (leaves left : S) (result : Result (Unit {0}) Ending) → schema_of e ≡ schema → built_of e ≡ built → g.limit (leaves_of e) ≡ g.limit leaves → left ≡ leaves_of f
     → IsPlayedAs (schema_of e) (built_of e) (g.limit (leaves_of e)) start (KeepsState g (schema_of e) (built_of e) (leaves_of f)) script before (g.content (leaves_of f)).now.said result
     → IsPlayedAs schema built (g.limit leaves) start (KeepsState g schema built left) script before (g.content left).now.said result
-played_over g schema built start script before e f leaves left result schema_is built_is limit_is left_is is =
+played_over {S = S} g schema built start script before e f leaves left result schema_is built_is limit_is left_is is =
     subst (λ (l : S). IsPlayedAs schema built (g.limit leaves) start (KeepsState g schema built l) script before (g.content l).now.said result) (sym left_is)
     (subst (λ (k : Schema). IsPlayedAs k built (g.limit leaves) start (KeepsState g k built (leaves_of f)) script before (g.content (leaves_of f)).now.said result) schema_is
     (subst (λ (b : Built). IsPlayedAs (schema_of e) b (g.limit leaves) start (KeepsState g (schema_of e) b (leaves_of f)) script before (g.content (leaves_of f)).now.said result) built_is
     (subst (λ (l : Option Limits). IsPlayedAs (schema_of e) (built_of e) l start (KeepsState g (schema_of e) (built_of e) (leaves_of f)) script before (g.content (leaves_of f)).now.said result) limit_is is)))
+
+-- what is held of a state means another thing of it
+pub held_as : (schema : Schema) (built : Built) (limit : Option Limits) (start : State) (Holds Other : State → Type 0) (script before now : List ℕ) (result : Result (Unit {0}) Ending) → ((s : State) → Holds s → Other s) → IsPlayedAs schema built limit start Holds script before now result → IsPlayedAs schema built limit start Other script before now result
+held_as schema built limit start Holds Other script before now (Ok x) other is = record { answers = is.answers; final = is.final; play = is.play; said = is.said; holds = other is.final.kept is.holds }
+held_as schema built limit start Holds Other script before now (Err (ending.Line number why)) other is = record { answers = is.answers; final = is.final; play = is.play; said = is.said; holds = other is.final.kept is.holds }
+held_as schema built limit start Holds Other script before now (Err ending.NoMemory) other is = record { answers = is.answers; first = is.first; said = is.said; holds = other is.first.final.kept is.holds }
+held_as schema built limit start Holds Other script before now (Err ending.Full) other is = record { answers = is.answers; final = is.final; full = is.full; said = is.said; holds = other is.final.kept is.holds }
+held_as schema built limit start Holds Other script before now (Err ending.Fault) other is = is
+held_as schema built limit start Holds Other script before now (Err ending.Words) other is = is
+held_as schema built limit start Holds Other script before now (Err (ending.Missing name)) other is = is
+held_as schema built limit start Holds Other script before now (Err (ending.TooLong name)) other is = is
+held_as schema built limit start Holds Other script before now (Err (ending.Schema line why)) other is = is
+held_as schema built limit start Holds Other script before now (Err (ending.Equation line why)) other is = is
+held_as schema built limit start Holds Other script before now (Err (ending.Type line why)) other is = is
+held_as schema built limit start Holds Other script before now (Err ending.TextsTooLong) other is = is
+held_as schema built limit start Holds Other script before now (Err ending.NotBuilt) other is = is
+held_as schema built limit start Holds Other script before now (Err (ending.Accepted summary)) other is = is
+held_as schema built limit start Holds Other script before now (Err (ending.Device wrong)) other is = is
+held_as schema built limit start Holds Other script before now (Err (ending.Made blocks pages)) other is = is
 
 -- before a line is played
 abbrev none_played : (schema : Schema) (start : State) (script : List ℕ) → AreFirst schema start script []

@@ -1,6 +1,7 @@
 -- Devices that aren't what was asked for, and what `make` says.
 use Rattle.std.specs.Prelude.{◌≡◌, ◌⊎◌, ℕ, List, ◌++◌, Option}
 use Rattle.gx_device.specs.Content.{Content, Texts}
+use Rattle.gx_ports.specs.declared.kinds.LeafSpec.{LeafSpec}
 use Rattle.gx_ports.specs.LeafMaps.{Limits}
 use Rattle.gx_schema.specs.declared.schema.Schema.{Schema}
 use Rattle.gx_schema.specs.Printing.{schema_text}
@@ -54,11 +55,15 @@ pub record IsWrongToRun (words : List (List ℕ)) (before : Content) (why : Devi
   pub action_is : task.action ≡ running device
   pub wrong : IsWrongOn device task before why
 
--- Why a device isn't made.
+-- why no device of that name is made, with so many blocks
+abbrev pub IsUnmakable : List LeafSpec → List ℕ → ℕ → Content → DeviceWhy → Type 0
+IsUnmakable specs device blocks before device_why.Exists = IsUnmade device blocks specs before unopened.Exists
+IsUnmakable specs device blocks before device_why.Size = IsUnmade device blocks specs before unopened.Size
+IsUnmakable specs device blocks before why = ⊥
+
+-- the same of a request to make one
 abbrev pub IsWrongToMake : {words : List (List ℕ)} {texts : Texts} {blocks : ℕ} → IsToMake words texts blocks → Content → DeviceWhy → Type 0
-IsWrongToMake {_} {_} {blocks} r before device_why.Exists = IsUnmade r.device blocks r.typing.specs before unopened.Exists
-IsWrongToMake {_} {_} {blocks} r before device_why.Size = IsUnmade r.device blocks r.typing.specs before unopened.Size
-IsWrongToMake r before why = ⊥
+IsWrongToMake {blocks = blocks} r before why = IsUnmakable r.typing.specs r.device blocks before why
 
 -- the device of the request is wrong in this way
 abbrev pub IsWrong : List (List ℕ) → Content → DeviceWhy → Type 0

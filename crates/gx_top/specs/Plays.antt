@@ -83,9 +83,8 @@ pub record IsGivenUp {S : Type 0} (g : Ghosts S) (p : Playing) (line : List ℕ)
 -- ---- where a play ends
 
 -- the kept leaves are whole, and hold this state
-pub record KeepsState {S : Type 0} (g : Ghosts S) (schema : Schema) (built : Built) (leaves : S) (s : State) : Type 0 where
-  pub is : AreInternal schema built.files (g.kept leaves) s
-  pub whole_is : g.kept_whole leaves
+abbrev pub KeepsState : {S : Type 0} → Ghosts S → Schema → Built → S → State → Type 0
+KeepsState g schema built leaves s = AreInternal schema built.files (g.kept leaves) s × g.kept_whole leaves
 
 -- the lines were played from a moment on, up to this end, their answers were said, and the engine stands there
 pub record IsPlayedUp {S : Type 0} (g : Ghosts S) (p : Playing) (lines : Lines) (old new : Engine S) (end : End) : Type 0 where

@@ -4,8 +4,9 @@ use Rattle.gx_device.specs.declared.device.Failed.{Failed}
 use Rattle.gx_device.specs.Content.{Content}
 use Rattle.gx_device.specs.Faults.{HasCause}
 
--- nothing changed but what was said
+-- nothing changed but what was said and the blocks
 pub record OnlySays (old new : Content) : Type 0 where
+  pub shelf : new.now.shelf ≡ old.now.shelf
   pub script : new.script ≡ old.script
   pub aside : new.aside ≡ old.aside
 

@@ -37,6 +37,8 @@ pub fn play_over<'a, B: Leaves + Drop>(
         result.0 ≡ Ok tt → (B.content result.1).script ≡ [] }
     ensures ending { IfErr result.0 IsPlayEnding }
     ensures fault { IsErrOf result.0 Ending.Fault → Rose (B.faults leaves) (B.faults result.1) }
+    ensures head { B.head result.1 ≡ B.head leaves }
+    ensures shelf { (B.content result.1).now.shelf ≡ (B.content leaves).now.shelf }
     ensures aside { (B.content result.1).aside ≡ (B.content leaves).aside }
     ensures counted { is_fault result.0 ≡ false → B.faults result.1 ≡ B.faults leaves }
     ensures later { B.faults leaves ≤ B.faults result.1 }

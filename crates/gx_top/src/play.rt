@@ -75,6 +75,7 @@ fn play_line<B: Leaves + Drop>(
     ensures ready { IsReady B.View engine.new }
     ensures going { OnOk result (stop_of engine.new ≡ None) }
     ensures limit { B.limit (leaves_of engine.new) ≡ B.limit (leaves_of engine.old) }
+    ensures head { B.head (leaves_of engine.new) ≡ B.head (leaves_of engine.old) }
     ensures rest { OnlySays (B.content (leaves_of engine.old)) (B.content (leaves_of engine.new)) }
     ensures counted { is_play_fault result ≡ false →
         B.faults (leaves_of engine.new) ≡ B.faults (leaves_of engine.old) }
@@ -142,6 +143,7 @@ fn carry_out<B: Leaves + Drop>(
     ensures ready { IsReady B.View engine.new }
     ensures going { OnOk result (stop_of engine.new ≡ None) }
     ensures limit { B.limit (leaves_of engine.new) ≡ B.limit (leaves_of engine.old) }
+    ensures head { B.head (leaves_of engine.new) ≡ B.head (leaves_of engine.old) }
     ensures rest { OnlySays (B.content (leaves_of engine.old)) (B.content (leaves_of engine.new)) }
     ensures counted { is_fault result ≡ false →
         B.faults (leaves_of engine.new) ≡ B.faults (leaves_of engine.old) }
@@ -181,6 +183,7 @@ pub fn play<B: Leaves + Drop>(
         Rose (B.faults (leaves_of engine.old)) (B.faults (leaves_of engine.new)) }
     ensures schema { schema_of engine.new ≡ schema_of engine.old }
     ensures built { built_of engine.new ≡ built_of engine.old }
+    ensures head { B.head (leaves_of engine.new) ≡ B.head (leaves_of engine.old) }
     ensures rest { OnlySays (B.content (leaves_of engine.old)) (B.content (leaves_of engine.new)) }
     ensures counted { is_play_fault result ≡ false →
         B.faults (leaves_of engine.new) ≡ B.faults (leaves_of engine.old) }

@@ -1,6 +1,7 @@
 // A request from its words to its end.
-ghost use Rattle.std.specs.Prelude.{◌≡◌, ◌≢◌, IsTrue};
+ghost use Rattle.std.specs.Prelude.{IsTrue};
 ghost use Rattle.gx_top.specs.Words.{texts_of};
+ghost use Rattle.gx_top.specs.Requests.{IsFree};
 ghost use Rattle.gx_top.specs.Tries.{IsEnd, IsAsDue, CountsOutside};
 
 use crate::check::check;
@@ -14,33 +15,43 @@ use gx_device::Machine;
 use std::alloc::Global;
 
 /// Carries out what the words ask for, says its answers on the machine, and hands the machine
-/// back. The words are `check SCHEMA EQUATION`, `try SCHEMA EQUATION`, `make SCHEMA EQUATION DEVICE BLOCKS`
-/// or `run SCHEMA EQUATION DEVICE`; of the last two nothing is carried out yet. On a machine that tells
-/// its content:
+/// back. The words are `check SCHEMA EQUATION`, `try SCHEMA EQUATION`,
+/// `make SCHEMA EQUATION DEVICE BLOCKS` or `run SCHEMA EQUATION DEVICE`. On a machine that tells its
+/// content, to which no device is attached where the words name one:
 ///
-/// - `Done`: of `check`, exactly the line of the accepted equation's leaves was said. Of `try`, exactly
-///   the answers of the play of the whole script on an empty database were said, and the script was
-///   heard to its end.
+/// - `Done`: of `check`, exactly the line of the accepted equation's leaves was said; of `make`, exactly
+///   the line of the device that was made. Of `try` and `run`, exactly the answers of the play of the
+///   whole script were said, and the script was heard to its end. `try` plays it on an empty database,
+///   `run` on the state that the device holds.
 /// - `Script`: a line ends the play. Exactly the answers up to it were said, and then the line that
 ///   says where and why.
 /// - `Refused`: the request is refused for the first reason in the order of the words, the texts, the
 ///   schema, the equation, its types, the length of the texts, and what is carried out so far. The line
 ///   of that reason was said, and nothing else.
+/// - `Full`: the pages may be too few for the command of a line. Exactly the answers of the lines before
+///   it were said, and then `stopped: full`.
+/// - `Device`: the device isn't what was asked for. Its line was said, and nothing else; damage that is
+///   found while the script is played is said behind the answers until then, and it isn't found where the
+///   device holds a state.
 /// - `Memory`: there was no memory. Exactly the answers of the script's first lines were said, perhaps
 ///   of none, and then `stopped: memory`.
 /// - `Outside`: a front was said of what one of the others says.
 ///
-/// `Outside` comes only where a call of the machine failed in this one, and with any other status
-/// none did: the count of faults is as before. Both hold on every machine. So where none failed, a
-/// request for whose refusal there is a reason is answered `Refused` or `Memory`; `check` of accepted
-/// texts is answered `Done` or `Memory`, and so is `try` where the script can be played and its play
-/// ends at no line; where it ends at a line, the answer is `Script` or `Memory`.
+/// What is said of `run` after it has opened its device holds where that held a state. `Outside` comes
+/// only where a call of the machine failed in this one, and with any other status none did: the count of
+/// faults is as before. Both hold on every machine. So where none failed, a request for whose refusal
+/// there is a reason is answered `Refused` or `Memory`; one whose device is missing, exists, or has
+/// another size, no database or other texts, `Device` or `Memory`; `check` of accepted texts and `make`
+/// of a device that can be had, `Done` or `Memory`; and so are `try` and `run` where the script can be
+/// played, the pages suffice at each command, and the play ends at no line; where it ends at a line, the
+/// answer is `Script` or `Memory`.
 pub fn top<M: Machine + Drop>(alloc: Global, words: &[String], machine: M) -> (Status, M)
     // What was said, and what was heard.
-    ensures said { IsTrue M.tells →
+    ensures said { IsTrue M.tells → IsFree (texts_of words.now) (M.content machine) →
         IsEnd (texts_of words.now) (M.content machine) (M.content result.1) result.0 }
     // When each status is due.
-    ensures due { IsTrue M.tells → IsAsDue (texts_of words.now) (M.content machine) result.0 }
+    ensures due { IsTrue M.tells → IsFree (texts_of words.now) (M.content machine) →
+        IsAsDue (texts_of words.now) (M.content machine) result.0 }
     // No failure is passed over, on any machine.
     ensures failures { CountsOutside (M.faults machine) (M.faults result.1) result.0 }
 {

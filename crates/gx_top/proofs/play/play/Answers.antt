@@ -15,7 +15,8 @@ loop-line-init g c = record {
   so_far = λ told p at. subst (λ ls. IsSoFar g.B.View p (script_lines c.args.script.now) ls 0 c.args.engine.now c.args.engine.now) (sym c.new-lines.ensures.lines) (at_start _ p _ c.args.engine.now at);
   stands = λ p at. (p, at);
   limit = refl;
-  rest = record { script = refl; aside = refl };
+  rest = record { shelf = refl; script = refl; aside = refl };
+  head = refl;
   counted = refl;
 }
 
@@ -33,7 +34,8 @@ loop-line-preserved g c = record {
       let now = c.loop-line.invariant.stands p at in
       (_, (c.in_ok-play_line.ensures.played now.0 now.1).played.at);
   limit = c.in_ok-play_line.ensures.limit ∙ c.loop-line.invariant.limit;
-  rest = record { script = c.in_ok-play_line.ensures.rest.script ∙ c.loop-line.invariant.rest.script; aside = c.in_ok-play_line.ensures.rest.aside ∙ c.loop-line.invariant.rest.aside };
+  rest = record { shelf = c.in_ok-play_line.ensures.rest.shelf ∙ c.loop-line.invariant.rest.shelf; script = c.in_ok-play_line.ensures.rest.script ∙ c.loop-line.invariant.rest.script; aside = c.in_ok-play_line.ensures.rest.aside ∙ c.loop-line.invariant.rest.aside };
+  head = c.in_ok-play_line.ensures.head ∙ c.loop-line.invariant.head;
   counted = c.in_ok-play_line.ensures.counted refl ∙ c.loop-line.invariant.counted;
 }
 

@@ -16,6 +16,7 @@ invariant-loop-line g l = record {
   so_far : IsTrue g.B.View.tells → (p : Playing) → IsAt g.B.View p l.fn.engine → IsSoFar g.B.View p (script_lines l.fn.script) l.lines l.number l.fn.engine l.engine;
   stands : (p : Playing) → IsAt g.B.View p l.fn.engine → (q : Playing) × IsAt g.B.View q l.engine;
   limit : g.B.View.limit (leaves_of l.engine) ≡ g.B.View.limit (leaves_of l.fn.engine);
+  head : g.B.View.head (leaves_of l.engine) ≡ g.B.View.head (leaves_of l.fn.engine);
   rest : OnlySays (g.B.View.content (leaves_of l.fn.engine)) (g.B.View.content (leaves_of l.engine));
   counted : g.B.View.faults (leaves_of l.engine) ≡ g.B.View.faults (leaves_of l.fn.engine);
 }

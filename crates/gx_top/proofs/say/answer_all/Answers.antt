@@ -10,6 +10,7 @@ loop-rest-preserved g c = record {
     λ t. said_more _ _ _ _ _ c.loop-rest.invariant.part.0 c.in_ok-count.count c.loop-rest.invariant.part.1 (c.loop-rest.invariant.part.2 t) (c.in_ok-count.ensures.says.said t),
   );
   script = c.say.ensures.says.rest.script ∙ c.loop-rest.invariant.script;
+  shelf = c.say.ensures.says.rest.shelf ∙ c.loop-rest.invariant.shelf;
   aside = c.say.ensures.says.rest.aside ∙ c.loop-rest.invariant.aside;
   counted = c.in_ok-count.ensures.says.counted (omega arith) ∙ c.loop-rest.invariant.counted;
   same = same_again _ _ _ _ c.loop-rest.invariant.same c.say.ensures.same;

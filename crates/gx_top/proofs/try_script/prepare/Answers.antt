@@ -1,10 +1,11 @@
 use Rattle.gx_top.specs.Words.{trying, request_words}
-use Rattle.gx_top.proofs.RequestLemmas.{all_runnable, all_unbuilt, passed_on}
+use Rattle.gx_top.proofs.RequestLemmas.{all_unbuilt, passed_on}
+use Rattle.gx_top.proofs.TaskLemmas.{all_prepared}
 use Rattle.gx_top.proofs.try_script.prepare.Goals as goal
 
-pub returns-clause-runnable : goal.returns-clause-runnable
-returns-clause-runnable g c = λ told.
-    all_runnable (request_words trying c.args.schema.now c.args.equation.now) _ c.in_ok-checked.checked c.build_nodes.result (c.in_ok-checked.ensures.accepted told trying tt) c.build_nodes.ensures.built
+pub returns-clause-prepared : goal.returns-clause-prepared
+returns-clause-prepared g c = λ told.
+    all_prepared (request_words trying c.args.schema.now c.args.equation.now) _ c.in_ok-checked.checked c.build_nodes.result (c.in_ok-checked.ensures.accepted told trying tt) c.build_nodes.ensures.built
 
 pub returns-clause-unprepared : goal.returns-clause-unprepared
 returns-clause-unprepared g c = λ told.

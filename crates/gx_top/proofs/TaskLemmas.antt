@@ -1,0 +1,204 @@
+-- A script that was played for `try` or for `run`, and a device that wasn't had.
+use Rattle.std.proofs.Common.{◌≡◌, ℕ, List, [], length, Result, Ok, Err, Option, Some, None, refl, sym, ap, subst, ◌∙◌, inl, inr}
+use Rattle.std.specs.Prelude.{true, IfOk, IfErr}
+use Rattle.gx_device.specs.Content.{Content, Texts, SameContent, device_at}
+use Rattle.gx_ports.specs.declared.kinds.LeafSpec.{LeafSpec}
+use Rattle.gx_ports.specs.LeafMaps.{LeafMap, Limits}
+use Rattle.gx_schema.specs.declared.schema.Schema.{Schema}
+use Rattle.gx_schema.specs.Printing.{schema_text}
+use Rattle.gx_equation.specs.Printing.{equation_text}
+use Rattle.gx_equation.specs.Seen.{definitions_of}
+use Rattle.gx_types.specs.declared.built.Built.{Built}
+use Rattle.gx_types.specs.Build.{AreTreesOfFiles}
+use Rattle.gx_model.specs.States.{State, empty_state}
+use Rattle.gx_engine.specs.Internal.{AreInternal}
+use Rattle.gx_store.specs.Device.{Reopens, IsSize, HasTexts}
+use Rattle.gx_store.specs.Opening.{AreOpened, IsUnopened}
+use Rattle.gx_store.specs.Store.{OfBlocks}
+use Rattle.gx_store.specs.declared.unopened.Unopened.{Unopened}
+use Rattle.gx_store.specs.declared.unopened.Unopened.TheVariants as unopened
+use Rattle.gx_top.specs.declared.ending.DeviceWhy.{DeviceWhy}
+use Rattle.gx_top.specs.declared.ending.DeviceWhy.TheVariants as device_why
+use Rattle.gx_top.specs.declared.ending.Ending.{Ending}
+use Rattle.gx_top.specs.declared.ending.Ending.TheVariants as ending
+use Rattle.gx_top.specs.declared.opened.Stored.{Stored}
+use Rattle.gx_top.specs.declared.status.Status.{Status}
+use Rattle.gx_top.specs.declared.reading.Checked.{Checked}
+use Rattle.gx_top.specs.Built.{is_built}
+use Rattle.gx_top.specs.Checked.{IsAcceptedAs, IsBuiltFor, IsStoredFor}
+use Rattle.gx_top.specs.Requests.{IsAccepted}
+use Rattle.gx_top.specs.Endings.{IsPlayEnding, IsFinished, unopened_ending}
+use Rattle.gx_top.specs.Plays.{IsPlayedAs}
+use Rattle.gx_top.specs.Tasks.{Task, IsTask, IsPrepared, IsHeldOn, limits_on}
+use Rattle.gx_top.specs.Devices.{IsWrongOn, IsWrong, IsBefore}
+use Rattle.gx_top.specs.Words.{Action, trying, running}
+use Rattle.gx_top.proofs.StoredLemmas.{same_internal}
+use Rattle.gx_top.proofs.CompleteLemmas.{one_task, made_no_task, had_not_wrong}
+use Rattle.gx_top.proofs.EndLemmas.{IsRun, IsUnhad}
+
+-- what a request is prepared from
+pub all_prepared : (words : List (List ℕ)) (texts : Texts) (c : Checked) (result : Result (Schema × Built) Ending) → IsAcceptedAs words texts trying c → IfOk result (IsBuiltFor c) → IfOk result (IsPrepared words texts trying)
+all_prepared words texts c (Err why) is h = tt
+all_prepared words texts c (Ok x) is h =
+    let ds = definitions_of c.equation.definitions in
+    record {
+      definitions = ds;
+      typing = c.typing;
+      ready = (subst (λ k. IsAccepted words texts trying k ds c.typing) (sym h.0) is, subst (λ k. is_built k ds ≡ true) (sym h.0) h.1);
+      trees = subst (λ (k : Schema). AreTreesOfFiles 0 k.files ds x.1.files) (sym h.0) h.2;
+    }
+
+-- ---- over leaves in memory
+
+abbrev pub try_task : (words : List (List ℕ)) (texts : Texts) (x : Schema × Built) → IsPrepared words texts trying x → Task
+try_task words texts x p = record { action = trying; schema = x.0; definitions = p.definitions; typing = p.typing }
+
+trying_not_running : (device : List ℕ) → trying ≡ running device → ⊥
+trying_not_running device e = cc
+
+-- no device is wrong there
+try_not_wrong : (words : List (List ℕ)) (old : Content) (t : Task) (wrong : DeviceWhy) → t.action ≡ trying → IsTask words old.aside.texts t → IsWrong words old wrong → ⊥
+try_not_wrong words old t wrong action_is task (inl run) =
+    trying_not_running run.device (sym action_is ∙ ap (λ (u : Task). u.action) (one_task words old.aside.texts t run.task task run.is) ∙ run.action_is)
+try_not_wrong words old t wrong action_is task (inr make) = made_no_task words old.aside.texts t make.0 task make.1
+
+pub try_run : (words : List (List ℕ)) (x : Schema × Built) (old middle mid new : Content) (played : Result (Unit {0}) Ending) (s : Status) (p : IsPrepared words old.aside.texts trying x) → SameContent old middle
+    → IsPlayedAs x.0 x.1 None (empty_state x.0) (λ kept. Unit {0}) middle.script middle.now.said mid.now.said played
+    → (played ≡ Ok tt → mid.script ≡ []) → IfErr played IsPlayEnding → IsFinished played mid new s
+    → IsRun words (try_task words old.aside.texts x p) old mid new played s
+try_run words x old middle mid new played s p same is heard ends finished =
+    let t = try_task words old.aside.texts x p in
+    let task : IsTask words old.aside.texts t = record { to_play = tt; ready = p.ready } in
+    let here : IsPlayedAs x.0 x.1 None (empty_state x.0) (λ kept. Unit {0}) old.script old.now.said mid.now.said played =
+        subst (λ (n : List ℕ). IsPlayedAs x.0 x.1 None (empty_state x.0) (λ kept. Unit {0}) old.script n mid.now.said played) (ap (λ n. n.said) same.now)
+        (subst (λ (l : List ℕ). IsPlayedAs x.0 x.1 None (empty_state x.0) (λ kept. Unit {0}) l middle.now.said mid.now.said played) same.script is) in
+    record {
+      task = task;
+      built = x.1;
+      trees = p.trees;
+      answered = λ limit start from.
+          subst (λ (l : Option Limits). IsPlayedAs x.0 x.1 l start (λ kept. Unit {0}) old.script old.now.said mid.now.said played) (sym from.0)
+          (subst (λ (k : State). IsPlayedAs x.0 x.1 None k (λ kept. Unit {0}) old.script old.now.said mid.now.said played) (sym from.1) here);
+      heard = λ limit start from ok. heard ok;
+      play_ending = ends;
+      damaged = λ block found. absurd (subst (λ (r : Result (Unit {0}) Ending). IsPlayedAs x.0 x.1 None (empty_state x.0) (λ kept. Unit {0}) old.script old.now.said mid.now.said r) found here);
+      right = λ wrong early is_wrong. try_not_wrong words old t wrong refl task is_wrong;
+      finished = finished;
+    }
+
+-- ---- on a device
+
+abbrev pub run_task : (words : List (List ℕ)) (texts : Texts) (device : List ℕ) (x : Stored) → IsStoredFor words texts (running device) x → Task
+run_task words texts device x p = record { action = running device; schema = x.schema; definitions = p.definitions; typing = p.typing }
+
+device_once : (a b : List ℕ) → running a ≡ running b → a ≡ b
+device_once a b e = ap device_or e
+  where
+    device_or : Action → List ℕ
+    device_or (running d) = d
+    device_or other = a
+
+-- What opening the device of that name gave: what the blocks held that were there, and how the play went from it. It speaks
+-- of what was before, `middle`, and of the machine with the device, `opened`.
+pub record IsOnStore (device : List ℕ) (x : Stored) (middle opened mid : Content) (limit : Limits) (Reaches : List LeafMap → Type 0) (played : Result (Unit {0}) Ending) : Type 0 where
+  pub said : opened.now.said ≡ middle.now.said
+  pub script : opened.script ≡ middle.script
+  pub had : OfBlocks device middle (AreOpened x.schema_text x.equation_text x.built.specs)
+  pub holds : (blocks : List (List ℕ)) (maps : List LeafMap) → device_at middle.now device ≡ Some blocks → Reopens x.schema_text x.equation_text x.built.specs maps blocks → Reaches maps
+  pub limit_is : (blocks : List (List ℕ)) → device_at middle.now device ≡ Some blocks → limit ≡ limits_on x.built.specs (length blocks)
+  pub answered : (s : State) (maps : List LeafMap) → Reaches maps → AreInternal x.schema x.built.files maps s → IsPlayedAs x.schema x.built (Some limit) s (λ kept. Unit {0}) opened.script opened.now.said mid.now.said played
+  pub heard : (s : State) (maps : List LeafMap) → Reaches maps → AreInternal x.schema x.built.files maps s → played ≡ Ok tt → mid.script ≡ []
+
+module _ (words : List (List ℕ)) (device : List ℕ) (x : Stored) (old middle : Content) (p : IsStoredFor words old.aside.texts (running device) x) (same : SameContent old middle) where
+  abbrev Run : Task
+  Run = run_task words old.aside.texts device x p
+
+  abbrev pub run_is_task : IsTask words old.aside.texts Run
+  run_is_task = record { to_play = tt; ready = p.ready }
+
+  there : (blocks : List (List ℕ)) → device_at old.now device ≡ Some blocks → device_at middle.now device ≡ Some blocks
+  there blocks is = subst (λ n. device_at n device ≡ Some blocks) (sym same.now) is
+
+  reopens : (maps : List LeafMap) (blocks : List (List ℕ)) → Reopens (schema_text x.schema) (equation_text p.definitions) p.typing.specs maps blocks → Reopens x.schema_text x.equation_text x.built.specs maps blocks
+  reopens maps blocks is =
+      subst (λ (t : List ℕ). Reopens t x.equation_text x.built.specs maps blocks) (sym p.schema_text_is)
+      (subst (λ (t : List ℕ). Reopens (schema_text x.schema) t x.built.specs maps blocks) (sym p.equation_text_is)
+      (subst (λ (k : List LeafSpec). Reopens (schema_text x.schema) (equation_text p.definitions) k maps blocks) (sym p.specs_are) is))
+
+  -- where the device that is opened holds a state
+  module _ (opened mid : Content) (limit : Limits) (Reaches : List LeafMap → Type 0) (played : Result (Unit {0}) Ending) (o : IsOnStore device x middle opened mid limit Reaches played) where
+    reached : (bound : Option Limits) (start : State) → (h : IsHeldOn Run device old bound start) → Reaches h.maps
+    reached bound start h = o.holds h.blocks h.maps (there h.blocks h.there) (reopens h.maps h.blocks h.reopens)
+
+    internal : (bound : Option Limits) (start : State) → (h : IsHeldOn Run device old bound start) → AreInternal x.schema x.built.files h.maps start
+    internal bound start h = same_internal x.schema p.definitions h.internal.built.files x.built.files h.maps start h.internal.trees p.trees h.internal.is
+
+    limit_from : (bound : Option Limits) (start : State) → IsHeldOn Run device old bound start → Some limit ≡ bound
+    limit_from bound start h =
+        ap Some (o.limit_is h.blocks (there h.blocks h.there) ∙ ap (λ k. limits_on k (length h.blocks)) p.specs_are) ∙ sym h.limit_is
+
+    from_start : (bound : Option Limits) (start : State) → IsHeldOn Run device old bound start → IsPlayedAs x.schema x.built bound start (λ kept. Unit {0}) old.script old.now.said mid.now.said played
+    from_start bound start h =
+        subst (λ (l : Option Limits). IsPlayedAs x.schema x.built l start (λ kept. Unit {0}) old.script old.now.said mid.now.said played) (limit_from bound start h)
+        (subst (λ (n : List ℕ). IsPlayedAs x.schema x.built (Some limit) start (λ kept. Unit {0}) old.script n mid.now.said played) (o.said ∙ ap (λ n. n.said) same.now)
+        (subst (λ (l : List ℕ). IsPlayedAs x.schema x.built (Some limit) start (λ kept. Unit {0}) l opened.now.said mid.now.said played) (o.script ∙ same.script)
+        (o.answered start h.maps (reached bound start h) (internal bound start h))))
+
+    had_texts : (blocks : List (List ℕ)) → HasTexts x.schema_text x.equation_text blocks → HasTexts (schema_text x.schema) (equation_text p.definitions) blocks
+    had_texts blocks is =
+        subst (λ (t : List ℕ). HasTexts t (equation_text p.definitions) blocks) p.schema_text_is
+        (subst (λ (t : List ℕ). HasTexts x.schema_text t blocks) p.equation_text_is is)
+
+    not_wrong : (wrong : DeviceWhy) → IsBefore wrong → IsWrong words old wrong → ⊥
+    not_wrong wrong early (inl run) =
+        let same_task = one_task words old.aside.texts run.task Run run.is run_is_task in
+        let same_device : run.device ≡ device = device_once run.device device (sym run.action_is ∙ ap (λ (u : Task). u.action) same_task) in
+        had_not_wrong device Run old wrong o.had.0 (subst (λ n. device_at n device ≡ Some o.had.0) same.now o.had.1)
+        (subst (λ k. IsSize k (length o.had.0)) p.specs_are o.had.2.size) o.had.2.magic (had_texts o.had.0 o.had.2.texts) early
+        (subst (λ d. IsWrongOn d Run old wrong) same_device (subst (λ u. IsWrongOn run.device u old wrong) same_task run.wrong))
+    not_wrong wrong early (inr make) = made_no_task words old.aside.texts Run make.0 run_is_task make.1
+
+    pub device_run : (new : Content) (s : Status) → IfErr played IsPlayEnding → IsFinished played mid new s → IsRun words Run old mid new played s
+    device_run new s ends finished = record {
+      task = run_is_task;
+      built = x.built;
+      trees = p.trees;
+      answered = from_start;
+      heard = λ bound start h ok. o.heard start h.maps (reached bound start h) (internal bound start h) ok;
+      play_ending = ends;
+      damaged = λ block found. inl (record {
+        task = Run;
+        is = run_is_task;
+        device = device;
+        action_is = refl;
+        wrong = λ bound start h. subst (λ (r : Result (Unit {0}) Ending). IsPlayedAs x.schema x.built bound start (λ kept. Unit {0}) old.script old.now.said mid.now.said r) found (from_start bound start h);
+      });
+      right = not_wrong;
+      finished = finished;
+    }
+
+  -- ---- a device that isn't opened
+
+  unopened_texts : (why : Unopened) → IsUnopened device x.schema_text x.equation_text x.built.specs middle why → IsUnopened device (schema_text x.schema) (equation_text p.definitions) p.typing.specs middle why
+  unopened_texts why is =
+      subst (λ (t : List ℕ). IsUnopened device t (equation_text p.definitions) p.typing.specs middle why) p.schema_text_is
+      (subst (λ (t : List ℕ). IsUnopened device x.schema_text t p.typing.specs middle why) p.equation_text_is
+      (subst (λ (k : List LeafSpec). IsUnopened device x.schema_text x.equation_text k middle why) p.specs_are is))
+
+  wrong_as : (wrong : DeviceWhy) → IsWrongOn device Run old wrong → IsWrong words old wrong
+  wrong_as wrong is = inl (record { task = Run; is = run_is_task; device = device; action_is = refl; wrong = is })
+
+  back : (blocks : List (List ℕ)) → device_at middle.now device ≡ Some blocks → device_at old.now device ≡ Some blocks
+  back blocks is = subst (λ n. device_at n device ≡ Some blocks) same.now is
+
+  by_why : (why : Unopened) → IsUnopened device (schema_text x.schema) (equation_text p.definitions) p.typing.specs middle why → IsUnhad words old (unopened_ending why)
+  by_why unopened.Missing is = (wrong_as device_why.Missing (subst (λ n. device_at n device ≡ None) same.now is), tt)
+  by_why unopened.Exists is = absurd is.2
+  by_why unopened.Size is = (wrong_as device_why.Size (is.0, back is.0 is.1, is.2), tt)
+  by_why unopened.NoDatabase is = (wrong_as device_why.NoDatabase (is.0, back is.0 is.1, is.2), tt)
+  by_why (unopened.OtherTexts place) is = (wrong_as (device_why.OtherEquation place) (is.0, back is.0 is.1, is.2), tt)
+  by_why unopened.Fault is = tt
+  by_why unopened.NoMemory is = tt
+
+  pub unopened_unhad : (why : Unopened) → IsUnopened device x.schema_text x.equation_text x.built.specs middle why → IsUnhad words old (unopened_ending why)
+  unopened_unhad why is = by_why why (unopened_texts why is)
