@@ -44,18 +44,19 @@ some_or d (Some why) = why
 good_not_bad : (c : Command) (why : LineWhy) → ◌≡◌ {A = Result Command LineWhy} (Ok c) (Err why) → ⊥
 good_not_bad c why e = cc
 
-none_not_some : (why : LineWhy) → ◌≡◌ {A = Option LineWhy} None (Some why) → ⊥
+pub none_not_some : (why : LineWhy) → ◌≡◌ {A = Option LineWhy} None (Some why) → ⊥
 none_not_some why e = cc
 
-command_once : (schema : Schema) (line : List ℕ) (c d : Command) → IsLineOf schema line c → IsLineOf schema line d → c ≡ d
+pub command_once : (schema : Schema) (line : List ℕ) (c d : Command) → IsLineOf schema line c → IsLineOf schema line d → c ≡ d
 command_once schema line c d x y = ap (command_or c) (one_reading schema line (Ok c) (Ok d) (reading_of_line schema line c x) (reading_of_line schema line d y))
 
-step_not_bad : (schema : Schema) (p : Playing) (line answer : List ℕ) (next : Playing) (why : LineWhy) → Step schema p line answer next → IsBadLine schema (is_inside p) line why → ⊥
-step_not_bad schema p line answer next why step (inl read) = good_not_bad step.command why (one_reading schema line (Ok step.command) (Err why) (reading_of_line schema line step.command step.means) read)
-step_not_bad schema p line answer next why step (inr bad) =
-    none_not_some why (sym step.allowed ∙ ap (place_reason (is_inside p)) (command_once schema line step.command bad.0 step.means bad.1) ∙ bad.2)
+-- a good line that may stand where it does is not bad there
+pub placed_not_bad : (schema : Schema) (inside : Bool) (line : List ℕ) (c : Command) (why : LineWhy) → IsLineOf schema line c → place_reason inside c ≡ None → IsBadLine schema inside line why → ⊥
+placed_not_bad schema inside line c why means placed (inl read) = good_not_bad c why (one_reading schema line (Ok c) (Err why) (reading_of_line schema line c means) read)
+placed_not_bad schema inside line c why means placed (inr bad) =
+    none_not_some why (sym placed ∙ ap (place_reason inside) (command_once schema line c bad.0 means bad.1) ∙ bad.2)
 
-bad_once : (schema : Schema) (inside : Bool) (line : List ℕ) (why other : LineWhy) → IsBadLine schema inside line why → IsBadLine schema inside line other → why ≡ other
+pub bad_once : (schema : Schema) (inside : Bool) (line : List ℕ) (why other : LineWhy) → IsBadLine schema inside line why → IsBadLine schema inside line other → why ≡ other
 bad_once schema inside line why other (inl x) (inl y) = ap (why_or why) (one_reading schema line (Err why) (Err other) x y)
 bad_once schema inside line why other (inl x) (inr y) = absurd (good_not_bad y.0 why (one_reading schema line (Ok y.0) (Err why) (reading_of_line schema line y.0 y.1) x))
 bad_once schema inside line why other (inr x) (inl y) = absurd (good_not_bad x.0 other (one_reading schema line (Ok x.0) (Err other) (reading_of_line schema line x.0 x.1) y))
@@ -81,15 +82,15 @@ record IsRun (schema : Schema) (last : ℕ) (p : Playing) (all : Lines) (ran : L
   runs : Runs schema p ran text final
   ends : IsEnd schema final (last + length ran) next end
 
-abbrev head_or : List ℕ → List (List ℕ) → List ℕ
+abbrev pub head_or : List ℕ → List (List ℕ) → List ℕ
 head_or d [] = d
 head_or d (line ∷ lines) = line
 
-abbrev tail_of : List (List ℕ) → List (List ℕ)
+abbrev pub tail_of : List (List ℕ) → List (List ℕ)
 tail_of [] = []
 tail_of (line ∷ lines) = lines
 
-no_line : (line : List ℕ) (lines : List (List ℕ)) → ◌≡◌ {A = List (List ℕ)} (line ∷ lines) [] → ⊥
+pub no_line : (line : List ℕ) (lines : List (List ℕ)) → ◌≡◌ {A = List (List ℕ)} (line ∷ lines) [] → ⊥
 no_line line lines e = cc
 
 -- where no line ran, the end is that of the next one
@@ -108,12 +109,12 @@ none_once schema last p all (Err why) (Ok (Some line)) end close f g x y = absur
 none_once schema last p all (Err why) (Err other) end close f g x y = x ∙ ap (stopped (last + 1)) (ap (some_or why) (sym f.1 ∙ g.1)) ∙ sym y
 
 -- the lines behind the first of those that ran
-record AreLater (line : List ℕ) (all : Lines) (ran : List (List ℕ)) (next : Result (Option (List ℕ)) LineWhy) : Type 0 where
-  rest : List (List ℕ)
-  parts : all.lines ≡ line ∷ rest
-  first : AreFirstLines (record { lines = rest; stop = all.stop }) ran next
+pub record AreLater (line : List ℕ) (all : Lines) (ran : List (List ℕ)) (next : Result (Option (List ℕ)) LineWhy) : Type 0 where
+  pub rest : List (List ℕ)
+  pub parts : all.lines ≡ line ∷ rest
+  pub first : AreFirstLines (record { lines = rest; stop = all.stop }) ran next
 
-later_of : (line : List ℕ) (all : Lines) (ran : List (List ℕ)) (next : Result (Option (List ℕ)) LineWhy) → AreFirstLines all (line ∷ ran) next → AreLater line all ran next
+pub later_of : (line : List ℕ) (all : Lines) (ran : List (List ℕ)) (next : Result (Option (List ℕ)) LineWhy) → AreFirstLines all (line ∷ ran) next → AreLater line all ran next
 later_of line all ran (Ok (Some other)) h = record { rest = ran ++ other ∷ h.0; parts = h.1; first = (h.0, refl) }
 later_of line all ran (Ok None) h = record { rest = ran; parts = h.0; first = (refl, h.1) }
 later_of line all ran (Err why) h = record { rest = ran; parts = h.0; first = (refl, h.1) }
@@ -124,7 +125,7 @@ not_here : (schema : Schema) (last : ℕ) (p q : Playing) (all : Lines) (line an
 not_here schema last p q all line answer rest (Ok None) end step parts f x = no_line line rest (sym parts ∙ f.0)
 not_here schema last p q all line answer rest (Err why) end step parts f x = no_line line rest (sym parts ∙ f.0)
 not_here schema last p q all line answer rest (Ok (Some other)) end step parts f x =
-    step_not_bad schema p line answer q x.0 step (subst (λ l. IsBadLine schema (is_inside p) l x.0) (ap (head_or other) (sym f.1 ∙ parts)) x.1)
+    placed_not_bad schema (is_inside p) line step.command x.0 step.means step.allowed (subst (λ l. IsBadLine schema (is_inside p) l x.0) (ap (head_or other) (sym f.1 ∙ parts)) x.1)
 
 more_ran : (schema : Schema) (last : ℕ) (line : List ℕ) (ran : List (List ℕ)) (next : Result (Option (List ℕ)) LineWhy) (final : Playing) (end : End) → IsEnd schema final (last + length (line ∷ ran)) next end → IsEnd schema final (last + 1 + length ran) next end
 more_ran schema last line ran next final end = subst (λ n. IsEnd schema final n next end) (let e : last + length (line ∷ ran) ≡ last + 1 + length ran = omega arith in e)

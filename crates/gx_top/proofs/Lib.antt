@@ -12,3 +12,7 @@ mod OnceLemmas
 mod EndLemmas
 mod TaskLemmas
 mod MakeLemmas
+mod ExplainLemmas
+mod ExplainOnceLemmas
+mod ExplainEndLemmas
+mod ExplainRequestLemmas

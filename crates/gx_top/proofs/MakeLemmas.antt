@@ -35,7 +35,7 @@ use Rattle.gx_top.specs.Say.{SameDevices}
 use Rattle.gx_top.specs.Tasks.{Task, IsTask, IsToPlay}
 use Rattle.gx_top.specs.Tries.{IsAsDue, IsDueStatus}
 use Rattle.gx_top.specs.Words.{Action, checking, making, IsCount}
-use Rattle.gx_top.proofs.CompleteLemmas.{one_acceptance, ready_not_refused}
+use Rattle.gx_top.proofs.CompleteLemmas.{one_acceptance, ready_not_refused, made_not_explained}
 use Rattle.gx_top.proofs.EndLemmas.{IsUnhad, unplayed, not_done, not_device}
 
 -- ---- what making a device did
@@ -245,11 +245,13 @@ module _ (words : List (List ℕ)) (device digits : List ℕ) (count : ℕ) (x :
   wrong_here reason (inr q) = wrong_once words old.aside.texts q.0 count q.1 request old reason q.2
 
   due_by : (why : Ending) (s : Status) → Ways x.schema_text x.equation_text x.built.specs device count mid end why → IsEnded why end new s → (t : Status) → IsDueStatus words old t → s ≢ status.Outside → (s ≡ t) ⊎ (s ≡ status.Memory)
-  due_by why s w e status.Done (inl playable) outside = absurd (not_played words old.aside.texts count playable.task request playable.is)
+  due_by why s w e status.Done (inl (t, task, play)) outside = absurd (not_played words old.aside.texts count t request task)
   due_by why s w e status.Done (inr (inl check)) outside =
       absurd (not_checked device digits (one_acceptance words old.aside.texts checking (making device digits) check.0 x.schema check.1 st.definitions check.2 st.typing check.3 st.ready.0).actions)
-  due_by why s w e status.Done (inr (inr can)) outside = can_due why s w e can outside
-  due_by why s w e status.Script stopped outside = absurd (not_played words old.aside.texts count stopped.2.task request stopped.2.is)
+  due_by why s w e status.Done (inr (inr (inl can))) outside = can_due why s w e can outside
+  due_by why s w e status.Done (inr (inr (inr (r, ends)))) outside = absurd (made_not_explained words old.aside.texts count request r)
+  due_by why s w e status.Script (number, reason, inl (t, task, play)) outside = absurd (not_played words old.aside.texts count t request task)
+  due_by why s w e status.Script (number, reason, inr (r, ends)) outside = absurd (made_not_explained words old.aside.texts count request r)
   due_by why s w e status.Device wrong outside = wrong_due why s wrong.why w e (wrong_here wrong.why wrong.wrong) outside
   due_by why s w e status.Refused refused outside = absurd (ready_not_refused words old.aside.texts (making device digits) x.schema st.definitions st.typing refused.0 st.ready refused.1)
   due_by why s w e status.Memory due outside = absurd due

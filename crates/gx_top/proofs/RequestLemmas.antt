@@ -21,7 +21,7 @@ use Rattle.gx_top.specs.Built.{is_built, is_built_on_device}
 use Rattle.gx_top.specs.Checked.{AreChecked, IsAcceptedAs, IsBuiltFor, IsUnbuilt, IsUnbuiltBy, IsStoredOf, IsUnstored, IsStoredFor}
 use Rattle.gx_top.specs.Requests.{IsAsked, IsAccepted, is_carried, AreAccepted, AreUnchecked, IsReady, IsRunnable, IsSummary, IsUnprepared}
 use Rattle.gx_top.specs.Summaries.{summary_of}
-use Rattle.gx_top.specs.Words.{Action, checking, trying, making, running, IsOnDevice}
+use Rattle.gx_top.specs.Words.{Action, checking, trying, explaining, making, running, IsOnDevice}
 
 -- as many leaves as a typed equation may have
 pub few_leaves : (s e : List ℕ) (schema : Schema) (ds : List DefinitionTree) (typing : Typing) → AreAccepted s e schema ds typing → length typing.specs ≤ 255
@@ -54,7 +54,7 @@ all_accepted words texts a s e (Ok c) asked h = (s, e, asked, h)
 all_accepted words texts a s e (Err why) asked h = tt
 
 -- accepted texts that can't be carried out
-unbuilt : (words : List (List ℕ)) (texts : Texts) (before now : ℕ) (a : Action) (c : Checked) (can : Bool) (why : Ending) → IsAcceptedAs words texts a c → is_carried a c.schema (definitions_of c.equation.definitions) c.typing ≡ can → IsUnbuiltBy can why → IsUnprepared words texts before now why
+pub unbuilt : (words : List (List ℕ)) (texts : Texts) (before now : ℕ) (a : Action) (c : Checked) (can : Bool) (why : Ending) → IsAcceptedAs words texts a c → is_carried a c.schema (definitions_of c.equation.definitions) c.typing ≡ can → IsUnbuiltBy can why → IsUnprepared words texts before now why
 unbuilt words texts before now a c can ending.NotBuilt is carried un = inl (a, c.schema, definitions_of c.equation.definitions, c.typing, is, carried ∙ un)
 unbuilt words texts before now a c can ending.NoMemory is carried un = inr tt
 unbuilt words texts before now a c can (ending.Schema line reason) is carried un = absurd un
@@ -96,6 +96,7 @@ passed_on words texts before now why (Err e) un is = subst (IsUnprepared words t
 carried_on_device : (a : Action) (schema : Schema) (ds : List DefinitionTree) (typing : Typing) → IsOnDevice a → is_carried a schema ds typing ≡ is_built_on_device schema ds typing
 carried_on_device checking schema ds typing is = absurd is
 carried_on_device trying schema ds typing is = absurd is
+carried_on_device explaining schema ds typing is = absurd is
 carried_on_device (making device blocks) schema ds typing is = refl
 carried_on_device (running device) schema ds typing is = refl
 

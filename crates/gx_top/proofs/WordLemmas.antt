@@ -5,7 +5,7 @@ use Rattle.std.specs.List.{list_all}
 use Rattle.std.proofs.lemmas.Bool.Decides.{nat_tests}
 use Rattle.gx_tokens.specs.Lexemes.{is_digit}
 use Rattle.gx_tokens.specs.Numbers.{are_digits, digits_value, is_number, number_value, signed_in_range, signed_number}
-use Rattle.gx_top.specs.Words.{Action, checking, trying, making, running, request_words, has_sign, IsCount, IsCounted}
+use Rattle.gx_top.specs.Words.{Action, checking, trying, explaining, making, running, request_words, has_sign, IsCount, IsCounted}
 
 abbrev number_by : Bool → ℕ → List ℕ → ℤ
 number_by minus b bs = if minus then neg_ℤ (pos (digits_value bs)) else pos (digits_value (b ∷ bs))
@@ -75,6 +75,7 @@ five_words words a b c d e first second third fourth fifth least most p q r s t 
 pub no_five : (ws : List (List ℕ)) (first second third fourth fifth : List ℕ) → ws ≡ first ∷ second ∷ third ∷ fourth ∷ fifth ∷ [] → ((n : ℕ) → first ≡ codes "make" → ¬ IsCount fifth n) → (a : Action) (schema equation : List ℕ) → IsCounted a → ws ≡ request_words a schema equation → ⊥
 no_five ws first second third fourth fifth are none checking schema equation counted is = let many : 5 ≡ 3 = ap (λ (l : List (List ℕ)). length l) (sym are ∙ is) in absurd (omega (arith, many))
 no_five ws first second third fourth fifth are none trying schema equation counted is = let many : 5 ≡ 3 = ap (λ (l : List (List ℕ)). length l) (sym are ∙ is) in absurd (omega (arith, many))
+no_five ws first second third fourth fifth are none explaining schema equation counted is = let many : 5 ≡ 3 = ap (λ (l : List (List ℕ)). length l) (sym are ∙ is) in absurd (omega (arith, many))
 no_five ws first second third fourth fifth are none (running device) schema equation counted is = let many : 5 ≡ 4 = ap (λ (l : List (List ℕ)). length l) (sym are ∙ is) in absurd (omega (arith, many))
 no_five ws first second third fourth fifth are none (making device digits) schema equation counted is =
     none counted.0 (ap (λ (l : List (List ℕ)). get_or l 0 []) (sym are ∙ is))

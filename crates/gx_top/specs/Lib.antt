@@ -7,6 +7,8 @@ pub mod Requests
 pub mod Checked
 pub mod Played
 pub mod Plays
+pub mod Explained
+pub mod Explaining
 pub mod Tasks
 pub mod Devices
 pub mod Made

@@ -17,7 +17,7 @@ use Rattle.gx_typing.specs.Whole.{typing_of}
 use Rattle.gx_top.specs.declared.ending.Ending.{Ending}
 use Rattle.gx_top.specs.declared.ending.Ending.TheVariants as ending
 use Rattle.gx_top.specs.declared.summary.Summary.{Summary}
-use Rattle.gx_top.specs.Words.{Action, checking, trying, making, running, request_words, IsCounted, IsOnDevice}
+use Rattle.gx_top.specs.Words.{Action, checking, trying, explaining, making, running, request_words, IsCounted, IsOnDevice}
 use Rattle.gx_top.specs.Built.{is_built, is_built_on_device, text_length}
 use Rattle.gx_top.specs.Endings.{IsOutside}
 use Rattle.gx_top.specs.Summaries.{summary_of}
@@ -99,6 +99,7 @@ IsAccepted words texts a schema ds typing = (s : List ℕ) × (e : List ℕ) × 
 abbrev pub is_carried : Action → Schema → List DefinitionTree → Typing → Bool
 is_carried checking schema ds typing = true
 is_carried trying schema ds typing = is_built schema ds
+is_carried explaining schema ds typing = is_built schema ds
 is_carried (making device blocks) schema ds typing = is_built_on_device schema ds typing
 is_carried (running device) schema ds typing = is_built_on_device schema ds typing
 

@@ -15,7 +15,7 @@ use Rattle.gx_model.specs.States.{State, empty_state}
 use Rattle.gx_engine.specs.Internal.{AreInternal}
 use Rattle.gx_layout.specs.Layout.{pages_of}
 use Rattle.gx_store.specs.Device.{Reopens}
-use Rattle.gx_top.specs.Words.{Action, checking, trying, making, running}
+use Rattle.gx_top.specs.Words.{Action, checking, trying, explaining, making, running}
 use Rattle.gx_top.specs.Requests.{IsReady}
 
 -- a script that is to be played, and what the texts mean under which it is
@@ -29,6 +29,7 @@ pub record Task : Type 0 where
 abbrev pub IsToPlay : Action → Type 0
 IsToPlay checking = ⊥
 IsToPlay trying = Unit {0}
+IsToPlay explaining = ⊥
 IsToPlay (making device blocks) = ⊥
 IsToPlay (running device) = Unit {0}
 
@@ -71,6 +72,7 @@ pub record IsHeldOn (t : Task) (device : List ℕ) (before : Content) (limit : O
 abbrev pub IsStart : Action → Task → Content → Option Limits → State → Type 0
 IsStart checking t before limit s = ⊥
 IsStart trying t before limit s = (limit ≡ None) × (s ≡ empty_state t.schema)
+IsStart explaining t before limit s = ⊥
 IsStart (making device blocks) t before limit s = ⊥
 IsStart (running device) t before limit s = IsHeldOn t device before limit s
 

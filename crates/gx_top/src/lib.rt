@@ -5,8 +5,12 @@
 mod built;
 mod check;
 mod ending;
+mod explain;
+mod explanation;
 mod finish;
+mod hearing;
 mod laws;
+mod lines;
 mod make_database;
 mod opened;
 mod over_leaves;

@@ -6,6 +6,7 @@ ghost use Rattle.gx_top.specs.Tries.{IsEnd, IsAsDue, CountsOutside};
 
 use crate::check::check;
 use crate::ending::{Ending, end};
+use crate::explain::explain;
 use crate::make_database::make_database;
 use crate::run_script::run_script;
 use crate::status::Status;
@@ -62,6 +63,10 @@ pub fn top<M: Machine + Drop>(alloc: Global, words: &[String], machine: M) -> (S
             (status, machine)
         }
         Some(Request::Try { schema, equation }) => try_script(alloc, schema, equation, machine),
+        Some(Request::Explain { schema, equation }) => {
+            let status = explain(alloc, schema, equation, &mut machine);
+            (status, machine)
+        }
         Some(Request::Make {
             schema,
             equation,

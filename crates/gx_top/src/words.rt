@@ -11,6 +11,8 @@ pub enum Request<'a> {
     Check { schema: &'a str, equation: &'a str },
     /// To play the script over leaves in memory.
     Try { schema: &'a str, equation: &'a str },
+    /// To say how each `find` of the script looks for its records.
+    Explain { schema: &'a str, equation: &'a str },
     /// To make a device of that name with so many blocks, and an empty database on it.
     Make {
         schema: &'a str,
@@ -30,7 +32,7 @@ pub enum Request<'a> {
 const MOST_DIGITS: usize = 10;
 
 /// The request that the words mean: `check SCHEMA EQUATION`, `try SCHEMA EQUATION`,
-/// `make SCHEMA EQUATION DEVICE BLOCKS` or `run SCHEMA EQUATION DEVICE`; nothing where they are others.
+/// `explain SCHEMA EQUATION`, `make SCHEMA EQUATION DEVICE BLOCKS` or `run SCHEMA EQUATION DEVICE`; nothing where they are others.
 pub fn read_words(words: &[String]) -> Option<Request<'_>>
     ensures some { IfSome result (IsRequest (texts_of words.now)) }
     ensures none { IsNone result → (a : Action) (schema equation : List ℕ) → IsCounted a →
@@ -59,11 +61,13 @@ pub fn read_words(words: &[String]) -> Option<Request<'_>>
 fn request_for<'a>(word: &str, schema: &'a str, equation: &'a str) -> Option<Request<'a>>
     ensures some { IfSome result
         (IsRequest (word.now ∷ schema.now ∷ equation.now ∷ [])) }
-    ensures none { IsNone result → (word.now ≢ codes "check") × (word.now ≢ codes "try") }
+    ensures none { IsNone result → (word.now ≢ codes "check") × (word.now ≢ codes "try") ×
+        (word.now ≢ codes "explain") }
 {
     match word {
         "check" => Some(Request::Check { schema, equation }),
         "try" => Some(Request::Try { schema, equation }),
+        "explain" => Some(Request::Explain { schema, equation }),
         _ => None,
     }
 }
