@@ -1,5 +1,5 @@
 -- Calls of pages, one after the other.
-use Rattle.std.proofs.Common.{◌≡◌, ◌<◌, ◌≤◌, ◌∙◌, refl, sym, ap, subst}
+use Rattle.std.proofs.Common.{◌≡◌, ℕ, ◌<◌, ◌≤◌, ◌∙◌, refl, sym, ap, subst, arith}
 use Rattle.std.specs.Prelude.{Result, Ok, Err, IsErrOf, IsErrAnd}
 use Rattle.gx_ports.specs.declared.page_view.PageView.{Ghosts}
 use Rattle.gx_ports.specs.declared.stop.Stop.{Stop}
@@ -7,6 +7,9 @@ use Rattle.gx_ports.specs.declared.stop.Stop.TheVariants.{Fault, Damaged}
 use Rattle.gx_device.specs.Faults.{Rose}
 use Rattle.gx_ports.specs.Files.{EndsFile}
 use Rattle.gx_ports.specs.PageCalls.{KeepsPages, ReadsPages}
+
+same_or_more : (n : ℕ) → n ≤ n
+same_or_more n = omega arith
 
 module _ {S : Type 0} (g : Ghosts S) where
   -- what shows less is shown by more
@@ -47,6 +50,18 @@ module _ {S : Type 0} (g : Ghosts S) where
         };
         bound = λ n is. subst (λ x. n < x.blocks) h (k.bound n is);
       }
+
+  -- a page shows that something isn't sound
+  pub ends_shown : {T : Type 0} (sound : Type 0) (a b : S) (n : ℕ) → g.faults b ≡ g.faults a → n < (g.ground a).blocks → ¬ sound → EndsFile {T = T} g sound a b (Err (Damaged n))
+  ends_shown sound a b n f block off = record {
+    cause = record {
+      later = subst (λ m. m ≤ g.faults b) f (same_or_more (g.faults b));
+      fault = λ is. let clash : ⊥ = cc in absurd clash;
+      counted = λ _. f;
+      damaged = λ m is. off;
+    };
+    bound = λ m is. let same : n ≡ m = cc in subst (λ x. x < (g.ground a).blocks) same block;
+  }
 
   -- an error that is handed on
   recast : (T U : Type 0) (why v : Stop) → IsErrOf {T = U} (Err why) v → IsErrOf {T = T} (Err why) v

@@ -18,7 +18,7 @@ use Rattle.gx_ports.proofs.KeyLemmas.{same_key, tied}
 use Rattle.gx_slots.specs.Entries.{Entry}
 use Rattle.gx_bnode.specs.Page.{IsInnerPage}
 use Rattle.gx_bnode.specs.Page as bnode
-use Rattle.gx_bplus.specs.Bplus.{IsBplus, IsTreePage, IsOwned, bytes_at}
+use Rattle.gx_bplus.specs.Bplus.{IsBplus, IsTreePage, IsOwned, IsWritten, bytes_at}
 use Rattle.gx_bplus.specs.Changes.{IsTakenFrom}
 use Rattle.gx_bplus.specs.Hole.{IsAtHand}
 use Rattle.gx_bplus.specs.Search.{ArePast, IsReached, HasReached, HasRemoved}
@@ -28,7 +28,7 @@ use Rattle.gx_bplus.proofs.EntryLemmas.{shows_inner}
 use Rattle.gx_bplus.proofs.OrderLemmas.{same_or_not}
 use Rattle.gx_bplus.proofs.BoundLemmas.{ends}
 use Rattle.gx_bplus.proofs.CallLemmas.{ends_weaker, ends_after, pages_read_joined}
-use Rattle.gx_bplus.proofs.SheetLemmas.{IsWritten, written_here, written_owned, claimed_owned, claimed_others, written_others, others_joined}
+use Rattle.gx_bplus.proofs.SheetLemmas.{written_here, written_owned, claimed_owned, claimed_others, written_others, others_joined}
 use Rattle.gx_bplus.proofs.ShapeLemmas.{hand_page}
 use Rattle.gx_bplus.proofs.StepLemmas.{at_root, descend}
 
@@ -41,7 +41,7 @@ root_hand ground place sheets map key b = at_root (bytes_at sheets) (IsOwned pla
 pub root_page : (ground : Ground) (place : Place) (sheets : Sheets) (map : LeafMap) → IsBplus ground place sheets map → IsTreePage ground sheets place.root
 root_page ground place sheets map b = hand_page ground place.owner sheets place.root place.root [] b.tree (root_hand ground place sheets map [] b) (past_of ground place sheets map b)
 
-other_key : (q key : List ℕ) → q ≢ key → eq_by_cmp (slice_cmp nat_cmp) q key ≡ false
+pub other_key : (q key : List ℕ) → q ≢ key → eq_by_cmp (slice_cmp nat_cmp) q key ≡ false
 other_key q key d = go (eq_by_cmp (slice_cmp nat_cmp) q key) refl where
   go : (b : Bool) → eq_by_cmp (slice_cmp nat_cmp) q key ≡ b → b ≡ false
   go true e = absurd (d (same_key q key e))

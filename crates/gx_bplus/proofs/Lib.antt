@@ -1,4 +1,5 @@
 pub mod BoundLemmas
+pub mod BplusLaws
 pub mod BranchLemmas
 pub mod CallLemmas
 pub mod EntryLemmas
@@ -12,9 +13,12 @@ pub mod MemberLemmas
 pub mod OrderLemmas
 pub mod PageLemmas
 pub mod PutLemmas
+pub mod PuttingLemmas
 pub mod RemovalLemmas
 pub mod RemoveLemmas
 pub mod SelectingLemmas
+pub mod SeparatorLemmas
+pub mod GrowthLemmas
 pub mod ShapeLemmas
 pub mod SelectLemmas
 pub mod SheetLemmas

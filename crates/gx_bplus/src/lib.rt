@@ -3,10 +3,12 @@
 
 mod bplus;
 mod insertion;
+mod putting;
 mod reading;
 mod removal;
 mod searching;
 mod selection;
+mod splitting;
 
-pub use bplus::{make, remove};
+pub use bplus::{make, put, remove};
 pub use selection::select;
