@@ -21,7 +21,7 @@ use std::alloc::Global;
 /// Makes a device of that name with so many blocks, and an empty database on it under the texts of
 /// these names, and says what was made; or says the reason where the request is refused, or where the
 /// size or the name can't be had. Then no device is made or changed. After `Memory` and `Outside` there
-/// may be a device without a database.
+/// may be a device with no database, or with an empty one.
 pub fn make_database<M: Machine + Drop>(
     alloc: Global,
     schema: &str,

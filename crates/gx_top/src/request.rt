@@ -32,9 +32,9 @@ use std::alloc::Global;
 ///   of that reason was said, and nothing else.
 /// - `Full`: the pages may be too few for the command of a line. Exactly the answers of the lines before
 ///   it were said, and then `stopped: full`.
-/// - `Device`: the device isn't what was asked for. Its line was said, and nothing else; damage that is
-///   found while the script is played is said behind the answers until then, and it isn't found where the
-///   device holds a state.
+/// - `Device`: the device isn't what was asked for. Its line was said, and nothing else; that of damage,
+///   which is found while the script is played, was said last, and it isn't found where the device holds
+///   a state.
 /// - `Memory`: there was no memory. Exactly the answers of the script's first lines were said, perhaps
 ///   of none, and then `stopped: memory`.
 /// - `Outside`: a front was said of what one of the others says.
