@@ -1,5 +1,5 @@
 -- Places of children, and the child on the way to a key.
-use Rattle.std.proofs.Common.{◌≡◌, ◌⊎◌, inl, inr, ℕ, zero, suc, ◌+◌, ◌-◌, ◌<◌, ◌≤◌, true, false, List, [], ◌∷◌, length, map, take, drop, get_or, Option, Some, refl, sym, ap, ap₂, ◌∙◌, arith}
+use Rattle.std.proofs.Common.{◌≡◌, ◌⊎◌, inl, inr, ℕ, zero, suc, ◌+◌, ◌-◌, ◌<◌, ◌≤◌, true, false, cond, List, [], ◌∷◌, length, map, take, drop, get_or, Option, Some, refl, sym, ap, ap₂, ◌∙◌, subst, arith}
 use Rattle.std.specs.Cmp.Lexicographic.{slice_cmp}
 use Rattle.std.specs.List.{All, count_by, insert, remove}
 use Rattle.std.specs.Ordering.{nat_cmp, is_le}
@@ -12,7 +12,7 @@ use Rattle.gx_bnode.specs.Branches.{Branch}
 use Rattle.gx_bnode.specs.Page.{IsInnerPage, separators_in, first_of, branches_of, separators_of, children_of}
 use Rattle.gx_bnode.proofs.PageLemmas.{page_of as inner_page_of, map-insert, map-remove, children-insert}
 use Rattle.gx_bplus.specs.Order.{is_below}
-use Rattle.gx_bplus.specs.Tree.{In, child_for, bound_for, with_branch, without_from, without_branch, first_without}
+use Rattle.gx_bplus.specs.Tree.{In, ShowsInner, child_for, bound_for, with_branch, without_from, without_branch, first_without}
 use Rattle.gx_bplus.proofs.OrderLemmas.{is_below_of, not_below_of}
 
 -- the separators before a place are at or below the key, and those behind it are above
@@ -40,12 +40,24 @@ child_is first [] key (suc i) at = absurd (omega (arith, at.within))
 child_is first (b ∷ bs) key zero at = sym (cond-true (is_below key b.separator) first (child_for b.child bs key) (first_behind b bs key at))
 child_is first (b ∷ bs) key (suc i) at = child_is b.child bs key i (rest_at b bs key i at) ∙ sym (cond-false (is_below key b.separator) first (child_for b.child bs key) (first_before b bs key i at))
 
-insert_is : (bs : List Branch) (key : List ℕ) (i : ℕ) (new : Branch) → IsPlaceFor bs key i → insert bs i new ≡ with_branch bs key new
+pub insert_is : (bs : List Branch) (key : List ℕ) (i : ℕ) (new : Branch) → IsPlaceFor bs key i → insert bs i new ≡ with_branch bs key new
 insert_is [] key zero new at = refl
 insert_is [] key (suc i) new at = absurd (omega (arith, at.within))
 insert_is (b ∷ bs) key zero new at = sym (cond-true (is_below key b.separator) (new ∷ b ∷ bs) (b ∷ with_branch bs key new) (first_behind b bs key at))
 insert_is (b ∷ bs) key (suc i) new at =
     ap (λ (cs : List Branch). b ∷ cs) (insert_is bs key i new (rest_at b bs key i at)) ∙ sym (cond-false (is_below key b.separator) (new ∷ b ∷ bs) (b ∷ with_branch bs key new) (first_before b bs key i at))
+
+-- where one more child stands behind that on the way, the way goes to either
+pub way_with : (first : ℕ) (bs : List Branch) (key : List ℕ) (new : Branch) → child_for first (with_branch bs key new) key ≡ cond (is_below key new.separator) (child_for first bs key) new.child
+way_with first [] key new = refl
+way_with first (b ∷ bs) key new = elim (cases_Bool (is_below key b.separator)) [
+  | inl is ↦ ap (λ cs. child_for first cs key) (cond-true (is_below key b.separator) (new ∷ b ∷ bs) (b ∷ with_branch bs key new) is)
+      ∙ ap (cond (is_below key new.separator) first) (cond-true (is_below key b.separator) new.child (child_for b.child bs key) is)
+      ∙ sym (ap (λ c. cond (is_below key new.separator) c new.child) (cond-true (is_below key b.separator) first (child_for b.child bs key) is))
+  | inr is ↦ ap (λ cs. child_for first cs key) (cond-false (is_below key b.separator) (new ∷ b ∷ bs) (b ∷ with_branch bs key new) is)
+      ∙ cond-false (is_below key b.separator) first (child_for b.child (with_branch bs key new) key) is ∙ way_with b.child bs key new
+      ∙ sym (ap (λ c. cond (is_below key new.separator) c new.child) (cond-false (is_below key b.separator) first (child_for b.child bs key) is))
+]
 
 from_is : (b : Branch) (bs : List Branch) (key : List ℕ) (i : ℕ) → IsPlaceFor bs key i → remove (b ∷ bs) i ≡ without_from b bs key
 from_is b [] key zero at = refl
@@ -55,7 +67,7 @@ from_is b (c ∷ bs) key (suc i) at =
     ap (λ (cs : List Branch). b ∷ cs) (from_is c bs key i (rest_at c bs key i at)) ∙ sym (cond-false (is_below key c.separator) (c ∷ bs) (b ∷ without_from c bs key) (first_before c bs key i at))
 
 -- branches are told by their separators and their children
-same_branches : (bs cs : List Branch) → separators_in bs ≡ separators_in cs → map (λ b. b.child) bs ≡ map (λ b. b.child) cs → bs ≡ cs
+pub same_branches : (bs cs : List Branch) → separators_in bs ≡ separators_in cs → map (λ b. b.child) bs ≡ map (λ b. b.child) cs → bs ≡ cs
 same_branches [] [] s c = refl
 same_branches [] (y ∷ ys) s c = let no : ⊥ = cc in absurd no
 same_branches (x ∷ xs) [] s c = let no : ⊥ = cc in absurd no
@@ -67,7 +79,7 @@ same_branches (x ∷ xs) (y ∷ ys) s c =
     let same : x ≡ y = λ i. record { separator = s0 i; child = c0 i } in
     ap₂ (λ (b : Branch) (bs : List Branch). b ∷ bs) same (same_branches xs ys s1 c1)
 
-tops : (m n : ℕ) (xs ys : List ℕ) → m ∷ xs ≡ n ∷ ys → (m ≡ n) × (xs ≡ ys)
+pub tops : (m n : ℕ) (xs ys : List ℕ) → m ∷ xs ≡ n ∷ ys → (m ≡ n) × (xs ≡ ys)
 tops m n xs ys e = (let a : m ≡ n = cc in a, let b : xs ≡ ys = cc in b)
 
 -- a page after a branch was put at the place
@@ -79,6 +91,14 @@ with_is old new key separator i right at seps kids =
       t.0,
       same_branches (branches_of new) (insert (branches_of old) i b) (seps ∙ sym (map-insert (λ (c : Branch). c.separator) (branches_of old) i b)) t.1 ∙ insert_is (branches_of old) key i b at,
     )
+
+-- a page of two children
+pub one_branch : (page s : List ℕ) (a b : ℕ) → IsInnerPage page → separators_of page ≡ s ∷ [] → children_of page ≡ a ∷ b ∷ [] → ShowsInner page a (record { separator = s; child = b } ∷ [])
+one_branch page s a b inner seps kids =
+    let c : Branch = record { separator = s; child = b } in
+    let t = tops (first_of page) a (map (λ (d : Branch). d.child) (branches_of page)) (b ∷ []) kids in
+    let is : branches_of page ≡ c ∷ [] = same_branches (branches_of page) (c ∷ []) seps t.1 in
+    subst (λ f. ShowsInner page f (c ∷ [])) t.0 (subst (ShowsInner page (first_of page)) is (inner_page_of page inner))
 
 -- a page after the child at the place was dropped
 pub without_is : (old new key : List ℕ) (i : ℕ) → IsPlaceFor (branches_of old) key i → 1 ≤ length (branches_of old) → separators_of new ≡ remove (separators_of old) (i - 1) → children_of new ≡ remove (children_of old) i

@@ -9,7 +9,7 @@ use Rattle.gx_ports.specs.declared.page_view.PageView.{Ghosts}
 use Rattle.gx_ports.specs.declared.pages.Place.{Place}
 use Rattle.gx_ports.specs.declared.stop.Stop.{Stop}
 use Rattle.gx_ports.specs.declared.stop.Stop.TheVariants.{Fault, Full, Damaged, NoMemory}
-use Rattle.gx_ports.specs.Files.{IsPlace, IsVacant, Holds, IsWhole, OthersStay, EndsFile}
+use Rattle.gx_ports.specs.Files.{IsPlace, IsVacant, ClaimsRoots, Holds, IsWhole, OthersStay, EndsFile}
 use Rattle.gx_ports.specs.LeafMaps.{LeafMap}
 use Rattle.gx_ports.specs.PageCalls.{ReadsPages}
 use Rattle.gx_ports.specs.Roots.{roots_of, roots_of_kind}
@@ -18,7 +18,7 @@ use Rattle.gx_ports.proofs.KeyLemmas.{same_key, tied}
 use Rattle.gx_slots.specs.Entries.{Entry}
 use Rattle.gx_bnode.specs.Page.{IsInnerPage}
 use Rattle.gx_bnode.specs.Page as bnode
-use Rattle.gx_bplus.specs.Bplus.{IsBplus, IsTreePage, IsOwned, bytes_at}
+use Rattle.gx_bplus.specs.Bplus.{IsBplus, IsTreePage, IsOwned, IsWritten, bytes_at}
 use Rattle.gx_bplus.specs.Changes.{IsTakenFrom}
 use Rattle.gx_bplus.specs.Hole.{IsAtHand}
 use Rattle.gx_bplus.specs.Search.{ArePast, IsReached, HasReached, HasRemoved}
@@ -28,7 +28,7 @@ use Rattle.gx_bplus.proofs.EntryLemmas.{shows_inner}
 use Rattle.gx_bplus.proofs.OrderLemmas.{same_or_not}
 use Rattle.gx_bplus.proofs.BoundLemmas.{ends}
 use Rattle.gx_bplus.proofs.CallLemmas.{ends_weaker, ends_after, pages_read_joined}
-use Rattle.gx_bplus.proofs.SheetLemmas.{IsWritten, written_here, written_owned, claimed_owned, claimed_others, written_others, others_joined}
+use Rattle.gx_bplus.proofs.SheetLemmas.{written_here, written_owned, claimed_owned, claimed_others, written_others, others_joined, written_owners, get_set_other}
 use Rattle.gx_bplus.proofs.ShapeLemmas.{hand_page}
 use Rattle.gx_bplus.proofs.StepLemmas.{at_root, descend}
 
@@ -41,7 +41,7 @@ root_hand ground place sheets map key b = at_root (bytes_at sheets) (IsOwned pla
 pub root_page : (ground : Ground) (place : Place) (sheets : Sheets) (map : LeafMap) → IsBplus ground place sheets map → IsTreePage ground sheets place.root
 root_page ground place sheets map b = hand_page ground place.owner sheets place.root place.root [] b.tree (root_hand ground place sheets map [] b) (past_of ground place sheets map b)
 
-other_key : (q key : List ℕ) → q ≢ key → eq_by_cmp (slice_cmp nat_cmp) q key ≡ false
+pub other_key : (q key : List ℕ) → q ≢ key → eq_by_cmp (slice_cmp nat_cmp) q key ≡ false
 other_key q key d = go (eq_by_cmp (slice_cmp nat_cmp) q key) refl where
   go : (b : Bool) → eq_by_cmp (slice_cmp nat_cmp) q key ≡ b → b ≡ false
   go true e = absurd (d (same_key q key e))
@@ -97,6 +97,12 @@ pub made_others : (ground : Ground) (place : Place) (a b c : Sheets) (page : Lis
 made_others ground place a b c page claimed written =
     others_joined ground place.owner a b c (claimed_others place.root place.owner ground a b claimed)
     (written_others ground place.owner place.root page b c written ((claimed_owned place.root place.owner ground a b claimed place.root).1 (inl refl)))
+
+pub made_roots : (ground : Ground) (place : Place) (a b c : Sheets) (page : List ℕ) → place.spec.kind ≡ kinds.Bplus → IsClaimed place.root place.owner ground a b → IsWritten place.root page b c → ClaimsRoots place a c
+made_roots ground place a b c page kind claimed written q off =
+    let one : roots_of place.spec ≡ 1 = ap roots_of_kind kind in
+    let other : q ≢ place.root = λ e. off (omega (arith, e), omega (arith, e, one)) in
+    ap (λ (xs : List ℕ). slice_get xs q) (written_owners place.root page b c written ∙ claimed.owned.owners) ∙ get_set_other a.owners place.root q place.owner other
 
 -- A search by a call has come to an inner page, and read alone.
 pub record IsDescent {S : Type 0} (g : Ghosts S) (place : Place) (key : List ℕ) (start now : S) (at : ℕ) (page : List ℕ) (steps : ℕ) : Type 0 where

@@ -46,7 +46,7 @@ joins_front zs xs ys rest j x = (
   ],
 )
 
-cut_kids : (at : ℕ → List ℕ) (kids : Kids) (l : List Branch) (s : List ℕ) (c : ℕ) (r : List Branch) → branches_of kids ≡ l ++ branch s c ∷ r
+pub cut_kids : (at : ℕ → List ℕ) (kids : Kids) (l : List Branch) (s : List ℕ) (c : ℕ) (r : List Branch) → branches_of kids ≡ l ++ branch s c ∷ r
     → AllStand at kids → AreOrdered kids → AreApart kids → IsCut at kids l s c r
 cut_kids at (last t) l s c r e stand ordered apart = absurd (no_item l (branch s c) r e)
 cut_kids at (more t m kids) [] s c r e stand ordered apart =

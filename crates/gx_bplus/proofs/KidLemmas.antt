@@ -3,11 +3,12 @@ use Rattle.std.proofs.Common.{◌≡◌, inl, inr, ◌++◌, ◌∷◌, ℕ, Lis
 use Rattle.std.proofs.lemmas.Bool.{cases_Bool, cond-true, cond-false}
 use Rattle.gx_slots.specs.Entries.{Entry}
 use Rattle.gx_bnode.specs.Branches.{Branch}
-use Rattle.gx_bplus.specs.Order.{IsUpTo, is_below, IsUnder}
+use Rattle.gx_bnode.specs.Page.{separators_in}
+use Rattle.gx_bplus.specs.Order.{IsBelow, IsUpTo, is_below, IsUnder}
 use Rattle.gx_bplus.specs.Tree.{In, Tree, Kids, leaf, node, last, more, page_of, first_of, branches_of, entries, kids_entries, pages, kids_pages, Stands, AllStand, AreOrdered, AreApart, ShowsEntries, ShowsInner, child_for, bound_for}
 use Rattle.gx_bplus.specs.Hole.{IsFitting, Same, IsBefore, IsWithin, KidHole}
 use Rattle.gx_bplus.proofs.MemberLemmas.{in_left, in_right, in_cases, joins_none, joins_append, joins_more, joins_append_three, joins_more_left, joins_end}
-use Rattle.gx_bplus.proofs.OrderLemmas.{up_to_itself, below_is_up_to, below_below, up_to_below, below_up_to, up_to_up_to, below_of, up_to_of, below_or_not, not_under_over, under_within}
+use Rattle.gx_bplus.proofs.OrderLemmas.{up_to_itself, below_is_up_to, below_below, up_to_below, below_up_to, up_to_up_to, below_of, up_to_of, is_below_of, not_below_of, below_or_not, not_under_over, under_within}
 
 -- a separator and the child right of it
 abbrev pub branch : List ℕ → ℕ → Branch
@@ -32,6 +33,14 @@ mutual
     all_stand_same at new kids (λ q i. same q (in_right q (pages t) (kids_pages kids) i)) h.1,
   )
 
+-- separators stand above a bound below all entries
+above_bound : (kids : Kids) → AreOrdered kids → (s : List ℕ) → ((x : Entry) → In x (kids_entries kids) → IsUpTo s x.key) → (m : List ℕ) → In m (separators_in (branches_of kids)) → IsBelow s m
+above_bound (last t) ordered s above m i = absurd i
+above_bound (more t n kids) ordered s above m i =
+    let some = ordered.1 in
+    let here : IsBelow s n = up_to_below s some.0.key n (above some.0 (in_left some.0 (entries t) (kids_entries kids) some.1)) (ordered.2 some.0 some.1) in
+    elim i [ inl e ↦ subst (IsBelow s) (sym e) here | inr j ↦ below_below s n m here (above_bound kids ordered.4 n ordered.3 m j) ]
+
 -- the last child
 hole_last : (at : ℕ → List ℕ) (t : Tree) (key lo : List ℕ) (hi : Option (List ℕ)) → AllStand at (last t) → AreOrdered (last t) → AreApart (last t)
     → ((x : Entry) → In x (entries t) → IsUpTo lo x.key × IsUnder x.key hi) → IsUpTo lo key → IsUnder key hi → KidHole at (last t) key lo hi
@@ -50,6 +59,7 @@ hole_last at t key lo hi stand ordered apart bounds from to = record {
   from = from;
   to = to;
   out = λ x h. absurd h;
+  beside = λ x least most s i. absurd i;
   entries_are = joins_none (entries t);
   pages_are = joins_none (pages t);
   one = λ new u same fit filled. record {
@@ -103,6 +113,10 @@ hole_first at t s kids key lo hi stand ordered apart bounds from to is s_hi = re
   from = from;
   to = below_of key s is;
   out = λ x h. inr (ordered.3 x h);
+  beside = λ x least most m i. elim i [
+    | inl e ↦ is_below_of x m (subst (IsBelow x) (sym e) most) ∙ sym (ap (is_below key) e ∙ is)
+    | inr j ↦ (let up = above_bound kids ordered.4 s ordered.3 m j in is_below_of x m (below_below x s m most up) ∙ sym (is_below_of key m (below_below key s m (below_of key s is) up)))
+  ];
   entries_are = joins_append (entries t) (kids_entries kids);
   pages_are = joins_append (pages t) (kids_pages kids);
   one = λ new u same fit filled. record {
@@ -190,6 +204,10 @@ hole_behind at t s kids key lo hi stand ordered apart bounds is lo_s h = record 
   out = λ x i. elim (in_cases x (entries t) h.rest i) [
     | inl a ↦ inl (below_up_to x.key s h.low (ordered.2 x a) h.lower)
     | inr b ↦ h.out x b
+  ];
+  beside = λ x least most m i. elim i [
+    | inl e ↦ not_below_of x m (subst (λ n. IsUpTo n x) (sym e) (up_to_up_to s h.low x h.lower least)) ∙ sym (ap (is_below key) e ∙ is)
+    | inr j ↦ h.beside x least most m j
   ];
   entries_are = joins_more (entries t) (kids_entries kids) (entries h.kid) h.rest h.entries_are;
   pages_are = joins_more (pages t) (kids_pages kids) (pages h.kid) h.others h.pages_are;

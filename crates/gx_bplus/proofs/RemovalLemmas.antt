@@ -11,7 +11,7 @@ use Rattle.gx_bnode.specs.Branches.{Branch}
 use Rattle.gx_bnode.specs.Page.{IsInnerPage, first_of, branches_of, separators_of, children_of}
 use Rattle.gx_bnode.proofs.PageLemmas.{page_of as inner_page_of}
 use Rattle.gx_bplus.specs.declared.reading.Shape.TheVariants as shapes
-use Rattle.gx_bplus.specs.Bplus.{Shows, IsTreePage, bytes_at, IsOwned}
+use Rattle.gx_bplus.specs.Bplus.{Shows, IsTreePage, bytes_at, IsWritten, IsOwned}
 use Rattle.gx_bplus.specs.Changes.{IsSome, IsTakenFrom, IsRemoved}
 use Rattle.gx_bplus.specs.Hole.{IsAtHand}
 use Rattle.gx_bplus.specs.Search.{ArePast, IsReached, HasRemoved}
@@ -22,7 +22,7 @@ use Rattle.gx_bplus.proofs.BranchLemmas.{IsPlaceFor, first_behind, first_before,
 use Rattle.gx_bplus.proofs.EntryLemmas.{shows_entries, shows_inner, entries_up}
 use Rattle.gx_bplus.proofs.RemoveLemmas.{many_of, taken_below, taken_root, dropped, replaced}
 use Rattle.gx_bplus.proofs.ShapeLemmas.{first_in, kids_shape}
-use Rattle.gx_bplus.proofs.SheetLemmas.{IsWritten, others_joined, written_owned, written_other, written_here, written_others, anew_bytes, freed_others, freed_owned}
+use Rattle.gx_bplus.proofs.SheetLemmas.{others_joined, written_owned, written_other, written_here, written_others, anew_bytes, freed_others, freed_owned}
 use Rattle.gx_bplus.proofs.StepLemmas.{IsAtNode, at_node, leaf_is, top_in, descend}
 
 pub on_ok : {T E : Type 0} {A B : Type 0} (r : Result T E) → (A → B) → OnOk r A → OnOk r B

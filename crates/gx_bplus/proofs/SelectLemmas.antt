@@ -76,13 +76,13 @@ mutual
   kids_up (last t) o = tree_up t o.0
   kids_up (more t s kids) o = append_up (entries t) (kids_entries kids) (tree_up t o.0) (kids_up kids o.4) (λ x y i j. below_up_to x.key s y.key (o.2 x i) (o.3 y j))
 
-abbrev pair : Entry → List ℕ × List ℕ
+abbrev pub pair : Entry → List ℕ × List ℕ
 pair e = (e.key, e.body)
 
-abbrev key_cmp : List ℕ → List ℕ → Ordering
+abbrev pub key_cmp : List ℕ → List ℕ → Ordering
 key_cmp = slice_cmp nat_cmp
 
-abbrev at : List ℕ → List ℕ → Entry
+abbrev pub at : List ℕ → List ℕ → Entry
 at key body = record { key = key; body = body }
 
 below_pairs : (k : List ℕ) (es : List Entry) → ((y : Entry) → In y es → IsBelow k y.key) → T (below_all key_cmp k (map pair es))
@@ -100,17 +100,17 @@ found_cases es e q v true is later h =
     inl (λ i. record { key = k i; body = sym w i })
 found_cases es e q v false is later h = inr (later h)
 
-found_in : (es : List Entry) (q v : List ℕ) → fin.find key_cmp q (map pair es) ≡ Some v → In (at q v) es
+pub found_in : (es : List Entry) (q v : List ℕ) → fin.find key_cmp q (map pair es) ≡ Some v → In (at q v) es
 found_in [] q v h = let never : ⊥ = cc in absurd never
 found_in (e ∷ es) q v h = found_cases es e q v (eq_by_cmp key_cmp q e.key) refl (found_in es q v) h
 
-unequal : (q k : List ℕ) → q ≢ k → eq_by_cmp key_cmp q k ≡ false
+pub unequal : (q k : List ℕ) → q ≢ k → eq_by_cmp key_cmp q k ≡ false
 unequal q k d = go (eq_by_cmp key_cmp q k) refl where
   go : (b : Bool) → eq_by_cmp key_cmp q k ≡ b → b ≡ false
   go true e = absurd (d (same_key q k e))
   go false e = refl
 
-in_found : (es : List Entry) (q v : List ℕ) → Ascending es → In (at q v) es → fin.find key_cmp q (map pair es) ≡ Some v
+pub in_found : (es : List Entry) (q v : List ℕ) → Ascending es → In (at q v) es → fin.find key_cmp q (map pair es) ≡ Some v
 in_found [] q v up i = absurd i
 in_found (e ∷ es) q v up (inl s) =
     let k : q ≡ e.key = ap (λ (w : Entry). w.key) s in
@@ -118,12 +118,12 @@ in_found (e ∷ es) q v up (inl s) =
 in_found (e ∷ es) q v up (inr i) =
     ap (λ b. cond b (Some e.body) (fin.find key_cmp q (map pair es))) (unequal q e.key (λ s. differ e.key q (up.0 (at q v) i) (sym s))) ∙ in_found es q v up.1 i
 
-same_option : (a b : Option (List ℕ)) → ((v : List ℕ) → a ≡ Some v → b ≡ Some v) → ((v : List ℕ) → b ≡ Some v → a ≡ Some v) → a ≡ b
+pub same_option : (a b : Option (List ℕ)) → ((v : List ℕ) → a ≡ Some v → b ≡ Some v) → ((v : List ℕ) → b ≡ Some v → a ≡ Some v) → a ≡ b
 same_option None None f h = refl
 same_option None (Some y) f h = h y refl
 same_option (Some x) b f h = sym (f x refl)
 
-map_entries : (m : LeafMap) (es : List Entry) → Ascending es → ((k b : List ℕ) → (get m k ≡ Some b → In (at k b) es) × (In (at k b) es → get m k ≡ Some b)) → fin.entries m ≡ map pair es
+pub map_entries : (m : LeafMap) (es : List Entry) → Ascending es → ((k b : List ℕ) → (get m k ≡ Some b → In (at k b) es) × (In (at k b) es → get m k ≡ Some b)) → fin.entries m ≡ map pair es
 map_entries m es up is =
     ap fin.entries (fin.same_map nat_list_cmp_total only_equal m (fin.from_entries (map pair es)) (λ q.
     same_option (get m q) (fin.find key_cmp q (map pair es)) (λ v h. in_found es q v up ((is q v).0 h)) (λ v h. (is q v).1 (found_in es q v h))

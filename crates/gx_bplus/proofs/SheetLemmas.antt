@@ -5,7 +5,7 @@ use Rattle.std.proofs.lemmas.Bool.{cases_eq}
 use Rattle.std.proofs.lemmas.Option.{get_or_from_slice_get}
 use Rattle.gx_ports.specs.Files.{OthersStay}
 use Rattle.gx_ports.specs.Sheets.{Sheets, Ground, IsOwnedAnew, IsClaimed}
-use Rattle.gx_bplus.specs.Bplus.{bytes_at, IsOwned}
+use Rattle.gx_bplus.specs.Bplus.{bytes_at, IsWritten, IsOwned}
 
 pub get_set_other : {X : Type 0} (xs : List X) (i j : ℕ) (x : X) → j ≢ i → slice_get (slice_set xs i x) j ≡ slice_get xs j
 get_set_other [] zero j x d = refl
@@ -57,9 +57,6 @@ one_owner : (sheets : Sheets) (q a b : ℕ) → IsOwned a sheets q → IsOwned b
 one_owner sheets q a b x y = let e : Some a ≡ Some b = sym x ∙ y in cc
 
 -- ---- a page is written
-
-abbrev pub IsWritten : ℕ → List ℕ → Sheets → Sheets → Type 0
-IsWritten page bytes old new = new ≡ record old { bytes = slice_set old.bytes page bytes }
 
 pub written_owners : (page : ℕ) (bytes : List ℕ) (old new : Sheets) → IsWritten page bytes old new → new.owners ≡ old.owners
 written_owners page bytes old new w = ap (λ (s : Sheets). s.owners) w

@@ -1,5 +1,5 @@
 -- What the pages of a B+ tree hold.
-use Rattle.std.specs.Prelude.{◌≡◌, ◌↔◌, ℕ, List, [], slice_get, slice_index_or, Some}
+use Rattle.std.specs.Prelude.{◌≡◌, ◌↔◌, ℕ, List, [], slice_get, slice_index_or, slice_set, Some}
 use Rattle.std.specs.FinMap.{get}
 use Rattle.gx_ports.specs.declared.pages.Place.{Place}
 use Rattle.gx_ports.specs.LeafMaps.{LeafMap}
@@ -14,6 +14,10 @@ use Rattle.gx_bplus.specs.Tree.{In, Tree, entries, pages, IsWhole}
 -- the bytes of a page
 abbrev pub bytes_at : Sheets → ℕ → List ℕ
 bytes_at sheets page = slice_index_or sheets.bytes page []
+
+-- a page is written
+abbrev pub IsWritten : ℕ → List ℕ → Sheets → Sheets → Type 0
+IsWritten page bytes old new = new ≡ record old { bytes = slice_set old.bytes page bytes }
 
 -- the page belongs to the owner
 abbrev pub IsOwned : ℕ → Sheets → ℕ → Type 0

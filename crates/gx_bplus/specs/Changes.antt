@@ -1,8 +1,10 @@
 -- What changes of a tree make of its entries.
 use Rattle.std.specs.Prelude.{◌≡◌, ◌≢◌, ◌⊎◌, ◌++◌, ℕ, List}
 use Rattle.gx_slots.specs.Entries.{Entry}
+use Rattle.gx_bnode.specs.Branches.{Branch, AreAscending}
+use Rattle.gx_bnode.specs.Page.{separators_in}
 use Rattle.gx_bplus.specs.Order.{IsBelow, IsUpTo}
-use Rattle.gx_bplus.specs.Tree.{In, Tree, entries, Ascending, IsWhole, Owns}
+use Rattle.gx_bplus.specs.Tree.{In, Tree, entries, Ascending, IsWhole, Owns, with_branch}
 
 -- an entry is put among others, in the place of the one with its key
 abbrev pub IsPutIn : Entry → List Entry → List Entry → Type 0
@@ -24,6 +26,10 @@ pub record IsSpread (es : List Entry) (e : Entry) (left right : List Entry) (sep
   pub below : (x : Entry) → In x left → IsBelow x.key separator
   pub above : (x : Entry) → In x right → IsUpTo separator x.key
   pub put : IsPutIn e es (left ++ right)
+
+-- separators still ascend where one more stands right behind the child on the way to a key
+abbrev pub MayStand : List Branch → List ℕ → List ℕ → Type 0
+MayStand branches key separator = (child : ℕ) → AreAscending (separators_in (with_branch branches key (record { separator = separator; child = child })))
 
 -- a whole tree with an entry put in
 pub record IsPut (new : ℕ → List ℕ) (now : ℕ → Type 0) (root : ℕ) (e : Entry) (old : Tree) : Type 0 where

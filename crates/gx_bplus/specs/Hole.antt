@@ -2,7 +2,8 @@
 use Rattle.std.specs.Prelude.{◌≡◌, ◌⊎◌, ◌++◌, ℕ, List, [], ◌∷◌, Option, length, ⊤}
 use Rattle.gx_slots.specs.Entries.{Entry}
 use Rattle.gx_bnode.specs.Branches.{Branch}
-use Rattle.gx_bplus.specs.Order.{IsBelow, IsUpTo, IsUnder, IsOver}
+use Rattle.gx_bnode.specs.Page.{separators_in}
+use Rattle.gx_bplus.specs.Order.{IsBelow, IsUpTo, IsUnder, IsOver, is_below}
 use Rattle.gx_bplus.specs.Tree.{In, Tree, Kids, last, more, page_of, first_of, branches_of, entries, kids_entries, pages, kids_pages, Stands, AllStand, Ordered, AreOrdered, IsFilled, Apart, AreApart, IsWhole, child_for, bound_for, with_branch, without_from, without_branch, first_without}
 
 -- a tree that may stand where the keys from lo up to below hi belong, beside these pages
@@ -69,6 +70,8 @@ pub record KidHole (at : ℕ → List ℕ) (kids : Kids) (key lo : List ℕ) (hi
   pub from : IsUpTo low key
   pub to : IsUnder key high
   pub out : (x : Entry) → In x rest → IsBelow x.key low ⊎ IsOver x.key high
+  -- keys within its bounds go the same way
+  pub beside : (x : List ℕ) → IsUpTo low x → IsUnder x high → (s : List ℕ) → In s (separators_in (branches_of kids)) → is_below x s ≡ is_below key s
   pub entries_are : Joins (kids_entries kids) (entries kid) rest
   pub pages_are : Joins (kids_pages kids) (pages kid) others
   pub one : (new : ℕ → List ℕ) (t : Tree) → Same others at new → IsFitting new (page_of kid) low high others t → IsFilled t

@@ -3,5 +3,8 @@ pub mod Tree
 pub mod Hole
 pub mod Changes
 pub mod Bplus
+pub mod Map
 pub mod Search
+pub mod Splits
 pub mod Selection
+pub mod Checking

@@ -4,7 +4,7 @@ use Rattle.gx_slots.specs.Entries.{Entry}
 use Rattle.gx_ports.specs.Files.{OthersStay}
 use Rattle.gx_ports.specs.Sheets.{Sheets, Ground, IsPast}
 use Rattle.gx_bplus.specs.Order.{IsUpTo, IsUnder}
-use Rattle.gx_bplus.specs.Tree.{In, Tree, entries, separators}
+use Rattle.gx_bplus.specs.Tree.{In, Tree, entries, separators, IsWhole, Owns}
 use Rattle.gx_bplus.specs.Hole.{IsAtHand}
 use Rattle.gx_bplus.specs.Changes.{IsPut, IsRemoved}
 use Rattle.gx_bplus.specs.Bplus.{bytes_at, IsOwned}
@@ -17,6 +17,14 @@ ArePast ground owner sheets = (page : ℕ) → IsOwned owner sheets page → IsP
 pub record IsSearch (ground : Ground) (owner : ℕ) (sheets : Sheets) (root page : ℕ) (key : List ℕ) (old : Tree) (steps : ℕ) : Type 0 where
   pub hand : IsAtHand (bytes_at sheets) (IsOwned owner sheets) root page key old steps
   pub past : ArePast ground owner sheets
+
+-- The pages of the owner are those of this tree, and its root has these bytes.
+pub record IsHeld (ground : Ground) (owner : ℕ) (sheets : Sheets) (root : ℕ) (tree : Tree) (bytes : List ℕ) : Type 0 where
+  pub whole : IsWhole (bytes_at sheets) root tree
+  pub owns : Owns (IsOwned owner sheets) tree
+  pub past : ArePast ground owner sheets
+  pub least : 1 ≤ owner
+  pub bytes_are : bytes_at sheets root ≡ bytes
 
 -- the pages hold the tree without the key, and those of other owners stay
 pub record HasRemoved (ground : Ground) (owner root : ℕ) (key : List ℕ) (old new : Sheets) (tree : Tree) : Type 0 where
@@ -36,6 +44,14 @@ pub record IsReached (ground : Ground) (owner : ℕ) (sheets : Sheets) (root pag
   pub least : 1 ≤ owner
   pub bytes_are : bytes_at sheets page ≡ bytes
   pub below_are : bytes_at sheets child ≡ below
+
+-- The search has come to a page with these bytes, after so many steps at least, and the pages of other owners stay.
+pub record HasCome (ground : Ground) (owner root : ℕ) (key : List ℕ) (old new : Sheets) (tree : Tree) (least page : ℕ) (bytes : List ℕ) : Type 0 where
+  pub steps : ℕ
+  pub many : least ≤ steps
+  pub search : IsSearch ground owner new root page key tree steps
+  pub bytes_are : bytes_at new page ≡ bytes
+  pub others : OthersStay ground owner old new
 
 -- the same of some tree of some owner
 pub record HasReached (ground : Ground) (sheets : Sheets) (page child : ℕ) (key bytes below : List ℕ) : Type 0 where

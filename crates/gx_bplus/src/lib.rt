@@ -2,11 +2,15 @@
 #![tactic(auto)]
 
 mod bplus;
+mod checking;
 mod insertion;
+mod putting;
 mod reading;
 mod removal;
 mod searching;
 mod selection;
+mod splitting;
 
-pub use bplus::{make, remove};
+pub use bplus::{make, put, remove};
+pub use checking::check;
 pub use selection::select;

@@ -77,8 +77,8 @@ fn is_given(from: &[u8], span: &Span, key: &[u8]) -> bool
     is_up_to(from, key) && inside(span, key)
 }
 
-// Whether `a` is `b` or stands before it, byte by byte, a proper front first.
-fn is_up_to(a: &[u8], b: &[u8]) -> bool
+/// Whether `a` is `b` or stands before it, byte by byte, a proper front first.
+pub(crate) fn is_up_to(a: &[u8], b: &[u8]) -> bool
     ensures { result ≡ is_le (slice_cmp nat_cmp a.now b.now) }
 {
     a.cmp(b).is_le()

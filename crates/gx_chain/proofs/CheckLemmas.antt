@@ -1,36 +1,29 @@
 -- Chains that are checked.
-use Rattle.std.proofs.Common.{◌≡◌, ◌≢◌, ◌⊎◌, ◌↔◌, inl, inr, ℕ, zero, suc, ◌+◌, ◌<◌, ◌≤◌, Bool, true, false, List, [], ◌∷◌, ◌++◌, length, get_or, set, Option, Some, None, Ok, Err, refl, sym, ap, subst, ◌∙◌, arith, append_assoc, length-append}
+use Rattle.std.proofs.Common.{◌≡◌, ◌≢◌, ◌⊎◌, inl, inr, ℕ, suc, ◌+◌, ◌<◌, ◌≤◌, Bool, true, false, List, [], ◌∷◌, ◌++◌, Option, Some, None, Ok, Err, refl, sym, ap, subst, ◌∙◌, arith, append_assoc}
 use Rattle.std.specs.Prelude.{◌||◌, not, slice_get, IsTrue, Result}
 use Rattle.std.specs.BTreeSet.{insert_key}
 use Rattle.std.specs.Global.{Vec}
-use Rattle.std.specs.List.{AllPairs, Contains}
+use Rattle.std.specs.List.{Contains}
 use Rattle.std.specs.Ordering.{eq_by_cmp, match_ordering}
 use Rattle.std.specs.Result.{IsErrAnd}
 use Rattle.std.specs.declared.cmp.Ordering.TheVariants.{Less, Equal, Greater}
 use Rattle.std.proofs.lemmas.Bool.{cases_eq, true≢false, false≢true}
-use Rattle.std.proofs.lemmas.List.{append-nil, get_or_default}
+use Rattle.std.proofs.lemmas.List.{append-nil}
 use Rattle.std.proofs.lemmas.List.Elements.{Contains-push_cases, Contains-append_left, Contains-push}
-use Rattle.std.proofs.lemmas.List.Quantifiers.{all_pairs_push}
-use Rattle.std.proofs.lemmas.Option.{same_Some, none-some, slice_get-get_or}
-use Rattle.gx_bytes.specs.declared.page.TheConstants.{NONE}
+use Rattle.std.proofs.lemmas.Option.{same_Some, none-some}
 use Rattle.gx_device.specs.Faults.{Rose}
 use Rattle.gx_ports.specs.declared.page_view.PageView.{Ghosts}
 use Rattle.gx_ports.specs.declared.stop.Stop.{Stop}
 use Rattle.gx_ports.specs.declared.stop.Stop.TheVariants.{Fault, Damaged}
 use Rattle.gx_ports.specs.Files.{EndsFile}
 use Rattle.gx_ports.specs.PageCalls.{ReadsPages}
-use Rattle.gx_ports.specs.Sheets.{Sheets, Ground, IsPast}
+use Rattle.gx_ports.specs.Sheets.{Sheets}
 use Rattle.gx_ports.specs.Keyed.{key_cmp}
 use Rattle.gx_ports.proofs.KeyLemmas.{only_equal, same_key, tied}
 use Rattle.gx_ports.proofs.KeyedLemmas.{vec_cmp}
 use Rattle.gx_slots.specs.Entries.{Entry, AreDistinct}
-use Rattle.gx_slots.specs.Page.{IsEntryPage, entries_of, next_of}
-use Rattle.gx_chain.specs.declared.check.Visits.{Visits}
-use Rattle.gx_chain.specs.Chain.{bytes_at, entries_at, next_at, AreLinked, IsChain, IsOn}
-use Rattle.gx_chain.specs.Check.{IsWholeChain, HasWholeChain, has_key, IsKeyOf, HasAddedKeys, SharesKey, AreVisited, IsNext, HasSeenChain, IsUnseen, AreAllSeen}
-use Rattle.gx_chain.proofs.ChainLemmas.{linked_page}
-use Rattle.gx_chain.proofs.ListLemmas.{contains_here, contains_later, contains_cases, contains_none, contains_middle, without_off, few}
-use Rattle.gx_chain.proofs.WriteLemmas.{slice_get_set, slice_get_set_same}
+use Rattle.gx_chain.specs.Check.{has_key, IsKeyOf, HasAddedKeys, SharesKey, IsUnseen}
+use Rattle.gx_chain.proofs.ListLemmas.{contains_cases, contains_none, contains_middle}
 
 -- ---- a key more among keys
 

@@ -20,7 +20,7 @@ use Rattle.gx_ports.specs.Keyed.{key_cmp}
 use Rattle.gx_ports.proofs.KeyLemmas.{same_key}
 use Rattle.gx_slots.specs.Entries.{Entry, AreDistinct}
 use Rattle.gx_chain.specs.Chain.{entries_at, IsChain, IsOn}
-use Rattle.gx_chain.specs.Collect.{leaf_entry, inside_of, inside_on, entry_cmp, AreCollected}
+use Rattle.gx_chain.specs.Collect.{leaf_entry, inside_of, inside_on, entry_cmp, ArePagesApart, AreCollected}
 use Rattle.gx_chain.proofs.ChainLemmas.{linked_page}
 use Rattle.gx_chain.proofs.ListLemmas.{contains_here, contains_later, contains_cases, contains_none, pairs_head, pairs_tail}
 use Rattle.gx_chain.proofs.PutLemmas.{page_distinct}
@@ -160,12 +160,15 @@ ascends es up apart = sorted_from_all_adjacent nat_list_cmp_total (map key_of es
     before r t (nat_list_cmp_total.antisymm (get_or (map key_of es) (i + 1) []) (get_or (map key_of es) i [])) rising
     (apart_from_distinct (eq_by_cmp key_cmp) (map key_of es) i (i + 1) [] apart (omega arith) below))
 
--- what was found on the pages of a chain, put in order
-pub collected : (ground : Ground) (owner first : ℕ) (s : Sheets) (pages : List ℕ) (lo hi : List ℕ) (found entries : List LeafEntry) → IsChain ground owner s first pages → found ≡ inside_on s lo hi pages → IsPermutation found entries → IsSortedBy (λ a b. is_lt (entry_cmp a b)) entries
+pub chain_apart : (ground : Ground) (owner first : ℕ) (s : Sheets) (pages : List ℕ) → IsChain ground owner s first pages → ArePagesApart s pages
+chain_apart ground owner first s pages chain = record { once = chain.once; each = λ p c. linked_page s first pages p chain.linked c; apart = chain.apart }
+
+-- what was found on pages, put in order
+pub collected : (s : Sheets) (pages : List ℕ) (lo hi : List ℕ) (found entries : List LeafEntry) → ArePagesApart s pages → found ≡ inside_on s lo hi pages → IsPermutation found entries → IsSortedBy (λ a b. is_lt (entry_cmp a b)) entries
     → AreCollected s lo hi pages entries
-collected ground owner first s pages lo hi found entries chain is moved up =
+collected s pages lo hi found entries h is moved up =
     let those : IsPermutation (inside_on s lo hi pages) entries = subst (λ (x : List LeafEntry). IsPermutation x entries) is moved in
-    let apart = pages_apart lo hi s pages chain.once (λ p c. page_distinct s p (linked_page s first pages p chain.linked c)) chain.apart in
+    let apart = pages_apart lo hi s pages h.once (λ p c. page_distinct s p (h.each p c)) h.apart in
     record {
       ascending = ascends entries up (IsDistinct-IsPermutation (eq_by_cmp key_cmp) (eq_by_cmp_equiv nat_list_cmp_total).symm (map key_of (inside_on s lo hi pages)) (map key_of entries) (IsPermutation-map key_of (inside_on s lo hi pages) entries those) apart);
       those = λ k b. (

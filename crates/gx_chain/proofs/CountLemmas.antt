@@ -1,12 +1,11 @@
 -- How many pages an owner and a chain have.
-use Rattle.std.proofs.Common.{◌≡◌, ◌≢◌, inl, inr, ℕ, zero, suc, ◌+◌, ◌-◌, ◌*◌, ◌<◌, ◌≤◌, ◌==◌, Bool, true, false, cond, List, [], ◌∷◌, length, Some, None, refl, sym, ap, subst, ◌∙◌, arith}
+use Rattle.std.proofs.Common.{◌≡◌, ◌≢◌, inl, inr, ℕ, zero, suc, ◌+◌, ◌-◌, ◌≤◌, ◌==◌, Bool, cond, List, [], ◌∷◌, length, Some, None, refl, sym, ap, subst, ◌∙◌, arith}
 use Rattle.std.specs.Prelude.{slice_get, count_by, is_some}
 use Rattle.std.specs.List.{AllPairs, Contains}
 use Rattle.std.specs.Ordering.{eq_by_cmp}
 use Rattle.std.specs.Cmp.Lexicographic.{nat_list_cmp_total}
 use Rattle.std.specs.FinMap as fin
-use Rattle.std.proofs.lemmas.Bool.{cases_Bool, cases_eq, eqb-true, false≢true}
-use Rattle.std.proofs.lemmas.List.Elements.{Contains-get_or}
+use Rattle.std.proofs.lemmas.Bool.{cases_Bool, cases_eq, eqb-true}
 use Rattle.std.proofs.lemmas.List.Sums.{sum_by-cons}
 use Rattle.std.proofs.lemmas.Option.{none-some}
 use Rattle.gx_ports.specs.LeafMaps.{LeafMap}
@@ -84,7 +83,7 @@ keys_few sheets (p ∷ ps) m once has apart =
     let shorter : fin.len less ≡ fin.len m - 1 = fin.len-remove nat_list_cmp_total m w.0 ∙ ap (λ (b : Bool). cond b (fin.len m - 1) (fin.len m)) (ap is_some w.3) in
     omega (arith, ih, some, shorter)
 
-first_of : (es : List Entry) → es ≢ [] → (k b : List ℕ) × Contains es (record { key = k; body = b })
+pub first_of : (es : List Entry) → es ≢ [] → (k b : List ℕ) × Contains es (record { key = k; body = b })
 first_of [] some = absurd (some refl)
 first_of (e ∷ es) some = (e.key, e.body, contains_here e es)
 

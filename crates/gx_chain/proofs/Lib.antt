@@ -10,3 +10,6 @@ pub mod CheckLemmas
 pub mod VisitLemmas
 pub mod GatherLemmas
 pub mod CollectLemmas
+pub mod SelectLemmas
+pub mod MapLemmas
+pub mod OwnerLemmas

@@ -1,11 +1,11 @@
 -- What putting an entry makes of a chain.
-use Rattle.std.proofs.Common.{◌≡◌, ◌≢◌, ◌⊎◌, ◌↔◌, inl, inr, ℕ, ◌+◌, ◌<◌, ◌≤◌, List, [], ◌∷◌, ◌++◌, length, get_or, set, Some, None, refl, sym, ap, subst, ◌∙◌, arith}
-use Rattle.std.specs.Prelude.{slice_get, MatchOption, Option}
+use Rattle.std.proofs.Common.{◌≡◌, ◌≢◌, ◌⊎◌, inl, inr, ℕ, ◌<◌, ◌≤◌, List, [], ◌∷◌, ◌++◌, length, Some, None, refl, sym, ap, subst, ◌∙◌, arith}
+use Rattle.std.specs.Prelude.{slice_get, Option}
 use Rattle.std.specs.List.{All, AllPairs, Contains, insert, remove}
 use Rattle.std.proofs.lemmas.Option.{same_Some, MatchOption-at_some}
 use Rattle.std.proofs.lemmas.Bool.{cases_eq}
 use Rattle.std.proofs.lemmas.List.Edits.{length-insert, length-remove}
-use Rattle.std.proofs.lemmas.List.Elements.{Contains-push_cases, Contains-append_left, Contains-push, Contains-get_or, All-contains}
+use Rattle.std.proofs.lemmas.List.Elements.{Contains-push_cases, Contains-append_left, Contains-push, Contains-get_or}
 use Rattle.std.proofs.lemmas.List.Quantifiers.{all_pairs_push}
 use Rattle.gx_bytes.specs.declared.page.TheConstants.{NONE}
 use Rattle.gx_ports.specs.Sheets.{Sheets, Ground, IsPast, IsClaimed}
@@ -13,10 +13,10 @@ use Rattle.gx_slots.specs.Entries.{Entry, AreDistinct}
 use Rattle.gx_slots.specs.Page.{IsEntryPage, entries_of, next_of}
 use Rattle.gx_slots.proofs.PageLemmas.{page_of}
 use Rattle.gx_chain.specs.Chain.{bytes_at, entries_at, next_at, AreLinked, IsOn, IsChain}
-use Rattle.gx_chain.specs.Changes.{HasKey, IsRewritten, IsTaken, IsAdded, IsAppended, IsPutIn, StaysBeside, HasRoomFor, HasRoom}
-use Rattle.gx_chain.specs.Walk.{IsDropped, IsCrowded, IsReplacing, IsExchanged, LackKey, HasOld, AreNoted}
+use Rattle.gx_chain.specs.Changes.{HasKey, IsRewritten, IsTaken, IsAdded, IsAppended, IsPutIn, HasRoomFor, HasRoom}
+use Rattle.gx_chain.specs.Walk.{IsDropped, IsCrowded, IsExchanged, LackKey, HasOld, AreNoted}
 use Rattle.gx_chain.proofs.ListLemmas.{contains_none, contains_cases, pairs_last}
-use Rattle.gx_chain.proofs.EntryLemmas.{less_to, less_from, less_other, more_to, more_from, no_entry, entry_there}
+use Rattle.gx_chain.proofs.EntryLemmas.{less_to, less_from, more_to, more_from, no_entry, entry_there}
 use Rattle.gx_chain.proofs.ChainLemmas.{at_other, linked_page, linked_push, same_on, same_on_back, same_chain, rewritten_chain, rewritten_on}
 use Rattle.gx_chain.proofs.WriteLemmas.{slice_get_set, slice_get_set_same}
 

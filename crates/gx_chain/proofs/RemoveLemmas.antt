@@ -1,15 +1,15 @@
 -- What taking an entry makes of a chain.
-use Rattle.std.proofs.Common.{◌≡◌, ◌≢◌, ◌⊎◌, ◌↔◌, inl, inr, ℕ, ◌+◌, ◌<◌, ◌≤◌, List, [], ◌∷◌, ◌++◌, length, set, Some, None, refl, sym, ap, subst, ◌∙◌, arith}
+use Rattle.std.proofs.Common.{◌≡◌, ◌≢◌, ◌⊎◌, inl, inr, ℕ, ◌<◌, ◌≤◌, List, [], ◌∷◌, ◌++◌, length, set, sym, ap, subst, ◌∙◌}
 use Rattle.std.specs.Prelude.{slice_get}
 use Rattle.std.specs.List.{AllPairs, Contains, HoldsAt, remove}
 use Rattle.std.proofs.lemmas.Bool.{cases_eq}
 use Rattle.std.proofs.lemmas.List.Elements.{Contains-push, Contains-append_left, Contains-append_right}
-use Rattle.gx_ports.specs.Sheets.{Sheets, Ground, IsPast}
+use Rattle.gx_ports.specs.Sheets.{Sheets, Ground}
 use Rattle.gx_slots.specs.Entries.{Entry}
 use Rattle.gx_slots.specs.Page.{IsEntryPage, entries_of, next_of}
-use Rattle.gx_chain.specs.Chain.{bytes_at, entries_at, next_at, AreLinked, IsOn, IsChain}
-use Rattle.gx_chain.specs.Changes.{IsTaken, IsUnlinked, IsRemovedFrom}
-use Rattle.gx_chain.specs.Walk.{IsDropped, LackKey}
+use Rattle.gx_chain.specs.Chain.{bytes_at, entries_at, next_at, AreLinked, IsChain}
+use Rattle.gx_chain.specs.Changes.{IsUnlinked, IsRemovedFrom}
+use Rattle.gx_chain.specs.Walk.{IsDropped}
 use Rattle.gx_chain.proofs.ListLemmas.{contains_here, contains_later, contains_none, contains_middle, pairs_last, pairs_front, pairs_across, without_to, without_from, without_once, without_off}
 use Rattle.gx_chain.proofs.EntryLemmas.{less_from, entry_there}
 use Rattle.gx_chain.proofs.ChainLemmas.{at_other, relink, linked_page}

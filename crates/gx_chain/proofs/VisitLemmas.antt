@@ -1,5 +1,5 @@
 -- The pages of a chain that is checked, visited one after the other.
-use Rattle.std.proofs.Common.{◌≡◌, ◌≢◌, ◌⊎◌, ◌↔◌, inl, inr, ℕ, zero, suc, ◌+◌, ◌<◌, ◌≤◌, Bool, true, false, List, [], ◌∷◌, ◌++◌, length, get_or, replicate, set, Some, refl, sym, ap, subst, ◌∙◌, arith, length-append}
+use Rattle.std.proofs.Common.{◌≡◌, ◌≢◌, inl, inr, ℕ, zero, suc, ◌+◌, ◌<◌, ◌≤◌, Bool, true, false, List, [], ◌∷◌, ◌++◌, length, get_or, replicate, set, Some, refl, sym, ap, subst, ◌∙◌, arith, length-append}
 use Rattle.std.specs.Prelude.{slice_get, IsTrue}
 use Rattle.std.specs.Global.{Vec}
 use Rattle.std.specs.List.{AllPairs, Contains}
@@ -12,14 +12,13 @@ use Rattle.gx_bytes.specs.declared.page.TheConstants.{NONE}
 use Rattle.gx_ports.specs.declared.page_view.PageView.{Ghosts}
 use Rattle.gx_ports.specs.PageCalls.{ReadsPages}
 use Rattle.gx_ports.specs.Sheets.{Sheets, Ground, IsPast}
-use Rattle.gx_slots.specs.Entries.{Entry}
-use Rattle.gx_slots.specs.Page.{IsEntryPage, entries_of, next_of}
+use Rattle.gx_slots.specs.Page.{IsEntryPage, next_of}
 use Rattle.gx_chain.specs.declared.check.Visits.{Visits}
-use Rattle.gx_chain.specs.Chain.{bytes_at, entries_at, next_at, AreLinked, IsChain, IsOn, LeadsOn}
-use Rattle.gx_chain.specs.Check.{IsWholeChain, HasWholeChain, has_key, HasAddedKeys, SharesKey, AreVisited, IsNext, HasSeenChain, IsUnseen, AreAllSeen}
+use Rattle.gx_chain.specs.Chain.{bytes_at, entries_at, next_at, AreLinked, IsChain}
+use Rattle.gx_chain.specs.Check.{IsWholeChain, HasWholeChain, has_key, HasAddedKeys, SharesKey, AreVisited, IsNext, IsVisitedChain, HasUnseenChain, IsUnseen, AreAllSeen}
 use Rattle.gx_chain.proofs.ChainLemmas.{linked_page}
 use Rattle.gx_chain.proofs.ListLemmas.{contains_here, contains_later, contains_none, contains_middle, without_off}
-use Rattle.gx_chain.proofs.WalkLemmas.{IsAtHand, hand_ends, hand_leads, is_some_page}
+use Rattle.gx_chain.proofs.WalkLemmas.{IsAtHand, is_some_page}
 use Rattle.gx_chain.proofs.WriteLemmas.{slice_get_set, slice_get_set_same}
 
 -- ---- a page more
@@ -29,23 +28,30 @@ unmarked zero q is = none-some true is
 unmarked (suc n) zero is = false≢true (same_Some false true is)
 unmarked (suc n) (suc q) is = unmarked n q is
 
-pub visited_none : (ground : Ground) (owner : ℕ) (sheets : Sheets) (first : ℕ) (visits : Visits) → ((q : ℕ) → slice_get visits.seen.items q ≢ Some true) → visits.keys.keys ≡ [] → AreVisited ground owner sheets first [] visits
-visited_none ground owner sheets first visits clear none = record {
+pub visited_none : (ground : Ground) (owner : ℕ) (sheets : Sheets) (first : ℕ) (before : List Bool) (visits : Visits) → visits.seen.items ≡ before → visits.keys.keys ≡ [] → AreVisited ground owner sheets first before [] visits
+visited_none ground owner sheets first before visits same none = record {
   once = λ i j d less below. absurd (omega (arith, below));
   past = λ q c. absurd (contains_none q c);
   owned = λ q c. absurd (contains_none q c);
   filled = λ q c. absurd (contains_none q c);
   apart = λ q r k b c in_q. absurd (contains_none q in_q);
-  seen = λ q. (λ is. absurd (clear q is), λ c. absurd (contains_none q c));
+  seen = λ q. (
+    λ is. inl (ap (λ (x : List Bool). slice_get x q) (sym same) ∙ is),
+    λ c. elim c [ inl is ↦ ap (λ (x : List Bool). slice_get x q) same ∙ is | inr among ↦ absurd (contains_none q among) ],
+  );
   keys = λ key. (λ is. absurd (false≢true (ap (λ (x : List (Vec ℕ)). has_key x key) (sym none) ∙ is)), λ on. absurd (contains_none on.1.page on.1.among));
 }
 
-module _ (ground : Ground) (owner : ℕ) (sheets : Sheets) (first : ℕ) (front : List ℕ) (number : ℕ) (old new : Visits) (v : AreVisited ground owner sheets first front old) (unseen : IsUnseen sheets owner old.seen.items number) where
+module _ (ground : Ground) (owner : ℕ) (sheets : Sheets) (first : ℕ) (before : List Bool) (front : List ℕ) (number : ℕ) (old new : Visits) (v : AreVisited ground owner sheets first before front old) (unseen : IsUnseen sheets owner old.seen.items number) where
   off_front : Contains front number → ⊥
-  off_front c = unseen.1 ((v.seen number).1 c)
+  off_front c = unseen.1 ((v.seen number).1 (inr c))
+
+  -- another page that was marked still is
+  still_marked : new.seen.items ≡ set old.seen.items number true → (q : ℕ) → q ≢ number → slice_get old.seen.items q ≡ Some true → slice_get new.seen.items q ≡ Some true
+  still_marked marked q d is = ap (λ (x : List Bool). slice_get x q) marked ∙ slice_get_set old.seen.items number q true d ∙ is
 
   pub visited_more : IsPast ground number → (number ≢ first → entries_at sheets number ≢ []) → HasAddedKeys (entries_at sheets number) old.keys.keys new.keys.keys
-      → number < length old.seen.items → new.seen.items ≡ set old.seen.items number true → AreVisited ground owner sheets first (front ++ number ∷ []) new
+      → number < length old.seen.items → new.seen.items ≡ set old.seen.items number true → AreVisited ground owner sheets first before (front ++ number ∷ []) new
   visited_more past filled added below marked = record {
     once = all_pairs_push (λ (a b : ℕ). a ≢ b) front number v.once (λ k d less e. off_front (k, less, get_or_default front k number d less ∙ e));
     past = λ q c. elim (Contains-push_cases front number q c) [ inl before ↦ v.past q before | inr same ↦ subst (IsPast ground) same past ];
@@ -69,13 +75,19 @@ module _ (ground : Ground) (owner : ℕ) (sheets : Sheets) (first : ℕ) (front 
     ];
     seen = λ q. (
       λ is. elim (cases_eq q number) [
-        | inl e ↦ subst (Contains (front ++ number ∷ [])) (sym e) (Contains-push front number)
-        | inr d ↦ Contains-append_left front (number ∷ []) q ((v.seen q).0 (sym (slice_get_set old.seen.items number q true d) ∙ ap (λ (x : List Bool). slice_get x q) (sym marked) ∙ is))
+        | inl e ↦ inr (subst (Contains (front ++ number ∷ [])) (sym e) (Contains-push front number))
+        | inr d ↦ elim ((v.seen q).0 (sym (slice_get_set old.seen.items number q true d) ∙ ap (λ (x : List Bool). slice_get x q) (sym marked) ∙ is)) [
+          | inl earlier ↦ inl earlier
+          | inr here ↦ inr (Contains-append_left front (number ∷ []) q here)
+        ]
       ],
-      λ c. elim (Contains-push_cases front number q c) [
-        | inl before ↦ ap (λ (x : List Bool). slice_get x q) marked ∙ slice_get_set old.seen.items number q true (λ e. off_front (subst (Contains front) e before)) ∙ (v.seen q).1 before
-        | inr same ↦ subst (λ n. slice_get new.seen.items n ≡ Some true) same
-            (ap (λ (x : List Bool). slice_get x number) marked ∙ slice_get_set_same old.seen.items number true (get_or old.seen.items number false) (slice_get-get_or old.seen.items number false below))
+      λ c. elim c [
+        | inl earlier ↦ still_marked marked q (λ e. unseen.1 (subst (λ n. slice_get old.seen.items n ≡ Some true) e ((v.seen q).1 (inl earlier)))) ((v.seen q).1 (inl earlier))
+        | inr among ↦ elim (Contains-push_cases front number q among) [
+          | inl here ↦ still_marked marked q (λ e. off_front (subst (Contains front) e here)) ((v.seen q).1 (inr here))
+          | inr same ↦ subst (λ n. slice_get new.seen.items n ≡ Some true) same
+              (ap (λ (x : List Bool). slice_get x number) marked ∙ slice_get_set_same old.seen.items number true (get_or old.seen.items number false) (slice_get-get_or old.seen.items number false below))
+        ]
       ],
     );
     keys = λ key. (
@@ -100,7 +112,10 @@ module _ {S : Type 0} (g : Ghosts S) (p : S) (owner first : ℕ) (visits : Visit
   next_off c = without_off n.front page n.rest (subst (AllPairs (λ (a b : ℕ). a ≢ b)) n.is n.chain.once) (Contains-append_left n.front n.rest page c)
 
   pub next_unseen : IsUnseen (g.working p) owner visits.seen.items page
-  next_unseen = (n.chain.owned page next_in, λ is. next_off ((n.visited.seen page).0 is))
+  next_unseen = (
+    n.chain.owned page next_in,
+    λ is. elim ((n.visited.seen page).0 is) [ inl earlier ↦ n.unseen page next_in earlier | inr here ↦ next_off here ],
+  )
 
   pub next_page : IsEntryPage (bytes_at (g.working p) page)
   next_page = linked_page (g.working p) first n.all page n.chain.linked next_in
@@ -156,63 +171,65 @@ one_chain sheets first (x ∷ xs) (y ∷ ys) l m in_xs in_ys =
 -- ---- the walk
 
 -- the pages that were visited lead to this one
-pub record HasVisited (ground : Ground) (owner : ℕ) (sheets : Sheets) (first done number : ℕ) (visits : Visits) : Type 0 where
+pub record HasVisited (ground : Ground) (owner : ℕ) (sheets : Sheets) (first : ℕ) (before : List Bool) (done number : ℕ) (visits : Visits) : Type 0 where
   pub front : List ℕ
   pub steps : length front ≡ done
   pub led : LeadTo sheets first front number
-  pub visited : AreVisited ground owner sheets first front visits
+  pub visited : AreVisited ground owner sheets first before front visits
 
-pub record IsVisiting {S : Type 0} (g : Ghosts S) (owner first : ℕ) (start now : S) (done number : ℕ) (visits : Visits) : Type 0 where
+pub record IsVisiting {S : Type 0} (g : Ghosts S) (owner first : ℕ) (before : List Bool) (start now : S) (done number : ℕ) (visits : Visits) : Type 0 where
   pub reads : ReadsPages g start now
   pub faults : g.faults now ≡ g.faults start
   pub past : IsPast (g.ground start) number
   pub len : length visits.seen.items ≡ (g.ground start).size
-  pub so_far : IsTrue g.tells → HasVisited (g.ground start) owner (g.working start) first done number visits
+  pub so_far : IsTrue g.tells → HasVisited (g.ground start) owner (g.working start) first before done number visits
 
-module _ (ground : Ground) (owner : ℕ) (sheets : Sheets) (first : ℕ) (few_pages : ground.size ≤ NONE) where
-  pub whole_goes_on : (done number : ℕ) (visits : Visits) → IsPast ground number → (h : HasVisited ground owner sheets first done number visits) → (all : List ℕ) → IsChain ground owner sheets first all → GoesOn sheets h.front number all
+module _ (ground : Ground) (owner : ℕ) (sheets : Sheets) (first : ℕ) (before : List Bool) (few_pages : ground.size ≤ NONE) where
+  pub whole_goes_on : (done number : ℕ) (visits : Visits) → IsPast ground number → (h : HasVisited ground owner sheets first before done number visits) → (all : List ℕ) → IsChain ground owner sheets first all → GoesOn sheets h.front number all
   whole_goes_on done number visits past h all chain =
       goes_on sheets first h.front number all h.led chain.linked (is_some_page ground number few_pages past) (λ q c. is_some_page ground q few_pages (h.visited.past q c))
 
-  pub whole_hand : (done number : ℕ) (visits : Visits) → IsPast ground number → HasVisited ground owner sheets first done number visits → (all : List ℕ) → IsChain ground owner sheets first all → IsAtHand sheets all done number
+  pub whole_hand : (done number : ℕ) (visits : Visits) → IsPast ground number → HasVisited ground owner sheets first before done number visits → (all : List ℕ) → IsChain ground owner sheets first all → IsAtHand sheets all done number
   whole_hand done number visits past h all chain =
       let more = whole_goes_on done number visits past h all chain in
       record { front = h.front; rest = more.0; is = more.1; linked = more.2; steps = h.steps }
 
 -- the same pages seen after calls that read
-module _ {S : Type 0} (g : Ghosts S) (owner first : ℕ) (start now : S) (reads : ReadsPages g start now) where
-  pub visited_now : (front : List ℕ) (visits : Visits) → AreVisited (g.ground start) owner (g.working start) first front visits → AreVisited (g.ground now) owner (g.working now) first front visits
-  visited_now front visits v = subst (λ (x : Ground). AreVisited x owner (g.working now) first front visits) (sym reads.keeps.ground)
-      (subst (λ (x : Sheets). AreVisited (g.ground start) owner x first front visits) (sym reads.working) v)
+module _ {S : Type 0} (g : Ghosts S) (owner first : ℕ) (before : List Bool) (start now : S) (reads : ReadsPages g start now) where
+  pub visited_now : (front : List ℕ) (visits : Visits) → AreVisited (g.ground start) owner (g.working start) first before front visits → AreVisited (g.ground now) owner (g.working now) first before front visits
+  visited_now front visits v = subst (λ (x : Ground). AreVisited x owner (g.working now) first before front visits) (sym reads.keeps.ground)
+      (subst (λ (x : Sheets). AreVisited (g.ground start) owner x first before front visits) (sym reads.working) v)
 
-  pub visited_then : (front : List ℕ) (visits : Visits) → AreVisited (g.ground now) owner (g.working now) first front visits → AreVisited (g.ground start) owner (g.working start) first front visits
-  visited_then front visits v = subst (λ (x : Ground). AreVisited x owner (g.working start) first front visits) reads.keeps.ground
-      (subst (λ (x : Sheets). AreVisited (g.ground now) owner x first front visits) reads.working v)
+  pub visited_then : (front : List ℕ) (visits : Visits) → AreVisited (g.ground now) owner (g.working now) first before front visits → AreVisited (g.ground start) owner (g.working start) first before front visits
+  visited_then front visits v = subst (λ (x : Ground). AreVisited x owner (g.working start) first before front visits) reads.keeps.ground
+      (subst (λ (x : Sheets). AreVisited (g.ground now) owner x first before front visits) reads.working v)
 
   chain_now : (all : List ℕ) → IsChain (g.ground start) owner (g.working start) first all → IsChain (g.ground now) owner (g.working now) first all
   chain_now all c = subst (λ (x : Ground). IsChain x owner (g.working now) first all) (sym reads.keeps.ground)
       (subst (λ (x : Sheets). IsChain (g.ground start) owner x first all) (sym reads.working) c)
 
   -- a whole chain has the pages visited and then this one
-  pub next_there : (g.ground start).size ≤ NONE → (done number : ℕ) (visits : Visits) → IsPast (g.ground start) number → (IsTrue g.tells → HasVisited (g.ground start) owner (g.working start) first done number visits)
-      → HasWholeChain g start owner first → IsNext g now owner first visits number
+  pub next_there : (g.ground start).size ≤ NONE → (done number : ℕ) (visits : Visits) → IsPast (g.ground start) number → (IsTrue g.tells → HasVisited (g.ground start) owner (g.working start) first before done number visits)
+      → HasUnseenChain g start owner first before → IsNext g now owner first visits number
   next_there few_pages done number visits past so_far has =
       let h = so_far has.told in
-      let more = whole_goes_on (g.ground start) owner (g.working start) first few_pages done number visits past h has.whole.pages has.whole.chain in
+      let more = whole_goes_on (g.ground start) owner (g.working start) first before few_pages done number visits past h has.pages has.chain in
       record {
         told = has.told;
+        before = before;
         front = h.front;
         visited = visited_now h.front visits h.visited;
-        all = has.whole.pages;
-        chain = chain_now has.whole.pages has.whole.chain;
+        all = has.pages;
+        chain = chain_now has.pages has.chain;
+        unseen = has.unseen;
         rest = more.0;
         is = more.1;
       }
 
   -- one page more was visited
-  pub came_on : (done number next : ℕ) (old new : Visits) (page : List ℕ) → HasVisited (g.ground start) owner (g.working start) first done number old
-      → ((front : List ℕ) → AreVisited (g.ground now) owner (g.working now) first front old → AreVisited (g.ground now) owner (g.working now) first (front ++ number ∷ []) new)
-      → page ≡ bytes_at (g.working now) number → IsEntryPage page → next_of page ≡ next → HasVisited (g.ground start) owner (g.working start) first (done + 1) next new
+  pub came_on : (done number next : ℕ) (old new : Visits) (page : List ℕ) → HasVisited (g.ground start) owner (g.working start) first before done number old
+      → ((front : List ℕ) → AreVisited (g.ground now) owner (g.working now) first before front old → AreVisited (g.ground now) owner (g.working now) first before (front ++ number ∷ []) new)
+      → page ≡ bytes_at (g.working now) number → IsEntryPage page → next_of page ≡ next → HasVisited (g.ground start) owner (g.working start) first before (done + 1) next new
   came_on done number next old new page h visited bytes is_page is_next =
       let read = bytes ∙ ap (λ (x : Sheets). bytes_at x number) reads.working in
       record {
@@ -223,20 +240,39 @@ module _ {S : Type 0} (g : Ghosts S) (owner first : ℕ) (start now : S) (reads 
       }
 
 -- the last page was visited
-pub came_to_end : (ground : Ground) (owner : ℕ) (sheets : Sheets) (first done : ℕ) (visits : Visits) → ground.size ≤ NONE → HasVisited ground owner sheets first done NONE visits → HasSeenChain ground owner sheets first visits.seen.items
-came_to_end ground owner sheets first done visits few_pages h =
+pub came_to_end : (ground : Ground) (owner : ℕ) (sheets : Sheets) (first : ℕ) (before : List Bool) (done : ℕ) (visits : Visits) → ground.size ≤ NONE → HasVisited ground owner sheets first before done NONE visits → IsVisitedChain ground owner sheets first before visits
+came_to_end ground owner sheets first before done visits few_pages h =
     let linked = lead_ends sheets first h.front h.led in
     record {
       pages = h.front;
       chain = record { linked = linked; once = h.visited.once; past = h.visited.past; owned = h.visited.owned; filled = h.visited.filled; apart = h.visited.apart };
       only = λ other c. one_chain sheets first other h.front c.linked linked (λ r i. is_some_page ground r few_pages (c.past r i)) (λ r i. is_some_page ground r few_pages (h.visited.past r i));
-      marked = h.visited.seen;
+      seen = h.visited.seen;
+      keys = h.visited.keys;
     }
 
 -- ---- the whole
 
-pub whole_chain : (ground : Ground) (owner : ℕ) (sheets : Sheets) (first : ℕ) (seen : List Bool) → HasSeenChain ground owner sheets first seen → AreAllSeen sheets owner seen → IsWholeChain ground owner sheets first
-whole_chain ground owner sheets first seen h all = record { pages = h.pages; chain = h.chain; owned = λ q o. (h.marked q).0 (all q o) }
+-- no page was marked before
+module _ (ground : Ground) (owner : ℕ) (sheets : Sheets) (first count : ℕ) (before : List Bool) (visits : Visits) (none : before ≡ replicate count false) (h : IsVisitedChain ground owner sheets first before visits) where
+  unmarked_before : (q : ℕ) → slice_get before q ≢ Some true
+  unmarked_before q is = unmarked count q (ap (λ (x : List Bool). slice_get x q) (sym none) ∙ is)
 
-pub whole_seen : (ground : Ground) (owner : ℕ) (sheets : Sheets) (first : ℕ) (seen : List Bool) → HasSeenChain ground owner sheets first seen → IsWholeChain ground owner sheets first → AreAllSeen sheets owner seen
-whole_seen ground owner sheets first seen h w q o = (h.marked q).1 (subst (λ (x : List ℕ). Contains x q) (h.only w.pages w.chain) (w.owned q o))
+  pub whole_chain : AreAllSeen sheets owner visits.seen.items → IsWholeChain ground owner sheets first
+  whole_chain all = record {
+    pages = h.pages;
+    chain = h.chain;
+    owned = λ q o. elim ((h.seen q).0 (all q o)) [ inl earlier ↦ absurd (unmarked_before q earlier) | inr here ↦ here ];
+  }
+
+  pub whole_seen : IsWholeChain ground owner sheets first → AreAllSeen sheets owner visits.seen.items
+  whole_seen w q o = (h.seen q).1 (inr (subst (λ (x : List ℕ). Contains x q) (h.only w.pages w.chain) (w.owned q o)))
+
+-- the chain of a whole owner isn't seen yet
+pub whole_unseen : {S : Type 0} (g : Ghosts S) (p : S) (owner first count : ℕ) (before : List Bool) → before ≡ replicate count false → HasWholeChain g p owner first → HasUnseenChain g p owner first before
+whole_unseen g p owner first count before none has = record {
+  told = has.told;
+  pages = has.whole.pages;
+  chain = has.whole.chain;
+  unseen = λ q c is. unmarked count q (ap (λ (x : List Bool). slice_get x q) (sym none) ∙ is);
+}

@@ -1,6 +1,6 @@
 -- A walk along a chain, to where an entry is to be put.
-use Rattle.std.proofs.Common.{◌≡◌, ◌≢◌, ◌⊎◌, inl, inr, ℕ, suc, ◌+◌, ◌-◌, ◌<◌, ◌≤◌, ◌^◌, Bool, true, false, List, [], ◌∷◌, ◌++◌, length, Option, Some, None, refl, sym, ap, subst, ◌∙◌, arith, append_assoc, length-append}
-use Rattle.std.specs.Prelude.{IsTrue, is_some, MatchOption, if◌then◌else◌}
+use Rattle.std.proofs.Common.{◌≡◌, ◌≢◌, inl, inr, ℕ, ◌+◌, ◌<◌, ◌≤◌, List, [], ◌∷◌, ◌++◌, length, Option, Some, None, refl, sym, ap, subst, ◌∙◌, arith, append_assoc, length-append}
+use Rattle.std.specs.Prelude.{IsTrue, MatchOption}
 use Rattle.std.specs.List.{All, Contains}
 use Rattle.std.proofs.lemmas.List.Elements.{Contains-push_cases, Contains-append_left, Contains-append_right, Contains-push}
 use Rattle.gx_bytes.specs.declared.page.TheConstants.{NONE}
@@ -12,7 +12,7 @@ use Rattle.gx_slots.specs.Page.{IsEntryPage}
 use Rattle.gx_chain.specs.declared.walk.Trial.{Trial}
 use Rattle.gx_chain.specs.declared.walk.Trial.TheVariants.{Replaced, Crowded, Room, Other}
 use Rattle.gx_chain.specs.declared.walk.Away.{Away}
-use Rattle.gx_chain.specs.Chain.{bytes_at, entries_at, next_at, AreLinked, IsChain, LeadsOn, HasChain, IsEntryAt}
+use Rattle.gx_chain.specs.Chain.{bytes_at, entries_at, next_at, AreLinked, IsChain, LeadsOn}
 use Rattle.gx_chain.specs.Changes.{HasRoomFor}
 use Rattle.gx_chain.specs.Seek.{IsPrevious}
 use Rattle.gx_chain.specs.Walk.{IsTrial, IsCrowded, IsAwayPast, AreNoted, LackKey, noted}

@@ -1,5 +1,5 @@
 -- What changes make of a chain.
-use Rattle.std.specs.Prelude.{◌≡◌, ◌≢◌, ◌↔◌, ◌⊎◌, ℕ, ◌+◌, ◌<◌, ◌≤◌, List, [], ◌∷◌, length, slice_get, Some, IsTrue}
+use Rattle.std.specs.Prelude.{◌≡◌, ◌≢◌, ◌↔◌, ◌⊎◌, ℕ, ◌<◌, ◌≤◌, List, [], ◌∷◌, length, slice_get, Some, IsTrue}
 use Rattle.std.specs.List.{All, Contains, HoldsAt, insert, remove}
 use Rattle.gx_bytes.specs.declared.page.TheConstants.{NONE}
 use Rattle.gx_ports.specs.declared.page_view.PageView.{Ghosts}

@@ -40,12 +40,16 @@ pub record SharesKey (entries : List Entry) (keys : List (Vec ℕ)) : Type 0 whe
   pub among : IsKeyOf entries key
   pub shared : has_key keys key ≡ true
 
--- these pages are marked
-abbrev pub AreSeen : List ℕ → List Bool → Type 0
-AreSeen pages seen = (page : ℕ) → (slice_get seen page ≡ Some true) ↔ Contains pages page
+-- marked are those that were marked before, and these pages
+abbrev pub AreSeen : List Bool → List ℕ → List Bool → Type 0
+AreSeen before pages seen = (page : ℕ) → (slice_get seen page ≡ Some true) ↔ ((slice_get before page ≡ Some true) ⊎ Contains pages page)
+
+-- these are the keys of the entries on the pages
+abbrev pub AreKeysOn : Sheets → List ℕ → List (Vec ℕ) → Type 0
+AreKeysOn sheets pages keys = (key : List ℕ) → (has_key keys key ≡ true) ↔ ((body : List ℕ) × IsOn sheets pages key body)
 
 -- These pages could begin a chain, and they and their keys are noted.
-pub record AreVisited (ground : Ground) (owner : ℕ) (sheets : Sheets) (first : ℕ) (pages : List ℕ) (visits : Visits) : Type 0 where
+pub record AreVisited (ground : Ground) (owner : ℕ) (sheets : Sheets) (first : ℕ) (before : List Bool) (pages : List ℕ) (visits : Visits) : Type 0 where
   pub once : AllPairs (λ a b. a ≢ b) pages
   pub past : (page : ℕ) → Contains pages page → IsPast ground page
   pub owned : (page : ℕ) → Contains pages page → slice_get sheets.owners page ≡ Some owner
@@ -53,25 +57,40 @@ pub record AreVisited (ground : Ground) (owner : ℕ) (sheets : Sheets) (first :
   pub apart : (page other : ℕ) (key body again : List ℕ) → Contains pages page → Contains pages other
       → Contains (entries_at sheets page) (record { key = key; body = body }) → Contains (entries_at sheets other) (record { key = key; body = again })
       → page ≡ other
-  pub seen : AreSeen pages visits.seen.items
-  pub keys : (key : List ℕ) → (has_key visits.keys.keys key ≡ true) ↔ ((body : List ℕ) × IsOn sheets pages key body)
+  pub seen : AreSeen before pages visits.seen.items
+  pub keys : AreKeysOn sheets pages visits.keys.keys
 
--- the pages tell what the device holds, these pages are visited, and a chain of the owner has them and then this one
+-- none of these pages is marked
+abbrev pub AreUnseen : List Bool → List ℕ → Type 0
+AreUnseen seen pages = (page : ℕ) → Contains pages page → slice_get seen page ≢ Some true
+
+-- The pages tell what the device holds, these pages are visited, and a chain of the owner, of which none was marked before, has them
+-- and then this one.
 pub record IsNext {S : Type 0} (g : Ghosts S) (p : S) (owner first : ℕ) (visits : Visits) (page : ℕ) : Type 0 where
   pub told : IsTrue g.tells
+  pub before : List Bool
   pub front : List ℕ
-  pub visited : AreVisited (g.ground p) owner (g.working p) first front visits
+  pub visited : AreVisited (g.ground p) owner (g.working p) first before front visits
   pub all : List ℕ
   pub chain : IsChain (g.ground p) owner (g.working p) first all
+  pub unseen : AreUnseen before all
   pub rest : List ℕ
   pub is : all ≡ front ++ page ∷ rest
 
--- one chain stands there, and its pages are marked
-pub record HasSeenChain (ground : Ground) (owner : ℕ) (sheets : Sheets) (first : ℕ) (seen : List Bool) : Type 0 where
+-- One chain stands there. Its pages are marked beside those that were marked before, and its keys are noted.
+pub record IsVisitedChain (ground : Ground) (owner : ℕ) (sheets : Sheets) (first : ℕ) (before : List Bool) (visits : Visits) : Type 0 where
   pub pages : List ℕ
   pub chain : IsChain ground owner sheets first pages
   pub only : (other : List ℕ) → IsChain ground owner sheets first other → other ≡ pages
-  pub marked : AreSeen pages seen
+  pub seen : AreSeen before pages visits.seen.items
+  pub keys : AreKeysOn sheets pages visits.keys.keys
+
+-- the pages tell what the device holds, and a chain of the owner stands there of which no page is marked
+pub record HasUnseenChain {S : Type 0} (g : Ghosts S) (p : S) (owner first : ℕ) (seen : List Bool) : Type 0 where
+  pub told : IsTrue g.tells
+  pub pages : List ℕ
+  pub chain : IsChain (g.ground p) owner (g.working p) first pages
+  pub unseen : AreUnseen seen pages
 
 -- the owner has the page, which isn't marked
 abbrev pub IsUnseen : Sheets → ℕ → List Bool → ℕ → Type 0

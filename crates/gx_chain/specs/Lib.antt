@@ -4,3 +4,4 @@ pub mod Walk
 pub mod Seek
 pub mod Check
 pub mod Collect
+pub mod Map

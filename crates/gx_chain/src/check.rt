@@ -1,5 +1,5 @@
 // A chain is checked.
-ghost use Rattle.std.specs.Prelude.{◌≡◌, ◌≢◌, ◌↔◌, ℕ, ◌<◌, List, [], ◌++◌, ◌∷◌, length, replicate, false, IsTrue, OnOk, IfOk, IsErrOf};
+ghost use Rattle.std.specs.Prelude.{◌≡◌, ◌≢◌, ◌↔◌, ℕ, ◌<◌, List, [], ◌++◌, ◌∷◌, length, replicate, Bool, false, IsTrue, OnOk, IfOk, IsErrOf};
 ghost use Rattle.std.specs.Bool.{OnTrue, OnFalse};
 ghost use Rattle.gx_ports.specs.declared.pages.TheConstants.{PAGE_LEN};
 ghost use Rattle.gx_ports.specs.Files.{EndsFile};
@@ -7,7 +7,7 @@ ghost use Rattle.gx_ports.specs.PageCalls.{ReadsPages, CountsPageFaults};
 ghost use Rattle.gx_ports.specs.Sheets.{IsPast};
 ghost use Rattle.gx_slots.specs.Page.{IsEntryPage, entries_of};
 ghost use Rattle.gx_chain.specs.Chain.{bytes_at};
-ghost use Rattle.gx_chain.specs.Check.{IsWholeChain, HasWholeChain, HasAddedKeys, SharesKey, AreVisited, IsNext, HasSeenChain, IsUnseen, AreAllSeen, HasAllSeen};
+ghost use Rattle.gx_chain.specs.Check.{IsWholeChain, HasWholeChain, HasAddedKeys, SharesKey, AreVisited, IsNext, IsVisitedChain, HasUnseenChain, IsUnseen, AreAllSeen, HasAllSeen};
 
 use crate::read::{behind, read_entries};
 use gx_device::Failed;
@@ -17,17 +17,18 @@ use gx_values::NoMemory;
 use std::alloc::{AllocError, Global};
 use std::collections::BTreeSet;
 
-/// What was found on the pages of a chain so far.
+/// What was found on the pages of chains so far.
 #[derive(Drop)]
-pub(crate) struct Visits {
-    /// for each page, whether it is one of them
+pub struct Visits {
+    /// for each page, whether it is on one of them
     pub seen: Vec<bool>,
-    /// the keys of their entries
+    /// the keys of the entries on the last of them
     pub keys: BTreeSet<Vec<u8>>,
 }
 
-/// Looks whether a chain of the owner begins at `first`, and the owner has no other page. Each page of the
-/// chain is read once. `Damaged`: none does, or it has one, and the block is that of a page that shows it.
+/// Looks whether a chain of the owner begins at `first`, and the owner has no other page. Each page
+/// of the chain is read once. `Damaged`: none does, or it has one, and the block is that of a page
+/// that shows it.
 pub fn check_chain<P: Pages>(
     alloc: Global,
     pages: &mut P,
@@ -42,42 +43,14 @@ pub fn check_chain<P: Pages>(
         pages.old pages.new result }
     ensures not_full { ¬ IsErrOf result Stop.Full }
 {
-    let seen = visit_all(alloc, pages, first, owner)?;
-    seek_unseen(pages, owner, &seen)
-}
-
-// Visits each page of the chain, and answers which these are.
-fn visit_all<P: Pages>(
-    alloc: Global,
-    pages: &mut P,
-    first: u32,
-    owner: u16,
-) -> Result<Vec<bool>, Stop>
-    requires first { IsPast (P.ground pages.old) first }
-    ensures seen { IsTrue P.tells → IfOk result
-        (λ seen. HasSeenChain (P.ground pages.old) owner (P.working pages.old) first seen.items) }
-    ensures len { IfOk result (λ seen. length seen.items ≡ (P.ground pages.old).size) }
-    ensures reads { ReadsPages P.PageView pages.old pages.new }
-    ensures ends { EndsFile P.PageView (HasWholeChain P.PageView pages.old owner first)
-        pages.old pages.new result }
-    ensures not_full { ¬ IsErrOf result Stop.Full }
-{
     let count = pages.pages();
     let mut visits = no_visits(alloc, count)?;
-    let mut page = [0; PAGE_LEN];
-    let mut number = first;
-    for _ in 0..count {
-        visit(alloc, pages, number, first, owner, &mut page, &mut visits)?;
-        match behind(pages, number, &page)? {
-            None => return Ok(visits.seen),
-            Some(next) => number = next,
-        }
-    }
-    Err(Stop::Damaged(pages.block(number)))
+    visit_chain(alloc, pages, first, owner, &mut visits)?;
+    seek_unseen(pages, owner, &visits.seen)
 }
 
-// No page is visited yet.
-fn no_visits(alloc: Global, count: u32) -> Result<Visits, AllocError>
+/// No visits yet, among so many pages. `AllocError`: there was no memory for a flag each.
+pub fn no_visits(alloc: Global, count: u32) -> Result<Visits, AllocError>
     ensures seen { IfOk result (λ visits. visits.seen.items ≡ replicate count false) }
     ensures keys { IfOk result (λ visits. visits.keys.keys ≡ []) }
 {
@@ -87,8 +60,44 @@ fn no_visits(alloc: Global, count: u32) -> Result<Visits, AllocError>
     })
 }
 
-// Reads the next page of the chain, which must be a page of the owner that wasn't seen, have an entry if it
-// isn't the first, and no key that was found before.
+/// Looks whether a chain of the owner begins at `first` whose pages weren't seen yet, marks them,
+/// and notes its keys in the place of those noted before. Each page of the chain is read once.
+/// `Damaged`: there is no such chain, and the block is that of a page that shows it. After a
+/// refusal the visits may hold anything.
+pub fn visit_chain<P: Pages>(
+    alloc: Global,
+    pages: &mut P,
+    first: u32,
+    owner: u16,
+    visits: &mut Visits,
+) -> Result<(), Stop>
+    requires first { IsPast (P.ground pages.old) first }
+    requires seen { length visits.old.seen.items ≡ (P.ground pages.old).size }
+    ensures visited { IsTrue P.tells → OnOk result
+        (IsVisitedChain (P.ground pages.old) owner (P.working pages.old) first
+        visits.old.seen.items visits.new) }
+    ensures seen { length visits.new.seen.items ≡ (P.ground pages.old).size }
+    ensures reads { ReadsPages P.PageView pages.old pages.new }
+    ensures ends { EndsFile P.PageView
+        (HasUnseenChain P.PageView pages.old owner first visits.old.seen.items)
+        pages.old pages.new result }
+    ensures not_full { ¬ IsErrOf result Stop.Full }
+{
+    visits.keys = BTreeSet::new(alloc);
+    let mut page = [0; PAGE_LEN];
+    let mut number = first;
+    for _ in 0..pages.pages() {
+        visit(alloc, pages, number, first, owner, &mut page, visits)?;
+        match behind(pages, number, &page)? {
+            None => return Ok(()),
+            Some(next) => number = next,
+        }
+    }
+    Err(Stop::Damaged(pages.block(number)))
+}
+
+// Reads the next page of the chain, which must be a page of the owner that wasn't seen, have an
+// entry if it isn't the first, and no key that was found before.
 fn visit<P: Pages>(
     alloc: Global,
     pages: &mut P,
@@ -101,10 +110,11 @@ fn visit<P: Pages>(
     requires number { IsPast (P.ground pages.old) number }
     requires bytes { length page.old ≡ PAGE_LEN }
     requires seen { length visits.old.seen.items ≡ (P.ground pages.old).size }
-    ensures visited { IsTrue P.tells → (front : List ℕ) →
-        AreVisited (P.ground pages.old) owner (P.working pages.old) first front visits.old →
-        OnOk result
-        (AreVisited (P.ground pages.old) owner (P.working pages.old) first (front ++ number ∷ []) visits.new) }
+    ensures visited { IsTrue P.tells → (before : List Bool) (front : List ℕ) →
+        AreVisited (P.ground pages.old) owner (P.working pages.old) first before front
+        visits.old → OnOk result
+        (AreVisited (P.ground pages.old) owner (P.working pages.old) first before
+        (front ++ number ∷ []) visits.new) }
     ensures read { OnOk result (IsEntryPage page.new) }
     ensures bytes { IsTrue P.tells →
         OnOk result (page.new ≡ bytes_at (P.working pages.old) number) }
@@ -157,8 +167,8 @@ fn add_keys(alloc: Global, page: &[u8], keys: &mut BTreeSet<Vec<u8>>) -> Result<
     Ok(true)
 }
 
-// Looks whether each page of the owner was seen.
-fn seek_unseen<P: Pages>(pages: &mut P, owner: u16, seen: &[bool]) -> Result<(), Stop>
+/// Looks whether each page of the owner was seen. `Damaged`: one wasn't, and the block is its own.
+pub fn seek_unseen<P: Pages>(pages: &mut P, owner: u16, seen: &[bool]) -> Result<(), Stop>
     requires len { length seen.now ≡ (P.ground pages.old).size }
     ensures all { IsTrue P.tells → OnOk result
         (AreAllSeen (P.working pages.old) owner seen.now) }

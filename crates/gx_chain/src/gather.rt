@@ -9,7 +9,7 @@ ghost use Rattle.gx_ports.specs.PageCalls.{ReadsPages};
 ghost use Rattle.gx_ports.specs.Sheets.{IsPast};
 ghost use Rattle.gx_slots.specs.Page.{IsEntryPage, entries_of};
 ghost use Rattle.gx_chain.specs.Chain.{IsChain, HasChain};
-ghost use Rattle.gx_chain.specs.Collect.{inside_of, inside_on, entry_cmp, HasCollected};
+ghost use Rattle.gx_chain.specs.Collect.{inside_of, inside_on, entry_cmp, HasAppended, HasCollected};
 
 use crate::read::{behind, read_entries};
 use gx_ports::{Entries, Entry, PAGE_LEN, Pages, Stop};
@@ -17,8 +17,8 @@ use gx_slots::entries;
 use gx_values::{NoMemory, Octets, Span, inside};
 use std::alloc::{AllocError, Global};
 
-/// Appends the entries inside the span, in ascending order of their keys. Each page is read once at most.
-/// `Damaged`: no chain begins there. After a refusal `out` may hold more than before.
+/// Appends the entries inside the span, in ascending order of their keys. Each page is read once at
+/// most. `Damaged`: no chain begins there. After a refusal `out` may hold more than before.
 pub fn collect<P: Pages>(
     alloc: Global,
     pages: &mut P,
@@ -37,14 +37,15 @@ pub fn collect<P: Pages>(
     ensures not_full { ¬ IsErrOf result Stop.Full }
 {
     let mut found = Vec::new(alloc);
-    gather(alloc, pages, first, span, &mut found)?;
-    sort_entries(&mut found)?;
-    append_all(&found, out)?;
+    gather_from(alloc, pages, first, span, &mut found)?;
+    append_sorted(&mut found, out)?;
     Ok(())
 }
 
-// Copies the entries inside the span, one page of the chain after the other.
-fn gather<P: Pages>(
+/// Copies the entries of a chain inside the span behind those found before, one page after the
+/// other. Each page is read once at most. `Damaged`: no chain begins there. After a refusal `found`
+/// may hold more than before.
+pub fn gather_from<P: Pages>(
     alloc: Global,
     pages: &mut P,
     first: u32,
@@ -72,6 +73,16 @@ fn gather<P: Pages>(
         }
     }
     Err(Stop::Damaged(pages.block(number)))
+}
+
+/// Sorts entries by their keys, and appends copies of them. After a refusal `out` may hold more
+/// than before.
+pub fn append_sorted(found: &mut Vec<Entry>, out: &mut Entries) -> Result<(), NoMemory>
+    ensures ok { OnOk result (HasAppended found.old.items out.old out.new) }
+    ensures extends { Extends out.old out.new }
+{
+    sort_entries(found)?;
+    append_all(found, out)
 }
 
 // Copies the entries of a page inside the span.

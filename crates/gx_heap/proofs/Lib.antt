@@ -1,3 +1,2 @@
 pub mod HeapLemmas
 pub mod HeapLaws
-pub mod SelectLemmas

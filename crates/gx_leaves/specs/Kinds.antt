@@ -1,5 +1,5 @@
 -- Which kinds of files there are calls for, and what the pages of each hold.
-use Rattle.std.specs.Prelude.{Bool, true, false, List}
+use Rattle.std.specs.Prelude.{Bool, true, false, List, nat_lt}
 use Rattle.std.specs.List.{list_all}
 use Rattle.std.specs.FinMap.{empty}
 use Rattle.gx_ports.specs.declared.kinds.LeafKind.{LeafKind}
@@ -8,14 +8,19 @@ use Rattle.gx_ports.specs.declared.kinds.LeafSpec.{LeafSpec}
 use Rattle.gx_ports.specs.declared.pages.Place.{Place}
 use Rattle.gx_ports.specs.LeafMaps.{LeafMap}
 use Rattle.gx_ports.specs.Sheets.{Sheets, Ground}
+use Rattle.gx_bplus.specs.Bplus.{IsBplus}
+use Rattle.gx_bplus.specs.Map.{bplus_map}
 use Rattle.gx_heap.specs.Heap.{IsHeap}
+use Rattle.gx_hash.specs.Hash.{IsHash}
+use Rattle.gx_chain.specs.Map.{owned_map}
 use Rattle.gx_heap.specs.Map.{heap_map}
 
+-- a hashed file has at least one chain
 abbrev pub is_built : LeafKind → Bool
 is_built kinds.Heap = true
-is_built (kinds.Hash buckets) = false
+is_built (kinds.Hash buckets) = nat_lt 0 buckets
 is_built kinds.Isam = false
-is_built kinds.Bplus = false
+is_built kinds.Bplus = true
 
 abbrev pub are_built : List LeafSpec → Bool
 are_built specs = list_all (λ spec. is_built spec.kind) specs
@@ -23,16 +28,16 @@ are_built specs = list_all (λ spec. is_built spec.kind) specs
 -- the sheets hold a map in a file of this kind
 abbrev pub IsFileOf : LeafKind → Ground → Place → Sheets → LeafMap → Type 0
 IsFileOf kinds.Heap = IsHeap
-IsFileOf (kinds.Hash buckets) = λ base place sheets map. ⊥
+IsFileOf (kinds.Hash buckets) = IsHash
 IsFileOf kinds.Isam = λ base place sheets map. ⊥
-IsFileOf kinds.Bplus = λ base place sheets map. ⊥
+IsFileOf kinds.Bplus = IsBplus
 
 -- the map that is read in such a file
 abbrev pub map_of : LeafKind → Ground → Place → Sheets → LeafMap
 map_of kinds.Heap = heap_map
-map_of (kinds.Hash buckets) = λ base place sheets. empty
+map_of (kinds.Hash buckets) = λ base place sheets. owned_map place.owner sheets
 map_of kinds.Isam = λ base place sheets. empty
-map_of kinds.Bplus = λ base place sheets. empty
+map_of kinds.Bplus = bplus_map
 
 -- the same at a place, by its kind
 abbrev pub IsFileAt : Ground → Place → Sheets → LeafMap → Type 0

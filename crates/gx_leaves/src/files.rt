@@ -7,7 +7,9 @@ ghost use Rattle.gx_ports.specs.LeafMaps.{LeafMap, Extends, selected};
 ghost use Rattle.gx_ports.specs.PageCalls.{KeepsPages, ReadsPages, CountsPageFaults};
 ghost use Rattle.gx_leaves.specs.Kinds.{is_built, IsFileAt, IsFreshOf};
 
+use gx_bplus as bplus;
 use gx_device::Failed;
+use gx_hash as hash;
 use gx_heap as heap;
 use gx_ports::{Entries, LeafKind, Pages, Place, Stop};
 use gx_values::Span;
@@ -30,7 +32,9 @@ pub fn make_file<P: Pages>(pages: &mut P, place: &Place) -> Result<(), Failed>
 {
     match place.spec.kind {
         LeafKind::Heap => heap::make(pages, place),
-        LeafKind::Hash(_) | LeafKind::Isam | LeafKind::Bplus => unreachable!(),
+        LeafKind::Hash(_) => hash::make(pages, place),
+        LeafKind::Bplus => bplus::make(pages, place),
+        LeafKind::Isam => unreachable!(),
     }
 }
 
@@ -61,7 +65,9 @@ pub fn put_in_file<P: Pages>(
 {
     match place.spec.kind {
         LeafKind::Heap => heap::put(pages, place, key, body),
-        LeafKind::Hash(_) | LeafKind::Isam | LeafKind::Bplus => unreachable!(),
+        LeafKind::Hash(_) => hash::put(pages, place, key, body),
+        LeafKind::Bplus => bplus::put(pages, place, key, body),
+        LeafKind::Isam => unreachable!(),
     }
 }
 
@@ -84,7 +90,9 @@ pub fn remove_from_file<P: Pages>(pages: &mut P, place: &Place, key: &[u8]) -> R
 {
     match place.spec.kind {
         LeafKind::Heap => heap::remove(pages, place, key),
-        LeafKind::Hash(_) | LeafKind::Isam | LeafKind::Bplus => unreachable!(),
+        LeafKind::Hash(_) => hash::remove(pages, place, key),
+        LeafKind::Bplus => bplus::remove(pages, place, key),
+        LeafKind::Isam => unreachable!(),
     }
 }
 
@@ -110,7 +118,9 @@ pub fn select_in_file<P: Pages>(
 {
     match place.spec.kind {
         LeafKind::Heap => heap::select(alloc, pages, place, span, out),
-        LeafKind::Hash(_) | LeafKind::Isam | LeafKind::Bplus => unreachable!(),
+        LeafKind::Hash(_) => hash::select(alloc, pages, place, span, out),
+        LeafKind::Bplus => bplus::select(alloc, pages, place, span, out),
+        LeafKind::Isam => unreachable!(),
     }
 }
 
@@ -132,8 +142,8 @@ pub fn reorganize_file<P: Pages>(pages: &mut P, place: &Place) -> Result<(), Sto
         pages.old pages.new result }
 {
     match place.spec.kind {
-        // in no order, as ever
-        LeafKind::Heap => Ok(()),
-        LeafKind::Hash(_) | LeafKind::Isam | LeafKind::Bplus => unreachable!(),
+        // heaps and chains are in no order, and a tree in its order, as ever
+        LeafKind::Heap | LeafKind::Hash(_) | LeafKind::Bplus => Ok(()),
+        LeafKind::Isam => unreachable!(),
     }
 }

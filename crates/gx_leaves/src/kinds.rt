@@ -14,5 +14,9 @@ pub fn kinds_built(specs: &[LeafSpec]) -> bool
 fn kind_built(kind: LeafKind) -> bool
     ensures { result ≡ is_built kind }
 {
-    matches!(kind, LeafKind::Heap)
+    match kind {
+        LeafKind::Heap | LeafKind::Bplus => true,
+        LeafKind::Hash(buckets) => buckets > 0,
+        LeafKind::Isam => false,
+    }
 }

@@ -6,6 +6,8 @@ use Rattle.gx_ports.specs.declared.kinds.LeafSpec.{LeafSpec}
 use Rattle.gx_ports.specs.declared.pages.Place.{Place}
 use Rattle.gx_ports.specs.LeafMaps.{LeafMap}
 use Rattle.gx_ports.specs.Sheets.{Sheets, Ground, IsPast}
+use Rattle.gx_bplus.specs.Bplus.{IsBplus}
+use Rattle.gx_hash.specs.Hash.{IsHash}
 use Rattle.gx_heap.specs.Heap.{IsHeap}
 use Rattle.gx_leaves.specs.Kinds.{IsFileOf, map_of}
 use Rattle.gx_leaves.specs.Places.{places_from, places_of}
@@ -40,11 +42,37 @@ module _ (a b : Ground) (size : a.size ≡ b.size) (tables : a.tables ≡ b.tabl
     map_is = h.map_is;
   }
 
+  bplus_there : (place : Place) (sheets : Sheets) (m : LeafMap) → IsBplus a place sheets m → IsBplus b place sheets m
+  bplus_there place sheets m h = record {
+    tree = h.tree;
+    whole = h.whole;
+    past = λ page among. past_there page (h.past page among);
+    owned = h.owned;
+    map_is = h.map_is;
+  }
+
+  hash_there : (place : Place) (sheets : Sheets) (m : LeafMap) → IsHash a place sheets m → IsHash b place sheets m
+  hash_there place sheets m h = record {
+    pages = h.pages;
+    chains = λ bucket below. (let chain = h.chains bucket below in record {
+      linked = chain.linked;
+      once = chain.once;
+      past = λ page among. past_there page (chain.past page among);
+      owned = chain.owned;
+      filled = chain.filled;
+      apart = chain.apart;
+    });
+    once = h.once;
+    owned = h.owned;
+    placed = h.placed;
+    map_is = h.map_is;
+  }
+
   file_there : (kind : LeafKind) (place : Place) (sheets : Sheets) (m : LeafMap) → IsFileOf kind a place sheets m → IsFileOf kind b place sheets m
   file_there kinds.Heap place sheets m h = heap_there place sheets m h
-  file_there (kinds.Hash buckets) place sheets m h = h
+  file_there (kinds.Hash buckets) place sheets m h = hash_there place sheets m h
   file_there kinds.Isam place sheets m h = h
-  file_there kinds.Bplus place sheets m h = h
+  file_there kinds.Bplus place sheets m h = bplus_there place sheets m h
 
   map_there : (kind : LeafKind) (place : Place) (sheets : Sheets) → map_of kind a place sheets ≡ map_of kind b place sheets
   map_there kinds.Heap place sheets = refl

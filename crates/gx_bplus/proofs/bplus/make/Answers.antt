@@ -2,7 +2,7 @@ use Rattle.std.proofs.Common.{[], ap, subst, arith}
 use Rattle.gx_slots.specs.Page.{IsPageOf, next_of}
 use Rattle.gx_slots.proofs.PageLemmas.{page_of}
 use Rattle.gx_bplus.specs.Tree.{ShowsEntries}
-use Rattle.gx_bplus.proofs.FileLemmas.{made_file, made_others, place_past, root_free}
+use Rattle.gx_bplus.proofs.FileLemmas.{made_file, made_others, made_roots, place_past, root_free}
 use Rattle.gx_bplus.proofs.RemovalLemmas.{on_ok}
 use Rattle.gx_bplus.proofs.bplus.make.Goals as goal
 
@@ -28,5 +28,15 @@ returns-clause-others g c told vacant =
     let mid = c.claim_at.new.self in
     let place = c.args.place.now in
     on_ok c.write.result (λ written. made_others (g.P.PageView.ground old) place (w old) (w mid) (w c.write.new.self) c.clear.new.page
+    (c.in_ok-claim_at.ensures.claimed told (root_free place (w old) vacant c.requires.kind)) written)
+    (c.write.ensures.written told)
+
+pub returns-clause-roots : goal.returns-clause-roots
+returns-clause-roots g c told vacant =
+    let w = g.P.PageView.working in
+    let old = c.args.pages.now in
+    let mid = c.claim_at.new.self in
+    let place = c.args.place.now in
+    on_ok c.write.result (λ written. made_roots (g.P.PageView.ground old) place (w old) (w mid) (w c.write.new.self) c.clear.new.page c.requires.kind
     (c.in_ok-claim_at.ensures.claimed told (root_free place (w old) vacant c.requires.kind)) written)
     (c.write.ensures.written told)

@@ -1,10 +1,10 @@
-use Rattle.std.proofs.Common.{◌≡◌, ◌+◌, ◌<◌, ◌≤◌, ℕ, length, refl, sym, ap, subst, ◌∙◌, arith}
+use Rattle.std.proofs.Common.{◌<◌, refl, sym, ap, subst, ◌∙◌, arith}
 use Rattle.std.proofs.lemmas.Bool.{false≢true}
 use Rattle.std.proofs.lemmas.Option.{slice_get_within}
 use Rattle.gx_ports.specs.Sheets.{Sheets, Ground}
 use Rattle.gx_ports.proofs.PageLemmas.{pages_read_themselves, read_pages_joined}
 use Rattle.gx_chain.specs.Check.{IsUnseen, HasAllSeen}
-use Rattle.gx_chain.proofs.CheckLemmas.{IsSeekingUnseen, ends_shown, ends_well, ends_failed, seen_more}
+use Rattle.gx_chain.proofs.CheckLemmas.{ends_shown, ends_well, ends_failed, seen_more}
 use Rattle.gx_chain.proofs.check.seek_unseen.Goals as goal
 
 pub loop-page-init : goal.loop-page-init

@@ -1,12 +1,10 @@
-use Rattle.std.proofs.Common.{◌≡◌, ◌≢◌, ◌<◌, ℕ, Bool, true, false, List, [], length, refl, sym, ap, subst, ◌∙◌, arith}
-use Rattle.std.specs.Prelude.{⊤}
+use Rattle.std.proofs.Common.{◌≢◌, ◌<◌, ℕ, Bool, List, [], length, refl, sym, ap, subst, ◌∙◌, arith}
 use Rattle.std.specs.Bool.{OnTrue, OnFalse}
-use Rattle.std.proofs.lemmas.Bool.{MatchBool-at_true, false≢true}
+use Rattle.std.proofs.lemmas.Bool.{false≢true}
 use Rattle.gx_ports.specs.Sheets.{Sheets, Ground}
 use Rattle.gx_ports.proofs.PageLemmas.{ends_handed_on, read_pages_joined}
-use Rattle.gx_slots.specs.Entries.{Entry}
 use Rattle.gx_slots.specs.Page.{IsEntryPage, entries_of}
-use Rattle.gx_chain.specs.Chain.{bytes_at, entries_at, IsEntryAt}
+use Rattle.gx_chain.specs.Chain.{bytes_at, IsEntryAt}
 use Rattle.gx_chain.specs.Check.{HasAddedKeys, SharesKey, IsNext, IsUnseen}
 use Rattle.gx_chain.proofs.CheckLemmas.{ends_shown}
 use Rattle.gx_chain.proofs.VisitLemmas.{visited_more, next_unseen, next_page, next_filled, next_fresh}
@@ -58,7 +56,7 @@ returns-then-not-branch-2-clause-ends g c =
     next_fresh g.P.PageView p c.args.owner c.args.first visits c.args.number n (subst (λ (b : List ℕ). SharesKey (entries_of b) visits.keys.keys) read shared)))
 
 pub returns-clause-visited : goal.returns-clause-visited
-returns-clause-visited g c told front v =
+returns-clause-visited g c told before front v =
     let p = c.args.pages.now in
     let s = g.P.PageView.working p in
     let visits = c.args.visits.now in
@@ -71,7 +69,7 @@ returns-clause-visited g c told front v =
       | else-number-first-via-then-number-first+else-count-eq0 w ↦ λ d none. w.if-count-eq0.false (w.count.ensures ∙ ap length none)
       | else-number-first-via-else-number-first w ↦ λ d. absurd (d w.if-number-first.false)
     ] in
-    visited_more (g.P.PageView.ground p) c.args.owner s c.args.first front c.args.number visits _ v unseen c.requires.number
+    visited_more (g.P.PageView.ground p) c.args.owner s c.args.first before front c.args.number visits _ v unseen c.requires.number
     (λ d. subst (λ (b : List ℕ). entries_of b ≢ []) read (filled d))
     (subst (λ (b : List ℕ). HasAddedKeys (entries_of b) visits.keys.keys c.add_keys.new.keys.keys) read added)
     (let below = c.requires.number.below in omega (arith, below, c.requires.seen)) refl

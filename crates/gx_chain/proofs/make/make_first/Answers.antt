@@ -1,4 +1,4 @@
-use Rattle.std.proofs.Common.{◌<◌, length, refl, ap, ◌∙◌, arith, []}
+use Rattle.std.proofs.Common.{refl, ap, arith, []}
 use Rattle.gx_bytes.specs.declared.page.TheConstants.{NONE}
 use Rattle.gx_chain.proofs.WriteLemmas.{written}
 use Rattle.gx_chain.proofs.make.make_first.Goals as goal

@@ -1,10 +1,10 @@
-use Rattle.std.proofs.Common.{◌≡◌, ◌≢◌, sym, subst, ◌∙◌, refl, ℕ, List}
+use Rattle.std.proofs.Common.{◌≡◌, ◌≢◌, sym, subst, ◌∙◌, refl}
 use Rattle.std.specs.List.{Contains}
 use Rattle.gx_ports.proofs.PageLemmas.{ends_handed_on}
-use Rattle.gx_ports.specs.Sheets.{IsClaimed, Ground}
+use Rattle.gx_ports.specs.Sheets.{Ground}
 use Rattle.gx_chain.specs.Chain.{IsChain, IsEntryAt}
 use Rattle.gx_chain.specs.Changes.{HasRoomAt}
-use Rattle.gx_chain.specs.Walk.{IsReadyToDrop, IsReadyToPut, IsReady, IsDropped}
+use Rattle.gx_chain.specs.Walk.{IsReadyToDrop, IsReadyToPut, IsDropped}
 use Rattle.gx_chain.proofs.ChainLemmas.{linked_page}
 use Rattle.gx_chain.proofs.PutLemmas.{still_room, room_there, last_among, put_there, put_behind, fresh_off, claimed_chain, claimed_old}
 use Rattle.gx_chain.proofs.put.put_away.Goals as goal

@@ -1,9 +1,9 @@
-use Rattle.std.proofs.Common.{◌<◌, length, sym, subst, ◌∙◌, refl, ap, ℕ, List, arith}
+use Rattle.std.proofs.Common.{sym, subst, refl, arith}
 use Rattle.std.specs.Prelude.{OnOk}
 use Rattle.gx_ports.proofs.PageLemmas.{ends_as}
 use Rattle.gx_ports.specs.Sheets.{Sheets, Ground}
 use Rattle.gx_slots.specs.Page.{entries_of}
-use Rattle.gx_chain.specs.Chain.{next_at, IsChain, HasChainOf}
+use Rattle.gx_chain.specs.Chain.{next_at, HasChainOf}
 use Rattle.gx_chain.specs.Changes.{IsPutIn}
 use Rattle.gx_chain.specs.Walk.{IsSpot, IsReady, IsReadyToPut}
 use Rattle.gx_chain.proofs.PutLemmas.{put_here}

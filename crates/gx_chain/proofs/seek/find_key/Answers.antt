@@ -1,14 +1,12 @@
-use Rattle.std.proofs.Common.{◌≡◌, ◌≢◌, ◌+◌, ◌≤◌, ◌<◌, ℕ, List, [], ◌∷◌, ◌++◌, length, Some, None, refl, sym, ap, subst, ◌∙◌, arith}
-use Rattle.std.specs.Prelude.{IsTrue, MatchOption}
+use Rattle.std.proofs.Common.{◌≡◌, ◌≢◌, ◌≤◌, ◌<◌, ℕ, List, length, refl, sym, ap, subst, ◌∙◌, arith}
 use Rattle.std.specs.List.{All, HoldsAt}
 use Rattle.std.proofs.lemmas.Option.{MatchOption-at_none, MatchOption-at_some}
 use Rattle.gx_bytes.specs.declared.page.TheConstants.{NONE}
-use Rattle.gx_ports.specs.Sheets.{Sheets, IsPast}
+use Rattle.gx_ports.specs.Sheets.{IsPast}
 use Rattle.gx_ports.proofs.PageLemmas.{pages_read_themselves, read_pages_joined, ends_handed_on}
 use Rattle.gx_slots.specs.Entries.{Entry}
 use Rattle.gx_slots.specs.Page.{IsEntryPage, entries_of, next_of}
-use Rattle.gx_chain.specs.Chain.{bytes_at, entries_at, next_at, IsChain, LeadsOn, HasChain, IsEntryAt}
-use Rattle.gx_chain.specs.Seek.{IsPrevious}
+use Rattle.gx_chain.specs.Chain.{bytes_at, LeadsOn, HasChain, IsEntryAt}
 use Rattle.gx_chain.specs.Walk.{LackKey}
 use Rattle.gx_chain.proofs.WalkLemmas.{hand_first, hand_next, hand_last, hand_ends, hand_leads, is_some_page, lack_none, lack_more}
 use Rattle.gx_chain.proofs.seek.find_key.Goals as goal

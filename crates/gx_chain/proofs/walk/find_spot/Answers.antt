@@ -1,15 +1,13 @@
-use Rattle.std.proofs.Common.{◌≡◌, ◌≢◌, ◌+◌, ◌≤◌, ◌<◌, ℕ, List, [], ◌∷◌, ◌++◌, Some, None, Err, refl, sym, ap, subst, ◌∙◌, arith}
-use Rattle.std.specs.Prelude.{IsTrue, MatchOption}
+use Rattle.std.proofs.Common.{◌≡◌, ◌≤◌, ◌<◌, ℕ, List, [], ◌∷◌, ◌++◌, None, refl, sym, ap, subst, ◌∙◌, arith}
 use Rattle.std.proofs.lemmas.Option.{MatchOption-at_none, MatchOption-at_some}
 use Rattle.gx_bytes.specs.declared.page.TheConstants.{NONE}
-use Rattle.gx_ports.specs.Files.{EndsFile}
-use Rattle.gx_ports.specs.Sheets.{Sheets, IsPast}
+use Rattle.gx_ports.specs.Sheets.{IsPast}
 use Rattle.gx_ports.proofs.PageLemmas.{pages_read_themselves, read_pages_joined, ends_handed_on}
 use Rattle.gx_slots.specs.Page.{IsEntryPage, entries_of, next_of}
-use Rattle.gx_chain.specs.Chain.{bytes_at, entries_at, next_at, IsChain, LeadsOn, HasChain, IsEntryAt}
-use Rattle.gx_chain.specs.Walk.{IsTrial, IsSpot, AreNoted, IsAwayPast, IsExchanged, noted}
+use Rattle.gx_chain.specs.Chain.{bytes_at, LeadsOn, HasChain, IsEntryAt}
+use Rattle.gx_chain.specs.Walk.{IsTrial, AreNoted, IsAwayPast, IsExchanged, noted}
 use Rattle.gx_chain.specs.declared.walk.Away.{Away}
-use Rattle.gx_chain.proofs.WalkLemmas.{IsAtHand, IsNoted, IsOnWay, hand_first, hand_in, hand_next, hand_last, hand_ends, hand_leads, is_some_page, none_noted, noted_more, noted_past, noted_last}
+use Rattle.gx_chain.proofs.WalkLemmas.{hand_first, hand_in, hand_next, hand_last, hand_ends, hand_leads, is_some_page, none_noted, noted_more, noted_past, noted_last}
 use Rattle.gx_chain.proofs.walk.find_spot.Goals as goal
 
 pub loop-init : goal.loop-init

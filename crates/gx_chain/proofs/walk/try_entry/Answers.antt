@@ -1,5 +1,5 @@
 use Rattle.std.proofs.Common.{◌≢◌, subst, sym}
-use Rattle.std.specs.List.{All, remove}
+use Rattle.std.specs.List.{All}
 use Rattle.gx_slots.specs.Entries.{Entry}
 use Rattle.gx_slots.specs.Page.{entries_of}
 use Rattle.gx_slots.proofs.PageLemmas.{page_of}

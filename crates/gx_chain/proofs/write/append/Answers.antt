@@ -1,11 +1,10 @@
-use Rattle.std.proofs.Common.{◌≡◌, ◌<◌, ◌∷◌, [], length, refl, sym, ap, ◌∙◌, arith}
+use Rattle.std.proofs.Common.{◌≡◌, ◌∷◌, [], length, refl, ap, ◌∙◌, arith}
 use Rattle.std.proofs.lemmas.Bool.{MatchBool-at_true}
 use Rattle.std.specs.List.{insert}
 use Rattle.std.specs.Prelude.{⊤}
 use Rattle.gx_bytes.specs.declared.page.TheConstants.{NONE}
 use Rattle.gx_slots.specs.Entries.{Entry}
-use Rattle.gx_slots.specs.Page.{entries_of, next_of}
-use Rattle.gx_chain.specs.Chain.{bytes_at}
+use Rattle.gx_slots.specs.Page.{entries_of}
 use Rattle.gx_chain.proofs.ChainLemmas.{at_other}
 use Rattle.gx_chain.proofs.WriteLemmas.{written}
 use Rattle.gx_chain.proofs.write.append.Goals as goal

@@ -5,8 +5,9 @@ use Rattle.gx_ports.specs.Roots.{roots_of, roots_of_kind}
 use Rattle.gx_ports.specs.Sheets.{HasNone}
 use Rattle.gx_ports.proofs.PageLemmas.{ends_as}
 use Rattle.gx_chain.specs.Chain.{HasChainOf}
+use Rattle.gx_chain.proofs.OwnerLemmas.{spared}
 use Rattle.gx_heap.specs.Heap.{IsHeap}
-use Rattle.gx_heap.proofs.HeapLemmas.{heap_put, heap_put_others, heap_few, spared}
+use Rattle.gx_heap.proofs.HeapLemmas.{heap_put, heap_put_others, heap_few}
 use Rattle.gx_heap.proofs.heap.put.Goals as goal
 
 pub returns-clause-ok : goal.returns-clause-ok

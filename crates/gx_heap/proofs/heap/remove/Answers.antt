@@ -3,8 +3,9 @@ use Rattle.std.proofs.lemmas.Result.{on_ok_weaker}
 use Rattle.gx_ports.specs.Files.{IsWhole}
 use Rattle.gx_ports.proofs.PageLemmas.{ends_as}
 use Rattle.gx_chain.specs.Chain.{HasChainOf}
+use Rattle.gx_chain.proofs.OwnerLemmas.{spared}
 use Rattle.gx_heap.specs.Heap.{IsHeap}
-use Rattle.gx_heap.proofs.HeapLemmas.{heap_removed, heap_removed_others, spared}
+use Rattle.gx_heap.proofs.HeapLemmas.{heap_removed, heap_removed_others}
 use Rattle.gx_heap.proofs.heap.remove.Goals as goal
 
 pub returns-clause-ok : goal.returns-clause-ok

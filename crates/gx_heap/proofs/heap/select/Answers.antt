@@ -3,8 +3,8 @@ use Rattle.std.proofs.lemmas.Result.{on_ok_weaker}
 use Rattle.gx_ports.specs.Files.{IsWhole}
 use Rattle.gx_ports.proofs.PageLemmas.{ends_as}
 use Rattle.gx_chain.specs.Chain.{HasChain}
+use Rattle.gx_chain.proofs.SelectLemmas.{pages_selected}
 use Rattle.gx_heap.specs.Heap.{IsHeap}
-use Rattle.gx_heap.proofs.SelectLemmas.{heap_selected}
 use Rattle.gx_heap.proofs.heap.select.Goals as goal
 
 pub returns-clause-ok : goal.returns-clause-ok
@@ -12,7 +12,7 @@ returns-clause-ok g c map holds =
     let p = c.args.pages.now in
     let file = holds.file in
     on_ok_weaker c.collect.result
-    (λ has. has.1 ∙ ap (λ x. c.args.out.now ++ x) (sym (heap_selected (g.P.PageView.ground p) c.args.place.now (g.P.PageView.working p) map c.args.span.now.lo c.args.span.now.hi has.0 file has.2)))
+    (λ has. has.1 ∙ ap (λ x. c.args.out.now ++ x) (sym (pages_selected (g.P.PageView.working p) file.pages map c.args.span.now.lo c.args.span.now.hi has.0 (λ k b _. file.map_is k b) has.2)))
     (c.collect.ensures.collected holds.told c.args.place.now.owner file.pages file.chain)
 
 pub returns-clause-ends : goal.returns-clause-ends

@@ -3,20 +3,50 @@ use Rattle.std.specs.Prelude.{OnOk}
 use Rattle.std.specs.FinMap.{remove}
 use Rattle.gx_ports.specs.LeafMaps.{LeafMap}
 use Rattle.gx_ports.specs.Files.{Holds, SparesOthers, EndsFile, IsWhole}
-use Rattle.gx_leaves.proofs.KindLemmas.{heap_is}
+use Rattle.gx_leaves.proofs.KindLemmas.{heap_is, bplus_is, hash_is}
 use Rattle.gx_leaves.proofs.files.remove_from_file.Goals as goal
 
-pub returns-clause-others : goal.returns-clause-others
-returns-clause-others g c =
+pub returns-in-Heap-clause-others : goal.returns-in-Heap-clause-others
+returns-in-Heap-clause-others g c =
     let old = c.args.pages.now in let place = c.args.place.now in
     subst (λ F. SparesOthers g.P.PageView F place.owner old c.remove.new.pages c.remove.result) (heap_is (g.P.PageView.ground old) place c.in-Heap.is) c.remove.ensures.others
 
-pub returns-clause-ends : goal.returns-clause-ends
-returns-clause-ends g c =
+pub returns-in-Heap-clause-ends : goal.returns-in-Heap-clause-ends
+returns-in-Heap-clause-ends g c =
     let old = c.args.pages.now in let place = c.args.place.now in
     subst (λ F. EndsFile g.P.PageView (IsWhole g.P.PageView F old) old c.remove.new.pages c.remove.result) (heap_is (g.P.PageView.ground old) place c.in-Heap.is) c.remove.ensures.ends
 
-pub returns-clause-ok : goal.returns-clause-ok
-returns-clause-ok g c =
+pub returns-in-Heap-clause-ok : goal.returns-in-Heap-clause-ok
+returns-in-Heap-clause-ok g c =
     let old = c.args.pages.now in let place = c.args.place.now in
     subst (λ F. (m : LeafMap) → Holds g.P.PageView F old m → OnOk c.remove.result (F (g.P.PageView.working c.remove.new.pages) (remove m c.args.key.now))) (heap_is (g.P.PageView.ground old) place c.in-Heap.is) c.remove.ensures.ok
+
+pub returns-in-Bplus-clause-others : goal.returns-in-Bplus-clause-others
+returns-in-Bplus-clause-others g c =
+    let old = c.args.pages.now in let place = c.args.place.now in
+    subst (λ F. SparesOthers g.P.PageView F place.owner old c.remove-in-Bplus.new.pages c.remove-in-Bplus.result) (bplus_is (g.P.PageView.ground old) place c.in-Bplus.is) c.remove-in-Bplus.ensures.others
+
+pub returns-in-Bplus-clause-ends : goal.returns-in-Bplus-clause-ends
+returns-in-Bplus-clause-ends g c =
+    let old = c.args.pages.now in let place = c.args.place.now in
+    subst (λ F. EndsFile g.P.PageView (IsWhole g.P.PageView F old) old c.remove-in-Bplus.new.pages c.remove-in-Bplus.result) (bplus_is (g.P.PageView.ground old) place c.in-Bplus.is) c.remove-in-Bplus.ensures.ends
+
+pub returns-in-Bplus-clause-ok : goal.returns-in-Bplus-clause-ok
+returns-in-Bplus-clause-ok g c =
+    let old = c.args.pages.now in let place = c.args.place.now in
+    subst (λ F. (m : LeafMap) → Holds g.P.PageView F old m → OnOk c.remove-in-Bplus.result (F (g.P.PageView.working c.remove-in-Bplus.new.pages) (remove m c.args.key.now))) (bplus_is (g.P.PageView.ground old) place c.in-Bplus.is) c.remove-in-Bplus.ensures.ok
+
+pub returns-in-Hash-clause-others : goal.returns-in-Hash-clause-others
+returns-in-Hash-clause-others g c =
+    let old = c.args.pages.now in let place = c.args.place.now in
+    subst (λ F. SparesOthers g.P.PageView F place.owner old c.remove-in-Hash.new.pages c.remove-in-Hash.result) (hash_is (g.P.PageView.ground old) place c.in-Hash.field-0 c.in-Hash.is) c.remove-in-Hash.ensures.others
+
+pub returns-in-Hash-clause-ends : goal.returns-in-Hash-clause-ends
+returns-in-Hash-clause-ends g c =
+    let old = c.args.pages.now in let place = c.args.place.now in
+    subst (λ F. EndsFile g.P.PageView (IsWhole g.P.PageView F old) old c.remove-in-Hash.new.pages c.remove-in-Hash.result) (hash_is (g.P.PageView.ground old) place c.in-Hash.field-0 c.in-Hash.is) c.remove-in-Hash.ensures.ends
+
+pub returns-in-Hash-clause-ok : goal.returns-in-Hash-clause-ok
+returns-in-Hash-clause-ok g c =
+    let old = c.args.pages.now in let place = c.args.place.now in
+    subst (λ F. (m : LeafMap) → Holds g.P.PageView F old m → OnOk c.remove-in-Hash.result (F (g.P.PageView.working c.remove-in-Hash.new.pages) (remove m c.args.key.now))) (hash_is (g.P.PageView.ground old) place c.in-Hash.field-0 c.in-Hash.is) c.remove-in-Hash.ensures.ok

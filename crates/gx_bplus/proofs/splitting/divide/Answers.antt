@@ -1,0 +1,23 @@
+use Rattle.std.proofs.Common.{◌<◌, refl, subst}
+use Rattle.gx_bnode.specs.Page.{branches_of}
+use Rattle.gx_bplus.specs.Changes.{MayStand}
+use Rattle.gx_bplus.proofs.CallLemmas.{ends_shown}
+use Rattle.gx_bplus.proofs.splitting.divide.Goals as goal
+
+pub returns-then-not-put_child-clause-ends : goal.returns-then-not-put_child-clause-ends
+returns-then-not-put_child-clause-ends g c =
+    ends_shown g.P.PageView (MayStand (branches_of c.args.page.now) c.args.key.now c.args.separator.now) c.args.pages.now c.claim.new.self c.block.result (c.in_ok-fresh.ensures.cause.counted refl)
+    (subst (λ x. c.block.result < x.blocks) c.claim.ensures.keeps.ground c.block.ensures.below) c.if-not-put_child.ensures.refused
+
+pub returns-clause-divided : goal.returns-clause-divided
+returns-clause-divided g c told = record {
+  above = c.put_child.new.page;
+  shows = c.if-not-put_child.ensures.put;
+  one = g.P.PageView.working c.claim.new.self;
+  claimed = c.in_ok-fresh.ensures.claimed told;
+  two = g.P.PageView.working c.write.new.self;
+  right_is = c.in_ok-write.ensures.written told;
+  three = g.P.PageView.working c.write-2.new.self;
+  left_is = c.in_ok-write-2.ensures.written told;
+  above_is = c.in_ok-write-3.ensures.written told;
+}

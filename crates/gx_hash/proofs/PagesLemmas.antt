@@ -1,0 +1,182 @@
+-- The pages of all chains of a hashed file, as one list.
+use Rattle.std.proofs.Common.{◌≡◌, ◌≢◌, ◌↔◌, inl, inr, ℕ, zero, suc, ◌+◌, ◌<◌, ◌≤◌, List, [], ◌∷◌, ◌++◌, length, drop, Some, refl, sym, subst, ◌∙◌, arith, length-append}
+use Rattle.std.specs.Prelude.{slice_get}
+use Rattle.std.specs.List.{AllPairs, Contains}
+use Rattle.std.specs.FinMap as fin
+use Rattle.std.proofs.lemmas.Bool.{cases_eq}
+use Rattle.std.proofs.lemmas.List.Elements.{Contains-append_cases, Contains-append_left, Contains-append_right}
+use Rattle.gx_ports.specs.declared.pages.Place.{Place}
+use Rattle.gx_ports.specs.Files.{IsPlace, AreFileLaws, page_count}
+use Rattle.gx_ports.specs.LeafMaps.{LeafMap}
+use Rattle.gx_ports.specs.Roots.{roots_of}
+use Rattle.gx_ports.specs.Sheets.{Sheets, Ground}
+use Rattle.gx_chain.specs.Chain.{entries_at, IsChain, IsOn}
+use Rattle.gx_chain.specs.Collect.{ArePagesApart}
+use Rattle.gx_chain.specs.Map.{owned_map}
+use Rattle.gx_chain.proofs.ChainLemmas.{linked_page}
+use Rattle.gx_chain.proofs.CountLemmas.{count_listed, keys_few, first_of}
+use Rattle.gx_chain.proofs.ListLemmas.{contains_later, contains_none, pairs_head, pairs_tail, pairs_cons}
+use Rattle.gx_chain.proofs.MapLemmas.{owned_map_is, one_map}
+use Rattle.gx_hash.specs.Buckets.{bucket_of, IsHashed}
+use Rattle.gx_hash.specs.Gathered.{pages_below}
+use Rattle.gx_hash.specs.Hash.{IsHash, IsOfChain, IsOnChain}
+use Rattle.gx_hash.proofs.BucketLemmas.{roots_some}
+use Rattle.gx_hash.proofs.HashLemmas.{chains_once, hash_same}
+
+-- ---- members of the list
+
+pub below_to : (pages : ℕ → List ℕ) (n q : ℕ) → Contains (pages_below pages n) q → IsOfChain pages n q
+below_to pages zero q c = absurd (contains_none q c)
+below_to pages (suc n) q c = elim (Contains-append_cases (pages_below pages n) (pages n) q c) [
+  | inl before ↦ (let r = below_to pages n q before in let less = r.below in record { bucket = r.bucket; below = omega (arith, less); among = r.among })
+  | inr here ↦ record { bucket = n; below = omega arith; among = here }
+]
+
+pub below_from : (pages : ℕ → List ℕ) (n i q : ℕ) → i < n → Contains (pages i) q → Contains (pages_below pages n) q
+below_from pages zero i q less c = absurd (omega (arith, less))
+below_from pages (suc n) i q less c = elim (cases_eq i n) [
+  | inl e ↦ Contains-append_right (pages_below pages n) (pages n) q (subst (λ m. Contains (pages m) q) e c)
+  | inr d ↦ Contains-append_left (pages_below pages n) (pages n) q (below_from pages n i q (omega (arith, less, d)) c)
+]
+
+pub on_below : (s : Sheets) (pages : ℕ → List ℕ) (n : ℕ) (k b : List ℕ) → IsOn s (pages_below pages n) k b ↔ IsOnChain s pages n k b
+on_below s pages n k b = (
+  λ on. (let r = below_to pages n on.page on.among in record { bucket = r.bucket; below = r.below; on = record { page = on.page; among = r.among; here = on.here } }),
+  λ on. record { page = on.on.page; among = below_from pages n on.bucket on.on.page on.below on.on.among; here = on.on.here },
+)
+
+-- ---- each once
+
+pairs_joined : (xs ys : List ℕ) → AllPairs (λ a b. a ≢ b) xs → AllPairs (λ a b. a ≢ b) ys → ((q : ℕ) → Contains xs q → Contains ys q → ⊥) → AllPairs (λ a b. a ≢ b) (xs ++ ys)
+pairs_joined [] ys one two off = two
+pairs_joined (x ∷ xs) ys one two off = pairs_cons x (xs ++ ys)
+    (λ c. elim (Contains-append_cases xs ys x c) [ inl here ↦ pairs_head x xs one here | inr there ↦ off x (0, omega arith, refl) there ])
+    (pairs_joined xs ys (pairs_tail x xs one) two (λ q in_x in_y. off q (contains_later x q xs in_x) in_y))
+
+once_below : (pages : ℕ → List ℕ) (n : ℕ) → ((i : ℕ) → i < n → AllPairs (λ a b. a ≢ b) (pages i)) → ((i j q : ℕ) → i < n → j < n → Contains (pages i) q → Contains (pages j) q → i ≡ j) → AllPairs (λ a b. a ≢ b) (pages_below pages n)
+once_below pages zero each apart = λ i j d less below. absurd (omega (arith, below))
+once_below pages (suc n) each apart = pairs_joined (pages_below pages n) (pages n)
+    (once_below pages n (λ i less. each i (omega (arith, less))) (λ i j q in_i in_j. apart i j q (omega (arith, in_i)) (omega (arith, in_j))))
+    (each n (omega arith))
+    (λ q before here. (let r = below_to pages n q before in let less = r.below in let same = apart r.bucket n q (omega (arith, less)) (omega arith) r.among here in omega (arith, same, less)))
+
+module _ (ground : Ground) (place : Place) (s : Sheets) (pages : ℕ → List ℕ) (count : ℕ)
+    (chains : (bucket : ℕ) → bucket < count → IsChain ground place.owner s (place.root + bucket) (pages bucket))
+    (placed : (bucket : ℕ) (key body : List ℕ) → bucket < count → IsOn s (pages bucket) key body → bucket_of place.spec key ≡ bucket) where
+  across : (p q : ℕ) (k b c : List ℕ) → Contains (pages_below pages count) p → Contains (pages_below pages count) q → Contains (entries_at s p) (record { key = k; body = b }) → Contains (entries_at s q) (record { key = k; body = c }) → p ≡ q
+  across p q k b c in_p in_q at_p at_q =
+      let x = below_to pages count p in_p in
+      let y = below_to pages count q in_q in
+      let same : y.bucket ≡ x.bucket = sym (placed y.bucket k c y.below (record { page = q; among = y.among; here = at_q })) ∙ placed x.bucket k b x.below (record { page = p; among = x.among; here = at_p }) in
+      (chains x.bucket x.below).apart p q k b c x.among (subst (λ n. Contains (pages n) q) same y.among) at_p at_q
+
+  pub below_apart : ArePagesApart s (pages_below pages count)
+  below_apart = record {
+    once = once_below pages count (λ i less. (chains i less).once) (chains_once ground place s pages count chains placed);
+    each = λ q c. (let r = below_to pages count q c in linked_page s (place.root + r.bucket) (pages r.bucket) q (chains r.bucket r.below).linked r.among);
+    apart = across;
+  }
+
+  -- the pages behind the first of each chain
+  abbrev rests : ℕ → List ℕ
+  rests i = drop 1 (pages i)
+
+  rest_of : (xs : List ℕ) (q : ℕ) → Contains (drop 1 xs) q → Contains xs q
+  rest_of [] q c = c
+  rest_of (x ∷ xs) q c = contains_later x q xs c
+
+  rest_later : (first : ℕ) (xs : List ℕ) → IsChain ground place.owner s first xs → (q : ℕ) → Contains (drop 1 xs) q → q ≢ first
+  rest_later first [] chain q c = absurd (contains_none q c)
+  rest_later first (x ∷ xs) chain q c = λ e. pairs_head x xs chain.once (subst (Contains xs) (e ∙ chain.linked.0) c)
+
+  rest_once : (xs : List ℕ) → AllPairs (λ a b. a ≢ b) xs → AllPairs (λ a b. a ≢ b) (drop 1 xs)
+  rest_once [] once = once
+  rest_once (x ∷ xs) once = pairs_tail x xs once
+
+  rest_long : (xs : List ℕ) → length xs ≤ length (drop 1 xs) + 1
+  rest_long [] = omega arith
+  rest_long (x ∷ xs) = omega arith
+
+  rest_below : (n : ℕ) → length (pages_below pages n) ≤ n + length (pages_below rests n)
+  rest_below zero = omega arith
+  rest_below (suc n) =
+      let ih = rest_below n in
+      let long = rest_long (pages n) in
+      omega (arith, ih, long, length-append (pages_below pages n) (pages n), length-append (pages_below rests n) (rests n))
+
+  rest_in : (q : ℕ) → Contains (pages_below rests count) q → Contains (pages_below pages count) q
+  rest_in q c = let r = below_to rests count q c in below_from pages count r.bucket q r.below (rest_of (pages r.bucket) q r.among)
+
+  -- the chains have few pages
+  pub below_few : (map : LeafMap) → ((k b : List ℕ) → IsOn s (pages_below pages count) k b → fin.get map k ≡ Some b) → length (pages_below pages count) ≤ count + fin.len map
+  below_few map map_is =
+      let few = keys_few s (pages_below rests count) map
+      (once_below rests count (λ i less. rest_once (pages i) (chains i less).once)
+      (λ i j q in_i in_j at_i at_j. chains_once ground place s pages count chains placed i j q in_i in_j (rest_of (pages i) q at_i) (rest_of (pages j) q at_j)))
+      (λ q c. (let r = below_to rests count q c in
+      let chain = chains r.bucket r.below in
+      let e = first_of (entries_at s q) (chain.filled q (rest_of (pages r.bucket) q r.among) (rest_later (place.root + r.bucket) (pages r.bucket) chain q r.among)) in
+      (e.0, e.1, e.2, map_is e.0 e.1 (record { page = q; among = rest_in q c; here = e.2 }))))
+      (λ p q k b c in_p in_q. across p q k b c (rest_in p in_p) (rest_in q in_q)) in
+      omega (arith, few, rest_below count)
+
+-- ---- the file
+
+module _ (ground : Ground) (place : Place) (s : Sheets) (map : LeafMap) (h : IsHash ground place s map) where
+  abbrev all : List ℕ
+  all = pages_below h.pages (roots_of place.spec)
+
+  pub hash_apart : ArePagesApart s all
+  hash_apart = below_apart ground place s h.pages (roots_of place.spec) h.chains h.placed
+
+  pub hash_map_is : (k b : List ℕ) → (fin.get map k ≡ Some b) ↔ IsOn s all k b
+  hash_map_is k b = (
+    λ is. (on_below s h.pages (roots_of place.spec) k b).1 ((h.map_is k b).0 is),
+    λ on. (h.map_is k b).1 ((on_below s h.pages (roots_of place.spec) k b).0 on),
+  )
+
+  all_owned : (q : ℕ) → slice_get s.owners q ≡ Some place.owner → Contains all q
+  all_owned q o = let r = h.owned q o in below_from h.pages (roots_of place.spec) r.bucket q r.below r.among
+
+  are_owned : (q : ℕ) → Contains all q → slice_get s.owners q ≡ Some place.owner
+  are_owned q c = let r = below_to h.pages (roots_of place.spec) q c in (h.chains r.bucket r.below).owned q r.among
+
+  pub hash_few : page_count place.owner s ≤ roots_of place.spec + fin.len map
+  hash_few =
+      let listed = count_listed place.owner s.owners 0 all (λ q o. subst (Contains all) (omega arith) (all_owned q o)) in
+      let most = below_few ground place s h.pages (roots_of place.spec) h.chains h.placed map (λ k b. (hash_map_is k b).1) in
+      omega (arith, listed, most)
+
+  pub hash_one : 1 ≤ place.owner → owned_map place.owner s ≡ map
+  hash_one some = one_map place.owner s all some hash_apart are_owned all_owned map hash_map_is
+
+-- chains with all pages of the owner hold the map that is read on them
+pub hash_read : (ground : Ground) (place : Place) (s : Sheets) (pages : ℕ → List ℕ) → 1 ≤ place.owner → 1 ≤ roots_of place.spec
+    → ((bucket : ℕ) → bucket < roots_of place.spec → IsChain ground place.owner s (place.root + bucket) (pages bucket))
+    → ((page : ℕ) → slice_get s.owners page ≡ Some place.owner → IsOfChain pages (roots_of place.spec) page)
+    → ((bucket : ℕ) (key body : List ℕ) → bucket < roots_of place.spec → IsOn s (pages bucket) key body → bucket_of place.spec key ≡ bucket)
+    → IsHash ground place s (owned_map place.owner s)
+hash_read ground place s pages some roots chains owned placed =
+    let all = pages_below pages (roots_of place.spec) in
+    let map_is = owned_map_is place.owner s all some (below_apart ground place s pages (roots_of place.spec) chains placed)
+    (λ q c. (let r = below_to pages (roots_of place.spec) q c in (chains r.bucket r.below).owned q r.among))
+    (λ q o. (let r = owned q o in below_from pages (roots_of place.spec) r.bucket q r.below r.among)) in
+    record {
+      pages = pages;
+      chains = chains;
+      once = chains_once ground place s pages (roots_of place.spec) chains placed;
+      owned = owned;
+      placed = placed;
+      map_is = λ k b. (
+        λ is. (on_below s pages (roots_of place.spec) k b).0 ((map_is k b).0 is),
+        λ on. (map_is k b).1 ((on_below s pages (roots_of place.spec) k b).1 on),
+      );
+    }
+
+-- what every kind of file proves, of hashed files
+pub hash_laws : (ground : Ground) (place : Place) → IsHashed place.spec.kind → IsPlace ground place → AreFileLaws ground place (IsHash ground place) (owned_map place.owner)
+hash_laws ground place kind at = record {
+  one = λ s m is. hash_one ground place s m is at.least;
+  same = λ old new m same is. hash_same ground place old new m (roots_some place.spec kind) same is;
+  few = λ s m is. (let few = hash_few ground place s m is in omega (arith, few));
+}

@@ -1,0 +1,4 @@
+pub mod Buckets
+pub mod Hash
+pub mod Gathered
+pub mod Visited

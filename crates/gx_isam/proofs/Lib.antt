@@ -1,0 +1,14 @@
+pub mod SeparatorLemmas
+pub mod ScanLemmas
+pub mod IndexLemmas
+pub mod BucketLemmas
+pub mod SettleLemmas
+pub mod BeginLemmas
+pub mod WriteLemmas
+pub mod ChangeLemmas
+pub mod MakeLemmas
+pub mod PagesLemmas
+pub mod SpanLemmas
+pub mod LawLemmas
+pub mod PlacedLemmas
+pub mod VisitedLemmas

@@ -1,0 +1,111 @@
+-- The pages of all chains of an indexed sequential file, as one list.
+use Rattle.std.proofs.Common.{◌≡◌, ◌≢◌, ◌↔◌, inl, inr, ℕ, zero, suc, ◌+◌, ◌<◌, ◌≤◌, List, [], ◌∷◌, ◌++◌, length, Some, refl, sym, subst, ◌∙◌, arith}
+use Rattle.std.specs.Prelude.{slice_get}
+use Rattle.std.specs.List.{AllPairs, Contains}
+use Rattle.std.specs.FinMap as fin
+use Rattle.std.proofs.lemmas.Bool.{cases_eq}
+use Rattle.std.proofs.lemmas.List.Elements.{Contains-append_cases, Contains-append_left, Contains-append_right}
+use Rattle.gx_ports.specs.declared.pages.Place.{Place}
+use Rattle.gx_ports.specs.Files.{page_count}
+use Rattle.gx_ports.specs.LeafMaps.{LeafMap}
+use Rattle.gx_ports.specs.Sheets.{Sheets, Ground}
+use Rattle.gx_chain.specs.Chain.{bytes_at, entries_at, IsOn}
+use Rattle.gx_chain.specs.Collect.{ArePagesApart}
+use Rattle.gx_chain.proofs.ChainLemmas.{linked_page}
+use Rattle.gx_chain.proofs.CountLemmas.{count_listed, keys_few, first_of as entry_of}
+use Rattle.gx_chain.proofs.ListLemmas.{contains_here, contains_later, contains_none, pairs_head, pairs_tail, pairs_cons}
+use Rattle.gx_isam.specs.Index.{bucket_count, first_of}
+use Rattle.gx_isam.specs.Isam.{AreBuckets, IsIsam, IsOfChain, IsOnChain}
+use Rattle.gx_isam.specs.Gathered.{pages_below}
+use Rattle.gx_isam.proofs.BucketLemmas.{once}
+
+-- ---- members of the list
+
+pub below_to : (pages : ℕ → List ℕ) (n q : ℕ) → Contains (pages_below pages n) q → IsOfChain pages n q
+below_to pages zero q c = absurd (contains_none q c)
+below_to pages (suc n) q c = elim (Contains-append_cases (pages_below pages n) (pages n) q c) [
+  | inl before ↦ (let r = below_to pages n q before in let less = r.below in record { bucket = r.bucket; below = omega (arith, less); among = r.among })
+  | inr here ↦ record { bucket = n; below = omega arith; among = here }
+]
+
+pub below_from : (pages : ℕ → List ℕ) (n i q : ℕ) → i < n → Contains (pages i) q → Contains (pages_below pages n) q
+below_from pages zero i q less c = absurd (omega (arith, less))
+below_from pages (suc n) i q less c = elim (cases_eq i n) [
+  | inl e ↦ Contains-append_right (pages_below pages n) (pages n) q (subst (λ m. Contains (pages m) q) e c)
+  | inr d ↦ Contains-append_left (pages_below pages n) (pages n) q (below_from pages n i q (omega (arith, less, d)) c)
+]
+
+pub on_below : (s : Sheets) (pages : ℕ → List ℕ) (n : ℕ) (k b : List ℕ) → IsOn s (pages_below pages n) k b ↔ IsOnChain s pages n k b
+on_below s pages n k b = (
+  λ on. (let r = below_to pages n on.page on.among in record { bucket = r.bucket; below = r.below; on = record { page = on.page; among = r.among; here = on.here } }),
+  λ on. record { page = on.on.page; among = below_from pages n on.bucket on.on.page on.below on.on.among; here = on.on.here },
+)
+
+-- ---- each once
+
+pairs_joined : (xs ys : List ℕ) → AllPairs (λ a b. a ≢ b) xs → AllPairs (λ a b. a ≢ b) ys → ((q : ℕ) → Contains xs q → Contains ys q → ⊥) → AllPairs (λ a b. a ≢ b) (xs ++ ys)
+pairs_joined [] ys one two off = two
+pairs_joined (x ∷ xs) ys one two off = pairs_cons x (xs ++ ys)
+    (λ c. elim (Contains-append_cases xs ys x c) [ inl here ↦ pairs_head x xs one here | inr there ↦ off x (0, omega arith, refl) there ])
+    (pairs_joined xs ys (pairs_tail x xs one) two (λ q in_x in_y. off q (contains_later x q xs in_x) in_y))
+
+once_below : (pages : ℕ → List ℕ) (n : ℕ) → ((i : ℕ) → i < n → AllPairs (λ a b. a ≢ b) (pages i)) → ((i j q : ℕ) → i < n → j < n → Contains (pages i) q → Contains (pages j) q → i ≡ j) → AllPairs (λ a b. a ≢ b) (pages_below pages n)
+once_below pages zero each apart = λ i j d less below. absurd (omega (arith, below))
+once_below pages (suc n) each apart = pairs_joined (pages_below pages n) (pages n)
+    (once_below pages n (λ i less. each i (omega (arith, less))) (λ i j q in_i in_j. apart i j q (omega (arith, in_i)) (omega (arith, in_j))))
+    (each n (omega arith))
+    (λ q before here. (let r = below_to pages n q before in let less = r.below in let same = apart r.bucket n q (omega (arith, less)) (omega arith) r.among here in omega (arith, same, less)))
+
+module _ (ground : Ground) (owner root : ℕ) (s : Sheets) (pages : ℕ → List ℕ) (b : AreBuckets ground owner s (bytes_at s root) pages) where
+  abbrev count : ℕ
+  count = bucket_count (bytes_at s root)
+
+  across : (p q : ℕ) (k c d : List ℕ) → Contains (pages_below pages count) p → Contains (pages_below pages count) q → Contains (entries_at s p) (record { key = k; body = c }) → Contains (entries_at s q) (record { key = k; body = d }) → p ≡ q
+  across p q k c d in_p in_q at_p at_q =
+      let x = below_to pages count p in_p in
+      let y = below_to pages count q in_q in
+      let same : y.bucket ≡ x.bucket = sym (b.placed y.bucket k d y.below (record { page = q; among = y.among; here = at_q })) ∙ b.placed x.bucket k c x.below (record { page = p; among = x.among; here = at_p }) in
+      (b.chains x.bucket x.below).apart p q k c d x.among (subst (λ n. Contains (pages n) q) same y.among) at_p at_q
+
+  pub below_apart : ArePagesApart s (pages_below pages count)
+  below_apart = record {
+    once = once_below pages count (λ i less. (b.chains i less).once) (once ground owner root s pages b);
+    each = λ q c. (let r = below_to pages count q c in linked_page s (first_of (bytes_at s root) r.bucket) (pages r.bucket) q (b.chains r.bucket r.below).linked r.among);
+    apart = across;
+  }
+
+  -- they are at most as many as there are entries
+  pub below_few : (map : LeafMap) → ((k c : List ℕ) → IsOn s (pages_below pages count) k c → fin.get map k ≡ Some c) → length (pages_below pages count) ≤ fin.len map
+  below_few map map_is = keys_few s (pages_below pages count) map (below_apart.once)
+      (λ q c. (let r = below_to pages count q c in
+      let e = entry_of (entries_at s q) (b.filled r.bucket q r.below r.among) in
+      (e.0, e.1, e.2, map_is e.0 e.1 (record { page = q; among = c; here = e.2 }))))
+      across
+
+-- ---- the file
+
+module _ (ground : Ground) (place : Place) (s : Sheets) (map : LeafMap) (h : IsIsam ground place s map) where
+  abbrev all : List ℕ
+  all = pages_below h.pages (bucket_count (bytes_at s place.root))
+
+  pub isam_apart : ArePagesApart s all
+  isam_apart = below_apart ground place.owner place.root s h.pages h.buckets
+
+  pub isam_map_is : (k b : List ℕ) → (fin.get map k ≡ Some b) ↔ IsOn s all k b
+  isam_map_is k b =
+      let both = on_below s h.pages (bucket_count (bytes_at s place.root)) k b in (
+        λ is. both.1 ((h.map_is k b).0 is),
+        λ on. (h.map_is k b).1 (both.0 on),
+      )
+
+  all_owned : (q : ℕ) → slice_get s.owners q ≡ Some place.owner → Contains (place.root ∷ all) q
+  all_owned q o = elim (h.owned q o) [
+    | inl e ↦ subst (Contains (place.root ∷ all)) (sym e) (contains_here place.root all)
+    | inr r ↦ contains_later place.root q all (below_from h.pages (bucket_count (bytes_at s place.root)) r.bucket q r.below r.among)
+  ]
+
+  pub isam_few : page_count place.owner s ≤ 1 + fin.len map
+  isam_few =
+      let listed = count_listed place.owner s.owners 0 (place.root ∷ all) (λ q o. subst (Contains (place.root ∷ all)) (omega arith) (all_owned q o)) in
+      let most = below_few ground place.owner place.root s h.pages h.buckets map (λ k b. (isam_map_is k b).1) in
+      omega (arith, listed, most)

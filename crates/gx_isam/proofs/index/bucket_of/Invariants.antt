@@ -1,0 +1,6 @@
+use Rattle.gx_isam.specs.Index.{behind_firsts}
+use Rattle.gx_isam.proofs.IndexLemmas.{IsCounting}
+use Rattle.gx_isam.proofs.index.bucket_of.Given as goal
+
+abbrev pub invariant-loop : goal.invariant-loop
+invariant-loop l = IsCounting l.key (behind_firsts l.page) l.count l.counter l.rest l.bucket

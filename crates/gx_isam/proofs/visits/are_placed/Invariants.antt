@@ -1,0 +1,5 @@
+use Rattle.gx_isam.proofs.PlacedLemmas.{IsPlacing}
+use Rattle.gx_isam.proofs.visits.are_placed.Given as goal
+
+abbrev pub invariant-loop-key : goal.invariant-loop-key
+invariant-loop-key l = IsPlacing l.index l.number l.keys.keys l.key-iterator

@@ -1,0 +1,42 @@
+-- What changes make of the index page and of the chains behind it.
+use Rattle.std.specs.Prelude.{◌≡◌, ◌≢◌, ◌⊎◌, ℕ, ◌<◌, List, [], ◌∷◌, slice_get, Option, MatchOption}
+use Rattle.gx_bytes.specs.declared.page.TheConstants.{NONE}
+use Rattle.gx_ports.specs.declared.pages.Place.{Place}
+use Rattle.gx_ports.specs.Sheets.{Sheets, Ground, IsPast, IsClaimed, IsOwnedAnew}
+use Rattle.gx_chain.specs.Chain.{bytes_at, entries_at, next_at}
+use Rattle.gx_chain.specs.Changes.{IsRewritten}
+use Rattle.gx_isam.specs.Index.{IsIndexPage, bucket_count, first_of, separators_of}
+
+-- the first page that a number of an index leads to
+abbrev pub IsFirst : Ground → ℕ → Option ℕ → Type 0
+IsFirst ground number found = MatchOption found (number ≡ NONE) (λ page. (number ≡ page) × IsPast ground page × (page ≢ NONE))
+
+-- the root was written as an index that differs from another one in the first page of a bucket alone
+pub record IsIndexWritten (root : ℕ) (index : List ℕ) (bucket first : ℕ) (old new : Sheets) : Type 0 where
+  pub owners : new.owners ≡ old.owners
+  pub is_page : IsIndexPage (bytes_at new root)
+  pub count : bucket_count (bytes_at new root) ≡ bucket_count index
+  pub first_is : first_of (bytes_at new root) bucket ≡ first
+  pub firsts : (other : ℕ) → other < bucket_count index → other ≢ bucket → first_of (bytes_at new root) other ≡ first_of index other
+  pub separators : separators_of (bytes_at new root) ≡ separators_of index
+  pub others : (page : ℕ) → page ≢ root → slice_get new.bytes page ≡ slice_get old.bytes page
+
+-- a claimed page with one entry is the chain of a bucket
+pub record IsBegun (ground : Ground) (place : Place) (index : List ℕ) (bucket : ℕ) (key body : List ℕ) (old new : Sheets) : Type 0 where
+  pub fresh : ℕ
+  pub claimed : Sheets
+  pub filled : Sheets
+  pub claim : IsClaimed fresh place.owner ground old claimed
+  pub page : IsRewritten fresh NONE (record { key = key; body = body } ∷ []) claimed filled
+  pub written : IsIndexWritten place.root index bucket fresh filled new
+
+-- the first page of a chain was left out, and is free
+pub record IsLeftOut (ground : Ground) (place : Place) (index : List ℕ) (bucket first : ℕ) (old new : Sheets) : Type 0 where
+  pub empty : entries_at old first ≡ []
+  pub between : Sheets
+  pub written : IsIndexWritten place.root index bucket (next_at old first) old between
+  pub freed : IsOwnedAnew first 0 ground between new
+
+-- it was left out where it had no entry
+abbrev pub IsSettled : Ground → Place → List ℕ → ℕ → ℕ → Sheets → Sheets → Type 0
+IsSettled ground place index bucket first old new = ((entries_at old first ≢ []) × (new ≡ old)) ⊎ IsLeftOut ground place index bucket first old new

@@ -1,0 +1,6 @@
+pub mod Index
+pub mod Isam
+pub mod Change
+pub mod Gathered
+pub mod Visited
+pub mod Map

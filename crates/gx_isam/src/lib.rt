@@ -1,0 +1,12 @@
+//! Indexed sequential files: the entries of a leaf on chains of entry pages, each on the chain that
+//! the separators of an index page choose.
+#![tactic(auto)]
+
+mod change;
+mod index;
+mod isam;
+mod read;
+mod spans;
+mod visits;
+
+pub use isam::{check, make, put, remove, select};
