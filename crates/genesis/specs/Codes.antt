@@ -1,7 +1,7 @@
 -- The number that the program ends with.
 use Rattle.std.specs.Prelude.{ℕ}
-use Rattle.gx_top.specs.declared.status.Status.{Status}
-use Rattle.gx_top.specs.declared.status.Status.TheVariants as status
+use Rattle.gx_play.specs.declared.status.Status.{Status}
+use Rattle.gx_play.specs.declared.status.Status.TheVariants as status
 
 -- the number of each status
 abbrev pub code : Status → ℕ

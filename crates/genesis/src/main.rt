@@ -8,7 +8,8 @@ mod drive;
 mod files;
 mod machine;
 
-use gx_top::{Status, top};
+use gx_play::Status;
+use gx_top::top;
 use machine::HostMachine;
 use std::alloc::{AllocError, Global};
 use std::env::{self, Env};

@@ -17,8 +17,8 @@ use Rattle.gx_ports.specs.LeafMaps.{LeafMap}
 use Rattle.gx_mapping.specs.Rule.{In}
 use Rattle.gx_stack.specs.Tree.{Tree, IsValid}
 use Rattle.gx_stack.specs.Internal.{IsChange, changed, has_key_of, IsInternal as IsHeld}
-use Rattle.gx_stack.proofs.Lists.{in_map, from_map, in_filter, filter_in, all_at, some_same, none_some}
-use Rattle.gx_stack.proofs.Orders.{values_itself, values_other}
+use Rattle.gx_gather.proofs.Lists.{in_map, from_map, in_filter, filter_in, all_at, some_same, none_some}
+use Rattle.gx_gather.proofs.Orders.{values_itself, values_other}
 use Rattle.gx_stack.proofs.Same.{internal_of_members}
 use Rattle.gx_types.specs.declared.any.AnyMapping.{AnyMapping}
 use Rattle.gx_types.specs.Any.{any_rule}

@@ -17,8 +17,8 @@ use Rattle.gx_values.specs.Keys.{bytes_of, key_of, is_inside, width_of, IsKeyKin
 use Rattle.gx_values.specs.Spans.{IsSpanKind, IsValueSpan, HoldsThoseMet}
 use Rattle.gx_schema.specs.declared.schema.FileDef.{FileDef}
 use Rattle.gx_schema.specs.Lookups.{no_field, field_at, key_kind}
-use Rattle.gx_script.specs.declared.command.Cond.{Cond}
-use Rattle.gx_script.specs.declared.command.Find.{Find}
+use Rattle.gx_commands.specs.declared.command.Cond.{Cond}
+use Rattle.gx_commands.specs.declared.command.Find.{Find}
 use Rattle.gx_ports.specs.declared.leaves.TheConstants.{MAX_KEY_LEN}
 use Rattle.gx_mapping.specs.Rule.{In}
 use Rattle.gx_mapping.proofs.FieldLemmas.{fit_at}

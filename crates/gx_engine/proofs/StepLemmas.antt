@@ -10,12 +10,12 @@ use Rattle.gx_schema.specs.declared.schema.FileDef.{FileDef}
 use Rattle.gx_schema.specs.declared.schema.LinkDef.{LinkDef}
 use Rattle.gx_schema.specs.declared.schema.Schema.{Schema}
 use Rattle.gx_schema.specs.Lookups.{file_at}
-use Rattle.gx_script.specs.declared.command.Command.TheVariants as command
-use Rattle.gx_script.specs.declared.command.Of.{Of}
-use Rattle.gx_script.specs.declared.command.Find.{Find}
-use Rattle.gx_script.specs.declared.command.OrderBy.{OrderBy}
-use Rattle.gx_script.specs.Commands.{IsOfOf, place_reason}
-use Rattle.gx_script.specs.declared.command.LineWhy.TheVariants as why
+use Rattle.gx_commands.specs.declared.command.Command.TheVariants as command
+use Rattle.gx_commands.specs.declared.command.Of.{Of}
+use Rattle.gx_commands.specs.declared.command.Find.{Find}
+use Rattle.gx_commands.specs.declared.command.OrderBy.{OrderBy}
+use Rattle.gx_commands.specs.Commands.{IsOfOf, place_reason}
+use Rattle.gx_commands.specs.declared.command.LineWhy.TheVariants as why
 use Rattle.gx_ports.specs.LeafMaps.{LeafMap, Limits, IsCrowdedBy}
 use Rattle.gx_ports.specs.declared.view.View.{Ghosts}
 use Rattle.gx_ports.specs.declared.stop.Stop.{Stop}
@@ -33,7 +33,7 @@ use Rattle.gx_types.specs.Nodes.{tree_at, AreNodes}
 use Rattle.gx_model.specs.States.{File, Link, State, Row, file_in}
 use Rattle.gx_model.specs.Found.{IsListed, is_chosen, meets_conds, meets_of}
 use Rattle.gx_model.specs.Commands.{Refusal, key_exists, no_record, linked, changed, updated, next_state, refusal_text, first_refusal, is_linked, with_file, IsAnswerOr, IsListText, lacks_of}
-use Rattle.gx_script.specs.declared.command.Change.{Change}
+use Rattle.gx_commands.specs.declared.command.Change.{Change}
 use Rattle.gx_engine.proofs.ChangeLemmas.{inserted_new}
 use Rattle.gx_model.specs.Play.{Playing, IsAnswered, seen_state, is_inside, working_after, with_working, next_of}
 use Rattle.gx_engine.specs.declared.engine.Engine.{Engine}

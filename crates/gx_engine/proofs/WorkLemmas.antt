@@ -10,14 +10,14 @@ use Rattle.gx_values.specs.Spans.{HoldsThoseMet}
 use Rattle.gx_schema.specs.declared.schema.FileDef.{FileDef}
 use Rattle.gx_schema.specs.declared.schema.Schema.{Schema}
 use Rattle.gx_schema.specs.Lookups.{file_at, field_at}
-use Rattle.gx_script.specs.declared.command.Cond.{Cond}
-use Rattle.gx_script.specs.declared.command.Of.{Of}
-use Rattle.gx_script.specs.declared.command.Find.{Find}
+use Rattle.gx_commands.specs.declared.command.Cond.{Cond}
+use Rattle.gx_commands.specs.declared.command.Of.{Of}
+use Rattle.gx_commands.specs.declared.command.Find.{Find}
 use Rattle.gx_mapping.specs.Rule.{In}
 use Rattle.gx_stack.specs.declared.node.Node.{Node}
 use Rattle.gx_stack.specs.Tree.{Tree, entries_of}
 use Rattle.gx_stack.specs.Seen.{tree_of}
-use Rattle.gx_stack.proofs.Lists.{all_at}
+use Rattle.gx_gather.proofs.Lists.{all_at}
 use Rattle.gx_types.specs.declared.any.AnyMapping.{AnyMapping}
 use Rattle.gx_types.specs.Any.{any_rule}
 use Rattle.gx_types.specs.Nodes.{tree_at, AreNodes}

@@ -5,7 +5,7 @@ use Rattle.gx_values.specs.Values.{Fits}
 use Rattle.gx_values.specs.Keys.{bytes_of, is_inside}
 use Rattle.gx_schema.specs.declared.schema.FileDef.{FileDef}
 use Rattle.gx_schema.specs.Lookups.{key_kind}
-use Rattle.gx_script.specs.declared.command.Cond.{Cond}
+use Rattle.gx_commands.specs.declared.command.Cond.{Cond}
 use Rattle.gx_stack.specs.Tree.{Tree}
 use Rattle.gx_stack.specs.Indexed.{is_indexed}
 use Rattle.gx_types.specs.declared.any.AnyMapping.{AnyMapping}

@@ -3,9 +3,9 @@ use Rattle.std.specs.Prelude.{◌≡◌, ℕ, ◌+◌, ◌^◌, ◌<◌, ◌≤�
 use Rattle.gx_device.specs.Content.{Silent}
 use Rattle.gx_device.specs.Faults.{Rose}
 use Rattle.gx_schema.specs.declared.schema.Schema.{Schema}
-use Rattle.gx_script.specs.declared.command.Command.{Command}
-use Rattle.gx_script.specs.declared.command.Command.TheVariants as command
-use Rattle.gx_script.specs.Commands.{conds_of, inside_after, place_reason, IsOfSchema}
+use Rattle.gx_commands.specs.declared.command.Command.{Command}
+use Rattle.gx_commands.specs.declared.command.Command.TheVariants as command
+use Rattle.gx_commands.specs.Commands.{conds_of, inside_after, place_reason, IsOfSchema}
 use Rattle.gx_ports.specs.Stops.{is_outside, is_fault, HasStopCause}
 use Rattle.gx_ports.specs.declared.stop.Stop.{Stop}
 use Rattle.gx_ports.specs.declared.stop.Stop.TheVariants as stop

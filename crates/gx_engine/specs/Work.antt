@@ -6,11 +6,11 @@ use Rattle.gx_values.specs.declared.values.Op.TheVariants as op
 use Rattle.gx_schema.specs.declared.schema.FileDef.{FileDef}
 use Rattle.gx_schema.specs.declared.schema.Schema.{Schema}
 use Rattle.gx_schema.specs.Lookups.{file_at, link_at}
-use Rattle.gx_script.specs.declared.command.Cond.{Cond}
-use Rattle.gx_script.specs.declared.command.Of.{Of}
-use Rattle.gx_script.specs.declared.command.Find.{Find}
-use Rattle.gx_script.specs.declared.command.Command.{Command}
-use Rattle.gx_script.specs.declared.command.Command.TheVariants as command
+use Rattle.gx_commands.specs.declared.command.Cond.{Cond}
+use Rattle.gx_commands.specs.declared.command.Of.{Of}
+use Rattle.gx_commands.specs.declared.command.Find.{Find}
+use Rattle.gx_commands.specs.declared.command.Command.{Command}
+use Rattle.gx_commands.specs.declared.command.Command.TheVariants as command
 use Rattle.gx_stack.specs.declared.node.Node.{Node}
 use Rattle.gx_stack.specs.Tree.{Tree, entries_of}
 use Rattle.gx_stack.specs.Seen.{tree_of}

@@ -13,12 +13,12 @@ ghost use Rattle.gx_scan.specs.Files.{IsTreeFor};
 
 use crate::listing::found_text;
 use crate::records::{delete_record, insert_record, reorganize_file, update_record};
+use gx_commands::{Changes, Command, Find};
 use gx_device::Failed;
 use gx_ports::{Leaves, Stop};
 use gx_rows::{commit_line, record_line};
 use gx_scan::find_record;
 use gx_schema::{FileDef, Schema};
-use gx_script::{Changes, Command, Find};
 use gx_stack::Node;
 use gx_types::{AnyMapping, Built};
 use gx_values::{Octets, Value, Values};
@@ -45,7 +45,7 @@ pub struct Engine<B: Leaves + Drop> {
 }
 
 impl<B: Leaves + Drop> Engine<B> {
-    ghost use Rattle.gx_script.specs.declared.command.Command.TheVariants as command;
+    ghost use Rattle.gx_commands.specs.declared.command.Command.TheVariants as command;
     ghost use Rattle.gx_engine.specs.Internal.{AreInternal};
     ghost use Rattle.gx_engine.specs.Steps.{schema_of, built_of, nodes_of, leaves_of, is_open, commits_of, stop_of, is_fault_now, AreFor, IsReady, IsDue, StandsFor, IsAt, IsShortFor, CarriesOut, AreFresh, KeepsEngine, HasStepCause, IsStep, TakesFewSteps, IsServed, IsSame};
     ghost use Rattle.gx_engine.specs.declared.engine.StepStop.TheVariants.{Now, Stopped};

@@ -3,7 +3,7 @@ ghost use Rattle.std.specs.Prelude.{◌≡◌, ◌^◌, ◌<◌, ◌≤◌, ◌+
 ghost use Rattle.std.specs.FinMap as fin;
 ghost use Rattle.std.specs.List.{AllByRecursion};
 ghost use Rattle.std.specs.List.Sorted.{IsPermutation};
-ghost use Rattle.gx_script.specs.Commands.{IsCondOf};
+ghost use Rattle.gx_commands.specs.Commands.{IsCondOf};
 ghost use Rattle.gx_ports.specs.Calls.{Reads, Ends};
 ghost use Rattle.gx_stack.specs.Tree.{leaves_of};
 ghost use Rattle.gx_stack.specs.Seen.{tree_of};
@@ -17,12 +17,12 @@ ghost use Rattle.gx_engine.specs.Work.{plan_for, condition_of, rows_meeting, ste
 
 use crate::by_index::{add_by_index, indexed_fields};
 use crate::by_key::{add_by_key, condition_at};
+use gx_commands::Find;
 use gx_planner::{Plan, plan};
 use gx_ports::{Leaves, Stop};
 use gx_rows::{Row, records_text, sort_rows};
 use gx_scan::{rows_within, whole_span};
 use gx_schema::FileDef;
-use gx_script::Find;
 use gx_stack::Node;
 use gx_types::AnyMapping;
 use gx_values::Octets;

@@ -2,9 +2,9 @@
 use Rattle.std.proofs.Common.{◌≡◌, ℕ, Bool, List, sym, ap, ◌∙◌}
 use Rattle.std.specs.Prelude.{Option, Some, None}
 use Rattle.gx_schema.specs.declared.schema.Schema.{Schema}
-use Rattle.gx_script.specs.declared.command.Command.{Command}
-use Rattle.gx_script.specs.declared.command.Command.TheVariants as command
-use Rattle.gx_script.specs.declared.command.OrderBy.{OrderBy}
+use Rattle.gx_commands.specs.declared.command.Command.{Command}
+use Rattle.gx_commands.specs.declared.command.Command.TheVariants as command
+use Rattle.gx_commands.specs.declared.command.OrderBy.{OrderBy}
 use Rattle.gx_schema.specs.declared.schema.FileDef.{FileDef}
 use Rattle.gx_model.specs.States.{State, File, Row}
 use Rattle.gx_model.specs.Texts.{rows_text}

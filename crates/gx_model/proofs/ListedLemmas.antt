@@ -15,7 +15,7 @@ use Rattle.std.specs.declared.cmp.Ordering.{Ordering}
 use Rattle.std.specs.declared.cmp.Ordering.TheVariants.{Less, Equal, Greater}
 use Rattle.std.specs.Cmp.{IsTotalOrder, on_total, back_total, then_total, tied_itself}
 use Rattle.std.proofs.lemmas.List.Sorted.{sorted_far, ranks_by, IsPermutation-keeps, IsPermutation-sym, Contains-permutation}
-use Rattle.gx_script.specs.declared.command.OrderBy.{OrderBy}
+use Rattle.gx_commands.specs.declared.command.OrderBy.{OrderBy}
 use Rattle.gx_values.specs.Values.{value_cmp}
 use Rattle.gx_values.proofs.OrderLemmas.{value_cmp_total}
 use Rattle.gx_model.specs.States.{Row, File}

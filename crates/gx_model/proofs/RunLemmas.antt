@@ -2,11 +2,11 @@
 use Rattle.std.proofs.Common.{◌≡◌, ℕ, ◌+◌, Bool, List, [], ◌∷◌, ◌++◌, length, Option, Some, None, Result, Ok, Err, refl, sym, ap, subst, ◌∙◌, arith, inl, inr}
 use Rattle.std.proofs.lemmas.List.{append_assoc}
 use Rattle.gx_schema.specs.declared.schema.Schema.{Schema}
-use Rattle.gx_script.specs.declared.command.Command.{Command}
-use Rattle.gx_script.specs.declared.command.LineWhy.{LineWhy}
-use Rattle.gx_script.specs.Commands.{place_reason}
+use Rattle.gx_commands.specs.declared.command.Command.{Command}
+use Rattle.gx_commands.specs.declared.command.LineWhy.{LineWhy}
+use Rattle.gx_commands.specs.Commands.{place_reason}
 use Rattle.gx_script.specs.Grammar.{IsLineOf}
-use Rattle.gx_script.specs.Lines.{Lines, script_lines}
+use Rattle.gx_commands.specs.Lines.{Lines, script_lines}
 use Rattle.gx_script.proofs.ReadingLaws.{one_reading, reading_of_line}
 use Rattle.gx_model.specs.Play.{Playing, End, stopped, end_text, is_inside, next_of, IsAnswered}
 use Rattle.gx_model.specs.Runs.{Step, Runs, IsBadLine, IsEnd, AreFirstLines, IsPlayFrom, IsPlayTextFrom}

@@ -7,11 +7,11 @@ use Rattle.gx_schema.specs.declared.schema.FileDef.{FileDef}
 use Rattle.gx_schema.specs.declared.schema.LinkDef.{LinkDef}
 use Rattle.gx_schema.specs.declared.schema.Schema.{Schema}
 use Rattle.gx_schema.specs.Lookups.{file_at, link_at}
-use Rattle.gx_script.specs.declared.command.Of.{Of}
-use Rattle.gx_script.specs.declared.command.OrderBy.{OrderBy}
-use Rattle.gx_script.specs.declared.command.Change.{Change}
-use Rattle.gx_script.specs.declared.command.Command.{Command}
-use Rattle.gx_script.specs.declared.command.Command.TheVariants as command
+use Rattle.gx_commands.specs.declared.command.Of.{Of}
+use Rattle.gx_commands.specs.declared.command.OrderBy.{OrderBy}
+use Rattle.gx_commands.specs.declared.command.Change.{Change}
+use Rattle.gx_commands.specs.declared.command.Command.{Command}
+use Rattle.gx_commands.specs.declared.command.Command.TheVariants as command
 use Rattle.gx_model.specs.States.{File, Link, State, Row, file_in, link_in, is_same, pairs_of, most_members}
 use Rattle.gx_model.specs.Found.{IsListed, is_chosen, is_owner}
 use Rattle.gx_model.specs.Texts.{row_text, rows_text}

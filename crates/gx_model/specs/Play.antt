@@ -2,11 +2,11 @@
 use Rattle.std.specs.Prelude.{◌≡◌, ℕ, ◌+◌, ◌-◌, ◌^◌, min, List, [], ◌∷◌, ◌++◌, Bool, true, false, Option, Some, None, is_some, unwrap_or, codes}
 use Rattle.std.specs.Fmt.{decimal}
 use Rattle.gx_schema.specs.declared.schema.Schema.{Schema}
-use Rattle.gx_script.specs.declared.command.Command.{Command}
-use Rattle.gx_script.specs.declared.command.Command.TheVariants as command
-use Rattle.gx_script.specs.declared.command.LineWhy.{LineWhy}
-use Rattle.gx_script.specs.declared.command.LineWhy.TheVariants as why
-use Rattle.gx_script.specs.LineWhys.{word_of}
+use Rattle.gx_commands.specs.declared.command.Command.{Command}
+use Rattle.gx_commands.specs.declared.command.Command.TheVariants as command
+use Rattle.gx_commands.specs.declared.command.LineWhy.{LineWhy}
+use Rattle.gx_commands.specs.declared.command.LineWhy.TheVariants as why
+use Rattle.gx_commands.specs.LineWhys.{word_of}
 use Rattle.gx_model.specs.States.{State}
 use Rattle.gx_model.specs.Commands.{next_state, IsAnswer}
 

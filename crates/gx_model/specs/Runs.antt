@@ -1,11 +1,11 @@
 -- The play of a script by its steps, from any start.
 use Rattle.std.specs.Prelude.{◌≡◌, ◌⊎◌, ℕ, ◌+◌, List, [], ◌∷◌, ◌++◌, length, Bool, Option, Some, None, Result, Ok, Err}
 use Rattle.gx_schema.specs.declared.schema.Schema.{Schema}
-use Rattle.gx_script.specs.declared.command.Command.{Command}
-use Rattle.gx_script.specs.declared.command.LineWhy.{LineWhy}
-use Rattle.gx_script.specs.Commands.{place_reason}
+use Rattle.gx_commands.specs.declared.command.Command.{Command}
+use Rattle.gx_commands.specs.declared.command.LineWhy.{LineWhy}
+use Rattle.gx_commands.specs.Commands.{place_reason}
 use Rattle.gx_script.specs.Grammar.{IsLineOf}
-use Rattle.gx_script.specs.Lines.{Lines, script_lines}
+use Rattle.gx_commands.specs.Lines.{Lines, script_lines}
 use Rattle.gx_script.specs.Reading.{IsReading}
 use Rattle.gx_model.specs.Play.{Playing, End, stopped, end_at, end_text, is_inside, next_of, IsAnswered}
 

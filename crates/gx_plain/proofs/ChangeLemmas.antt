@@ -9,8 +9,8 @@ use Rattle.gx_values.specs.declared.values.Value.TheVariants as value
 use Rattle.gx_values.specs.Values.{Fits, IsSized, AreSized}
 use Rattle.gx_schema.specs.declared.schema.FileDef.{FileDef}
 use Rattle.gx_schema.specs.Lookups.{field_at}
-use Rattle.gx_script.specs.declared.command.Change.{Change}
-use Rattle.gx_script.specs.Commands.{IsChangeOf}
+use Rattle.gx_commands.specs.declared.command.Change.{Change}
+use Rattle.gx_commands.specs.Commands.{IsChangeOf}
 use Rattle.gx_model.specs.Commands.{changed}
 use Rattle.gx_plain.specs.Plain.{AreSizedChanges}
 

@@ -6,8 +6,8 @@ use Rattle.gx_values.specs.declared.values.Value.{Value}
 use Rattle.gx_schema.specs.declared.schema.LinkDef.{LinkDef}
 use Rattle.gx_schema.specs.declared.schema.Schema.{Schema}
 use Rattle.gx_schema.specs.Lookups.{file_at, link_at}
-use Rattle.gx_script.specs.declared.command.Command.{Command}
-use Rattle.gx_script.specs.declared.command.Command.TheVariants as command
+use Rattle.gx_commands.specs.declared.command.Command.{Command}
+use Rattle.gx_commands.specs.declared.command.Command.TheVariants as command
 use Rattle.gx_model.specs.States.{Link, State, file_in, link_in}
 use Rattle.gx_model.specs.Commands.{is_linked, owner_text, record_text, next_state, IsAnswer}
 use Rattle.gx_model.specs.Play.{Playing, IsAnswered, next_of, seen_state, with_working}

@@ -3,9 +3,9 @@ use Rattle.std.proofs.Common.{◌≡◌, ℕ, ◌+◌, ◌≤◌, List, [], ◌�
 use Rattle.std.specs.Prelude.{nat_lt, ◌==◌, if◌then◌else◌, is_some, IfOk}
 use Rattle.std.proofs.lemmas.List.{append-nil, append_assoc, length-append, length-take}
 use Rattle.gx_schema.specs.declared.schema.Schema.{Schema}
-use Rattle.gx_script.specs.declared.command.LineWhy.{LineWhy}
-use Rattle.gx_script.specs.declared.command.LineWhy.TheVariants as why
-use Rattle.gx_script.specs.Lines.{Lines, Parts, with_line, no_lines, with_byte, parts_of, without_cr, last_line, up_to_limit, lines_within, longest_line, longest_script, script_lines, stopped as stopped_lines}
+use Rattle.gx_commands.specs.declared.command.LineWhy.{LineWhy}
+use Rattle.gx_commands.specs.declared.command.LineWhy.TheVariants as why
+use Rattle.gx_commands.specs.Lines.{Lines, Parts, with_line, no_lines, with_byte, parts_of, without_cr, last_line, up_to_limit, lines_within, longest_line, longest_script, script_lines, stopped as stopped_lines}
 use Rattle.gx_model.specs.States.{empty_state}
 use Rattle.gx_model.specs.Play.{end_at, end_text, start_at}
 use Rattle.gx_model.specs.Runs.{Runs, IsBadLine, IsEnd, AreFirstLines, IsPlayTextFrom}

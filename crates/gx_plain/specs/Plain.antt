@@ -4,10 +4,10 @@ use Rattle.std.specs.List.{AllByRecursion}
 use Rattle.std.specs.Option.{option_map}
 use Rattle.gx_values.specs.Values.{IsSized}
 use Rattle.gx_schema.specs.declared.schema.Schema.{Schema}
-use Rattle.gx_script.specs.declared.command.Change.{Change}
-use Rattle.gx_script.specs.declared.command.Command.{Command}
-use Rattle.gx_script.specs.declared.command.Of.{Of}
-use Rattle.gx_script.specs.Lines.{Lines, script_lines}
+use Rattle.gx_commands.specs.declared.command.Change.{Change}
+use Rattle.gx_commands.specs.declared.command.Command.{Command}
+use Rattle.gx_commands.specs.declared.command.Of.{Of}
+use Rattle.gx_commands.specs.Lines.{Lines, script_lines}
 use Rattle.gx_model.specs.States.{State, empty_state}
 use Rattle.gx_model.specs.Commands.{refusal_of, refusal_text}
 use Rattle.gx_model.specs.Play.{Playing, End, good, stopped, start_at}

@@ -2,16 +2,16 @@
 ghost use Rattle.std.specs.Prelude.{◌≡◌, ◌-◌, ◌<◌, length, slice_set, OnOk, IfOk};
 ghost use Rattle.gx_values.specs.Values.{AreSized, IsSized};
 ghost use Rattle.gx_schema.specs.WellFormed.{IsWellFormed};
-ghost use Rattle.gx_script.specs.Commands.{IsOfSchema};
-ghost use Rattle.gx_script.specs.declared.command.Command.TheVariants as command;
+ghost use Rattle.gx_commands.specs.Commands.{IsOfSchema};
+ghost use Rattle.gx_commands.specs.declared.command.Command.TheVariants as command;
 ghost use Rattle.gx_model.specs.Commands.{changed, next_state, state_after};
 ghost use Rattle.gx_plain.specs.Plain.{HasParts, AreSizedChanges};
 
 use crate::refusals::refusal;
+use gx_commands::{Change, Command};
 use gx_plain_state::{Pair, PlainState};
 use gx_rows::Row;
 use gx_schema::Schema;
-use gx_script::{Change, Command};
 use gx_values::{NoMemory, Value, Values};
 use std::alloc::Global;
 

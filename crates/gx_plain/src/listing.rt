@@ -5,10 +5,10 @@ ghost use Rattle.gx_model.specs.Commands.{IsListText};
 ghost use Rattle.gx_model.specs.Found.{is_owner, meets_cond, meets_conds, meets_of};
 ghost use Rattle.gx_plain.specs.Plain.{IsOfLink};
 
+use gx_commands::{Cond, Of, OrderBy};
 use gx_plain_state::{PlainFile, PlainState, copy_row, is_same};
 use gx_rows::{Row, field_value, records_text, sort_rows};
 use gx_schema::FileDef;
-use gx_script::{Cond, Of, OrderBy};
 use gx_values::{NoMemory, Octets, Value, meets};
 use std::alloc::Global;
 

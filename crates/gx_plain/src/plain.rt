@@ -1,9 +1,9 @@
 // The play of a script.
 ghost use Rattle.std.specs.Prelude.{◌≡◌, ◌<◌, List, ℕ, ◌++◌, is_some, IfOk, OnOk, Ok, Err, None};
 ghost use Rattle.gx_schema.specs.WellFormed.{IsWellFormed};
-ghost use Rattle.gx_script.specs.declared.command.LineWhy.{LineWhy};
-ghost use Rattle.gx_script.specs.declared.command.NoCommand.TheVariants.{Bad};
-ghost use Rattle.gx_script.specs.Commands.{IsOfSchema, place_reason};
+ghost use Rattle.gx_commands.specs.declared.command.LineWhy.{LineWhy};
+ghost use Rattle.gx_commands.specs.declared.command.NoCommand.TheVariants.{Bad};
+ghost use Rattle.gx_commands.specs.Commands.{IsOfSchema, place_reason};
 ghost use Rattle.gx_script.specs.Grammar.{IsLineOf};
 ghost use Rattle.gx_model.specs.Commands.{IsAnswer, next_state};
 ghost use Rattle.gx_model.specs.Play.{Playing, IsAnswered, end_at, end_text, next_of, seen_state, start_at, with_working};
@@ -13,10 +13,11 @@ ghost use Rattle.gx_plain.specs.Plain.{IsMoment, IsOf, IsLineDone, IsPlayedOut, 
 
 use crate::changes::carry_out;
 use crate::replies::answer;
+use gx_commands::{Command, LineWhy, NoCommand, ScriptLines, allowed};
 use gx_plain_state::PlainState;
 use gx_rows::{commit_line, stop_line};
 use gx_schema::Schema;
-use gx_script::{Command, LineWhy, NoCommand, ScriptLines, allowed, read_command};
+use gx_script::read_command;
 use gx_values::{NoMemory, Octets};
 use std::alloc::Global;
 

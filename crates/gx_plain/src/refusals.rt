@@ -3,14 +3,14 @@ ghost use Rattle.std.specs.Prelude.{◌≡◌, ◌<◌, length, Some, None, if�
 ghost use Rattle.std.specs.Option.{option_map};
 ghost use Rattle.gx_schema.specs.Lookups.{link_at};
 ghost use Rattle.gx_schema.specs.WellFormed.{IsWellFormed};
-ghost use Rattle.gx_script.specs.Commands.{IsOfSchema};
+ghost use Rattle.gx_commands.specs.Commands.{IsOfSchema};
 ghost use Rattle.gx_model.specs.Commands.{has_insert_key, has_record, is_end_of, is_linked, lacks_of};
-ghost use Rattle.gx_script.specs.declared.command.Command.TheVariants as command;
+ghost use Rattle.gx_commands.specs.declared.command.Command.TheVariants as command;
 ghost use Rattle.gx_plain.specs.Plain.{HasParts, IsOfLink, refusal_line};
 
+use gx_commands::{Command, Of};
 use gx_plain_state::{PlainLink, PlainState};
 use gx_schema::{LinkDef, Schema};
-use gx_script::{Command, Of};
 use gx_values::Value;
 
 const MOST_MEMBERS: usize = 500;

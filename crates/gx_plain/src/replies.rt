@@ -3,8 +3,8 @@ ghost use Rattle.std.specs.Prelude.{◌≡◌, ◌<◌, length, IfOk};
 ghost use Rattle.gx_values.specs.Values.{IsSized};
 ghost use Rattle.gx_schema.specs.Lookups.{file_at};
 ghost use Rattle.gx_schema.specs.WellFormed.{IsWellFormed};
-ghost use Rattle.gx_script.specs.Commands.{IsOfSchema};
-ghost use Rattle.gx_script.specs.declared.command.Command.TheVariants as command;
+ghost use Rattle.gx_commands.specs.Commands.{IsOfSchema};
+ghost use Rattle.gx_commands.specs.declared.command.Command.TheVariants as command;
 ghost use Rattle.gx_model.specs.Commands.{IsReply, IsAnswer, record_text};
 ghost use Rattle.gx_plain.specs.Plain.{HasParts};
 ghost use Rattle.gx_model.specs.States.{file_in};
@@ -12,10 +12,10 @@ ghost use Rattle.std.specs.FinMap as fin;
 
 use crate::listing::list_text;
 use crate::refusals::{member_number, owner_number, refusal};
+use gx_commands::{Command, Of, OrderBy};
 use gx_plain_state::PlainState;
 use gx_rows::record_line;
 use gx_schema::{FileDef, Schema};
-use gx_script::{Command, Of, OrderBy};
 use gx_values::{NoMemory, Octets, Value};
 use std::alloc::Global;
 

@@ -4,8 +4,8 @@ use Rattle.std.specs.List.{position, slice_get}
 use Rattle.std.specs.Option.{option_map}
 use Rattle.gx_values.specs.declared.values.Op.{Op}
 use Rattle.gx_values.specs.declared.values.Op.TheVariants as op
-use Rattle.gx_script.specs.declared.command.Cond.{Cond}
-use Rattle.gx_script.specs.declared.command.Find.{Find}
+use Rattle.gx_commands.specs.declared.command.Cond.{Cond}
+use Rattle.gx_commands.specs.declared.command.Find.{Find}
 use Rattle.gx_planner.specs.declared.plans.Plan.{Plan}
 use Rattle.gx_planner.specs.declared.plans.Plan.TheVariants.{Key, Link, Index, KeyRange, IndexRange, Scan}
 

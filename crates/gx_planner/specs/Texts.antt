@@ -5,9 +5,9 @@ use Rattle.std.specs.List.{slice_get}
 use Rattle.gx_schema.specs.declared.schema.FileDef.{FileDef}
 use Rattle.gx_schema.specs.declared.schema.Schema.{Schema}
 use Rattle.gx_schema.specs.Lookups.{file_at, link_at, field_at}
-use Rattle.gx_script.specs.declared.command.Cond.{Cond}
-use Rattle.gx_script.specs.declared.command.Of.{Of}
-use Rattle.gx_script.specs.declared.command.Find.{Find}
+use Rattle.gx_commands.specs.declared.command.Cond.{Cond}
+use Rattle.gx_commands.specs.declared.command.Of.{Of}
+use Rattle.gx_commands.specs.declared.command.Find.{Find}
 use Rattle.gx_planner.specs.declared.plans.Plan.{Plan}
 use Rattle.gx_planner.specs.declared.plans.Plan.TheVariants.{Key, Link, Index, KeyRange, IndexRange, Scan}
 

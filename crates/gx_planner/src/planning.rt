@@ -4,7 +4,7 @@ ghost use Rattle.std.specs.List.{position};
 ghost use Rattle.gx_planner.specs.Plans.{rank_of, is_indexed, rank_by, plan_by_condition, first_of, least_plan, Applies, IsLeast};
 
 use crate::plans::Plan;
-use gx_script::{Cond, Find};
+use gx_commands::{Cond, Find};
 use gx_values::Op;
 
 // The ranks of the plans that are by a condition.

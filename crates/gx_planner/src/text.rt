@@ -3,12 +3,12 @@ ghost use Rattle.std.specs.Prelude.{◌≡◌, ◌<◌, ◌++◌, length, IfOk, 
 ghost use Rattle.std.specs.Fmt.{decimal};
 ghost use Rattle.std.specs.List.{AllByRecursion, slice_get};
 ghost use Rattle.gx_schema.specs.Lookups.{file_at};
-ghost use Rattle.gx_script.specs.Commands.{IsFindOf, IsCondOf};
+ghost use Rattle.gx_commands.specs.Commands.{IsFindOf, IsCondOf};
 ghost use Rattle.gx_planner.specs.Texts.{field_name, link_name, way_text, plan_text};
 
 use crate::plans::Plan;
+use gx_commands::{Cond, Find};
 use gx_schema::{FileDef, Schema};
-use gx_script::{Cond, Find};
 use gx_values::{NoMemory, Octets};
 use itoa::Buffer;
 use std::alloc::{AllocError, Global};

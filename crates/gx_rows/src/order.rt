@@ -9,7 +9,7 @@ ghost use Rattle.gx_model.specs.States.{File, Row as TheRow};
 ghost use Rattle.gx_model.specs.Found.{IsListed, row_cmp, value_at};
 
 use crate::row::Row;
-use gx_script::OrderBy;
+use gx_commands::OrderBy;
 use gx_values::{Value, compare};
 use std::alloc::AllocError;
 use std::cmp::Ordering;

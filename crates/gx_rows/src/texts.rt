@@ -6,8 +6,8 @@ ghost use Rattle.gx_model.specs.Play.{end_text, stopped};
 ghost use Rattle.gx_model.specs.Texts.{row_text, rows_text, value_text};
 
 use crate::row::Row;
+use gx_commands::LineWhy;
 use gx_schema::FileDef;
-use gx_script::LineWhy;
 use gx_tokens::push_quoted;
 use gx_values::{NoMemory, Octets, Value};
 use itoa::Buffer;

@@ -4,7 +4,7 @@ use Rattle.std.specs.Prelude.{filter}
 use Rattle.std.specs.List.Sorted.{IsPermutation}
 use Rattle.std.proofs.lemmas.List.Sorted.{IsPermutation-refl, IsPermutation-sym, IsPermutation-trans, IsPermutation-cons, IsPermutation-middle}
 use Rattle.gx_mapping.specs.Rule.{In}
-use Rattle.gx_stack.proofs.Lists.{in_left, in_right, in_cases, in_filter, nat_cases}
+use Rattle.gx_gather.proofs.Lists.{in_left, in_right, in_cases, in_filter, nat_cases}
 
 abbrev pub AreDistinct : {A : Type 0} → List A → Type 0
 AreDistinct [] = Unit {0}

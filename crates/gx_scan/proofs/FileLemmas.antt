@@ -20,10 +20,10 @@ use Rattle.gx_schema.specs.declared.schema.FileDef.{FileDef}
 use Rattle.gx_schema.specs.Lookups.{no_field, key_kind}
 use Rattle.gx_mapping.specs.Rule.{In, IsOf}
 use Rattle.gx_stack.specs.Internal.{IsSet}
-use Rattle.gx_stack.specs.Gather.{rec_cmp}
+use Rattle.gx_gather.specs.Gather.{rec_cmp}
 use Rattle.gx_stack.specs.Selected.{IsKeySpan, IsSelection}
-use Rattle.gx_stack.proofs.Lists.{in_map, from_map, all_at, some_same, none_some}
-use Rattle.gx_stack.proofs.Orders.{Ascends, ascends, ascends_unique, rec_total}
+use Rattle.gx_gather.proofs.Lists.{in_map, from_map, all_at, some_same, none_some}
+use Rattle.gx_gather.proofs.Orders.{Ascends, ascends, ascends_unique, rec_total}
 use Rattle.gx_typing.specs.Dues.{file_form}
 use Rattle.gx_model.specs.States.{File, Row, IsRowOf, IsFileOf}
 use Rattle.gx_scan.specs.Files.{rec_of, records_of}

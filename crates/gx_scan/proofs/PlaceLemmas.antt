@@ -33,8 +33,8 @@ use Rattle.gx_stack.specs.declared.node.Node.TheVariants as nodes
 use Rattle.gx_stack.specs.Tree.{Tree, Kids, leaf, layer, kid, no_kids, leaves_of, kids_leaves, tree_form, entries_of, kid_entries, entry_in, leaf_body, IsBytesUpTo, IsLeafData, IsLeafForm, IsValid, AreValid}
 use Rattle.gx_stack.specs.Seen.{tree_of, kids_from}
 use Rattle.gx_stack.specs.Internal.{IsUnion}
-use Rattle.gx_stack.proofs.Lists.{in_left, in_right, in_cases, in_map, from_map, in_each, from_each, in_filter, filter_in, all_at, all_of, some_same, none_some}
-use Rattle.gx_stack.proofs.Orders.{Ascends, ascends_filter, ascends_unique}
+use Rattle.gx_gather.proofs.Lists.{in_left, in_right, in_cases, in_map, from_map, in_each, from_each, in_filter, filter_in, all_at, all_of, some_same, none_some}
+use Rattle.gx_gather.proofs.Orders.{Ascends, ascends_filter, ascends_unique}
 use Rattle.gx_stack.proofs.Seen.{seen_layer, seen_leaf, layer_form, child_there, child_valid, kid_entries_at}
 use Rattle.gx_types.specs.declared.any.AnyMapping.{AnyMapping}
 use Rattle.gx_types.specs.declared.any.Passing.{Passing}

@@ -10,7 +10,7 @@ use Rattle.gx_values.specs.Values.{Fits}
 use Rattle.gx_values.specs.Keys.{bytes_of, width_of, IsKeyKind}
 use Rattle.gx_mapping.specs.Rule.{In}
 use Rattle.std.specs.Option.{option_to_list}
-use Rattle.gx_stack.proofs.Lists.{in_right}
+use Rattle.gx_gather.proofs.Lists.{in_right}
 
 -- ---- lengths
 

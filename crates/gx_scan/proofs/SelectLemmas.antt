@@ -13,11 +13,11 @@ use Rattle.gx_values.specs.declared.keys.Span.{Span}
 use Rattle.gx_values.specs.Values.{value_cmp}
 use Rattle.gx_values.specs.Keys.{bytes_of, key_of, is_inside}
 use Rattle.gx_mapping.specs.Rule.{In}
-use Rattle.gx_script.specs.declared.command.Cond.{Cond}
-use Rattle.gx_stack.specs.Gather.{rec_cmp}
+use Rattle.gx_commands.specs.declared.command.Cond.{Cond}
+use Rattle.gx_gather.specs.Gather.{rec_cmp}
 use Rattle.gx_stack.specs.Selected.{IsKeySpan, IsSelection}
-use Rattle.gx_stack.proofs.Lists.{in_map, from_map, in_filter, filter_in}
-use Rattle.gx_stack.proofs.Orders.{Ascends, ascends, ascends_filter, ascends_unique, rec_total}
+use Rattle.gx_gather.proofs.Lists.{in_map, from_map, in_filter, filter_in}
+use Rattle.gx_gather.proofs.Orders.{Ascends, ascends, ascends_filter, ascends_unique, rec_total}
 use Rattle.gx_model.specs.States.{File, Row}
 use Rattle.gx_model.specs.Found.{meets_conds}
 use Rattle.gx_scan.specs.Files.{rec_of, records_of}

@@ -18,7 +18,7 @@ use Rattle.gx_mapping.specs.Rule.{In, IsOf}
 use Rattle.gx_stack.specs.Tree.{Tree, entries_of, entry_total, tree_form, leaves_of, IsValid}
 use Rattle.gx_stack.specs.Indexed.{AreKeysOf}
 use Rattle.gx_stack.specs.Selected.{IsSelection}
-use Rattle.gx_stack.proofs.Lists.{from_map, all_at}
+use Rattle.gx_gather.proofs.Lists.{from_map, all_at}
 use Rattle.gx_types.specs.declared.any.AnyMapping.{AnyMapping}
 use Rattle.gx_types.specs.Any.{any_rule}
 use Rattle.gx_typing.specs.Dues.{file_form}

@@ -21,15 +21,15 @@ use Rattle.gx_values.specs.Spans.{IsSpanKind, IsValueSpan}
 use Rattle.gx_values.proofs.OrderLemmas.{value_cmp_total}
 use Rattle.gx_schema.specs.declared.schema.FileDef.{FileDef}
 use Rattle.gx_schema.specs.Lookups.{no_field, field_at, data_fields}
-use Rattle.gx_script.specs.declared.command.Cond.{Cond}
+use Rattle.gx_commands.specs.declared.command.Cond.{Cond}
 use Rattle.gx_actual.specs.Bodies.{IsShort}
 use Rattle.gx_actual.proofs.BodyLemmas.{item_short}
 use Rattle.gx_mapping.specs.Rule.{In, is_field, first_in, kind_in}
 use Rattle.gx_mapping.proofs.FieldLemmas.{first_kind, first_value}
 use Rattle.gx_stack.specs.Tree.{Tree, tree_form}
 use Rattle.gx_stack.specs.Indexed.{is_where, is_value_inside, AreUnderOwnKeys, AreKeysOf}
-use Rattle.gx_stack.proofs.Lists.{in_map, from_map, in_filter, filter_in, all_at, some_same, each_next}
-use Rattle.gx_stack.proofs.Orders.{Ascends, not_before_itself}
+use Rattle.gx_gather.proofs.Lists.{in_map, from_map, in_filter, filter_in, all_at, some_same, each_next}
+use Rattle.gx_gather.proofs.Orders.{Ascends, not_before_itself}
 use Rattle.gx_types.specs.declared.any.AnyMapping.{AnyMapping}
 use Rattle.gx_types.specs.Any.{any_rule}
 use Rattle.gx_typing.specs.Dues.{file_form}

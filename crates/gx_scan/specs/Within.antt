@@ -6,7 +6,7 @@ use Rattle.gx_values.specs.declared.values.Value.TheVariants as value
 use Rattle.gx_values.specs.declared.records.Rec.{Rec}
 use Rattle.gx_values.specs.declared.keys.Span.{Span}
 use Rattle.gx_values.specs.Keys.{bytes_of, is_inside}
-use Rattle.gx_script.specs.declared.command.Cond.{Cond}
+use Rattle.gx_commands.specs.declared.command.Cond.{Cond}
 use Rattle.gx_model.specs.States.{File, Row}
 use Rattle.gx_model.specs.Found.{meets_conds}
 

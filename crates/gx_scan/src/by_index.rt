@@ -19,10 +19,10 @@ ghost use Rattle.gx_scan.specs.Steps.{HaveAtMost, rows_with};
 
 use crate::by_records::{into_row, meets_all};
 use crate::records::find_record;
+use gx_commands::Cond;
 use gx_ports::{Leaves, Stop};
 use gx_rows::Row;
 use gx_schema::FileDef;
-use gx_script::Cond;
 use gx_stack::{Keys, Node};
 use gx_types::AnyMapping;
 use gx_values::{Name, Span, Values};

@@ -14,11 +14,12 @@ ghost use Rattle.gx_scan.specs.Files.{IsInternal, HasFile, IsStorable, IsTreeFor
 ghost use Rattle.gx_scan.specs.Within.{row_of, AreAdded};
 ghost use Rattle.gx_scan.specs.Steps.{HaveAtMost, rows_inside};
 
+use gx_commands::Cond;
+use gx_gather::Recs;
 use gx_ports::{Leaves, Stop};
 use gx_rows::{Row, field_value};
 use gx_schema::FileDef;
-use gx_script::Cond;
-use gx_stack::{Node, Recs};
+use gx_stack::Node;
 use gx_types::AnyMapping;
 use gx_values::{Rec, Span, Value, meets};
 use std::alloc::{AllocError, Global};

@@ -16,9 +16,10 @@ ghost use Rattle.gx_scan.specs.Files.{IsInternal, HasFile, IsStorable, IsTreeFor
 ghost use Rattle.gx_scan.specs.Records.{record_at, list_of_one};
 ghost use Rattle.gx_scan.specs.Steps.{HaveAtMost};
 
+use gx_gather::Recs;
 use gx_ports::{Leaves, Stop};
 use gx_schema::FileDef;
-use gx_stack::{Node, Recs};
+use gx_stack::Node;
 use gx_types::AnyMapping;
 use gx_values::{Field, Rec, Span, Value, value_key};
 use std::alloc::Global;

@@ -20,10 +20,10 @@ ghost use Rattle.gx_scan.specs.Scan.{value_of};
 
 use crate::records::data_fields;
 use gx_actual::read_body;
+use gx_commands::Cond;
 use gx_ports::Entries;
 use gx_rows::Row;
 use gx_schema::FileDef;
-use gx_script::Cond;
 use gx_values::{Field, Kind, NoMemory, Op, Value, read_value_key};
 use std::alloc::Global;
 use std::cmp::Ordering;

@@ -7,15 +7,15 @@ use Rattle.std.proofs.lemmas.Bool.{cond_both, cond-true, cond-false, or_parts, e
 use Rattle.gx_schema.specs.declared.schema.FileDef.{FileDef}
 use Rattle.gx_schema.specs.declared.schema.Schema.{Schema}
 use Rattle.gx_schema.specs.Lookups.{file_at, link_at, field_at, key_kind}
-use Rattle.gx_script.specs.declared.command.Cond.{Cond}
-use Rattle.gx_script.specs.declared.command.Of.{Of}
-use Rattle.gx_script.specs.declared.command.OrderBy.{OrderBy}
-use Rattle.gx_script.specs.declared.command.Change.{Change}
-use Rattle.gx_script.specs.declared.command.LineWhy.{LineWhy}
-use Rattle.gx_script.specs.declared.command.LineWhy.TheVariants as why
-use Rattle.gx_script.specs.Commands.{IsChangeOf, AreApart, IsCondOf, IsOrderOf, IsOfOf}
-use Rattle.gx_script.specs.Words.{Word, Bare}
-use Rattle.gx_script.specs.Cutting.{is_end}
+use Rattle.gx_commands.specs.declared.command.Cond.{Cond}
+use Rattle.gx_commands.specs.declared.command.Of.{Of}
+use Rattle.gx_commands.specs.declared.command.OrderBy.{OrderBy}
+use Rattle.gx_commands.specs.declared.command.Change.{Change}
+use Rattle.gx_commands.specs.declared.command.LineWhy.{LineWhy}
+use Rattle.gx_commands.specs.declared.command.LineWhy.TheVariants as why
+use Rattle.gx_commands.specs.Commands.{IsChangeOf, AreApart, IsCondOf, IsOrderOf, IsOfOf}
+use Rattle.gx_commands.specs.Words.{Word, Bare}
+use Rattle.gx_commands.specs.Cutting.{is_end}
 use Rattle.gx_script.specs.Names.{is_text, op_text, op_of, link_number, field_number}
 use Rattle.gx_script.specs.Reading.{met, want, behind, a_field, is_changed, a_new_field, an_op, a_link, a_link_to, a_value, change_at, changes_at, cond_at, more_conds, conds_at, where_from, where_at, owner_of_at, of_from, of_at, desc_from, desc_at, order_from, order_at}
 use Rattle.gx_script.specs.Grammar.{◌⨾◌, the, LinkName, FieldName, Literal, ChangeWords, ChangesWords, CondWords, CondsWords, WhereWords, OfWords, DescWords, OrderWords}

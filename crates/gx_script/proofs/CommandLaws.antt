@@ -6,14 +6,14 @@ use Rattle.gx_values.specs.declared.values.Value.{Value}
 use Rattle.gx_schema.specs.declared.schema.Schema.{Schema}
 use Rattle.gx_schema.specs.Lookups.{file_at, link_at, key_kind}
 use Rattle.gx_schema.specs.WellFormed.{IsWellFormed}
-use Rattle.gx_script.specs.declared.command.Command.{Command}
-use Rattle.gx_script.specs.declared.command.Command.TheVariants as command
-use Rattle.gx_script.specs.declared.command.LineWhy.TheVariants as why
+use Rattle.gx_commands.specs.declared.command.Command.{Command}
+use Rattle.gx_commands.specs.declared.command.Command.TheVariants as command
+use Rattle.gx_commands.specs.declared.command.LineWhy.TheVariants as why
 use Rattle.gx_script.specs.declared.keywords.Verb.{Verb}
 use Rattle.gx_script.specs.declared.keywords.Verb.TheVariants as verb
-use Rattle.gx_script.specs.Commands.{IsOfSchema}
-use Rattle.gx_script.specs.Words.{Word, Bare, Quoted}
-use Rattle.gx_script.specs.Cutting.{is_end}
+use Rattle.gx_commands.specs.Commands.{IsOfSchema}
+use Rattle.gx_commands.specs.Words.{Word, Bare, Quoted}
+use Rattle.gx_commands.specs.Cutting.{is_end}
 use Rattle.gx_script.specs.Names.{verb_text, verb_of, file_number, link_number}
 use Rattle.gx_script.specs.Reading.{met, want, a_file, a_structure, structure_from, a_value, a_verb, record_at, owner_at, member_at, values_at, changes_at, where_at, of_at, order_at, insert_at, update_at, connect_at, members_at, find_at, arguments_at, command_at, reading}
 use Rattle.gx_script.specs.Grammar.{the, CommandWords, Means}

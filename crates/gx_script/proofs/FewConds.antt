@@ -5,14 +5,14 @@ use Rattle.gx_values.specs.declared.values.Value.{Value}
 use Rattle.gx_schema.specs.declared.schema.FileDef.{FileDef}
 use Rattle.gx_schema.specs.declared.schema.Schema.{Schema}
 use Rattle.gx_schema.specs.Lookups.{file_at}
-use Rattle.gx_script.specs.declared.command.Cond.{Cond}
-use Rattle.gx_script.specs.declared.command.Command.{Command}
-use Rattle.gx_script.specs.declared.command.Command.TheVariants as command
-use Rattle.gx_script.specs.declared.command.NoCommand.{NoCommand}
-use Rattle.gx_script.specs.Words.{Word, AreWords}
-use Rattle.gx_script.specs.Commands.{conds_of}
+use Rattle.gx_commands.specs.declared.command.Cond.{Cond}
+use Rattle.gx_commands.specs.declared.command.Command.{Command}
+use Rattle.gx_commands.specs.declared.command.Command.TheVariants as command
+use Rattle.gx_commands.specs.declared.command.NoCommand.{NoCommand}
+use Rattle.gx_commands.specs.Words.{Word, AreWords}
+use Rattle.gx_commands.specs.Commands.{conds_of}
 use Rattle.gx_script.specs.Grammar.{Literal, CondWords, CondsWords, WhereWords, CommandWords, IsLineOf}
-use Rattle.gx_script.proofs.WordLaws.{first_shorter}
+use Rattle.gx_commands.proofs.WordLaws.{first_shorter}
 
 words_few : (line : List ℕ) (ws : List Word) → AreWords line ws → length ws ≤ length line
 words_few line [] h = omega arith

@@ -1,5 +1,3 @@
-pub mod WordLaws
-pub mod CuttingLaws
 pub mod Steps
 pub mod LoopLaws
 pub mod WordMeanings
@@ -7,7 +5,6 @@ pub mod PartLaws
 pub mod ClauseLaws
 pub mod CommandLaws
 pub mod ReadingLaws
-pub mod LineLaws
 pub mod LocalWords
 pub mod LocalParts
 pub mod LocalLoops

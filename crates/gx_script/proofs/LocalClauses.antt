@@ -8,15 +8,15 @@ use Rattle.gx_schema.specs.declared.schema.FileDef.{FileDef}
 use Rattle.gx_schema.specs.declared.schema.Schema.{Schema}
 use Rattle.gx_schema.specs.Lookups.{file_at, link_at}
 use Rattle.gx_schema.specs.WellFormed.{IsWellFormed}
-use Rattle.gx_script.specs.declared.command.Change.{Change}
-use Rattle.gx_script.specs.declared.command.Command.{Command}
-use Rattle.gx_script.specs.declared.command.Command.TheVariants as command
-use Rattle.gx_script.specs.declared.command.LineWhy.{LineWhy}
-use Rattle.gx_script.specs.declared.command.LineWhy.TheVariants as why
-use Rattle.gx_script.specs.declared.command.NoCommand.{NoCommand}
-use Rattle.gx_script.specs.declared.command.NoCommand.TheVariants as no_command
-use Rattle.gx_script.specs.declared.command.Of.{Of}
-use Rattle.gx_script.specs.declared.command.OrderBy.{OrderBy}
+use Rattle.gx_commands.specs.declared.command.Change.{Change}
+use Rattle.gx_commands.specs.declared.command.Command.{Command}
+use Rattle.gx_commands.specs.declared.command.Command.TheVariants as command
+use Rattle.gx_commands.specs.declared.command.LineWhy.{LineWhy}
+use Rattle.gx_commands.specs.declared.command.LineWhy.TheVariants as why
+use Rattle.gx_commands.specs.declared.command.NoCommand.{NoCommand}
+use Rattle.gx_commands.specs.declared.command.NoCommand.TheVariants as no_command
+use Rattle.gx_commands.specs.declared.command.Of.{Of}
+use Rattle.gx_commands.specs.declared.command.OrderBy.{OrderBy}
 use Rattle.gx_script.specs.declared.keywords.Verb.{Verb}
 use Rattle.gx_script.specs.declared.keywords.Verb.TheVariants as verb
 use Rattle.gx_script.specs.Faults.{IsFront, NoLineGoesOn, IsFirstBad, IsBad}
@@ -24,7 +24,7 @@ use Rattle.gx_script.specs.Grammar.{◌⨾◌, NoWord, the}
 use Rattle.gx_script.specs.Names.{file_number, verb_of, verb_text}
 use Rattle.gx_script.specs.Reading.{◌>>=◌, met, want, behind, a_verb, a_file, a_link, a_link_to, a_field, a_value, values_at, changes_at, where_from, where_at, owner_of_at, of_from, of_at, desc_from, desc_at, order_from, order_at, record_at, owner_at, member_at, insert_at, update_at, connect_at, members_at, find_at, arguments_at, ended, reading, IsReading, AnswersUnlessNoMemory}
 use Rattle.gx_script.specs.Shape.{AName, AValue, NameAndValue, Perhaps, Repeated, ValuesShape, ChangesShape, CondsShape, WhereShape, OfShape, OrderShape, ArgumentsShape, IsShaped}
-use Rattle.gx_script.specs.Words.{Word, Bare, IsWord, AreWords}
+use Rattle.gx_commands.specs.Words.{Word, Bare, IsWord, AreWords}
 use Rattle.gx_script.proofs.CommandLaws.{reading_again}
 use Rattle.gx_script.proofs.Steps.{done}
 use Rattle.gx_script.proofs.WordMeanings.{some_is, bare_found, verb_found, name_found, file_within}

@@ -4,12 +4,12 @@ use Rattle.std.specs.Prelude.{codes}
 use Rattle.gx_values.specs.declared.values.Value.{Value}
 use Rattle.gx_schema.specs.declared.schema.FileDef.{FileDef}
 use Rattle.gx_schema.specs.Lookups.{field_at}
-use Rattle.gx_script.specs.declared.command.Change.{Change}
-use Rattle.gx_script.specs.declared.command.Cond.{Cond}
-use Rattle.gx_script.specs.declared.command.LineWhy.{LineWhy}
-use Rattle.gx_script.specs.declared.command.NoCommand.TheVariants as no_command
-use Rattle.gx_script.specs.Words.{Word, Bare}
-use Rattle.gx_script.specs.Cutting.{is_end}
+use Rattle.gx_commands.specs.declared.command.Change.{Change}
+use Rattle.gx_commands.specs.declared.command.Cond.{Cond}
+use Rattle.gx_commands.specs.declared.command.LineWhy.{LineWhy}
+use Rattle.gx_commands.specs.declared.command.NoCommand.TheVariants as no_command
+use Rattle.gx_commands.specs.Words.{Word, Bare}
+use Rattle.gx_commands.specs.Cutting.{is_end}
 use Rattle.gx_script.specs.Reading.{◌>>=◌, want, behind, a_field, an_op, a_value, change_at, changes_at, cond_at, conds_at}
 use Rattle.gx_script.specs.Grammar.{◌⨾◌, the}
 use Rattle.gx_script.specs.Shape.{AName, AnOp, AValue, NameAndValue, ChangesShape, CondShape, CondsShape, Repeated}

@@ -10,11 +10,11 @@ use Rattle.gx_values.specs.declared.records.Field.{Field}
 use Rattle.gx_schema.specs.declared.schema.FileDef.{FileDef}
 use Rattle.gx_schema.specs.declared.schema.Schema.{Schema}
 use Rattle.gx_schema.specs.Lookups.{file_at, link_at, field_at, key_kind}
-use Rattle.gx_script.specs.declared.command.Change.{Change}
-use Rattle.gx_script.specs.declared.command.Command.{Command}
-use Rattle.gx_script.specs.declared.command.LineWhy.{LineWhy}
-use Rattle.gx_script.specs.declared.command.LineWhy.TheVariants as why
-use Rattle.gx_script.specs.Words.{Word, Bare, Quoted}
+use Rattle.gx_commands.specs.declared.command.Change.{Change}
+use Rattle.gx_commands.specs.declared.command.Command.{Command}
+use Rattle.gx_commands.specs.declared.command.LineWhy.{LineWhy}
+use Rattle.gx_commands.specs.declared.command.LineWhy.TheVariants as why
+use Rattle.gx_commands.specs.Words.{Word, Bare, Quoted}
 use Rattle.gx_script.specs.Names.{file_number, link_number, field_number, op_of}
 use Rattle.gx_script.specs.Reading.{◌>>=◌, want, bare_or, a_file, a_link, a_link_to, a_field, a_new_field, an_op, a_structure, a_value, int_from, record_at, owner_at, member_at, values_at, change_at}
 use Rattle.gx_script.specs.Grammar.{◌⨾◌, NoWord}

@@ -1,10 +1,10 @@
 -- What is read depends on the words that are read and on the next one, and a fault on those up to it; and the words before a
 -- fault could go on.
 use Rattle.std.proofs.Common.{◌≡◌, ℕ, Bool, true, false, cond, List, [], ◌∷◌, ◌++◌, Option, None, Some, Result, Ok, Err, refl, sym, ap, subst, ◌∙◌, append_assoc, inl, inr}
-use Rattle.gx_script.specs.declared.command.LineWhy.{LineWhy}
-use Rattle.gx_script.specs.declared.command.LineWhy.TheVariants as why
+use Rattle.gx_commands.specs.declared.command.LineWhy.{LineWhy}
+use Rattle.gx_commands.specs.declared.command.LineWhy.TheVariants as why
 use Rattle.std.specs.List.{AllByRecursion}
-use Rattle.gx_script.specs.Words.{Word, Bare, Quoted, IsWord}
+use Rattle.gx_commands.specs.Words.{Word, Bare, Quoted, IsWord}
 use Rattle.gx_script.specs.Names.{is_text}
 use Rattle.gx_script.specs.Reading.{◌>>=◌, met, want, behind}
 use Rattle.gx_script.specs.Grammar.{◌⨾◌, NoWord, the}

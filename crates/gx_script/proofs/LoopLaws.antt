@@ -7,14 +7,14 @@ use Rattle.gx_values.specs.declared.records.Field.{Field}
 use Rattle.gx_values.specs.declared.values.Value.{Value}
 use Rattle.gx_schema.specs.declared.schema.FileDef.{FileDef}
 use Rattle.gx_schema.specs.Lookups.{field_at}
-use Rattle.gx_script.specs.declared.command.Change.{Change}
-use Rattle.gx_script.specs.declared.command.Cond.{Cond}
-use Rattle.gx_script.specs.declared.command.LineWhy.{LineWhy}
-use Rattle.gx_script.specs.declared.command.NoCommand.{NoCommand}
-use Rattle.gx_script.specs.declared.command.NoCommand.TheVariants as no_command
-use Rattle.gx_script.specs.Words.{Word, Bare, Quoted}
+use Rattle.gx_commands.specs.declared.command.Change.{Change}
+use Rattle.gx_commands.specs.declared.command.Cond.{Cond}
+use Rattle.gx_commands.specs.declared.command.LineWhy.{LineWhy}
+use Rattle.gx_commands.specs.declared.command.NoCommand.{NoCommand}
+use Rattle.gx_commands.specs.declared.command.NoCommand.TheVariants as no_command
+use Rattle.gx_commands.specs.Words.{Word, Bare, Quoted}
 use Rattle.gx_script.specs.Names.{is_text}
-use Rattle.gx_script.specs.Cutting.{is_end}
+use Rattle.gx_commands.specs.Cutting.{is_end}
 use Rattle.gx_script.specs.Reading.{◌>>=◌, want, behind, a_field, a_new_field, an_op, a_value, values_at, change_at, changes_at, cond_at, more_conds, conds_at, Fails}
 use Rattle.gx_script.proofs.Steps.{bind_ok, want_shorter, ok_is}
 

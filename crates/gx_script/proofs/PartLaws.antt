@@ -6,9 +6,9 @@ use Rattle.gx_values.specs.declared.records.Field.{Field}
 use Rattle.gx_values.specs.Values.{AreFit}
 use Rattle.gx_schema.specs.declared.schema.Schema.{Schema}
 use Rattle.gx_schema.specs.Lookups.{file_at, link_at, key_kind}
-use Rattle.gx_script.specs.declared.command.LineWhy.TheVariants as why
-use Rattle.gx_script.specs.Commands.{IsKeyOf}
-use Rattle.gx_script.specs.Words.{Word, Bare}
+use Rattle.gx_commands.specs.declared.command.LineWhy.TheVariants as why
+use Rattle.gx_commands.specs.Commands.{IsKeyOf}
+use Rattle.gx_commands.specs.Words.{Word, Bare}
 use Rattle.gx_script.specs.Names.{file_number, link_number}
 use Rattle.gx_script.specs.Reading.{want, a_file, a_link, a_value, record_at, owner_at, member_at, values_at}
 use Rattle.gx_script.specs.Grammar.{◌⨾◌, FileName, LinkName, Literal, Literals}

@@ -4,19 +4,19 @@ use Rattle.std.specs.Prelude.{IsTrue, IfOk}
 use Rattle.std.specs.List.{list_all}
 use Rattle.gx_schema.specs.declared.schema.Schema.{Schema}
 use Rattle.gx_schema.specs.WellFormed.{IsWellFormed}
-use Rattle.gx_script.specs.declared.command.Command.{Command}
-use Rattle.gx_script.specs.declared.command.Command.TheVariants as command
-use Rattle.gx_script.specs.declared.command.LineWhy.{LineWhy}
-use Rattle.gx_script.specs.declared.command.NoCommand.{NoCommand}
-use Rattle.gx_script.specs.declared.command.NoCommand.TheVariants as no_command
-use Rattle.gx_script.specs.Commands.{IsOfSchema}
-use Rattle.gx_script.specs.Words.{Word, is_character, is_comment, AreWords}
-use Rattle.gx_script.specs.Cutting.{words_in}
+use Rattle.gx_commands.specs.declared.command.Command.{Command}
+use Rattle.gx_commands.specs.declared.command.Command.TheVariants as command
+use Rattle.gx_commands.specs.declared.command.LineWhy.{LineWhy}
+use Rattle.gx_commands.specs.declared.command.NoCommand.{NoCommand}
+use Rattle.gx_commands.specs.declared.command.NoCommand.TheVariants as no_command
+use Rattle.gx_commands.specs.Commands.{IsOfSchema}
+use Rattle.gx_commands.specs.Words.{Word, is_character, is_comment, AreWords}
+use Rattle.gx_commands.specs.Cutting.{words_in}
 use Rattle.gx_script.specs.Reading.{reading, Gives, IsReading, AnswersUnlessNoMemory}
 use Rattle.gx_script.specs.Grammar.{IsLineOf}
 use Rattle.gx_script.proofs.Steps.{done, ok_is}
 use Rattle.gx_script.proofs.WordMeanings.{AllWords}
-use Rattle.gx_script.proofs.CuttingLaws.{HasWords, words_of_line}
+use Rattle.gx_commands.proofs.CuttingLaws.{HasWords, words_of_line}
 use Rattle.gx_script.proofs.CommandLaws.{reading_found, reading_again}
 
 words_are : (line : List ℕ) (words : List Word) → AreWords line words → AllWords words

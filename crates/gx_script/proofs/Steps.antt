@@ -1,7 +1,7 @@
 -- Steps of reading that did not fail.
 use Rattle.std.proofs.Common.{◌≡◌, ◌<◌, Bool, true, false, cond, List, [], ◌∷◌, length, Result, Ok, Err, refl, ap, ◌∙◌, arith}
-use Rattle.gx_script.specs.declared.command.LineWhy.{LineWhy}
-use Rattle.gx_script.specs.Words.{Word}
+use Rattle.gx_commands.specs.declared.command.LineWhy.{LineWhy}
+use Rattle.gx_commands.specs.Words.{Word}
 use Rattle.gx_script.specs.Reading.{◌>>=◌, met, want}
 
 abbrev pub done : {A : Type 0} → A → Result A LineWhy

@@ -24,11 +24,11 @@ use Rattle.gx_schema.specs.Lookups.{no_file, no_link, no_field}
 use Rattle.gx_tokens.specs.Numbers.{is_number, number_value, signed_in_range, signed_number}
 use Rattle.gx_tokens.specs.Quotes.{unquoted}
 use Rattle.gx_tokens.specs.Spelling.{IsQuoted}
-use Rattle.gx_script.specs.declared.command.LineWhy.{LineWhy}
-use Rattle.gx_script.specs.declared.command.LineWhy.TheVariants as why
+use Rattle.gx_commands.specs.declared.command.LineWhy.{LineWhy}
+use Rattle.gx_commands.specs.declared.command.LineWhy.TheVariants as why
 use Rattle.gx_script.specs.declared.keywords.Verb.{Verb}
 use Rattle.gx_script.specs.declared.keywords.Verb.TheVariants as verb
-use Rattle.gx_script.specs.Words.{Word, Bare, Quoted, IsWord}
+use Rattle.gx_commands.specs.Words.{Word, Bare, Quoted, IsWord}
 use Rattle.gx_script.specs.Names.{is_text, verb_text, verb_of, op_text, op_of, file_number, link_number, field_number}
 use Rattle.gx_script.specs.Reading.{met, want, int_from, bare_or, behind, a_value}
 use Rattle.gx_script.specs.Grammar.{the, IsLiteral, Literal}

@@ -2,11 +2,11 @@
 use Rattle.std.specs.Prelude.{◌≡◌, ℕ, List, [], ◌∷◌, ◌++◌}
 use Rattle.std.specs.List.{AllByRecursion}
 use Rattle.gx_schema.specs.declared.schema.Schema.{Schema}
-use Rattle.gx_script.specs.declared.command.Command.{Command}
-use Rattle.gx_script.specs.declared.command.LineWhy.TheVariants as why
-use Rattle.gx_script.specs.declared.command.NoCommand.{NoCommand}
-use Rattle.gx_script.specs.declared.command.NoCommand.TheVariants as no_command
-use Rattle.gx_script.specs.Words.{Word, IsWord, AreWords}
+use Rattle.gx_commands.specs.declared.command.Command.{Command}
+use Rattle.gx_commands.specs.declared.command.LineWhy.TheVariants as why
+use Rattle.gx_commands.specs.declared.command.NoCommand.{NoCommand}
+use Rattle.gx_commands.specs.declared.command.NoCommand.TheVariants as no_command
+use Rattle.gx_commands.specs.Words.{Word, IsWord, AreWords}
 use Rattle.gx_script.specs.Grammar.{Means}
 use Rattle.gx_script.specs.Shape.{IsShaped}
 

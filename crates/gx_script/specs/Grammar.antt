@@ -8,14 +8,14 @@ use Rattle.gx_schema.specs.declared.schema.Schema.{Schema}
 use Rattle.gx_schema.specs.Lookups.{file_at, link_at}
 use Rattle.gx_tokens.specs.Numbers.{is_number, number_value}
 use Rattle.gx_tokens.specs.Quotes.{unquoted}
-use Rattle.gx_script.specs.declared.command.Cond.{Cond}
-use Rattle.gx_script.specs.declared.command.Of.{Of}
-use Rattle.gx_script.specs.declared.command.OrderBy.{OrderBy}
-use Rattle.gx_script.specs.declared.command.Change.{Change}
-use Rattle.gx_script.specs.declared.command.Command.{Command}
-use Rattle.gx_script.specs.declared.command.Command.TheVariants as command
-use Rattle.gx_script.specs.Commands.{IsOfSchema}
-use Rattle.gx_script.specs.Words.{Word, Bare, Quoted, is_character, is_comment, AreWords}
+use Rattle.gx_commands.specs.declared.command.Cond.{Cond}
+use Rattle.gx_commands.specs.declared.command.Of.{Of}
+use Rattle.gx_commands.specs.declared.command.OrderBy.{OrderBy}
+use Rattle.gx_commands.specs.declared.command.Change.{Change}
+use Rattle.gx_commands.specs.declared.command.Command.{Command}
+use Rattle.gx_commands.specs.declared.command.Command.TheVariants as command
+use Rattle.gx_commands.specs.Commands.{IsOfSchema}
+use Rattle.gx_commands.specs.Words.{Word, Bare, Quoted, is_character, is_comment, AreWords}
 use Rattle.gx_script.specs.Names.{op_text, file_number, link_number, field_number}
 
 -- A phrase is a relation between the words that are left before it and those behind it: the one, and then the other

@@ -13,20 +13,20 @@ use Rattle.gx_schema.specs.declared.schema.Schema.{Schema}
 use Rattle.gx_schema.specs.Lookups.{file_at, link_at, field_at, key_kind}
 use Rattle.gx_tokens.specs.Numbers.{signed_number}
 use Rattle.gx_tokens.specs.Quotes.{unquoted}
-use Rattle.gx_script.specs.declared.command.Cond.{Cond}
-use Rattle.gx_script.specs.declared.command.Of.{Of}
-use Rattle.gx_script.specs.declared.command.OrderBy.{OrderBy}
-use Rattle.gx_script.specs.declared.command.Change.{Change}
-use Rattle.gx_script.specs.declared.command.Command.{Command}
-use Rattle.gx_script.specs.declared.command.Command.TheVariants as command
-use Rattle.gx_script.specs.declared.command.LineWhy.{LineWhy}
-use Rattle.gx_script.specs.declared.command.LineWhy.TheVariants as why
-use Rattle.gx_script.specs.declared.command.NoCommand.{NoCommand}
-use Rattle.gx_script.specs.declared.command.NoCommand.TheVariants as no_command
+use Rattle.gx_commands.specs.declared.command.Cond.{Cond}
+use Rattle.gx_commands.specs.declared.command.Of.{Of}
+use Rattle.gx_commands.specs.declared.command.OrderBy.{OrderBy}
+use Rattle.gx_commands.specs.declared.command.Change.{Change}
+use Rattle.gx_commands.specs.declared.command.Command.{Command}
+use Rattle.gx_commands.specs.declared.command.Command.TheVariants as command
+use Rattle.gx_commands.specs.declared.command.LineWhy.{LineWhy}
+use Rattle.gx_commands.specs.declared.command.LineWhy.TheVariants as why
+use Rattle.gx_commands.specs.declared.command.NoCommand.{NoCommand}
+use Rattle.gx_commands.specs.declared.command.NoCommand.TheVariants as no_command
 use Rattle.gx_script.specs.declared.keywords.Verb.{Verb}
 use Rattle.gx_script.specs.declared.keywords.Verb.TheVariants as verb
-use Rattle.gx_script.specs.Words.{Word, Bare, Quoted, is_character, is_comment, AreWords}
-use Rattle.gx_script.specs.Cutting.{taken, is_end}
+use Rattle.gx_commands.specs.Words.{Word, Bare, Quoted, is_character, is_comment, AreWords}
+use Rattle.gx_commands.specs.Cutting.{taken, is_end}
 use Rattle.gx_script.specs.Names.{is_text, verb_of, op_of, file_number, link_number, field_number}
 
 -- the one reading, and then the other on what it left

@@ -4,7 +4,7 @@ use Rattle.gx_tokens.specs.Numbers.{is_number}
 use Rattle.gx_values.specs.declared.values.Op.{Op}
 use Rattle.gx_script.specs.declared.keywords.Verb.{Verb}
 use Rattle.gx_script.specs.declared.keywords.Verb.TheVariants as verb
-use Rattle.gx_script.specs.Words.{Word, Bare, Quoted}
+use Rattle.gx_commands.specs.Words.{Word, Bare, Quoted}
 use Rattle.gx_script.specs.Names.{verb_text, op_text}
 use Rattle.gx_script.specs.Grammar.{◌⨾◌, NoWord, the}
 

@@ -1,12 +1,11 @@
 // The words of the grammar: those that begin a command, operators, and those between the parts of a command.
 ghost use Rattle.std.specs.Prelude.{◌≡◌, option_map};
 ghost use Rattle.gx_tokens.specs.Reading.{map_ok};
-ghost use Rattle.gx_script.specs.Cutting.{words_in};
+ghost use Rattle.gx_commands.specs.Cutting.{words_in};
 ghost use Rattle.gx_script.specs.Names.{verb_of, op_of};
 ghost use Rattle.gx_script.specs.Reading.{want, behind, a_verb, an_op};
 
-use crate::command::LineWhy;
-use crate::words::{LineWord, take_word};
+use gx_commands::{LineWhy, LineWord, take_word};
 use gx_values::Op;
 
 /// What a command begins with.

@@ -3,12 +3,11 @@ ghost use Rattle.std.specs.Prelude.{◌≡◌, ◌<◌, length, IfOk, IfSome};
 ghost use Rattle.gx_tokens.specs.Reading.{map_ok};
 ghost use Rattle.gx_schema.specs.Lookups.{file_at, link_at, field_at, key_kind};
 ghost use Rattle.gx_schema.specs.WellFormed.{HasFields, IsWellFormed};
-ghost use Rattle.gx_script.specs.Cutting.{words_in};
+ghost use Rattle.gx_commands.specs.Cutting.{words_in};
 ghost use Rattle.gx_script.specs.Names.{file_number, link_number, field_number};
 ghost use Rattle.gx_script.specs.Reading.{want, a_file, a_link, a_link_to, a_field, a_new_field, a_structure, is_changed};
 
-use crate::command::{Change, Command, LineWhy};
-use crate::words::{LineWord, take_word};
+use gx_commands::{Change, Command, LineWhy, LineWord, take_word};
 use gx_schema::{FileDef, LinkDef, Schema};
 use gx_values::{Field, Kind};
 

@@ -2,17 +2,16 @@
 ghost use Rattle.std.specs.Prelude.{◌≡◌, ◌<◌, [], length, IfOk};
 ghost use Rattle.gx_tokens.specs.Reading.{map_ok};
 ghost use Rattle.gx_schema.specs.WellFormed.{HasFields, IsWellFormed};
-ghost use Rattle.gx_script.specs.Cutting.{words_in};
+ghost use Rattle.gx_commands.specs.Cutting.{words_in};
 ghost use Rattle.gx_script.specs.Reading.{Gives, record_at, owner_at, member_at, change_at, changes_at, cond_at, conds_at, where_at, owner_of_at, of_at, desc_at, order_at};
 
-use crate::command::{Change, Changes, Cond, Conds, LineWhy, NoCommand, Of, OrderBy};
 use crate::keywords::{after_keyword, read_op};
 use crate::names::{
     field_kind, file_def, member_file, owner_file, read_field, read_file, read_link, read_link_to,
     read_new_field,
 };
 use crate::values::read_value;
-use crate::words::is_end;
+use gx_commands::{Change, Changes, Cond, Conds, LineWhy, NoCommand, Of, OrderBy, is_end};
 use gx_schema::{FileDef, Schema};
 use gx_values::Value;
 use std::alloc::Global;

@@ -1,22 +1,23 @@
 // Lines and the commands that they mean.
 ghost use Rattle.std.specs.Prelude.{◌≡◌, ◌≤◌, ◌↔◌, Ok, Result, IfOk, IfErr, length};
 ghost use Rattle.gx_schema.specs.WellFormed.{IsWellFormed};
-ghost use Rattle.gx_script.specs.Cutting.{words_in};
+ghost use Rattle.gx_commands.specs.Cutting.{words_in};
 ghost use Rattle.gx_script.specs.Reading.{Gives, insert_at, update_at, connect_at, members_at, find_at, arguments_at, reading, IsReading, AnswersUnlessNoMemory};
 ghost use Rattle.gx_script.specs.Faults.{IsBad};
 ghost use Rattle.gx_script.specs.Grammar.{IsLineOf};
-ghost use Rattle.gx_script.specs.Commands.{IsOfSchema, conds_of};
-ghost use Rattle.gx_script.specs.declared.command.Command.{Command};
-ghost use Rattle.gx_script.specs.declared.command.LineWhy.{LineWhy};
+ghost use Rattle.gx_commands.specs.Commands.{IsOfSchema, conds_of};
+ghost use Rattle.gx_commands.specs.declared.command.Command.{Command};
+ghost use Rattle.gx_commands.specs.declared.command.LineWhy.{LineWhy};
 
-use crate::command::{Command, Find, LineWhy, NoCommand};
 use crate::keywords::{Verb, read_verb};
 use crate::names::{field_kind, file_def, member_file, read_file, read_structure};
 use crate::parts::{
     read_changes, read_member, read_of, read_order, read_owner, read_record, read_where,
 };
 use crate::values::{read_value, read_values};
-use crate::words::{are_characters, are_words, is_comment, is_end};
+use gx_commands::{
+    Command, Find, LineWhy, NoCommand, are_characters, are_words, is_comment, is_end,
+};
 use gx_schema::Schema;
 use std::alloc::Global;
 

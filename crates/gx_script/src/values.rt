@@ -1,10 +1,9 @@
 // Values as they are written in a line.
 ghost use Rattle.std.specs.Prelude.{◌≡◌, [], length};
-ghost use Rattle.gx_script.specs.Cutting.{word_of, words_in};
+ghost use Rattle.gx_commands.specs.Cutting.{word_of, words_in};
 ghost use Rattle.gx_script.specs.Reading.{Gives, want, a_value, values_at};
 
-use crate::command::{LineWhy, NoCommand};
-use crate::words::{LineWord, take_word};
+use gx_commands::{LineWhy, LineWord, NoCommand, take_word};
 use gx_tokens::{quoted_value, signed_number};
 use gx_values::{Field, Kind, Octets, Value, Values};
 use std::alloc::Global;

@@ -16,11 +16,11 @@ use Rattle.gx_mapping.specs.Rule.{Rule, In, IsOf, value_in, kind_in}
 use Rattle.gx_mapping.specs.Laws.{MappingLaws, IsCarrier, IsIndex}
 use Rattle.gx_stack.specs.Tree.{Tree, Kids, layer, entries_of, kid_entries, entry_total}
 use Rattle.gx_stack.specs.Internal.{IsSet, child_records}
-use Rattle.gx_stack.specs.Gather.{rec_cmp, part_for}
+use Rattle.gx_gather.specs.Gather.{rec_cmp, part_for}
 use Rattle.gx_stack.specs.Selected.{IsKeySpan, IsSelection}
 use Rattle.gx_stack.specs.Indexed.{is_value_inside, is_where, AreUnderOwnKeys}
-use Rattle.gx_stack.proofs.Lists.{in_left, in_right, in_cases, nat_cases, all_at}
-use Rattle.gx_stack.proofs.Orders.{rec_total, Ascends, ascends, not_before_itself}
+use Rattle.gx_gather.proofs.Lists.{in_left, in_right, in_cases, nat_cases, all_at}
+use Rattle.gx_gather.proofs.Orders.{rec_total, Ascends, ascends, not_before_itself}
 use Rattle.gx_stack.proofs.Children.{from_child, in_child}
 use Rattle.gx_stack.proofs.Selects.{le_longer, front_longer, last_none}
 

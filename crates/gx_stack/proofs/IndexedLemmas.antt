@@ -7,7 +7,7 @@ use Rattle.gx_stack.specs.Tree.{Kids, no_kids, kid, kid_count}
 use Rattle.gx_stack.specs.Seen.{tree_of, kids_from}
 use Rattle.gx_stack.specs.Indexed.{is_carried, is_indexed, are_indexed}
 use Rattle.std.proofs.lemmas.Bool.{true≢false}
-use Rattle.gx_stack.proofs.Lists.{nat_cases}
+use Rattle.gx_gather.proofs.Lists.{nat_cases}
 use Rattle.gx_stack.proofs.Stay.{get_or_any}
 
 module _ {M : Type 0} (rule : M → Rule) (name : List ℕ) where

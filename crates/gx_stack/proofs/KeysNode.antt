@@ -22,11 +22,11 @@ use Rattle.gx_stack.specs.declared.node.LayerNode.{LayerNode}
 use Rattle.gx_stack.specs.Tree.{Tree, Kids, layer, leaves_of, kids_leaves, tree_form, entries_of, entry_total, IsValid}
 use Rattle.gx_stack.specs.Seen.{tree_of, kids_from}
 use Rattle.gx_stack.specs.Internal.{IsSet, IsInternal, HasSet, child_records}
-use Rattle.gx_stack.specs.Gather.{rec_cmp}
+use Rattle.gx_gather.specs.Gather.{rec_cmp}
 use Rattle.gx_stack.specs.Selected.{IsKeySpan, IsSelection}
 use Rattle.gx_stack.specs.Indexed.{is_carried, are_indexed, is_indexed, is_where, AreKeysOf, AreKeysFound}
-use Rattle.gx_stack.proofs.Lists.{in_cases, from_map}
-use Rattle.gx_stack.proofs.Orders.{ascends}
+use Rattle.gx_gather.proofs.Lists.{in_cases, from_map}
+use Rattle.gx_gather.proofs.Orders.{ascends}
 use Rattle.gx_stack.proofs.Seen.{seen_layer, layer_form, child_there, child_valid, child_internal, kid_entries_at, count_kids}
 use Rattle.gx_stack.proofs.Children.{child_set}
 use Rattle.gx_stack.proofs.Selects.{leaves_below, leaves_below_more, leaves_below_all}

@@ -16,12 +16,12 @@ use Rattle.gx_mapping.specs.declared.parts.Part.{Part}
 use Rattle.gx_mapping.specs.Rule.{Rule, In, IsOf, data_parts, part_cmp}
 use Rattle.gx_mapping.specs.Laws.{MappingLaws}
 use Rattle.gx_stack.specs.Internal.{IsSet, parts_for, child_records}
-use Rattle.gx_stack.specs.Gather.{rec_cmp, gather_cmp, part_for, AreMade}
+use Rattle.gx_gather.specs.Gather.{rec_cmp, gather_cmp, part_for, AreMade}
 use Rattle.gx_stack.specs.Held.{other_parts, AreMadeWith, AreJoined}
-use Rattle.gx_stack.proofs.Lists.{in_left, in_right, in_cases, in_each, from_each, in_map, from_map, in_filter, filter_in, all_at, all_of, nat_cases, bool_cases}
-use Rattle.gx_stack.proofs.Orders.{Ascends, ascends, sorted, ascends_append, ascends_filter, ascends_unique, ascends_once, child_ascends, nat_less, part_total, gather_total, gather_ties, rises, rises_ascends, ascends_by, not_before_itself, rec_total}
+use Rattle.gx_gather.proofs.Lists.{in_left, in_right, in_cases, in_each, from_each, in_map, from_map, in_filter, filter_in, all_at, all_of, nat_cases, bool_cases}
+use Rattle.gx_gather.proofs.Orders.{Ascends, ascends, sorted, ascends_append, ascends_filter, ascends_unique, ascends_once, child_ascends, nat_less, part_total, gather_total, gather_ties, rises, rises_ascends, ascends_by, not_before_itself, rec_total}
 use Rattle.gx_stack.proofs.Children.{in_parts_for, from_parts_for, from_child, in_child, child_set}
-use Rattle.gx_stack.proofs.Made.{permuted_in, permuted_back}
+use Rattle.gx_gather.proofs.Made.{permuted_in, permuted_back}
 use Rattle.gx_stack.proofs.Selects.{AreParts, made_sound, made_complete, all_made}
 
 -- ---- children read so far: child d holds the records of the parts for it

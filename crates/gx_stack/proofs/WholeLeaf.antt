@@ -18,11 +18,11 @@ use Rattle.gx_mapping.specs.Rule.{In, IsOf}
 use Rattle.gx_stack.specs.Tree.{IsLeafForm, leaf_body}
 use Rattle.gx_stack.specs.Internal.{IsSet, IsLeafMap}
 use Rattle.gx_stack.specs.Read.{entry_of_rec}
-use Rattle.gx_stack.specs.Gather.{rec_cmp}
+use Rattle.gx_gather.specs.Gather.{rec_cmp}
 use Rattle.gx_stack.specs.Held.{is_same_part}
 use Rattle.std.specs.List.Sorted.{IsStrictlySortedBy}
-use Rattle.gx_stack.proofs.Lists.{in_map, from_map, in_filter, filter_in, some_same}
-use Rattle.gx_stack.proofs.Orders.{values_same, values_itself}
+use Rattle.gx_gather.proofs.Lists.{in_map, from_map, in_filter, filter_in, some_same}
+use Rattle.gx_gather.proofs.Orders.{values_same, values_itself}
 use Rattle.gx_stack.proofs.LeafRead.{entry_get, get_entry, same_rec, leaf_selection}
 
 -- ---- parts

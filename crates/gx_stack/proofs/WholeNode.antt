@@ -14,12 +14,12 @@ use Rattle.gx_stack.specs.declared.node.LeafNode.{LeafNode}
 use Rattle.gx_stack.specs.Tree.{Tree, tree_form, IsValid}
 use Rattle.gx_stack.specs.Seen.{tree_of, kids_from}
 use Rattle.gx_stack.specs.Internal.{IsSet, IsInternal, AreInternal, HasSet, child_records}
-use Rattle.gx_stack.specs.Gather.{rec_cmp, part_for}
+use Rattle.gx_gather.specs.Gather.{rec_cmp, part_for}
 use Rattle.gx_stack.specs.Held.{AreHeld, IsHeld, IsLeafHeld, AreMadeWith, AreJoined}
 use Rattle.gx_stack.proofs.Seen.{seen_layer, seen_leaf, layer_form, count_kids, child_there, child_valid, child_internal}
 use Rattle.gx_stack.proofs.Stay.{get_or_any}
-use Rattle.gx_stack.proofs.Lists.{in_cases, from_map}
-use Rattle.gx_stack.proofs.Orders.{ascends, ascends_once}
+use Rattle.gx_gather.proofs.Lists.{in_cases, from_map}
+use Rattle.gx_gather.proofs.Orders.{ascends, ascends_once}
 use Rattle.gx_stack.proofs.Same.{internal_of_members}
 use Rattle.gx_stack.proofs.Told.{internal_told}
 use Rattle.gx_stack.proofs.WholeLayer.{AreRead, IsByMembers, Tells, all_held, none_joined}

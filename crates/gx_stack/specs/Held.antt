@@ -11,7 +11,7 @@ use Rattle.gx_mapping.specs.declared.parts.Part.{Part}
 use Rattle.gx_mapping.specs.Rule.{Rule, In, IsOf, part_cmp}
 use Rattle.gx_stack.specs.Tree.{Tree, tree_form}
 use Rattle.gx_stack.specs.Internal.{IsLeafMap, IsInternal, HasLeafSet, HasSet}
-use Rattle.gx_stack.specs.Gather.{rec_cmp, gather_cmp, AreMade, IsUnmade}
+use Rattle.gx_gather.specs.Gather.{rec_cmp, gather_cmp, AreMade, IsUnmade}
 
 -- ---- trees
 

@@ -13,7 +13,7 @@ ghost use Rattle.gx_stack.specs.Indexed.{is_indexed, AreKeysFound};
 
 use crate::keys::Keys;
 use crate::node::Node;
-use crate::recs::Recs;
+use gx_gather::Recs;
 use gx_mapping::Mapping;
 use gx_ports::{Leaves, Stop};
 use gx_values::{Name, Span};

@@ -8,13 +8,11 @@ ghost use Rattle.gx_ports.specs.Calls.{Reads, Ends};
 ghost use Rattle.gx_mapping.specs.declared.parts.Part.{Part as ThePart};
 ghost use Rattle.gx_mapping.specs.Rule.{In, IsOf};
 ghost use Rattle.gx_stack.specs.Tree.{IsLeafForm};
-ghost use Rattle.gx_stack.specs.Gather.{AreDataParts};
+ghost use Rattle.gx_gather.specs.Gather.{AreDataParts};
 ghost use Rattle.gx_stack.specs.Held.{IsLeafHeld, other_parts, is_same_part, AreJoined};
 
-use crate::gather::gather_parts;
-use crate::order::{is_same_values, sort_parts};
 use crate::read::read_records;
-use crate::recs::Recs;
+use gx_gather::{Recs, gather_parts, is_same_values, sort_parts};
 use gx_mapping::{Mapping, Part, Parts};
 use gx_ports::{Entries, Leaves, Stop};
 use gx_values::{Form, KeyBuf, NoMemory, Span};

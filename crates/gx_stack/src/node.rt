@@ -11,9 +11,8 @@ ghost use Rattle.gx_stack.specs.Internal.{IsSet, IsInternal, IsUnion, IsChange, 
 ghost use Rattle.gx_stack.specs.Selected.{IsKeySpan, IsFound};
 
 use crate::entries::{LeafEntry, leaf_entry, put_new, remove_others};
-use crate::gather::{add_parts, gather_parts};
 use crate::read::select_leaf;
-use crate::recs::Recs;
+use gx_gather::{Recs, add_parts, gather_parts};
 use gx_mapping::{Mapping, Parts};
 use gx_ports::{Leaves, Stop};
 use gx_values::{Form, NoMemory, Rec, Span};

@@ -9,13 +9,10 @@ ghost use Rattle.gx_stack.specs.Tree.{IsLeafForm};
 ghost use Rattle.gx_stack.specs.Internal.{HasLeafSet};
 ghost use Rattle.gx_stack.specs.Read.{leaf_most, IsDataOf, IsRecordOf, AreRecords, IsLeafFound, entry_of_rec};
 
-use crate::recs::Recs;
+use gx_gather::{NO_BLOCK, Recs};
 use gx_ports::{Entries, Leaves, Stop};
 use gx_values::{Fields, Form, Kind, NoMemory, Octets, Rec, Span, Value, Values, read_key};
 use std::alloc::Global;
-
-// Records see no blocks: damage that they show is said of block 0.
-pub const NO_BLOCK: u32 = 0;
 
 // Appends the records of one leaf whose keys are inside the span, in the order of the keys.
 pub fn select_leaf<B: Leaves>(

@@ -10,10 +10,9 @@ ghost use Rattle.gx_stack.specs.Seen.{tree_of};
 ghost use Rattle.gx_stack.specs.Internal.{HasSet};
 ghost use Rattle.gx_stack.specs.Held.{IsHeld};
 
-use crate::gather::add_parts;
 use crate::held::{held_leaf, join_parts};
 use crate::node::Node;
-use crate::recs::Recs;
+use gx_gather::{Recs, add_parts};
 use gx_mapping::{Mapping, Parts};
 use gx_ports::{Leaves, Stop};
 use std::alloc::Global;

@@ -10,8 +10,8 @@ use Rattle.gx_tokens.specs.Reading.{with_line}
 use Rattle.gx_schema.specs.declared.schema.Schema.{Schema}
 use Rattle.gx_schema.specs.Printing.{schema_text}
 use Rattle.gx_schema.proofs.SchemaLaws.{schema_again, one_schema}
-use Rattle.gx_script.specs.declared.command.LineWhy.{LineWhy}
-use Rattle.gx_script.specs.Lines.{script_lines}
+use Rattle.gx_commands.specs.declared.command.LineWhy.{LineWhy}
+use Rattle.gx_commands.specs.Lines.{script_lines}
 use Rattle.gx_equation.specs.Grammar.{Means}
 use Rattle.gx_equation.specs.Printing.{equation_text}
 use Rattle.gx_equation.specs.Trees.{DefinitionTree}
@@ -25,25 +25,27 @@ use Rattle.gx_model.specs.Play.{Playing, End, good, stopped, start_at}
 use Rattle.gx_model.proofs.RunLemmas.{play_once}
 use Rattle.gx_layout.specs.Head.{HasMagic}
 use Rattle.gx_store.specs.Device.{IsSize, HasTexts}
-use Rattle.gx_top.specs.declared.ending.DeviceWhy.{DeviceWhy}
-use Rattle.gx_top.specs.declared.ending.DeviceWhy.TheVariants as device_why
-use Rattle.gx_top.specs.declared.ending.Ending.{Ending}
-use Rattle.gx_top.specs.declared.ending.Ending.TheVariants as ending
-use Rattle.gx_top.specs.declared.status.Status.{Status}
-use Rattle.gx_top.specs.declared.status.Status.TheVariants as status
-use Rattle.gx_top.specs.Built.{text_length}
-use Rattle.gx_top.specs.Endings.{status_of, IsOutside}
-use Rattle.gx_top.specs.Requests.{IsText, IsThere, IsTooLong, IsNamed, IsAsked, AreRead, AreAccepted, AreUnaccepted, IsAccepted, is_carried, IsReady, IsRefused, IsUnprepared, equation_of, text_limit}
-use Rattle.gx_top.specs.Played.{IsPlay, IsPlayText, IsStoppedText}
+use Rattle.gx_play.specs.declared.ending.DeviceWhy.{DeviceWhy}
+use Rattle.gx_play.specs.declared.ending.DeviceWhy.TheVariants as device_why
+use Rattle.gx_play.specs.declared.ending.Ending.{Ending}
+use Rattle.gx_play.specs.declared.ending.Ending.TheVariants as ending
+use Rattle.gx_play.specs.declared.status.Status.{Status}
+use Rattle.gx_play.specs.declared.status.Status.TheVariants as status
+use Rattle.gx_requests.specs.Built.{text_length}
+use Rattle.gx_play.specs.Endings.{status_of, IsOutside}
+use Rattle.gx_requests.specs.Requests.{IsText, IsThere, IsTooLong, IsNamed, IsAsked, AreRead, AreAccepted, AreUnaccepted, IsAccepted, is_carried, IsReady, IsRefused, IsUnprepared, equation_of, text_limit}
+use Rattle.gx_play.specs.Played.{IsPlay, IsPlayText, IsStoppedText}
 use Rattle.gx_top.specs.Tasks.{Task, IsTask, IsToPlay, IsHeldOn, IsStart, IsFrom}
 use Rattle.gx_top.specs.Devices.{IsToMake, IsWrongOn, IsWrong, IsBefore}
 use Rattle.gx_top.specs.Tries.{IsCheckable}
-use Rattle.gx_top.specs.Words.{Action, checking, trying, making, running, request_words}
+use Rattle.gx_top.specs.Explained.{IsToExplain}
+use Rattle.gx_requests.specs.Words.{Action, checking, trying, explaining, making, running, request_words}
 
 -- the words of one request are those of no other
 action_once : (a b : Action) (s t e f : List ℕ) → request_words a s e ≡ request_words b t f → a ≡ b
 action_once checking checking s t e f same = refl
 action_once trying trying s t e f same = refl
+action_once explaining explaining s t e f same = refl
 action_once (making d n) (making c m) s t e f same = λ i. making (get_or (same i) 3 []) (get_or (same i) 4 [])
 action_once (running d) (running c) s t e f same = λ i. running (get_or (same i) 3 [])
 action_once checking trying s t e f same = absurd (never (ap (λ (ws : List (List ℕ)). get_or ws 0 []) same))
@@ -54,15 +56,35 @@ action_once trying checking s t e f same = absurd (never (ap (λ (ws : List (Lis
   where
     never : codes "try" ≡ codes "check" → ⊥
     never g = cc
+action_once checking explaining s t e f same = absurd (never (ap (λ (ws : List (List ℕ)). get_or ws 0 []) same))
+  where
+    never : codes "check" ≡ codes "explain" → ⊥
+    never g = cc
+action_once explaining checking s t e f same = absurd (never (ap (λ (ws : List (List ℕ)). get_or ws 0 []) same))
+  where
+    never : codes "explain" ≡ codes "check" → ⊥
+    never g = cc
+action_once trying explaining s t e f same = absurd (never (ap (λ (ws : List (List ℕ)). get_or ws 0 []) same))
+  where
+    never : codes "try" ≡ codes "explain" → ⊥
+    never g = cc
+action_once explaining trying s t e f same = absurd (never (ap (λ (ws : List (List ℕ)). get_or ws 0 []) same))
+  where
+    never : codes "explain" ≡ codes "try" → ⊥
+    never g = cc
 action_once checking (making c m) s t e f same = absurd (let many : 3 ≡ 5 = ap (λ (ws : List (List ℕ)). length ws) same in omega (arith, many))
 action_once checking (running c) s t e f same = absurd (let many : 3 ≡ 4 = ap (λ (ws : List (List ℕ)). length ws) same in omega (arith, many))
 action_once trying (making c m) s t e f same = absurd (let many : 3 ≡ 5 = ap (λ (ws : List (List ℕ)). length ws) same in omega (arith, many))
 action_once trying (running c) s t e f same = absurd (let many : 3 ≡ 4 = ap (λ (ws : List (List ℕ)). length ws) same in omega (arith, many))
+action_once explaining (making c m) s t e f same = absurd (let many : 3 ≡ 5 = ap (λ (ws : List (List ℕ)). length ws) same in omega (arith, many))
+action_once explaining (running c) s t e f same = absurd (let many : 3 ≡ 4 = ap (λ (ws : List (List ℕ)). length ws) same in omega (arith, many))
 action_once (making d n) checking s t e f same = absurd (let many : 5 ≡ 3 = ap (λ (ws : List (List ℕ)). length ws) same in omega (arith, many))
 action_once (making d n) trying s t e f same = absurd (let many : 5 ≡ 3 = ap (λ (ws : List (List ℕ)). length ws) same in omega (arith, many))
+action_once (making d n) explaining s t e f same = absurd (let many : 5 ≡ 3 = ap (λ (ws : List (List ℕ)). length ws) same in omega (arith, many))
 action_once (making d n) (running c) s t e f same = absurd (let many : 5 ≡ 4 = ap (λ (ws : List (List ℕ)). length ws) same in omega (arith, many))
 action_once (running d) checking s t e f same = absurd (let many : 4 ≡ 3 = ap (λ (ws : List (List ℕ)). length ws) same in omega (arith, many))
 action_once (running d) trying s t e f same = absurd (let many : 4 ≡ 3 = ap (λ (ws : List (List ℕ)). length ws) same in omega (arith, many))
+action_once (running d) explaining s t e f same = absurd (let many : 4 ≡ 3 = ap (λ (ws : List (List ℕ)). length ws) same in omega (arith, many))
 action_once (running d) (making c m) s t e f same = absurd (let many : 4 ≡ 5 = ap (λ (ws : List (List ℕ)). length ws) same in omega (arith, many))
 
 pub record SameWords (a b : Action) (s t e f : List ℕ) : Type 0 where
@@ -284,6 +306,27 @@ wrong_not_refused words before wrong why (inr make) r = ready_not_refused words 
 pub checked_not_wrong : (words : List (List ℕ)) (before : Content) (wrong : DeviceWhy) → IsCheckable words before → IsWrong words before wrong → ⊥
 checked_not_wrong words before wrong x (inl run) = checked_no_task words before run.task run.is x
 checked_not_wrong words before wrong x (inr make) = checked_not_made words before make.0 x make.1
+
+-- ---- a request to explain is no other
+
+pub task_not_explained : (words : List (List ℕ)) (texts : Texts) (t : Task) → IsTask words texts t → IsToExplain words texts → ⊥
+task_not_explained words texts t x y = to_play words texts t explaining y.schema y.definitions y.typing x y.ready.0
+
+checking_not_explaining : checking ≡ explaining → ⊥
+checking_not_explaining e = cc
+
+pub checked_not_explained : (words : List (List ℕ)) (before : Content) → IsCheckable words before → IsToExplain words before.aside.texts → ⊥
+checked_not_explained words before x y = checking_not_explaining (one_acceptance words before.aside.texts checking explaining x.0 y.schema x.1 y.definitions x.2 y.typing x.3 y.ready.0).actions
+
+making_not_explaining : (device digits : List ℕ) → making device digits ≡ explaining → ⊥
+making_not_explaining device digits e = cc
+
+pub made_not_explained : (words : List (List ℕ)) (texts : Texts) (blocks : ℕ) → IsToMake words texts blocks → IsToExplain words texts → ⊥
+made_not_explained words texts blocks x y = making_not_explaining x.device x.digits (one_acceptance words texts (making x.device x.digits) explaining x.schema y.schema x.definitions y.definitions x.typing y.typing x.ready.0 y.ready.0).actions
+
+pub wrong_not_explained : (words : List (List ℕ)) (before : Content) (wrong : DeviceWhy) → IsWrong words before wrong → IsToExplain words before.aside.texts → ⊥
+wrong_not_explained words before wrong (inl run) y = task_not_explained words before.aside.texts run.task run.is y
+wrong_not_explained words before wrong (inr make) y = made_not_explained words before.aside.texts make.0 make.1 y
 
 -- ---- a device that holds a state isn't wrong
 

@@ -5,31 +5,32 @@ use Rattle.std.proofs.lemmas.List.{append-nil}
 use Rattle.gx_device.specs.Content.{Content}
 use Rattle.gx_device.specs.Faults.{Rose}
 use Rattle.gx_ports.specs.LeafMaps.{Limits}
-use Rattle.gx_script.specs.declared.command.LineWhy.{LineWhy}
+use Rattle.gx_commands.specs.declared.command.LineWhy.{LineWhy}
 use Rattle.gx_types.specs.declared.built.Built.{Built}
 use Rattle.gx_types.specs.Build.{AreTreesOfFiles}
 use Rattle.gx_layout.specs.Layout.{pages_of}
 use Rattle.gx_model.specs.States.{State}
 use Rattle.gx_model.specs.Play.{good, stopped}
-use Rattle.gx_top.specs.declared.ending.DeviceWhy.{DeviceWhy}
-use Rattle.gx_top.specs.declared.ending.DeviceWhy.TheVariants as device_why
-use Rattle.gx_top.specs.declared.ending.Ending.{Ending}
-use Rattle.gx_top.specs.declared.ending.Ending.TheVariants as ending
-use Rattle.gx_top.specs.declared.status.Status.{Status}
-use Rattle.gx_top.specs.declared.status.Status.TheVariants as status
-use Rattle.gx_top.specs.declared.summary.Summary.{Summary}
-use Rattle.gx_top.specs.Endings.{line_of, status_of, memory_line, device_line, made_line, IsOutside, IsPlayEnding, IsEnded, IsFinished}
-use Rattle.gx_top.specs.Requests.{IsRefused, IsSummary, IsUnprepared}
-use Rattle.gx_top.specs.Say.{IsCut}
-use Rattle.gx_top.specs.Played.{Says, SaysFront, SaysKeeping, IsPlayText, IsStoppedText, IsShortText, IsFullText, IsPlayedText}
-use Rattle.gx_top.specs.Plays.{IsPlayedAs}
+use Rattle.gx_play.specs.declared.ending.DeviceWhy.{DeviceWhy}
+use Rattle.gx_play.specs.declared.ending.DeviceWhy.TheVariants as device_why
+use Rattle.gx_play.specs.declared.ending.Ending.{Ending}
+use Rattle.gx_play.specs.declared.ending.Ending.TheVariants as ending
+use Rattle.gx_play.specs.declared.status.Status.{Status}
+use Rattle.gx_play.specs.declared.status.Status.TheVariants as status
+use Rattle.gx_play.specs.declared.summary.Summary.{Summary}
+use Rattle.gx_play.specs.Endings.{status_of, memory_line, device_line, made_line, IsOutside, IsPlayEnding, IsEnded, IsFinished}
+use Rattle.gx_requests.specs.Requests.{IsRefused, IsSummary, IsUnprepared}
+use Rattle.gx_play.specs.Say.{IsCut}
+use Rattle.gx_play.specs.Played.{Says, SaysFront, SaysKeeping, IsPlayText, IsStoppedText, IsShortText, IsFullText, IsPlayedText}
+use Rattle.gx_play.specs.Plays.{IsPlayedAs}
 use Rattle.gx_top.specs.Tasks.{Task, IsTask, IsFrom, IsLeft}
 use Rattle.gx_top.specs.Devices.{IsToMake, IsWrong, IsBefore, SaysWrong}
 use Rattle.gx_top.specs.Tries.{IsDoneText, IsOtherText, CanPlayTo, IsSaid, IsEnd, IsDueStatus, IsAsDue}
-use Rattle.gx_top.specs.Words.{making}
+use Rattle.gx_requests.specs.Words.{explaining, making}
+use Rattle.gx_top.specs.Explained.{IsToExplain}
 use Rattle.gx_top.proofs.TryLemmas.{refused_says, memory_says, unprepared_front, check_done, check_front}
 use Rattle.gx_top.proofs.RowLemmas.{done_row, stopped_row, short_row, full_row, front_row}
-use Rattle.gx_top.proofs.CompleteLemmas.{refused_status, unprepared_memory, unprepared_refuses, ready_not_refused, checkable_not_refused, wrong_not_refused, checked_no_task, checked_not_made, checked_not_wrong, made_no_task, start_not_wrong, one_task, not_stopped, not_good, said_complete}
+use Rattle.gx_top.proofs.CompleteLemmas.{refused_status, unprepared_memory, unprepared_refuses, ready_not_refused, checkable_not_refused, wrong_not_refused, checked_no_task, checked_not_made, checked_not_wrong, made_no_task, task_not_explained, checked_not_explained, made_not_explained, start_not_wrong, one_task, not_stopped, not_good, said_complete}
 
 done_not_outside : (s : Status) → s ≡ status.Done → s ≢ status.Outside
 done_not_outside s is e = never (sym is ∙ e)
@@ -139,7 +140,8 @@ pub unprepared_end : (words : List (List ℕ)) (old mid new : Content) (before n
 unprepared_end words old mid new before now why s is unsaid unheard e = record {
   said = unprepared_said words old mid new before now why s is unsaid e;
   heard = λ done t task limit start from. absurd (not_done (status_of why) (unplayed words old before now why is) (sym done ∙ e.status_is (done_not_outside s done) (done_not_memory s done)));
-  unheard = λ none. e.script ∙ unheard;
+  heard_explained = λ done r. absurd (not_done (status_of why) (unplayed words old before now why is) (sym done ∙ e.status_is (done_not_outside s done) (done_not_memory s done)));
+  unheard = λ none other. e.script ∙ unheard;
 }
 
 pub unprepared_due : (words : List (List ℕ)) (old mid new : Content) (before now : ℕ) (why : Ending) (s : Status) → IsUnprepared words old.aside.texts before now why → IsEnded why mid new s → IsAsDue words old s
@@ -152,8 +154,10 @@ unprepared_due words old mid new before now why s is e due can outside = by_due 
     by_due : (due : Status) → IsDueStatus words old due → (s ≡ due) ⊎ (s ≡ status.Memory)
     by_due status.Done (inl (t, task, play)) = inr (memory (ready_not_refused words old.aside.texts t.action t.schema t.definitions t.typing why task.ready))
     by_due status.Done (inr (inl checkable)) = inr (memory (checkable_not_refused words old why checkable))
-    by_due status.Done (inr (inr can)) = inr (memory (ready_not_refused words old.aside.texts (making can.request.device can.request.digits) can.request.schema can.request.definitions can.request.typing why can.request.ready))
-    by_due status.Script (number, reason, (t, task, play)) = inr (memory (ready_not_refused words old.aside.texts t.action t.schema t.definitions t.typing why task.ready))
+    by_due status.Done (inr (inr (inr (r, text, ends)))) = inr (memory (ready_not_refused words old.aside.texts explaining r.schema r.definitions r.typing why r.ready))
+    by_due status.Done (inr (inr (inl can))) = inr (memory (ready_not_refused words old.aside.texts (making can.request.device can.request.digits) can.request.schema can.request.definitions can.request.typing why can.request.ready))
+    by_due status.Script (number, reason, inr (r, text, ends)) = inr (memory (ready_not_refused words old.aside.texts explaining r.schema r.definitions r.typing why r.ready))
+    by_due status.Script (number, reason, inl (t, task, play)) = inr (memory (ready_not_refused words old.aside.texts t.action t.schema t.definitions t.typing why task.ready))
     by_due status.Device wrong = inr (memory (wrong_not_refused words old wrong.why why wrong.wrong))
     by_due status.Refused refused = unprepared_refuses words old.aside.texts before now why s is e.status_is e.fault outside
     by_due status.Memory due = absurd due
@@ -187,7 +191,8 @@ pub check_end : (words : List (List ℕ)) (old mid new : Content) (summary : Sum
 check_end words old mid new summary s is unsaid unheard e = record {
   said = check_said words old mid new summary s is unsaid e;
   heard = λ done t task limit start from. absurd (checked_no_task words old t task (is.0, is.1, is.2, is.3));
-  unheard = λ none. e.script ∙ unheard;
+  heard_explained = λ done r. absurd (checked_not_explained words old (is.0, is.1, is.2, is.3) r);
+  unheard = λ none other. e.script ∙ unheard;
 }
 
 pub check_due : (words : List (List ℕ)) (old mid new : Content) (summary : Summary) (s : Status) → IsSummary words old.aside.texts summary → IsEnded (ending.Accepted summary) mid new s → IsAsDue words old s
@@ -196,8 +201,10 @@ check_due words old mid new summary s is e due can outside = by_due due can
     by_due : (due : Status) → IsDueStatus words old due → (s ≡ due) ⊎ (s ≡ status.Memory)
     by_due status.Done (inl (t, task, play)) = absurd (checked_no_task words old t task (is.0, is.1, is.2, is.3))
     by_due status.Done (inr (inl checkable)) = said_complete s e.status_is outside
-    by_due status.Done (inr (inr can)) = absurd (checked_not_made words old can.blocks (is.0, is.1, is.2, is.3) can.request)
-    by_due status.Script (number, reason, (t, task, play)) = absurd (checked_no_task words old t task (is.0, is.1, is.2, is.3))
+    by_due status.Done (inr (inr (inr (r, text, ends)))) = absurd (checked_not_explained words old (is.0, is.1, is.2, is.3) r)
+    by_due status.Done (inr (inr (inl can))) = absurd (checked_not_made words old can.blocks (is.0, is.1, is.2, is.3) can.request)
+    by_due status.Script (number, reason, inr (r, text, ends)) = absurd (checked_not_explained words old (is.0, is.1, is.2, is.3) r)
+    by_due status.Script (number, reason, inl (t, task, play)) = absurd (checked_no_task words old t task (is.0, is.1, is.2, is.3))
     by_due status.Device wrong = absurd (checked_not_wrong words old wrong.why (is.0, is.1, is.2, is.3) wrong.wrong)
     by_due status.Refused refused = absurd (checkable_not_refused words old refused.0 (is.0, is.1, is.2, is.3) refused.1)
     by_due status.Memory due = absurd due
@@ -335,11 +342,20 @@ unhad_undone words old mid new why t is task =
     (λ e. done_memory (e.status_is (λ f. cc) (λ f. cc)))
     (λ e. done_outside (e.status_is (λ f. cc) (λ f. cc)))
 
+unhad_unexplained : (words : List (List ℕ)) (old mid new : Content) (why : Ending) → IsUnhad words old why → IsToExplain words old.aside.texts → IsEnded why mid new status.Done → ⊥
+unhad_unexplained words old mid new why is r =
+    by_unhad words old (λ w. IsEnded w mid new status.Done → ⊥) why is
+    (λ blocks pages make pages_are e. made_not_explained words old.aside.texts blocks make r)
+    (λ wrong device early e. no_done (e.status_is (λ f. cc) (λ f. cc)))
+    (λ e. done_memory (e.status_is (λ f. cc) (λ f. cc)))
+    (λ e. done_outside (e.status_is (λ f. cc) (λ f. cc)))
+
 pub unhad_end : (words : List (List ℕ)) (old mid new : Content) (why : Ending) (s : Status) → IsUnhad words old why → mid.now.said ≡ old.now.said → mid.script ≡ old.script → IsEnded why mid new s → IsEnd words old new s
 unhad_end words old mid new why s is unsaid unheard e = record {
   said = unhad_said words old mid new why s is unsaid e;
+  heard_explained = λ done r. absurd (unhad_unexplained words old mid new why is r (subst (IsEnded why mid new) done e));
   heard = λ done t task limit start from. absurd (unhad_undone words old mid new why t is task (subst (IsEnded why mid new) done e));
-  unheard = λ none. e.script ∙ unheard;
+  unheard = λ none other. e.script ∙ unheard;
 }
 
 -- of a script that was to be played, where its device wasn't had, there was no memory for its line, or the device is wrong
@@ -383,8 +399,10 @@ unhad_due words old mid new why s t is task e due can outside = by_due due can (
     by_due : (due : Status) → IsDueStatus words old due → ((s ≡ status.Memory) ⊎ ((s ≡ status.Device) ⊎ (s ≡ status.Memory)) × ((wrong : DeviceWhy) × IsWrong words old wrong × IsBefore wrong)) → (s ≡ due) ⊎ (s ≡ status.Memory)
     by_due status.Done (inl (u, other, play)) had = inr (playable u play.limit play.start other play.from had)
     by_due status.Done (inr (inl checkable)) had = absurd (checked_no_task words old t task checkable)
-    by_due status.Done (inr (inr can)) had = absurd (made_no_task words old.aside.texts t can.blocks task can.request)
-    by_due status.Script (number, reason, (u, other, play)) had = inr (playable u play.limit play.start other play.from had)
+    by_due status.Done (inr (inr (inr (r, text, ends)))) had = absurd (task_not_explained words old.aside.texts t task r)
+    by_due status.Done (inr (inr (inl can))) had = absurd (made_no_task words old.aside.texts t can.blocks task can.request)
+    by_due status.Script (number, reason, inr (r, text, ends)) had = absurd (task_not_explained words old.aside.texts t task r)
+    by_due status.Script (number, reason, inl (u, other, play)) had = inr (playable u play.limit play.start other play.from had)
     by_due status.Device wrong had = as_device had
     by_due status.Refused refused had = absurd (ready_not_refused words old.aside.texts t.action t.schema t.definitions t.typing refused.0 task.ready refused.1)
     by_due status.Memory due had = absurd due
@@ -533,11 +551,11 @@ run_unrefused words t old mid new (Ok x) r = never r.finished.0
 run_unrefused words t old mid new (Err why) r = subst IsStopStatus (sym (r.finished.status_is (λ f. cc) (λ f. cc))) (stop_status why r.play_ending)
 
 run_said : (words : List (List ℕ)) (t : Task) (old mid new : Content) (played : Result (Unit {0}) Ending) (s : Status) → IsRun words t old mid new played s → IsSaid words old new s
-run_said words t old mid new played status.Done r = inr (t, r.task, run_row words t old mid new played status.Done r)
-run_said words t old mid new played status.Script r = (t, r.task, run_row words t old mid new played status.Script r)
-run_said words t old mid new played status.Memory r = inr (t, r.task, run_row words t old mid new played status.Memory r)
+run_said words t old mid new played status.Done r = inr (inl (t, r.task, run_row words t old mid new played status.Done r))
+run_said words t old mid new played status.Script r = inl (t, r.task, run_row words t old mid new played status.Script r)
+run_said words t old mid new played status.Memory r = inr (inl (t, r.task, run_row words t old mid new played status.Memory r))
 run_said words t old mid new played status.Full r = (t, r.task, run_row words t old mid new played status.Full r)
-run_said words t old mid new played status.Outside r = inr (t, r.task, run_row words t old mid new played status.Outside r)
+run_said words t old mid new played status.Outside r = inr (inl (t, r.task, run_row words t old mid new played status.Outside r))
 run_said words t old mid new played status.Device r = run_device words t old mid new played r
 run_said words t old mid new played status.Refused r = absurd (run_unrefused words t old mid new played r)
 
@@ -549,7 +567,8 @@ pub run_end : (words : List (List ℕ)) (t : Task) (old mid new : Content) (play
 run_end words t old mid new played s r = record {
   said = run_said words t old mid new played s r;
   heard = λ done u other limit start from. run_heard words t old mid new played s r done limit start (subst (λ v. IsFrom v old limit start) (one_task words old.aside.texts u t other r.task) from);
-  unheard = λ none. absurd (none t r.task);
+  heard_explained = λ done q. absurd (task_not_explained words old.aside.texts t r.task q);
+  unheard = λ none other. absurd (none t r.task);
 }
 
 -- ---- the status that is due
@@ -580,8 +599,10 @@ run_due words t old mid new played s r due can outside = by_due due can
         let here = subst (λ (v : Task). CanPlayTo v old good) (one_task words old.aside.texts u t other r.task) play in
         good_status t old new s here (run_row words t old mid new played s r here.limit here.start here.from) outside
     by_due status.Done (inr (inl checkable)) = absurd (checked_no_task words old t r.task checkable)
-    by_due status.Done (inr (inr make)) = absurd (made_no_task words old.aside.texts t make.blocks r.task make.request)
-    by_due status.Script (number, reason, (u, other, play)) =
+    by_due status.Done (inr (inr (inr (q, text, ends)))) = absurd (task_not_explained words old.aside.texts t r.task q)
+    by_due status.Done (inr (inr (inl make))) = absurd (made_no_task words old.aside.texts t make.blocks r.task make.request)
+    by_due status.Script (number, reason, inr (q, text, ends)) = absurd (task_not_explained words old.aside.texts t r.task q)
+    by_due status.Script (number, reason, inl (u, other, play)) =
         let here = subst (λ (v : Task). CanPlayTo v old (stopped number reason)) (one_task words old.aside.texts u t other r.task) play in
         line_status t old new number reason s here (run_row words t old mid new played s r here.limit here.start here.from) outside
     by_due status.Device wrong = absurd (r.right wrong.why wrong.is_before wrong.wrong)

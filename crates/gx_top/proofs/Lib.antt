@@ -1,11 +1,5 @@
-mod WordLemmas
-mod SayLemmas
-mod LineLemmas
-mod RequestLemmas
-mod PlayLemmas
 mod TryLemmas
 mod RowLemmas
-mod HoldingLemmas
 mod StoredLemmas
 mod CompleteLemmas
 mod OnceLemmas
@@ -14,3 +8,8 @@ mod TaskLemmas
 mod StoreLemmas
 mod MakeLemmas
 mod RanLemmas
+mod IndexedLaws
+mod ExplainLemmas
+mod ExplainOnceLemmas
+mod ExplainEndLemmas
+mod ExplainRequestLemmas

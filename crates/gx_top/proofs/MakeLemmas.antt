@@ -1,13 +1,11 @@
 -- A device that is made: what was said of it, that the status is due, and what stands on the devices.
-use Rattle.std.proofs.Common.{◌≡◌, ◌≤◌, ℕ, List, [], ◌++◌, true, false, Result, Ok, Err, Some, None, Option, refl, sym, ap, subst, ◌∙◌, arith, inl, inr, length, get_or}
-use Rattle.std.specs.Prelude.{◌⊎◌, ◌≢◌, OnOk, IfErr, IsSome, is_some, replicate}
-use Rattle.std.specs.FinMap.{empty, get}
+use Rattle.std.proofs.Common.{◌≡◌, ℕ, List, [], true, false, Result, Ok, Err, Some, None, Option, refl, sym, ap, subst, ◌∙◌, inl, inr, length, get_or}
+use Rattle.std.specs.Prelude.{◌⊎◌, ◌≢◌, OnOk, IfErr, IsSome, is_some}
+use Rattle.std.specs.FinMap.{get}
 use Rattle.gx_device.specs.Content.{Content, Texts, device_at, with_named}
 use Rattle.gx_tokens.specs.Numbers.{digits_value}
 use Rattle.gx_ports.specs.declared.kinds.LeafSpec.{LeafSpec}
-use Rattle.gx_schema.specs.declared.schema.Schema.{Schema}
 use Rattle.gx_schema.specs.Printing.{schema_text}
-use Rattle.gx_equation.specs.Trees.{DefinitionTree}
 use Rattle.gx_equation.specs.Printing.{equation_text}
 use Rattle.gx_typing.specs.declared.typing.Typing.{Typing}
 use Rattle.gx_typing.specs.Typed.{leaves, typing_with}
@@ -19,23 +17,23 @@ use Rattle.gx_store.specs.Opening.{is_untouched}
 use Rattle.gx_store.specs.Store.{Attaches, OfBlocks}
 use Rattle.gx_store.specs.declared.unopened.Unopened.{Unopened}
 use Rattle.gx_store.specs.declared.unopened.Unopened.TheVariants as unopened
-use Rattle.gx_top.specs.declared.ending.DeviceWhy.{DeviceWhy}
-use Rattle.gx_top.specs.declared.ending.DeviceWhy.TheVariants as device_why
-use Rattle.gx_top.specs.declared.ending.Ending.{Ending}
-use Rattle.gx_top.specs.declared.ending.Ending.TheVariants as ending
-use Rattle.gx_top.specs.declared.opened.Stored.{Stored}
-use Rattle.gx_top.specs.declared.status.Status.{Status}
-use Rattle.gx_top.specs.declared.status.Status.TheVariants as status
-use Rattle.gx_top.specs.Checked.{IsStoredFor, IsStored}
-use Rattle.gx_top.specs.Devices.{IsToMake, IsUnmakable, IsWrong, IsBefore, CanMake, IsWrongDevice}
-use Rattle.gx_top.specs.Endings.{status_of, IsEnded}
+use Rattle.gx_play.specs.declared.ending.DeviceWhy.{DeviceWhy}
+use Rattle.gx_play.specs.declared.ending.DeviceWhy.TheVariants as device_why
+use Rattle.gx_play.specs.declared.ending.Ending.{Ending}
+use Rattle.gx_play.specs.declared.ending.Ending.TheVariants as ending
+use Rattle.gx_requests.specs.declared.opened.Stored.{Stored}
+use Rattle.gx_play.specs.declared.status.Status.{Status}
+use Rattle.gx_play.specs.declared.status.Status.TheVariants as status
+use Rattle.gx_requests.specs.Checked.{IsStoredFor, IsStored}
+use Rattle.gx_top.specs.Devices.{IsToMake, IsUnmakable, IsWrong, IsBefore, CanMake}
+use Rattle.gx_play.specs.Endings.{status_of, IsEnded}
 use Rattle.gx_top.specs.Made.{making_ending, IsMaking, IsNewDatabase, LeavesMade, LeavesMadeBy}
-use Rattle.gx_top.specs.Requests.{IsReady, IsUnprepared}
-use Rattle.gx_top.specs.Say.{SameDevices}
+use Rattle.gx_requests.specs.Requests.{IsUnprepared}
+use Rattle.gx_play.specs.Say.{SameDevices}
 use Rattle.gx_top.specs.Tasks.{Task, IsTask, IsToPlay}
 use Rattle.gx_top.specs.Tries.{IsAsDue, IsDueStatus}
-use Rattle.gx_top.specs.Words.{Action, checking, trying, making, running, request_words, IsCount}
-use Rattle.gx_top.proofs.CompleteLemmas.{same_words, one_acceptance, ready_not_refused}
+use Rattle.gx_requests.specs.Words.{Action, checking, trying, explaining, making, running, request_words, IsCount}
+use Rattle.gx_top.proofs.CompleteLemmas.{same_words, one_acceptance, ready_not_refused, made_not_explained}
 use Rattle.gx_top.proofs.EndLemmas.{IsUnhad, unplayed, not_done, not_device}
 
 -- ---- what making a device did
@@ -258,8 +256,10 @@ module _ (words : List (List ℕ)) (device digits : List ℕ) (count : ℕ) (x :
   due_by why s w e status.Done (inl playable) outside = absurd (not_played words old.aside.texts count playable.0 request playable.1)
   due_by why s w e status.Done (inr (inl check)) outside =
       absurd (not_checking device digits (one_acceptance words old.aside.texts checking (making device digits) check.0 x.schema check.1 st.definitions check.2 st.typing check.3 st.ready.0).actions)
-  due_by why s w e status.Done (inr (inr can)) outside = can_due why s w e can outside
-  due_by why s w e status.Script stopped outside = absurd (not_played words old.aside.texts count stopped.2.0 request stopped.2.1)
+  due_by why s w e status.Done (inr (inr (inl can))) outside = can_due why s w e can outside
+  due_by why s w e status.Done (inr (inr (inr (r, text, ends)))) outside = absurd (made_not_explained words old.aside.texts count request r)
+  due_by why s w e status.Script (number, reason, inl (t, task, play)) outside = absurd (not_played words old.aside.texts count t request task)
+  due_by why s w e status.Script (number, reason, inr (r, text, ends)) outside = absurd (made_not_explained words old.aside.texts count request r)
   due_by why s w e status.Device wrong outside = wrong_due why s wrong.why w e (wrong_here wrong.why wrong.wrong) outside
   due_by why s w e status.Refused refused outside = absurd (ready_not_refused words old.aside.texts (making device digits) x.schema st.definitions st.typing refused.0 st.ready refused.1)
   due_by why s w e status.Memory due outside = absurd due
@@ -386,6 +386,9 @@ not_made_too words a s e old new given is other =
 
 pub not_trying : (device digits : List ℕ) → trying ≡ making device digits → ⊥
 not_trying device digits e = cc
+
+pub not_explaining : (device digits : List ℕ) → explaining ≡ making device digits → ⊥
+not_explaining device digits e = cc
 
 pub not_running : (name device digits : List ℕ) → running name ≡ making device digits → ⊥
 not_running name device digits e = cc

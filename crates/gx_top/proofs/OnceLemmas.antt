@@ -10,7 +10,7 @@ use Rattle.gx_schema.specs.declared.schema.Schema.{Schema}
 use Rattle.gx_schema.specs.Grammar.{IsSchemaText}
 use Rattle.gx_schema.specs.Reading.{schema_of}
 use Rattle.gx_schema.proofs.SchemaLaws.{schema_again, one_schema}
-use Rattle.gx_script.specs.Lines.{script_lines}
+use Rattle.gx_commands.specs.Lines.{script_lines}
 use Rattle.gx_equation.specs.Trees.{DefinitionTree}
 use Rattle.gx_model.specs.States.{State}
 use Rattle.gx_model.specs.Play.{End, end_text, start_at}
@@ -20,15 +20,15 @@ use Rattle.gx_typing.specs.Typed.{leaves, typing_with}
 use Rattle.gx_typing.specs.Typing.{Mistake}
 use Rattle.gx_typing.specs.Whole.{typing_of}
 use Rattle.gx_typing.proofs.TypedLaws.{again as typed_again}
-use Rattle.gx_top.specs.declared.ending.Ending.{Ending}
-use Rattle.gx_top.specs.declared.ending.Ending.TheVariants as ending
-use Rattle.gx_top.specs.Built.{text_length}
-use Rattle.gx_top.specs.Endings.{line_of}
-use Rattle.gx_top.specs.Requests.{IsThere, IsNamed, IsAsked, AreRead, AreAccepted, AreUnaccepted, IsRefused, equation_of, text_limit}
-use Rattle.gx_top.specs.Played.{IsPlayText}
+use Rattle.gx_play.specs.declared.ending.Ending.{Ending}
+use Rattle.gx_play.specs.declared.ending.Ending.TheVariants as ending
+use Rattle.gx_requests.specs.Built.{text_length}
+use Rattle.gx_play.specs.Endings.{line_of}
+use Rattle.gx_requests.specs.Requests.{IsThere, IsNamed, IsAsked, AreRead, AreAccepted, AreUnaccepted, IsRefused, equation_of, text_limit}
+use Rattle.gx_play.specs.Played.{IsPlayText}
 use Rattle.gx_top.specs.Tasks.{Task, IsTask}
 use Rattle.gx_top.specs.Tries.{IsWholeText, IsUnder, PlayOneScript}
-use Rattle.gx_top.specs.Words.{Action, request_words, IsCounted}
+use Rattle.gx_requests.specs.Words.{Action, request_words, IsCounted}
 use Rattle.gx_top.proofs.CompleteLemmas.{SameWords, same_words, one_request, named, not_missing, not_long, text_once, equation_read}
 
 -- ---- the line of a refusal, from what stands in the texts

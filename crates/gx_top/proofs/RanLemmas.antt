@@ -4,19 +4,19 @@ use Rattle.std.specs.Prelude.{IfErr}
 use Rattle.std.specs.FinMap as fin
 use Rattle.std.specs.Ordering.{eq_by_cmp}
 use Rattle.std.specs.Cmp.Lexicographic.{nat_list_cmp_total}
-use Rattle.gx_device.specs.Content.{Moment, Content, Shelf, SameContent, device_at, with_named}
+use Rattle.gx_device.specs.Content.{Moment, Content, Shelf, device_at, with_named}
 use Rattle.gx_ports.specs.Keyed.{key_cmp}
 use Rattle.gx_ports.proofs.KeyLemmas.{same_key}
 use Rattle.gx_store.specs.Store.{Attaches}
 use Rattle.gx_store.specs.declared.unopened.Unopened.{Unopened}
 use Rattle.gx_store.specs.declared.unopened.Unopened.TheVariants as unopened
-use Rattle.gx_top.specs.declared.ending.Ending.{Ending}
-use Rattle.gx_top.specs.declared.status.Status.{Status}
-use Rattle.gx_top.specs.declared.status.Status.TheVariants as status
-use Rattle.gx_top.specs.Endings.{status_of, unopened_ending, IsPlayEnding, IsEnded, IsFinished}
+use Rattle.gx_play.specs.declared.ending.Ending.{Ending}
+use Rattle.gx_play.specs.declared.status.Status.{Status}
+use Rattle.gx_play.specs.declared.status.Status.TheVariants as status
+use Rattle.gx_play.specs.Endings.{unopened_ending, IsPlayEnding, IsEnded, IsFinished}
 use Rattle.gx_top.specs.Ran.{LeavesRun, LeavesRunBy}
-use Rattle.gx_top.specs.Say.{SameDevices}
-use Rattle.gx_top.specs.Words.{Action, checking, trying, making, running, request_words}
+use Rattle.gx_play.specs.Say.{SameDevices}
+use Rattle.gx_requests.specs.Words.{Action, checking, trying, explaining, making, running, request_words}
 use Rattle.gx_top.proofs.CompleteLemmas.{same_words}
 use Rattle.gx_top.proofs.EndLemmas.{IsStopStatus, stop_status}
 use Rattle.gx_top.proofs.MakeLemmas.{devices_same}
@@ -114,6 +114,9 @@ check_is_no_run device e = cc
 
 pub try_is_no_run : (device : List ℕ) → trying ≡ running device → ⊥
 try_is_no_run device e = cc
+
+pub explain_is_no_run : (device : List ℕ) → explaining ≡ running device → ⊥
+explain_is_no_run device e = cc
 
 pub make_is_no_run : (name digits device : List ℕ) → making name digits ≡ running device → ⊥
 make_is_no_run name digits device e = cc

@@ -1,26 +1,26 @@
 -- What was said of a script that was played: its answers, and behind them the line of its end.
-use Rattle.std.proofs.Common.{◌≡◌, ℕ, zero, suc, ◌+◌, ◌≤◌, List, [], ◌∷◌, ◌++◌, length, take, Result, Ok, Err, Option, Some, None, refl, sym, ap, ◌∙◌, arith, inl, inr}
+use Rattle.std.proofs.Common.{◌≡◌, ℕ, zero, suc, ◌+◌, List, [], ◌∷◌, ◌++◌, length, take, Result, Ok, Err, Option, Some, None, refl, sym, ap, ◌∙◌, arith, inl, inr}
 use Rattle.std.specs.Prelude.{◌≢◌, min}
 use Rattle.std.proofs.lemmas.List.{append-nil, append_assoc, take_all, take-append-le}
 use Rattle.std.proofs.Math.Seq.{take-append-add}
 use Rattle.gx_device.specs.Content.{Content}
 use Rattle.gx_ports.specs.LeafMaps.{Limits}
 use Rattle.gx_schema.specs.declared.schema.Schema.{Schema}
-use Rattle.gx_script.specs.declared.command.LineWhy.{LineWhy}
-use Rattle.gx_script.specs.Lines.{Lines, script_lines}
+use Rattle.gx_commands.specs.declared.command.LineWhy.{LineWhy}
+use Rattle.gx_commands.specs.Lines.{Lines, script_lines}
 use Rattle.gx_equation.specs.Trees.{DefinitionTree}
 use Rattle.gx_types.specs.declared.built.Built.{Built}
 use Rattle.gx_types.specs.Build.{AreTreesOfFiles}
 use Rattle.gx_model.specs.States.{State}
 use Rattle.gx_model.specs.Play.{Playing, End, good, stopped}
 use Rattle.gx_model.specs.Runs.{AreFirstLines}
-use Rattle.gx_top.specs.declared.ending.Ending.{Ending}
-use Rattle.gx_top.specs.declared.ending.Ending.TheVariants as ending
-use Rattle.gx_top.specs.declared.status.Status.TheVariants as status
-use Rattle.gx_top.specs.Endings.{line_of, status_of, memory_line, full_line}
-use Rattle.gx_top.specs.Say.{IsCut}
-use Rattle.gx_top.specs.Played.{SaysFront, SaysKeeping, IsPlay, AreFirst, IsPlayText, IsStoppedText, IsShortText, IsFullText, IsPlayedText}
-use Rattle.gx_top.specs.Plays.{IsPlayedOut, IsPlayedFirst, IsPlayedFull, IsPlayedFront, IsPlayedAs}
+use Rattle.gx_play.specs.declared.ending.Ending.{Ending}
+use Rattle.gx_play.specs.declared.ending.Ending.TheVariants as ending
+use Rattle.gx_play.specs.declared.status.Status.TheVariants as status
+use Rattle.gx_play.specs.Endings.{line_of, status_of, memory_line, full_line}
+use Rattle.gx_play.specs.Say.{IsCut}
+use Rattle.gx_play.specs.Played.{SaysFront, SaysKeeping, IsPlay, AreFirst, IsPlayText, IsStoppedText, IsShortText, IsFullText, IsPlayedText}
+use Rattle.gx_play.specs.Plays.{IsPlayedOut, IsPlayedFirst, IsPlayedFull, IsPlayedFront, IsPlayedAs}
 
 -- a line behind what was said before
 pub behind : (before mid now first line : List ℕ) → mid ≡ before ++ first → now ≡ mid ++ line → now ≡ before ++ (first ++ line)

@@ -1,10 +1,9 @@
 -- All nodes that the definitions mean hold the same state in the same maps.
-use Rattle.std.proofs.Common.{◌≡◌, ℕ, zero, suc, ◌+◌, ◌<◌, List, [], ◌∷◌, length, refl, sym, ap, subst, ◌∙◌, arith}
+use Rattle.std.proofs.Common.{◌≡◌, ℕ, zero, suc, ◌+◌, ◌<◌, List, [], ◌∷◌, length, sym, subst, ◌∙◌, arith}
 use Rattle.gx_values.specs.declared.records.Form.{Form}
 use Rattle.gx_values.specs.declared.records.Rec.{Rec}
 use Rattle.gx_schema.specs.declared.schema.FileDef.{FileDef}
 use Rattle.gx_schema.specs.declared.schema.Schema.{Schema}
-use Rattle.gx_schema.specs.Lookups.{file_at}
 use Rattle.gx_equation.specs.declared.heads.Head.{Head}
 use Rattle.gx_equation.specs.declared.heads.Head.TheVariants as heads
 use Rattle.gx_equation.specs.Trees.{Tree, Trees, node, none, kid, SideTree, file_side, link_side, DefinitionTree}
@@ -21,7 +20,7 @@ use Rattle.gx_types.specs.Build.{IsLeafOf, IsTreeOf, AreTreesOf, IsTreeOfSide, A
 use Rattle.gx_types.specs.HeadRules.{IsLayer}
 use Rattle.gx_types.specs.Nodes.{tree_at}
 use Rattle.gx_model.specs.States.{State, file_in}
-use Rattle.gx_scan.specs.Files.{records_of, IsInternal}
+use Rattle.gx_scan.specs.Files.{records_of}
 use Rattle.gx_engine.specs.Internal.{AreInternal}
 
 -- the number of a leaf

@@ -1,15 +1,13 @@
 -- A script that was played for `try` or for `run`, and a device that wasn't had.
-use Rattle.std.proofs.Common.{◌≡◌, ℕ, List, [], length, Result, Ok, Err, Option, Some, None, refl, sym, ap, subst, ◌∙◌, inl, inr}
-use Rattle.std.specs.Prelude.{true, IfOk, IfErr}
+use Rattle.std.proofs.Common.{◌≡◌, ℕ, List, [], length, Result, Ok, Option, Some, None, refl, sym, ap, subst, ◌∙◌, inl, inr}
+use Rattle.std.specs.Prelude.{IfErr}
 use Rattle.gx_device.specs.Content.{Content, Texts, Shelf, SameContent, device_at}
 use Rattle.gx_ports.specs.declared.kinds.LeafSpec.{LeafSpec}
 use Rattle.gx_ports.specs.LeafMaps.{LeafMap, Limits}
 use Rattle.gx_schema.specs.declared.schema.Schema.{Schema}
 use Rattle.gx_schema.specs.Printing.{schema_text}
 use Rattle.gx_equation.specs.Printing.{equation_text}
-use Rattle.gx_equation.specs.Seen.{definitions_of}
 use Rattle.gx_types.specs.declared.built.Built.{Built}
-use Rattle.gx_types.specs.Build.{AreTreesOfFiles}
 use Rattle.gx_model.specs.States.{State, empty_state}
 use Rattle.gx_engine.specs.Internal.{AreInternal}
 use Rattle.gx_store.specs.Device.{Reopens, IsSize, IsSettled, HasTexts}
@@ -18,38 +16,22 @@ use Rattle.gx_store.specs.Opening.{AreOpened, IsUnopened}
 use Rattle.gx_store.specs.Store.{OfBlocks}
 use Rattle.gx_store.specs.declared.unopened.Unopened.{Unopened}
 use Rattle.gx_store.specs.declared.unopened.Unopened.TheVariants as unopened
-use Rattle.gx_top.specs.declared.ending.DeviceWhy.{DeviceWhy}
-use Rattle.gx_top.specs.declared.ending.DeviceWhy.TheVariants as device_why
-use Rattle.gx_top.specs.declared.ending.Ending.{Ending}
-use Rattle.gx_top.specs.declared.ending.Ending.TheVariants as ending
-use Rattle.gx_top.specs.declared.opened.Stored.{Stored}
-use Rattle.gx_top.specs.declared.status.Status.{Status}
-use Rattle.gx_top.specs.declared.reading.Checked.{Checked}
-use Rattle.gx_top.specs.Built.{is_built}
-use Rattle.gx_top.specs.Checked.{IsAcceptedAs, IsBuiltFor, IsStoredFor}
-use Rattle.gx_top.specs.Requests.{IsAccepted}
-use Rattle.gx_top.specs.Endings.{IsPlayEnding, IsFinished, unopened_ending}
-use Rattle.gx_top.specs.Plays.{IsPlayedAs}
-use Rattle.gx_top.specs.Say.{SameDevices}
-use Rattle.gx_top.specs.Tasks.{Task, IsTask, IsPrepared, IsHeldOn, IsSettledIn, IsSettledOn, limits_on}
+use Rattle.gx_play.specs.declared.ending.DeviceWhy.{DeviceWhy}
+use Rattle.gx_play.specs.declared.ending.DeviceWhy.TheVariants as device_why
+use Rattle.gx_play.specs.declared.ending.Ending.{Ending}
+use Rattle.gx_requests.specs.declared.opened.Stored.{Stored}
+use Rattle.gx_play.specs.declared.status.Status.{Status}
+use Rattle.gx_requests.specs.Checked.{IsPrepared, IsStoredFor}
+use Rattle.gx_play.specs.Endings.{IsPlayEnding, IsFinished, unopened_ending}
+use Rattle.gx_play.specs.Plays.{IsPlayedAs}
+use Rattle.gx_play.specs.Say.{SameDevices}
+use Rattle.gx_top.specs.Tasks.{Task, IsTask, IsHeldOn, IsSettledIn, IsSettledOn, limits_on}
 use Rattle.gx_top.specs.Devices.{IsWrongOn, IsWrong, IsBefore}
-use Rattle.gx_top.specs.Words.{Action, trying, running}
+use Rattle.gx_requests.specs.Words.{Action, trying, running}
 use Rattle.gx_top.proofs.StoredLemmas.{same_internal}
-use Rattle.gx_top.proofs.TryLemmas.{held_as}
+use Rattle.gx_play.proofs.OverLemmas.{held_as}
 use Rattle.gx_top.proofs.CompleteLemmas.{one_task, made_no_task, had_not_wrong}
 use Rattle.gx_top.proofs.EndLemmas.{IsRun, IsUnhad}
-
--- what a request is prepared from
-pub all_prepared : (words : List (List ℕ)) (texts : Texts) (c : Checked) (result : Result (Schema × Built) Ending) → IsAcceptedAs words texts trying c → IfOk result (IsBuiltFor c) → IfOk result (IsPrepared words texts trying)
-all_prepared words texts c (Err why) is h = tt
-all_prepared words texts c (Ok x) is h =
-    let ds = definitions_of c.equation.definitions in
-    record {
-      definitions = ds;
-      typing = c.typing;
-      ready = (subst (λ k. IsAccepted words texts trying k ds c.typing) (sym h.0) is, subst (λ k. is_built k ds ≡ true) (sym h.0) h.1);
-      trees = subst (λ (k : Schema). AreTreesOfFiles 0 k.files ds x.1.files) (sym h.0) h.2;
-    }
 
 -- ---- over leaves in memory
 

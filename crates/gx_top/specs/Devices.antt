@@ -13,11 +13,11 @@ use Rattle.gx_layout.specs.Layout.{pages_of}
 use Rattle.gx_store.specs.Opening.{IsUnopened}
 use Rattle.gx_store.specs.Making.{IsUnmade}
 use Rattle.gx_store.specs.declared.unopened.Unopened.TheVariants as unopened
-use Rattle.gx_top.specs.declared.ending.DeviceWhy.{DeviceWhy}
-use Rattle.gx_top.specs.declared.ending.DeviceWhy.TheVariants as device_why
-use Rattle.gx_top.specs.Endings.{device_line, made_line}
-use Rattle.gx_top.specs.Words.{making, running, IsCount}
-use Rattle.gx_top.specs.Requests.{IsReady}
+use Rattle.gx_play.specs.declared.ending.DeviceWhy.{DeviceWhy}
+use Rattle.gx_play.specs.declared.ending.DeviceWhy.TheVariants as device_why
+use Rattle.gx_play.specs.Endings.{device_line, made_line}
+use Rattle.gx_requests.specs.Words.{making, running, IsCount}
+use Rattle.gx_requests.specs.Requests.{IsReady}
 use Rattle.gx_top.specs.Tasks.{Task, IsTask, IsHeldOn}
 
 -- ---- what `make` says

@@ -1,12 +1,6 @@
-pub mod Words
-pub mod Built
-pub mod Summaries
-pub mod Say
-pub mod Endings
-pub mod Requests
-pub mod Checked
-pub mod Played
-pub mod Plays
+pub mod Indexed
+pub mod Explained
+pub mod Explaining
 pub mod Tasks
 pub mod Devices
 pub mod Made

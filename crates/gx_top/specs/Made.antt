@@ -10,13 +10,13 @@ use Rattle.gx_layout.specs.Layout.{pages_of}
 use Rattle.gx_store.specs.Device.{IsSize, IsMadeOn, IsNoneOrEmpty}
 use Rattle.gx_store.specs.Store.{OfBlocks}
 use Rattle.gx_store.specs.declared.unopened.Unopened.{Unopened}
-use Rattle.gx_top.specs.declared.ending.Ending.{Ending}
-use Rattle.gx_top.specs.declared.ending.Ending.TheVariants as ending
-use Rattle.gx_top.specs.declared.status.Status.{Status}
-use Rattle.gx_top.specs.declared.status.Status.TheVariants as status
-use Rattle.gx_top.specs.Endings.{unopened_ending}
-use Rattle.gx_top.specs.Say.{SameDevices}
-use Rattle.gx_top.specs.Words.{making, request_words, IsCounted}
+use Rattle.gx_play.specs.declared.ending.Ending.{Ending}
+use Rattle.gx_play.specs.declared.ending.Ending.TheVariants as ending
+use Rattle.gx_play.specs.declared.status.Status.{Status}
+use Rattle.gx_play.specs.declared.status.Status.TheVariants as status
+use Rattle.gx_play.specs.Endings.{unopened_ending}
+use Rattle.gx_play.specs.Say.{SameDevices}
+use Rattle.gx_requests.specs.Words.{making, request_words, IsCounted}
 use Rattle.gx_top.specs.Tasks.{IsInternalOf}
 use Rattle.gx_top.specs.Devices.{IsToMake, IsUnmakable}
 

@@ -1,10 +1,10 @@
 -- What `run` leaves on the devices, beside what a play leaves on its own.
 use Rattle.std.specs.Prelude.{◌≡◌, ◌≢◌, ℕ, List, None}
 use Rattle.gx_device.specs.Content.{Content, device_at}
-use Rattle.gx_top.specs.declared.status.Status.{Status}
-use Rattle.gx_top.specs.declared.status.Status.TheVariants as status
-use Rattle.gx_top.specs.Say.{SameDevices}
-use Rattle.gx_top.specs.Words.{running, request_words}
+use Rattle.gx_play.specs.declared.status.Status.{Status}
+use Rattle.gx_play.specs.declared.status.Status.TheVariants as status
+use Rattle.gx_play.specs.Say.{SameDevices}
+use Rattle.gx_requests.specs.Words.{running, request_words}
 
 -- all of them where the request is refused, and those of other names
 pub record LeavesRun (device : List ℕ) (old new : Content) (s : Status) : Type 0 where

@@ -15,8 +15,8 @@ use Rattle.gx_model.specs.States.{State, empty_state}
 use Rattle.gx_engine.specs.Internal.{AreInternal}
 use Rattle.gx_layout.specs.Layout.{pages_of}
 use Rattle.gx_store.specs.Device.{Reopens, IsSettled}
-use Rattle.gx_top.specs.Words.{Action, checking, trying, making, running}
-use Rattle.gx_top.specs.Requests.{IsReady}
+use Rattle.gx_requests.specs.Words.{Action, checking, trying, explaining, making, running}
+use Rattle.gx_requests.specs.Requests.{IsReady}
 
 -- a script that is to be played, and what the texts mean under which it is
 pub record Task : Type 0 where
@@ -29,6 +29,7 @@ pub record Task : Type 0 where
 abbrev pub IsToPlay : Action → Type 0
 IsToPlay checking = ⊥
 IsToPlay trying = Unit {0}
+IsToPlay explaining = ⊥
 IsToPlay (making device blocks) = ⊥
 IsToPlay (running device) = Unit {0}
 
@@ -36,13 +37,6 @@ IsToPlay (running device) = Unit {0}
 pub record IsTask (words : List (List ℕ)) (texts : Texts) (t : Task) : Type 0 where
   pub to_play : IsToPlay t.action
   pub ready : IsReady words texts t.action t.schema t.definitions t.typing
-
--- the words ask for this of texts that mean the schema, and these are the nodes of the equation
-pub record IsPrepared (words : List (List ℕ)) (texts : Texts) (a : Action) (x : Schema × Built) : Type 0 where
-  pub definitions : List DefinitionTree
-  pub typing : Typing
-  pub ready : IsReady words texts a x.0 definitions typing
-  pub trees : AreTreesOfFiles 0 x.0.files definitions x.1.files
 
 -- ---- the state that a device holds
 
@@ -71,6 +65,7 @@ pub record IsHeldOn (t : Task) (device : List ℕ) (before : Content) (limit : O
 abbrev pub IsStart : Action → Task → Content → Option Limits → State → Type 0
 IsStart checking t before limit s = ⊥
 IsStart trying t before limit s = (limit ≡ None) × (s ≡ empty_state t.schema)
+IsStart explaining t before limit s = ⊥
 IsStart (making device blocks) t before limit s = ⊥
 IsStart (running device) t before limit s = IsHeldOn t device before limit s
 
@@ -96,6 +91,7 @@ pub record IsSettledOn (t : Task) (device : List ℕ) (after : Content) (s : Sta
 abbrev pub IsLeftBy : Action → Task → Content → State → Type 0
 IsLeftBy checking t after s = Unit {0}
 IsLeftBy trying t after s = Unit {0}
+IsLeftBy explaining t after s = Unit {0}
 IsLeftBy (making device blocks) t after s = Unit {0}
 IsLeftBy (running device) t after s = IsSettledOn t device after s
 

@@ -6,22 +6,23 @@ use Rattle.gx_device.specs.Content.{Content, Texts}
 use Rattle.gx_device.specs.Faults.{Rose}
 use Rattle.gx_ports.specs.LeafMaps.{Limits}
 use Rattle.gx_schema.specs.declared.schema.Schema.{Schema}
-use Rattle.gx_script.specs.declared.command.LineWhy.{LineWhy}
+use Rattle.gx_commands.specs.declared.command.LineWhy.{LineWhy}
 use Rattle.gx_equation.specs.Trees.{DefinitionTree}
 use Rattle.gx_typing.specs.declared.typing.Typing.{Typing}
 use Rattle.gx_model.specs.States.{State}
 use Rattle.gx_model.specs.Play.{Playing, End, good, stopped}
-use Rattle.gx_top.specs.declared.ending.Ending.{Ending}
-use Rattle.gx_top.specs.declared.status.Status.{Status}
-use Rattle.gx_top.specs.declared.status.Status.TheVariants as status
-use Rattle.gx_top.specs.Endings.{line_of, status_of, memory_line}
-use Rattle.gx_top.specs.Requests.{IsRefused, IsAccepted}
-use Rattle.gx_top.specs.Summaries.{summary_of, accepted_line}
-use Rattle.gx_top.specs.Played.{Says, SaysFront, SaysKeeping, IsPlay, IsPlayText, IsStoppedText, IsShortText, IsFull, IsFullText, IsPlayedText}
+use Rattle.gx_play.specs.declared.ending.Ending.{Ending}
+use Rattle.gx_play.specs.declared.status.Status.{Status}
+use Rattle.gx_play.specs.declared.status.Status.TheVariants as status
+use Rattle.gx_play.specs.Endings.{line_of, status_of, memory_line}
+use Rattle.gx_requests.specs.Requests.{IsRefused, IsAccepted}
+use Rattle.gx_play.specs.Summaries.{summary_of, accepted_line}
+use Rattle.gx_play.specs.Played.{Says, SaysFront, SaysKeeping, IsPlay, IsPlayText, IsStoppedText, IsShortText, IsFull, IsFullText, IsPlayedText}
 use Rattle.gx_top.specs.Tasks.{Task, IsTask, IsFrom, IsLeft}
-use Rattle.gx_top.specs.declared.ending.DeviceWhy.{DeviceWhy}
+use Rattle.gx_top.specs.Explained.{IsToExplain, Explains, IsExplainable}
+use Rattle.gx_play.specs.declared.ending.DeviceWhy.{DeviceWhy}
 use Rattle.gx_top.specs.Devices.{IsMadeText, IsDeviceText, IsWrong, SaysWrong, CanMake, IsWrongDevice}
-use Rattle.gx_top.specs.Words.{Action, checking, request_words}
+use Rattle.gx_requests.specs.Words.{Action, checking, request_words}
 
 -- ---- texts of requests that aren't played
 
@@ -63,19 +64,20 @@ PlaysFront words old new =
 
 -- what was said, by the status
 abbrev pub IsSaid : List (List ℕ) → Content → Content → Status → Type 0
-IsSaid words old new status.Done = Says (IsDoneText words old) old new ⊎ Plays (λ t limit s. IsPlayText t.schema s old.script good) words old new
-IsSaid words old new status.Script = Plays (λ t limit s. IsStoppedText t.schema s old.script) words old new
+IsSaid words old new status.Done = Says (IsDoneText words old) old new ⊎ Plays (λ t limit s. IsPlayText t.schema s old.script good) words old new ⊎ Explains words old new status.Done
+IsSaid words old new status.Script = Plays (λ t limit s. IsStoppedText t.schema s old.script) words old new ⊎ Explains words old new status.Script
 IsSaid words old new status.Refused = Says (IsRefusalText words old) old new
-IsSaid words old new status.Memory = Says (λ text. text ≡ memory_line) old new ⊎ Plays (λ t limit s. IsShortText t.schema s old.script) words old new
+IsSaid words old new status.Memory = Says (λ text. text ≡ memory_line) old new ⊎ Plays (λ t limit s. IsShortText t.schema s old.script) words old new ⊎ Explains words old new status.Memory
 IsSaid words old new status.Full = Plays (λ t limit s. IsFullText t.schema t.definitions limit s old.script) words old new
 IsSaid words old new status.Device = (why : DeviceWhy) × IsWrong words old why × SaysWrong why old new
-IsSaid words old new status.Outside = SaysFront (IsOtherText words old) old new ⊎ PlaysFront words old new
+IsSaid words old new status.Outside = SaysFront (IsOtherText words old) old new ⊎ PlaysFront words old new ⊎ Explains words old new status.Outside
 
--- the same, and what was heard: the script to its end where all of it was played, and none of it where none is to be played
+-- the same, and what was heard: the script to its end where all of it was played or explained, and none of it where none is to be
 pub record IsEnd (words : List (List ℕ)) (old new : Content) (s : Status) : Type 0 where
   pub said : IsSaid words old new s
   pub heard : s ≡ status.Done → (t : Task) → IsTask words old.aside.texts t → (limit : Option Limits) (start : State) → IsFrom t old limit start → new.script ≡ []
-  pub unheard : ((t : Task) → ¬ IsTask words old.aside.texts t) → new.script ≡ old.script
+  pub heard_explained : s ≡ status.Done → IsToExplain words old.aside.texts → new.script ≡ []
+  pub unheard : ((t : Task) → ¬ IsTask words old.aside.texts t) → ¬ IsToExplain words old.aside.texts → new.script ≡ old.script
 
 -- ---- when each status is due
 
@@ -98,8 +100,8 @@ IsCheckable words before = (schema : Schema) × (ds : List DefinitionTree) × (t
 
 -- the status that a request is due
 abbrev pub IsDueStatus : List (List ℕ) → Content → Status → Type 0
-IsDueStatus words before status.Done = IsPlayable words before good ⊎ IsCheckable words before ⊎ CanMake words before
-IsDueStatus words before status.Script = (number : ℕ) × (why : LineWhy) × IsPlayable words before (stopped number why)
+IsDueStatus words before status.Done = IsPlayable words before good ⊎ IsCheckable words before ⊎ CanMake words before ⊎ IsExplainable words before good
+IsDueStatus words before status.Script = (number : ℕ) × (why : LineWhy) × (IsPlayable words before (stopped number why) ⊎ IsExplainable words before (stopped number why))
 IsDueStatus words before status.Device = IsWrongDevice words before
 IsDueStatus words before status.Refused = (why : Ending) × IsRefused words before.aside.texts why
 IsDueStatus words before other = ⊥

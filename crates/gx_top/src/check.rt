@@ -1,14 +1,12 @@
 // The request to check two texts.
 ghost use Rattle.std.specs.Prelude.{◌≡◌, ◌≢◌, ◌≤◌, IsTrue};
 ghost use Rattle.gx_device.specs.Faults.{Rose};
-ghost use Rattle.gx_top.specs.Words.{checking, request_words};
+ghost use Rattle.gx_requests.specs.Words.{checking, request_words};
 ghost use Rattle.gx_top.specs.Tries.{IsEnd, IsAsDue};
 
-use crate::ending::{Ending, end};
-use crate::reading::read_texts;
-use crate::status::Status;
-use crate::summary::summarize;
 use gx_device::Machine;
+use gx_play::{Ending, Status, end, summarize};
+use gx_requests::read_texts;
 use std::alloc::Global;
 
 /// Says what leaves the equation has where both texts of these names are accepted, and the reason

@@ -1,12 +1,11 @@
 // How a script that was played ends for the request.
 ghost use Rattle.std.specs.Prelude.{◌≡◌, ◌≢◌, ◌≤◌, ◌⊎◌, false, IsTrue, IsErrOf};
 ghost use Rattle.gx_device.specs.Faults.{Rose};
-ghost use Rattle.gx_top.specs.Say.{SameDevices};
-ghost use Rattle.gx_top.specs.Endings.{IsFinished, is_fault};
+ghost use Rattle.gx_play.specs.Say.{SameDevices};
+ghost use Rattle.gx_play.specs.Endings.{IsFinished, is_fault};
 
-use crate::ending::{Ending, end};
-use crate::status::Status;
 use gx_device::Machine;
+use gx_play::{Ending, Status, end};
 use std::alloc::Global;
 
 /// Says the line of the end of a play, where it has one, and answers the status. After a failed call

@@ -1,11 +1,14 @@
 // Laws of what a request says.
 ghost use Rattle.std.specs.Prelude.{◌≡◌, List, ℕ};
 ghost use Rattle.gx_device.specs.Content.{Content, Texts};
-ghost use Rattle.gx_top.specs.declared.ending.Ending.{Ending as TheEnding};
+ghost use Rattle.gx_play.specs.declared.ending.Ending.{Ending as TheEnding};
+ghost use Rattle.gx_ports.specs.declared.kinds.LeafSpec.{LeafSpec as Spec};
+ghost use Rattle.gx_ports.specs.LeafMaps.{LeafMap};
 ghost use Rattle.gx_model.specs.States.{State};
-ghost use Rattle.gx_top.specs.Words.{texts_of};
-ghost use Rattle.gx_top.specs.Endings.{line_of};
-ghost use Rattle.gx_top.specs.Requests.{IsRefused};
+ghost use Rattle.gx_store.specs.Device.{Reopens};
+ghost use Rattle.gx_requests.specs.Words.{texts_of};
+ghost use Rattle.gx_play.specs.Endings.{line_of};
+ghost use Rattle.gx_requests.specs.Requests.{IsRefused};
 ghost use Rattle.gx_top.specs.Tries.{IsWholeText, PlayOneScript};
 
 /// A request is refused for one reason. It does nothing.
@@ -24,4 +27,13 @@ pub fn one_text(words: &[String])
         → IsWholeText (texts_of words.now) before start text
         → IsWholeText others other start more
         → text ≡ more }
+{}
+
+/// Under two texts, with the leaves that the equation means, the blocks of a device hold one list of maps
+/// at most. It does nothing.
+pub fn one_list_of_maps(schema: &[u8], equation: &[u8])
+    ensures { (specs : List Spec) (maps other : List LeafMap) (blocks : List (List ℕ))
+        → Reopens schema.now equation.now specs maps blocks
+        → Reopens schema.now equation.now specs other blocks
+        → maps ≡ other }
 {}

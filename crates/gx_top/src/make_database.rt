@@ -5,16 +5,15 @@ ghost use Rattle.gx_device.specs.Faults.{Rose};
 ghost use Rattle.gx_layout.specs.Layout.{pages_of};
 ghost use Rattle.gx_store.specs.Device.{IsNoneOrEmpty};
 ghost use Rattle.gx_store.specs.Store.{CanAttach, Attaches};
-ghost use Rattle.gx_top.specs.Words.{IsCount, making, request_words};
-ghost use Rattle.gx_top.specs.Checked.{IsStored};
-ghost use Rattle.gx_top.specs.Endings.{is_outside};
+ghost use Rattle.gx_requests.specs.Words.{IsCount, making, request_words};
+ghost use Rattle.gx_requests.specs.Checked.{IsStored};
+ghost use Rattle.gx_play.specs.Endings.{is_outside};
 ghost use Rattle.gx_top.specs.Made.{making_ending, IsMaking, LeavesMade};
 ghost use Rattle.gx_top.specs.Tries.{IsEnd, IsAsDue};
 
-use crate::ending::{Ending, end};
-use crate::opened::{Stored, prepare_stored, unopened_ending};
-use crate::status::Status;
 use gx_device::Machine;
+use gx_play::{Ending, Status, end};
+use gx_requests::{Stored, prepare_stored, unopened_ending};
 use gx_store::{Unopened, make};
 use std::alloc::Global;
 

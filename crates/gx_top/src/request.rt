@@ -1,32 +1,33 @@
 // A request from its words to its end.
 ghost use Rattle.std.specs.Prelude.{IsTrue};
-ghost use Rattle.gx_top.specs.Words.{texts_of};
+ghost use Rattle.gx_requests.specs.Words.{texts_of};
 ghost use Rattle.gx_top.specs.Made.{LeavesMadeBy};
 ghost use Rattle.gx_top.specs.Ran.{LeavesRunBy};
-ghost use Rattle.gx_top.specs.Requests.{IsFree};
+ghost use Rattle.gx_requests.specs.Requests.{IsFree};
 ghost use Rattle.gx_top.specs.Tries.{IsEnd, IsAsDue, CountsOutside};
 
 use crate::check::check;
-use crate::ending::{Ending, end};
+use crate::explain::explain;
 use crate::make_database::make_database;
 use crate::run_script::run_script;
-use crate::status::Status;
 use crate::try_script::try_script;
-use crate::words::{Request, read_words};
 use gx_device::Machine;
+use gx_play::{Ending, Status, end};
+use gx_requests::{Request, read_words};
 use std::alloc::Global;
 
 /// Carries out what the words ask for, says its answers on the machine, and hands the machine
-/// back. The words are `check SCHEMA EQUATION`, `try SCHEMA EQUATION`,
+/// back. The words are `check SCHEMA EQUATION`, `try SCHEMA EQUATION`, `explain SCHEMA EQUATION`,
 /// `make SCHEMA EQUATION DEVICE BLOCKS` or `run SCHEMA EQUATION DEVICE`. On a machine that tells its
 /// content, to which no device is attached where the words name one:
 ///
 /// - `Done`: of `check`, exactly the line of the accepted equation's leaves was said; of `make`, exactly
 ///   the line of the device that was made. Of `try` and `run`, exactly the answers of the play of the
 ///   whole script were said, and the script was heard to its end. `try` plays it on an empty database,
-///   `run` on the state that the device holds.
-/// - `Script`: a line ends the play. Exactly the answers up to it were said, and then the line that
-///   says where and why.
+///   `run` on the state that the device holds. Of `explain`, exactly the plans of the script's `find`
+///   lines were said, and the script was heard to its end; a transaction may be open there.
+/// - `Script`: a line ends the play, or the plans. Exactly the answers or plans up to it were said, and
+///   then the line that says where and why.
 /// - `Refused`: the request is refused for the first reason in the order of the words, the texts, the
 ///   schema, the equation, its types, the length of the texts, and what is carried out so far. The line
 ///   of that reason was said, and nothing else.
@@ -35,8 +36,8 @@ use std::alloc::Global;
 /// - `Device`: the device isn't what was asked for. Its line was said, and nothing else; that of damage,
 ///   which is found while the script is played, was said last, and it isn't found where the device holds
 ///   a state.
-/// - `Memory`: there was no memory. Exactly the answers of the script's first lines were said, perhaps
-///   of none, and then `stopped: memory`.
+/// - `Memory`: there was no memory. Exactly the answers or plans of the script's first lines were said,
+///   perhaps of none, and then `stopped: memory`.
 /// - `Outside`: a front was said of what one of the others says.
 ///
 /// After `Done` of `make` an empty database of the texts is on the device of that name, which wasn't
@@ -49,8 +50,8 @@ use std::alloc::Global;
 /// there is a reason is answered `Refused` or `Memory`; one whose device is missing, exists, or has
 /// another size, no database or other texts, `Device` or `Memory`; `check` of accepted texts and `make`
 /// of a device that can be had, `Done` or `Memory`; and so are `try` and `run` where the script can be
-/// played, the pages suffice at each command, and the play ends at no line; where it ends at a line, the
-/// answer is `Script` or `Memory`.
+/// played, the pages suffice at each command, and the play ends at no line, and `explain` where no line
+/// ends the plans; where one ends the play or the plans, the answer is `Script` or `Memory`.
 pub fn top<M: Machine + Drop>(alloc: Global, words: &[String], machine: M) -> (Status, M)
     // What was said, and what was heard.
     ensures said { IsTrue M.tells → IsFree (texts_of words.now) (M.content machine) →
@@ -74,6 +75,10 @@ pub fn top<M: Machine + Drop>(alloc: Global, words: &[String], machine: M) -> (S
             (status, machine)
         }
         Some(Request::Try { schema, equation }) => try_script(alloc, schema, equation, machine),
+        Some(Request::Explain { schema, equation }) => {
+            let status = explain(alloc, schema, equation, &mut machine);
+            (status, machine)
+        }
         Some(
             Request::Make {
                 schema,

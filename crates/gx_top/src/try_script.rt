@@ -5,24 +5,18 @@ ghost use Rattle.gx_device.specs.Faults.{Rose};
 ghost use Rattle.gx_schema.specs.WellFormed.{IsWellFormed};
 ghost use Rattle.gx_model.specs.States.{empty_state};
 ghost use Rattle.gx_engine.specs.Steps.{AreFor};
-ghost use Rattle.gx_top.specs.Words.{trying, request_words};
-ghost use Rattle.gx_top.specs.Checked.{IsChecked, IsBuiltFor, IsUnbuilt, CanPlay};
-ghost use Rattle.gx_top.specs.Endings.{IsPlayEnding, is_fault};
-ghost use Rattle.gx_top.specs.Requests.{IsUnprepared};
-ghost use Rattle.gx_top.specs.Plays.{IsPlayedAs};
-ghost use Rattle.gx_top.specs.Tasks.{IsPrepared};
+ghost use Rattle.gx_requests.specs.Words.{trying, request_words};
+ghost use Rattle.gx_play.specs.Endings.{IsPlayEnding, is_fault};
+ghost use Rattle.gx_play.specs.Plays.{IsPlayedAs};
 ghost use Rattle.gx_top.specs.Tries.{IsEnd, IsAsDue};
 
-use crate::built::is_built;
-use crate::ending::{Ending, end};
 use crate::finish::finish;
-use crate::over_leaves::play_over;
-use crate::reading::{Checked, read_texts};
-use crate::status::Status;
 use gx_device::Machine;
 use gx_memory_leaves::PlainLeaves;
+use gx_play::{Ending, Status, end, play_over};
+use gx_requests::prepare_nodes;
 use gx_schema::Schema;
-use gx_types::{Built, build};
+use gx_types::Built;
 use gx_values::NoMemory;
 use std::alloc::Global;
 
@@ -44,7 +38,7 @@ pub fn try_script<M: Machine + Drop>(
     ensures later { M.faults machine ≤ M.faults result.1 }
 {
     let mut machine = machine;
-    match prepare(alloc, schema, equation, &mut machine) {
+    match prepare_nodes(alloc, schema, equation, &mut machine) {
         Ok((schema, built)) => {
             let (played, mut machine) = play_script(alloc, schema, built, machine);
             let status = finish(alloc, played, &mut machine);
@@ -55,48 +49,6 @@ pub fn try_script<M: Machine + Drop>(
             (status, machine)
         }
     }
-}
-
-// The schema, and the nodes that the script is played over.
-fn prepare<'a, M: Machine>(
-    alloc: Global,
-    schema: &'a str,
-    equation: &'a str,
-    machine: &mut M,
-) -> Result<(Schema, Built), Ending<'a>>
-    ensures prepared { IsTrue M.tells → IfOk result
-        (IsPrepared (request_words trying schema.now equation.now)
-        (M.content machine.old).aside.texts trying) }
-    ensures unprepared { IsTrue M.tells → IfErr result
-        (IsUnprepared (request_words trying schema.now equation.now)
-        (M.content machine.old).aside.texts (M.faults machine.old) (M.faults machine.new)) }
-    ensures fault { IsErrOf result Ending.Fault → Rose (M.faults machine.old) (M.faults machine.new) }
-    ensures can_play { IfOk result CanPlay }
-    ensures counted { is_fault result ≡ false → M.faults machine.new ≡ M.faults machine.old }
-    ensures later { M.faults machine.old ≤ M.faults machine.new }
-    ensures content { SameContent (M.content machine.old) (M.content machine.new) }
-{
-    let checked = read_texts(alloc, schema, equation, machine)?;
-    build_nodes(alloc, checked)
-}
-
-/// The same of accepted texts.
-pub fn build_nodes<'a>(alloc: Global, checked: Checked) -> Result<(Schema, Built), Ending<'a>>
-    requires { IsChecked checked }
-    ensures built { IfOk result (IsBuiltFor checked) }
-    ensures can_play { IfOk result CanPlay }
-    ensures unbuilt { IfErr result (IsUnbuilt checked) }
-{
-    let Checked {
-        schema,
-        equation,
-        typing,
-    } = checked;
-    if !is_built(&schema, &equation) {
-        return Err(Ending::NotBuilt);
-    }
-    let built = build(alloc, &schema, &equation, typing)?;
-    Ok((schema, built))
 }
 
 // Hears the script and plays it on leaves in memory.

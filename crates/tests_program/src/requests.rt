@@ -1,6 +1,7 @@
 // Whole requests: what is said, with which status, and what is left of the script.
 use gx_memory_machine::MemoryMachine;
-use gx_top::{Status, top};
+use gx_play::Status;
+use gx_top::top;
 use std::alloc::Global;
 use std::test::Fail;
 
@@ -293,7 +294,7 @@ fn with_texts(alloc: Global) -> Result<MemoryMachine, Fail> {
 
 // Words that are no request, and texts that aren't there, too long, not accepted, or that can't be
 // carried out.
-const REFUSED: [(&str, &str); 20] = [
+const REFUSED: [(&str, &str); 23] = [
     ("", "refused: words\n"),
     ("try", "refused: words\n"),
     ("try S1", "refused: words\n"),
@@ -314,6 +315,9 @@ const REFUSED: [(&str, &str); 20] = [
     ("check S1 pieces", "refused: type line 1: one bytes\n"),
     ("try wide E3", "refused: type line 1: entry too long\n"),
     ("try linked ring", "refused: not built\n"),
+    ("explain S1", "refused: words\n"),
+    ("explain S1 unended", "refused: equation line 2: end\n"),
+    ("explain linked ring", "refused: not built\n"),
 ];
 
 #[test]
@@ -342,5 +346,52 @@ f = partition(k 10,
     let (status, machine) = top(alloc, &words(alloc, "check S1 E")?, machine);
     assert_eq!(rt; machine.said(), said.as_bytes());
     assert_eq!(rt; status, Status::Done);
+    Ok(())
+}
+
+// Scripts that are explained, and how that ends: to their end, also inside a transaction, or at a
+// line that is bad or may not stand where it does.
+const EXPLAINED: [(Case, Status); 4] = [
+    (
+        Case {
+            script: "find f where v = 3\nfind f where k > 2 and v = 3\nfind f\n",
+            said: "line 1: index v\nline 2: index v\nline 3: scan\n",
+        },
+        Status::Done,
+    ),
+    (
+        Case {
+            script: "# k is the key\n\nbegin\ninsert f 1 5\nget f 1\nfind f where v > 3 and k = 1",
+            said: "line 6: key k\n",
+        },
+        Status::Done,
+    ),
+    (
+        Case {
+            script: "find f where k < 3\ncommit\nfind f\n",
+            said: "line 1: key range k\nstopped at line 2: no transaction\n",
+        },
+        Status::Script,
+    ),
+    (
+        Case {
+            script: "find f where v <> 3 and v <= 4\nfind g\nfind f\n",
+            said: "line 1: index range v\nstopped at line 2: file\n",
+        },
+        Status::Script,
+    ),
+];
+
+#[test]
+fn scripts_are_explained(rt: HostRuntime) -> Result<(), Fail> {
+    let alloc = rt.alloc();
+    for (case, wanted) in EXPLAINED {
+        let mut machine = machine(alloc, case.script.as_bytes())?;
+        machine.add_text(alloc, "S2", b"file f (k int, v int)\n")?;
+        machine.add_text(alloc, "E2", b"f = index(v, actual(heap), heap)\n")?;
+        let (status, machine) = top(alloc, &words(alloc, "explain S2 E2")?, machine);
+        assert_eq!(rt; machine.said(), case.said.as_bytes(), "{}", case.script);
+        assert_eq!(rt; status, wanted);
+    }
     Ok(())
 }

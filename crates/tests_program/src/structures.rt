@@ -4,13 +4,14 @@ ghost use Rattle.gx_schema.specs.WellFormed.{IsWellFormed};
 ghost use Rattle.gx_memory_leaves.specs.Plain.{working_of};
 ghost use Rattle.gx_engine.specs.Steps.{AreFor, IsReady, schema_of, built_of, leaves_of};
 
+use gx_commands::{LONGEST_LINE, LineWhy, allowed};
 use gx_engine::Engine;
 use gx_equation::read_equation;
 use gx_memory_leaves::PlainLeaves;
 use gx_memory_machine::MemoryMachine;
 use gx_ports::{Entries, Leaves};
 use gx_schema::{Schema, read_schema};
-use gx_script::{LONGEST_LINE, LineWhy, allowed, read_command};
+use gx_script::read_command;
 use gx_types::{Built, build, heads_built};
 use gx_typing::typed;
 use gx_values::{KeyBuf, Octets, Span};

@@ -2,8 +2,9 @@
 ghost use Rattle.std.specs.Prelude.{IfOk};
 ghost use Rattle.gx_schema.specs.WellFormed.{IsWellFormed};
 
+use gx_commands::{LineWhy, NoCommand, ScriptLines, allowed};
 use gx_schema::{Schema, read_schema};
-use gx_script::{LineWhy, NoCommand, ScriptLines, allowed, read_command};
+use gx_script::read_command;
 use std::alloc::{AllocError, Global};
 use std::test::Fail;
 

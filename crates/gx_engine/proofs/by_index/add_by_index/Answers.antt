@@ -8,7 +8,7 @@ use Rattle.gx_values.specs.Values.{Fits, value_cmp, is_met}
 use Rattle.gx_values.specs.Spans.{IsSpanKind, IsValueSpan, HoldsThoseMet}
 use Rattle.gx_stack.specs.Tree.{leaves_of}
 use Rattle.gx_stack.specs.Seen.{tree_of}
-use Rattle.gx_stack.proofs.Lists.{all_at}
+use Rattle.gx_gather.proofs.Lists.{all_at}
 use Rattle.gx_model.specs.Found.{meets_cond, meets_conds}
 use Rattle.gx_model.specs.States.{IsRowOf}
 use Rattle.gx_scan.specs.Steps.{rows_with}

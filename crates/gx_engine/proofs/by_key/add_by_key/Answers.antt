@@ -4,7 +4,7 @@ use Rattle.std.specs.FinMap as fin
 use Rattle.std.specs.List.Sorted.{IsPermutation}
 use Rattle.gx_stack.specs.Tree.{leaves_of}
 use Rattle.gx_stack.specs.Seen.{tree_of}
-use Rattle.gx_stack.proofs.Lists.{all_at}
+use Rattle.gx_gather.proofs.Lists.{all_at}
 use Rattle.gx_model.specs.Found.{meets_conds}
 use Rattle.gx_model.specs.States.{IsRowOf}
 use Rattle.gx_scan.specs.Steps.{rows_inside}

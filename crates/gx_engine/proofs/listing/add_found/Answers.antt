@@ -2,12 +2,12 @@ use Rattle.std.proofs.Common.{rules, ◌≡◌, ◌∙◌, ◌+◌, ◌*◌, ◌
 use Rattle.std.specs.Prelude.{OnOk}
 use Rattle.std.specs.FinMap as fin
 use Rattle.std.specs.List.Sorted.{IsPermutation}
-use Rattle.gx_script.specs.declared.command.Cond.{Cond}
-use Rattle.gx_script.specs.Commands.{IsCondOf}
+use Rattle.gx_commands.specs.declared.command.Cond.{Cond}
+use Rattle.gx_commands.specs.Commands.{IsCondOf}
 use Rattle.gx_mapping.specs.Rule.{In}
 use Rattle.gx_stack.specs.Tree.{leaves_of}
 use Rattle.gx_stack.specs.Seen.{tree_of}
-use Rattle.gx_stack.proofs.Lists.{all_at, in_at}
+use Rattle.gx_gather.proofs.Lists.{all_at, in_at}
 use Rattle.gx_planner.specs.Plans.{is_indexed, least_plan}
 use Rattle.gx_model.specs.Found.{meets_conds}
 use Rattle.gx_scan.specs.Within.{AreAdded}

@@ -1,7 +1,7 @@
 use Rattle.std.proofs.Common.{subst, sym, ◌∙◌}
 use Rattle.gx_values.proofs.CopyLemmas.{are_sized}
-use Rattle.gx_script.specs.declared.command.Command.TheVariants as command
-use Rattle.gx_script.specs.Commands.{IsOfSchema}
+use Rattle.gx_commands.specs.declared.command.Command.TheVariants as command
+use Rattle.gx_commands.specs.Commands.{IsOfSchema}
 use Rattle.gx_plain.specs.Plain.{AreSizedChanges}
 use Rattle.gx_plain.proofs.ChangeLemmas.{sized_changes}
 use Rattle.gx_plain.proofs.changes.change.Goals as goal

@@ -1,6 +1,6 @@
 use Rattle.std.proofs.Common.{◌≡◌, None, refl, ap, subst, ◌∙◌}
 use Rattle.std.specs.Prelude.{is_some}
-use Rattle.gx_script.specs.Commands.{place_reason}
+use Rattle.gx_commands.specs.Commands.{place_reason}
 use Rattle.gx_model.specs.Play.{next_of}
 use Rattle.gx_plain.proofs.plain.play_line.Goals as goal
 

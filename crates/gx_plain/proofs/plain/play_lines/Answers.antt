@@ -1,6 +1,6 @@
 use Rattle.std.proofs.Common.{◌≡◌, ◌≤◌, ◌++◌, Err, length, sym, ap, subst, ◌∙◌, arith}
 use Rattle.std.specs.Prelude.{is_some}
-use Rattle.gx_script.specs.Lines.{with_line}
+use Rattle.gx_commands.specs.Lines.{with_line}
 use Rattle.gx_model.specs.Play.{end_at}
 use Rattle.gx_model.specs.Runs.{IsBadLine}
 use Rattle.gx_plain.proofs.LineLemmas.{at_start, after_line, at_end, at_stop, at_bad_line, few_lines}

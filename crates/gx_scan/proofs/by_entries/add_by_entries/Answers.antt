@@ -7,7 +7,7 @@ use Rattle.gx_ports.specs.declared.stop.Stop.TheVariants as stop
 use Rattle.gx_ports.specs.LeafMaps.{LeafMap}
 use Rattle.gx_ports.proofs.CallLemmas.{reads_itself, reads_joined}
 use Rattle.gx_stack.specs.Seen.{tree_of}
-use Rattle.gx_stack.proofs.Lists.{in_read}
+use Rattle.gx_gather.proofs.Lists.{in_read}
 use Rattle.gx_types.specs.Any.{any_rule}
 use Rattle.gx_model.specs.States.{Row}
 use Rattle.gx_scan.specs.declared.places.Place.{Place}
@@ -15,7 +15,7 @@ use Rattle.gx_scan.specs.Files.{IsInternal}
 use Rattle.gx_scan.specs.Entries.{rows_at}
 use Rattle.gx_scan.specs.Within.{is_within}
 use Rattle.gx_scan.specs.Steps.{is_key_inside, rows_inside}
-use Rattle.gx_stack.proofs.Lists.{in_filter}
+use Rattle.gx_gather.proofs.Lists.{in_filter}
 use Rattle.gx_scan.proofs.PlaceLemmas.{IsOnce, leaves_once, leaf_there, get_or_any, number}
 use Rattle.gx_scan.proofs.StepLemmas.{whole_most}
 use Rattle.gx_scan.proofs.ListingLemmas.{none_chosen, place_chosen, all_chosen}

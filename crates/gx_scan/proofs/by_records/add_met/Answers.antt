@@ -2,7 +2,7 @@ use Rattle.std.proofs.Common.{rules, ◌≡◌, ◌∙◌, ◌++◌, ◌∷◌, 
 use Rattle.std.specs.Vec.Iter.{into_iter_items}
 use Rattle.gx_values.specs.declared.records.Rec.{Rec}
 use Rattle.gx_mapping.specs.Rule.{In}
-use Rattle.gx_stack.proofs.Lists.{in_right}
+use Rattle.gx_gather.proofs.Lists.{in_right}
 use Rattle.gx_scan.proofs.by_records.add_met.Goals as goal
 
 pub into_row-row-requires-clause-fits : goal.into_row-row-requires-clause-fits

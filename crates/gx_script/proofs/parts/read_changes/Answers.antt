@@ -1,6 +1,6 @@
 use Rattle.std.proofs.Common.{length, refl, sym, arith}
 use Rattle.std.proofs.lemmas.Result.{err_from_is_err_and}
-use Rattle.gx_script.specs.Cutting.{words_in}
+use Rattle.gx_commands.specs.Cutting.{words_in}
 use Rattle.gx_script.proofs.LoopLaws.{change_shorter, changes_go_on, changes_end, change_fails}
 use Rattle.gx_script.proofs.parts.read_changes.Goals as goal
 

@@ -1,5 +1,5 @@
 use Rattle.std.proofs.Common.{[], length}
-use Rattle.gx_script.specs.Cutting.{words_in}
+use Rattle.gx_commands.specs.Cutting.{words_in}
 use Rattle.gx_script.specs.Reading.{changes_at}
 use Rattle.gx_script.proofs.LoopLaws.{ChangesGo}
 use Rattle.gx_script.proofs.parts.read_changes.Given as goal

@@ -1,7 +1,7 @@
 use Rattle.std.proofs.Common.{length, refl, sym, arith}
 use Rattle.std.specs.Prelude.{codes}
 use Rattle.std.proofs.lemmas.Result.{err_from_is_err_and}
-use Rattle.gx_script.specs.Cutting.{words_in}
+use Rattle.gx_commands.specs.Cutting.{words_in}
 use Rattle.gx_script.proofs.LoopLaws.{cond_shorter, behind_shorter, conds_go_on, conds_end, cond_fails}
 use Rattle.gx_script.proofs.parts.read_conds.Goals as goal
 

@@ -1,5 +1,5 @@
 use Rattle.std.proofs.Common.{[], length}
-use Rattle.gx_script.specs.Cutting.{words_in}
+use Rattle.gx_commands.specs.Cutting.{words_in}
 use Rattle.gx_script.specs.Reading.{conds_at}
 use Rattle.gx_script.proofs.LoopLaws.{CondsGo}
 use Rattle.gx_script.proofs.parts.read_conds.Given as goal

@@ -1,5 +1,5 @@
 use Rattle.std.proofs.lemmas.Result.{err_from_is_err_and}
-use Rattle.gx_script.specs.Cutting.{words_in}
+use Rattle.gx_commands.specs.Cutting.{words_in}
 use Rattle.gx_script.proofs.LoopLaws.{values_go_on, value_fails, values_end}
 use Rattle.gx_script.proofs.values.read_values.Goals as goal
 

@@ -1,5 +1,5 @@
 use Rattle.std.proofs.Common.{◌≡◌, [], drop}
-use Rattle.gx_script.specs.Cutting.{words_in}
+use Rattle.gx_commands.specs.Cutting.{words_in}
 use Rattle.gx_script.specs.Reading.{values_at}
 use Rattle.gx_script.proofs.values.read_values.Given as goal
 

@@ -1,6 +1,6 @@
 use Rattle.std.proofs.Common.{rules, ◌≡◌, subst}
 use Rattle.gx_mapping.specs.Rule.{In}
-use Rattle.gx_stack.proofs.Lists.{in_read}
+use Rattle.gx_gather.proofs.Lists.{in_read}
 use Rattle.gx_stack.proofs.held.others_of.Goals as goal
 
 pub parts-requires : goal.parts-requires

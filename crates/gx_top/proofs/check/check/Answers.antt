@@ -1,6 +1,6 @@
 use Rattle.std.proofs.Common.{ap}
-use Rattle.gx_top.specs.Words.{checking, request_words}
-use Rattle.gx_top.proofs.RequestLemmas.{summary}
+use Rattle.gx_requests.specs.Words.{checking, request_words}
+use Rattle.gx_requests.proofs.RequestLemmas.{summary}
 use Rattle.gx_top.proofs.EndLemmas.{unprepared_end, unprepared_due, check_end, check_due}
 use Rattle.gx_top.proofs.check.check.Goals as goal
 

@@ -1,4 +1,4 @@
-use Rattle.gx_top.specs.Words.{texts_of}
+use Rattle.gx_requests.specs.Words.{texts_of}
 use Rattle.gx_top.proofs.OnceLemmas.{one_script_once}
 use Rattle.gx_top.proofs.laws.one_text.Goals as goal
 

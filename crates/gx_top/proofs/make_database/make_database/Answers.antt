@@ -1,6 +1,6 @@
-use Rattle.std.proofs.Common.{refl, sym, ap, ◌∙◌}
+use Rattle.std.proofs.Common.{ap, ◌∙◌}
 use Rattle.gx_store.specs.Store.{CanAttach}
-use Rattle.gx_top.specs.Words.{making, request_words}
+use Rattle.gx_requests.specs.Words.{making, request_words}
 use Rattle.gx_top.proofs.EndLemmas.{unprepared_end, unprepared_due, unhad_end}
 use Rattle.gx_top.proofs.MakeLemmas.{unhad, made_due, made_left, unprepared_left}
 use Rattle.gx_top.proofs.make_database.make_database.Goals as goal

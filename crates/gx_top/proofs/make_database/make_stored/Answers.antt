@@ -1,4 +1,4 @@
-use Rattle.std.proofs.Common.{◌≡◌, rules, sym, subst, ◌∙◌}
+use Rattle.std.proofs.Common.{◌≡◌, rules, sym, subst}
 use Rattle.gx_top.specs.Made.{IsMaking}
 use Rattle.gx_top.proofs.MakeLemmas.{making_told, left_told}
 use Rattle.gx_top.proofs.make_database.make_stored.Goals as goal

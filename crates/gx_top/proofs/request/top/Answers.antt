@@ -1,10 +1,10 @@
-use Rattle.std.proofs.Common.{refl, sym, ap, subst, ◌∙◌, inl}
+use Rattle.std.proofs.Common.{refl, sym, subst, inl}
 use Rattle.gx_top.specs.Tries.{IsEnd, IsAsDue}
-use Rattle.gx_top.specs.Words.{texts_of, checking, trying, making, running, IsRequest}
-use Rattle.gx_top.specs.declared.ending.Ending.TheVariants as ending
+use Rattle.gx_requests.specs.Words.{texts_of, checking, trying, explaining, making, running, IsRequest}
+use Rattle.gx_play.specs.declared.ending.Ending.TheVariants as ending
 use Rattle.gx_top.proofs.EndLemmas.{unprepared_end, unprepared_due}
-use Rattle.gx_top.proofs.MakeLemmas.{made_by_words, not_made_too, not_checking, not_trying, not_running}
-use Rattle.gx_top.proofs.RanLemmas.{not_ran, ran_by_words, check_is_no_run, try_is_no_run, make_is_no_run}
+use Rattle.gx_top.proofs.MakeLemmas.{made_by_words, not_made_too, not_checking, not_trying, not_explaining, not_running}
+use Rattle.gx_top.proofs.RanLemmas.{not_ran, ran_by_words, check_is_no_run, try_is_no_run, explain_is_no_run, make_is_no_run}
 use Rattle.gx_top.proofs.request.top.Goals as goal
 
 pub returns-in-Some-Check-clause-said : goal.returns-in-Some-Check-clause-said
@@ -23,11 +23,19 @@ pub returns-in-Some-Try-clause-due : goal.returns-in-Some-Try-clause-due
 returns-in-Some-Try-clause-due g c = λ told free.
     subst (λ w. IsAsDue w (g.M.Device.content c.args.machine) c.try_script.result.0) (sym (subst (IsRequest (texts_of c.args.words.now)) c.in-Some-Try.field-0-is c.in-Some-Try.ensures.some)) (c.try_script.ensures.due told)
 
+pub returns-in-Some-Explain-clause-said : goal.returns-in-Some-Explain-clause-said
+returns-in-Some-Explain-clause-said g c = λ told free.
+    subst (λ w. IsEnd w (g.M.Device.content c.args.machine) (g.M.Device.content c.explain-status.new.machine) c.explain-status.result) (sym (subst (IsRequest (texts_of c.args.words.now)) c.in-Some-Explain.field-0-is c.in-Some-Explain.ensures.some)) (c.explain-status.ensures.said told)
+
 pub returns-in-Some-Make-clause-said : goal.returns-in-Some-Make-clause-said
 returns-in-Some-Make-clause-said g c = λ told free.
     let is = subst (IsRequest (texts_of c.args.words.now)) c.in-Some-Make.field-0-is c.in-Some-Make.ensures.some in
     subst (λ w. IsEnd w (g.M.Device.content c.args.machine) (g.M.Device.content c.make_database.result.1) c.make_database.result.0) (sym is.2)
     (c.make_database.ensures.said (record { told = told; free = free (making _ is.0) _ _ tt is.2 }) is.0 is.1)
+
+pub returns-in-Some-Explain-clause-due : goal.returns-in-Some-Explain-clause-due
+returns-in-Some-Explain-clause-due g c = λ told free.
+    subst (λ w. IsAsDue w (g.M.Device.content c.args.machine) c.explain-status.result) (sym (subst (IsRequest (texts_of c.args.words.now)) c.in-Some-Explain.field-0-is c.in-Some-Explain.ensures.some)) (c.explain-status.ensures.due told)
 
 pub returns-in-Some-Make-clause-due : goal.returns-in-Some-Make-clause-due
 returns-in-Some-Make-clause-due g c = λ told free.
@@ -83,6 +91,10 @@ pub returns-in-Some-Try-clause-made : goal.returns-in-Some-Try-clause-made
 returns-in-Some-Try-clause-made g c = λ told.
     not_made_too (texts_of c.args.words.now) trying _ _ (g.M.Device.content c.args.machine) (g.M.Device.content c.try_script.result.1) c.try_script.result.0 (subst (IsRequest (texts_of c.args.words.now)) c.in-Some-Try.field-0-is c.in-Some-Try.ensures.some) not_trying
 
+pub returns-in-Some-Explain-clause-made : goal.returns-in-Some-Explain-clause-made
+returns-in-Some-Explain-clause-made g c = λ told.
+    not_made_too (texts_of c.args.words.now) explaining _ _ (g.M.Device.content c.args.machine) (g.M.Device.content c.explain-status.new.machine) c.explain-status.result (subst (IsRequest (texts_of c.args.words.now)) c.in-Some-Explain.field-0-is c.in-Some-Explain.ensures.some) not_explaining
+
 pub returns-in-Some-Make-clause-made : goal.returns-in-Some-Make-clause-made
 returns-in-Some-Make-clause-made g c = λ told device digits schema equation counted made free.
     let is = subst (IsRequest (texts_of c.args.words.now)) c.in-Some-Make.field-0-is c.in-Some-Make.ensures.some in
@@ -103,6 +115,10 @@ returns-in-Some-Check-clause-ran g c = λ told.
 pub returns-in-Some-Try-clause-ran : goal.returns-in-Some-Try-clause-ran
 returns-in-Some-Try-clause-ran g c = λ told.
     not_ran (texts_of c.args.words.now) trying _ _ (g.M.Device.content c.args.machine) (g.M.Device.content c.try_script.result.1) c.try_script.result.0 (subst (IsRequest (texts_of c.args.words.now)) c.in-Some-Try.field-0-is c.in-Some-Try.ensures.some) try_is_no_run
+
+pub returns-in-Some-Explain-clause-ran : goal.returns-in-Some-Explain-clause-ran
+returns-in-Some-Explain-clause-ran g c = λ told.
+    not_ran (texts_of c.args.words.now) explaining _ _ (g.M.Device.content c.args.machine) (g.M.Device.content c.explain-status.new.machine) c.explain-status.result (subst (IsRequest (texts_of c.args.words.now)) c.in-Some-Explain.field-0-is c.in-Some-Explain.ensures.some) explain_is_no_run
 
 pub returns-in-Some-Make-clause-ran : goal.returns-in-Some-Make-clause-ran
 returns-in-Some-Make-clause-ran g c = λ told.

@@ -1,19 +1,17 @@
-use Rattle.std.proofs.Common.{◌≡◌, List, ℕ, Some, sym, ap, subst, ◌∙◌}
-use Rattle.gx_ports.specs.declared.kinds.LeafSpec.{LeafSpec}
+use Rattle.std.proofs.Common.{List, Some, sym, ap, subst, ◌∙◌}
 use Rattle.gx_ports.specs.LeafMaps.{LeafMap}
 use Rattle.gx_leaves.specs.Paged.{places_in, pages_of, kept_of, head_of, WasWhole}
 use Rattle.gx_leaves.specs.Places.{specs_of}
 use Rattle.gx_leaves.specs.Wholeness.{limits_of}
 use Rattle.gx_pages.specs.Paged.{ground_of}
 use Rattle.gx_pages.specs.View.{journal_of}
-use Rattle.gx_store.specs.Device.{IsHeadOf}
 use Rattle.gx_store.specs.Store.{machine_of}
 use Rattle.gx_model.specs.States.{State}
 use Rattle.gx_engine.specs.Internal.{AreInternal}
-use Rattle.gx_top.specs.Plays.{IsPlayedAs}
+use Rattle.gx_play.specs.Plays.{IsPlayedAs}
 use Rattle.gx_top.specs.Tasks.{IsSettledIn}
 use Rattle.gx_top.proofs.StoreLemmas.{settled_from}
-use Rattle.gx_top.proofs.TryLemmas.{held_as}
+use Rattle.gx_play.proofs.OverLemmas.{held_as}
 use Rattle.gx_top.proofs.run_script.play_stored.Goals as goal
 
 pub returns-clause-answered : goal.returns-clause-answered

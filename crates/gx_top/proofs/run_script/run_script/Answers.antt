@@ -1,6 +1,6 @@
 use Rattle.std.proofs.Common.{ap, ◌∙◌}
 use Rattle.gx_store.specs.Store.{CanAttach}
-use Rattle.gx_top.specs.Words.{running, request_words}
+use Rattle.gx_requests.specs.Words.{running, request_words}
 use Rattle.gx_top.proofs.EndLemmas.{unprepared_end, unprepared_due}
 use Rattle.gx_top.proofs.RanLemmas.{left_since, unprepared_ran}
 use Rattle.gx_top.proofs.run_script.run_script.Goals as goal

@@ -6,8 +6,8 @@ use Rattle.gx_pages.specs.Paged.{ground_of}
 use Rattle.gx_pages.specs.View.{journal_of}
 use Rattle.gx_store.specs.Device.{IsHeadOf}
 use Rattle.gx_store.specs.Store.{HoldsMaps, machine_of}
-use Rattle.gx_top.specs.Endings.{IsEnded}
-use Rattle.gx_top.specs.Plays.{IsPlayedAs}
+use Rattle.gx_play.specs.Endings.{IsEnded}
+use Rattle.gx_play.specs.Plays.{IsPlayedAs}
 use Rattle.gx_top.specs.Tasks.{IsSettledIn}
 use Rattle.gx_top.proofs.EndLemmas.{IsUnhad, run_end, run_due, unhad_end, unhad_due}
 use Rattle.gx_top.proofs.StoreLemmas.{limit_on}

@@ -1,12 +1,12 @@
-use Rattle.std.proofs.Common.{rules, None, refl, sym, ap, subst, ◌∙◌, arith}
+use Rattle.std.proofs.Common.{rules, None, sym, ap, subst, ◌∙◌, arith}
 use Rattle.gx_device.specs.Faults.{Rose}
 use Rattle.gx_memory_leaves.specs.Plain.{kept_of}
 use Rattle.gx_engine.specs.Internal.{AreInternal}
 use Rattle.gx_model.specs.States.{State, empty_state}
-use Rattle.gx_top.specs.Plays.{IsPlayedAs}
+use Rattle.gx_play.specs.Plays.{IsPlayedAs}
 use Rattle.gx_engine.proofs.StartLemmas.{start_state}
-use Rattle.gx_top.proofs.TryLemmas.{held_as, unheard}
-use Rattle.gx_top.specs.declared.ending.Ending.TheVariants as ending
+use Rattle.gx_play.proofs.OverLemmas.{held_as, unheard}
+use Rattle.gx_play.specs.declared.ending.Ending.TheVariants as ending
 use Rattle.gx_top.proofs.try_script.play_script.Goals as goal
 
 pub returns-in-Ok-clause-answered : goal.returns-in-Ok-clause-answered

@@ -1,5 +1,5 @@
 use Rattle.std.proofs.Common.{ap}
-use Rattle.gx_top.specs.Words.{trying, request_words}
+use Rattle.gx_requests.specs.Words.{trying, request_words}
 use Rattle.gx_top.proofs.EndLemmas.{unprepared_end, unprepared_due, run_end, run_due}
 use Rattle.gx_top.proofs.TaskLemmas.{try_task, try_run}
 use Rattle.gx_top.proofs.try_script.try_script.Goals as goal
@@ -9,9 +9,9 @@ returns-in-Ok-clause-said g c = λ told.
     let words = request_words trying c.args.schema.now c.args.equation.now in
     let content = g.M.Device.content in
     let old = content c.args.machine in
-    let prepared = c.in-Ok.ensures.prepared told in
+    let prepared = c.in-Ok.ensures.prepared told trying tt in
     run_end words (try_task words old.aside.texts _ prepared) old (content c.play_script-machine.result.1) (content c.finish-status.new.machine) c.play_script-machine.result.0 c.finish-status.result
-    (try_run words _ old (content c.prepare.new.machine) (content c.play_script-machine.result.1) (content c.finish-status.new.machine) c.play_script-machine.result.0 c.finish-status.result prepared c.in-Ok.ensures.content
+    (try_run words _ old (content c.prepare_nodes.new.machine) (content c.play_script-machine.result.1) (content c.finish-status.new.machine) c.play_script-machine.result.0 c.finish-status.result prepared c.in-Ok.ensures.content
     (c.play_script-machine.ensures.answered told) (c.play_script-machine.ensures.heard told) c.play_script-machine.ensures.ending (c.finish-status.ensures.finished told))
 
 pub returns-in-Ok-clause-due : goal.returns-in-Ok-clause-due
@@ -19,16 +19,16 @@ returns-in-Ok-clause-due g c = λ told.
     let words = request_words trying c.args.schema.now c.args.equation.now in
     let content = g.M.Device.content in
     let old = content c.args.machine in
-    let prepared = c.in-Ok.ensures.prepared told in
+    let prepared = c.in-Ok.ensures.prepared told trying tt in
     run_due words (try_task words old.aside.texts _ prepared) old (content c.play_script-machine.result.1) (content c.finish-status.new.machine) c.play_script-machine.result.0 c.finish-status.result
-    (try_run words _ old (content c.prepare.new.machine) (content c.play_script-machine.result.1) (content c.finish-status.new.machine) c.play_script-machine.result.0 c.finish-status.result prepared c.in-Ok.ensures.content
+    (try_run words _ old (content c.prepare_nodes.new.machine) (content c.play_script-machine.result.1) (content c.finish-status.new.machine) c.play_script-machine.result.0 c.finish-status.result prepared c.in-Ok.ensures.content
     (c.play_script-machine.ensures.answered told) (c.play_script-machine.ensures.heard told) c.play_script-machine.ensures.ending (c.finish-status.ensures.finished told))
 
 pub returns-in-Err-clause-said : goal.returns-in-Err-clause-said
 returns-in-Err-clause-said g c = λ told.
     let words = request_words trying c.args.schema.now c.args.equation.now in
-    unprepared_end words (g.M.Device.content c.args.machine) (g.M.Device.content c.prepare.new.machine) (g.M.Device.content c.end-status.new.machine) _ _ c.in-Err.ending c.end-status.result
-    (c.in-Err.ensures.unprepared told) (ap (λ n. n.said) c.in-Err.ensures.content.now) c.in-Err.ensures.content.script
+    unprepared_end words (g.M.Device.content c.args.machine) (g.M.Device.content c.prepare_nodes.new.machine) (g.M.Device.content c.end-status.new.machine) _ _ c.in-Err.ending c.end-status.result
+    (c.in-Err.ensures.unprepared told trying tt) (ap (λ n. n.said) c.in-Err.ensures.content.now) c.in-Err.ensures.content.script
     (record {
       status_is = c.end-status.ensures.status;
       said = c.end-status.ensures.said told;
@@ -42,8 +42,8 @@ returns-in-Err-clause-said g c = λ told.
 pub returns-in-Err-clause-due : goal.returns-in-Err-clause-due
 returns-in-Err-clause-due g c = λ told.
     let words = request_words trying c.args.schema.now c.args.equation.now in
-    unprepared_due words (g.M.Device.content c.args.machine) (g.M.Device.content c.prepare.new.machine) (g.M.Device.content c.end-status.new.machine) _ _ c.in-Err.ending c.end-status.result
-    (c.in-Err.ensures.unprepared told)
+    unprepared_due words (g.M.Device.content c.args.machine) (g.M.Device.content c.prepare_nodes.new.machine) (g.M.Device.content c.end-status.new.machine) _ _ c.in-Err.ending c.end-status.result
+    (c.in-Err.ensures.unprepared told trying tt)
     (record {
       status_is = c.end-status.ensures.status;
       said = c.end-status.ensures.said told;

@@ -1,5 +1,5 @@
 use Rattle.std.proofs.Common.{OnOk, sym, subst}
-use Rattle.gx_script.specs.declared.command.Command.{Command}
+use Rattle.gx_commands.specs.declared.command.Command.{Command}
 use Rattle.gx_engine.specs.Steps.{TakesFewSteps}
 use Rattle.gx_engine.proofs.engine.Engine.carry_out.Goals as goal
 

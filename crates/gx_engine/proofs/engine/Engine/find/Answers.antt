@@ -1,7 +1,7 @@
 use Rattle.std.proofs.Common.{rules, ◌∙◌, ◌++◌, ℕ, List, length, sym, ap, subst}
 use Rattle.gx_schema.specs.declared.schema.FileDef.{FileDef}
 use Rattle.std.specs.List.{AllByRecursion}
-use Rattle.gx_script.specs.Commands.{IsCondOf}
+use Rattle.gx_commands.specs.Commands.{IsCondOf}
 use Rattle.gx_stack.specs.Seen.{tree_of}
 use Rattle.gx_scan.specs.Files.{IsTreeFor}
 use Rattle.gx_scan.specs.Where.{AreNamed}

@@ -1,6 +1,6 @@
 use Rattle.std.proofs.Common.{rules, ◌≡◌, ◌∙◌, ◌+◌, List, Err, length, sym, ap, subst}
 use Rattle.std.proofs.lemmas.Result.{err_from_is_err_and}
-use Rattle.gx_script.specs.declared.command.Change.{Change}
+use Rattle.gx_commands.specs.declared.command.Change.{Change}
 use Rattle.gx_ports.specs.LeafMaps.{entry_count, IsCrowdedBy}
 use Rattle.gx_ports.specs.declared.stop.Stop.TheVariants as stop
 use Rattle.gx_stack.specs.Tree.{entries_of}

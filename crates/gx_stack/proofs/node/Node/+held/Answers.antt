@@ -5,10 +5,10 @@ use Rattle.gx_mapping.specs.Rule.{In, IsOf}
 use Rattle.gx_stack.specs.Tree.{leaves_of}
 use Rattle.gx_stack.specs.Seen.{tree_of, kids_from}
 use Rattle.gx_stack.specs.Internal.{IsSet, IsInternal, child_records}
-use Rattle.gx_stack.specs.Gather.{rec_cmp, part_for, AreDataParts}
+use Rattle.gx_gather.specs.Gather.{rec_cmp, part_for, AreDataParts}
 use Rattle.gx_stack.specs.Held.{IsHeld}
 use Rattle.gx_ports.proofs.CallLemmas.{reads_joined}
-use Rattle.gx_stack.proofs.Orders.{ascends}
+use Rattle.gx_gather.proofs.Orders.{ascends}
 use Rattle.gx_stack.proofs.Seen.{seen_leaf, layer_form, child_there, child_valid, child_leaves, child_internal, kid_lower}
 use Rattle.gx_stack.proofs.Children.{child_set}
 use Rattle.gx_stack.proofs.Selects.{data_parts_add}

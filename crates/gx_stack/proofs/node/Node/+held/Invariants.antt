@@ -3,7 +3,7 @@ use Rattle.gx_mapping.specs.declared.parts.Part.{Part}
 use Rattle.gx_mapping.specs.Rule.{In, IsOf}
 use Rattle.gx_stack.specs.Tree.{height}
 use Rattle.gx_stack.specs.Seen.{tree_of, kids_from}
-use Rattle.gx_stack.specs.Gather.{AreDataParts}
+use Rattle.gx_gather.specs.Gather.{AreDataParts}
 use Rattle.gx_ports.specs.Calls.{Reads}
 use Rattle.gx_stack.proofs.StepLemmas.{steps_below}
 use Rattle.gx_stack.proofs.WholeLayer.{AreRead}

@@ -1,0 +1,5 @@
+pub mod Commands
+pub mod LineWhys
+pub mod Words
+pub mod Cutting
+pub mod Lines

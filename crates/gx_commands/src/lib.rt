@@ -1,0 +1,12 @@
+//! The commands of a script, its lines, and the words of a line.
+#![tactic(auto)]
+
+mod command;
+mod lines;
+mod rule;
+mod words;
+
+pub use command::{Change, Changes, Command, Cond, Conds, Find, LineWhy, NoCommand, Of, OrderBy};
+pub use lines::{LONGEST_LINE, LONGEST_SCRIPT, ScriptLines};
+pub use rule::allowed;
+pub use words::{LineWord, are_characters, are_words, is_comment, is_end, take_word};

@@ -1,0 +1,4 @@
+pub mod Lists
+pub mod Orders
+pub mod Made
+mod KeyOrder

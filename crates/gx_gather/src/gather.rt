@@ -1,0 +1,143 @@
+// Records gathered from the data parts that the children of a layer hold.
+ghost use Rattle.std.specs.Prelude.{◌≡◌, ◌<◌, ◌++◌, ◌∷◌, [], ℕ, List, Some, None, length, map, take, OnOk, IsErrOf, IfOk};
+ghost use Rattle.std.specs.List.Sorted.{IsPermutation, IsSortedBy, IsStrictlySortedBy};
+ghost use Rattle.std.specs.Ordering.{is_lt};
+ghost use Rattle.gx_values.specs.Values.{AreSized};
+ghost use Rattle.gx_values.specs.declared.records.Rec.{Rec as Record};
+ghost use Rattle.gx_ports.specs.LeafMaps.{Extends};
+ghost use Rattle.gx_mapping.specs.Rule.{AreOfKey, IsGathered, part_cmp};
+ghost use Rattle.gx_gather.specs.Gather.{gather_cmp, part_for, first_front, is_next, AreDataParts, AreMade, AreMadeOf, IsUnmade};
+
+use crate::order::{front, is_same_front, sort_parts};
+use crate::recs::Recs;
+use gx_mapping::{Mapping, Part, Parts};
+use gx_ports::Stop;
+use gx_values::{NoMemory, Value, Values};
+use std::alloc::{AllocError, Global};
+
+/// The block that is reported where records show damage: no record knows from which block it was read.
+pub const NO_BLOCK: u32 = 0;
+
+/// Appends the records of one child, as parts of that child. An error is an allocation failure.
+pub fn add_parts(child: u16, found: Recs, parts: &mut Parts) -> Result<(), AllocError>
+    ensures { OnOk result (parts.new ≡ parts.old ++ map (part_for child) found) }
+{
+    for rec in found.0 {
+        parts.0.push(Part { child, rec })?;
+    }
+    Ok(())
+}
+
+/// Appends the records that these data parts make, in the order of their keys.
+///
+/// `Damaged`: some of the parts are those of no record; the block is `NO_BLOCK`. `Memory`: an
+/// allocation failure. After either, records may have been appended, and those before stay.
+pub fn gather_parts<M: Mapping>(
+    alloc: Global,
+    mapping: &M,
+    parts: Parts,
+    out: &mut Recs,
+) -> Result<(), Stop>
+    requires { AreDataParts (M.rule mapping.now) parts }
+    ensures made { OnOk result
+        ((found : List Record) × (out.new ≡ out.old ++ found)
+        × AreMade (M.rule mapping.now) parts found) }
+    ensures front { Extends out.old out.new }
+    ensures damaged { (block : ℕ) → IsErrOf result (Stop.Damaged block) →
+        IsUnmade (M.rule mapping.now) (length (M.rule mapping.now).form.keys)
+        (IsStrictlySortedBy part_cmp parts) parts }
+    ensures block { (n : ℕ) → IsErrOf result (Stop.Damaged n) → n ≡ 0 }
+    ensures not_full { ¬ IsErrOf result Stop.Full }
+    ensures not_fault { ¬ IsErrOf result Stop.Fault }
+{
+    let mut parts = parts;
+    let width = mapping.form().keys.0.len();
+    sort_parts(width, &mut parts.0)?;
+    gather_sorted(alloc, mapping, width, parts, out)
+}
+
+// The parts of one record stand together.
+fn gather_sorted<M: Mapping>(
+    alloc: Global,
+    mapping: &M,
+    width: usize,
+    parts: Parts,
+    out: &mut Recs,
+) -> Result<(), Stop>
+    requires parts { AreDataParts (M.rule mapping.now) parts }
+    requires width { width ≡ length (M.rule mapping.now).form.keys }
+    requires in_order { IsSortedBy (λ a b. is_lt (gather_cmp width a b)) parts }
+    ensures made { OnOk result
+        ((found : List Record) × (out.new ≡ out.old ++ found)
+        × AreMadeOf (M.rule mapping.now) parts found) }
+    ensures front { Extends out.old out.new }
+    ensures damaged { (block : ℕ) → IsErrOf result (Stop.Damaged block) →
+        IsUnmade (M.rule mapping.now) width (IsStrictlySortedBy (gather_cmp width) parts) parts }
+    ensures block { (n : ℕ) → IsErrOf result (Stop.Damaged n) → n ≡ 0 }
+    ensures not_full { ¬ IsErrOf result Stop.Full }
+    ensures not_fault { ¬ IsErrOf result Stop.Fault }
+{
+    let mut group = Parts(Vec::new(alloc));
+    for part in parts.0 {
+        if begins_next(width, &group.0, &part) {
+            gather_group(alloc, mapping, width, &group, out)?;
+            group.0.clear();
+        }
+        group.0.push(part)?;
+    }
+    if group.0.is_empty() {
+        return Ok(());
+    }
+    gather_group(alloc, mapping, width, &group, out)
+}
+
+// Whether a part is of another record than those of a group.
+fn begins_next(width: usize, group: &[Part], part: &Part) -> bool
+    ensures { result ≡ is_next width group.now part.now }
+{
+    match group.first() {
+        Some(first) => !is_same_front(width, &first.rec.key.0, &part.rec.key.0),
+        None => false,
+    }
+}
+
+// Appends the record of a group of parts.
+fn gather_group<M: Mapping>(
+    alloc: Global,
+    mapping: &M,
+    width: usize,
+    group: &Parts,
+    out: &mut Recs,
+) -> Result<(), Stop>
+    requires some { 0 < length group.now }
+    requires of_key { AreOfKey (M.rule mapping.now) (first_front width group.now) group.now }
+    ensures made { OnOk result
+        ((r : Record) × (out.new ≡ out.old ++ r ∷ [])
+        × IsGathered (M.rule mapping.now) (first_front width group.now) group.now (Some r)) }
+    ensures front { Extends out.old out.new }
+    ensures damaged { (block : ℕ) → IsErrOf result (Stop.Damaged block) →
+        IsGathered (M.rule mapping.now) (first_front width group.now) group.now None }
+    ensures block { (n : ℕ) → IsErrOf result (Stop.Damaged n) → n ≡ 0 }
+    ensures not_full { ¬ IsErrOf result Stop.Full }
+    ensures not_fault { ¬ IsErrOf result Stop.Fault }
+{
+    let key = copy_front(alloc, width, &group.0[0].rec.key.0)?;
+    match mapping.gather(alloc, &key, group)? {
+        Some(rec) => out.0.push(rec)?,
+        None => return Err(Stop::Damaged(NO_BLOCK)),
+    }
+    Ok(())
+}
+
+// The key that a part's key begins with.
+fn copy_front(alloc: Global, width: usize, key: &[Value]) -> Result<Values, NoMemory>
+    requires { AreSized (take width key.now) }
+    ensures { IfOk result (λ copy. copy ≡ take width key.now) }
+{
+    let key = front(width, key);
+    let mut values = Vec::with_capacity(alloc, key.len())?;
+    for value in key {
+        values.push(value.copy(alloc)?)?;
+    }
+    Ok(Values(values))
+}

@@ -1,0 +1,5 @@
+mod SayLemmas
+mod LineLemmas
+pub mod PlayLemmas
+mod HoldingLemmas
+pub mod OverLemmas

@@ -1,0 +1,295 @@
+-- The loop over the lines of a script.
+use Rattle.std.proofs.Common.{◌≡◌, ℕ, ◌+◌, ◌≤◌, List, [], ◌∷◌, ◌++◌, length, take, Bool, true, false, IsTrue, Result, Ok, Err, Option, Some, None, refl, sym, ap, subst, ◌∙◌, arith, inl, inr}
+use Rattle.std.specs.Prelude.{nat_lt, ◌==◌, ◌≢◌, if◌then◌else◌, IsErrAnd, OnErr}
+use Rattle.std.proofs.lemmas.List.{append-nil, append_assoc, length-take, length-append, take_all}
+use Rattle.std.proofs.Math.Seq.{take-append-add}
+use Rattle.gx_device.specs.Faults.{Rose}
+use Rattle.gx_device.specs.Content.{Content}
+use Rattle.gx_schema.specs.declared.schema.Schema.{Schema}
+use Rattle.gx_commands.specs.declared.command.Command.{Command}
+use Rattle.gx_commands.specs.declared.command.LineWhy.{LineWhy}
+use Rattle.gx_commands.specs.declared.command.LineWhy.TheVariants as why
+use Rattle.gx_commands.specs.Commands.{place_reason}
+use Rattle.gx_commands.specs.Lines.{Lines, Parts, with_line, no_lines, with_byte, parts_of, without_cr, last_line, up_to_limit, lines_within, longest_line, longest_script, script_lines, stopped as stopped_lines}
+use Rattle.gx_script.specs.Grammar.{IsLineOf}
+use Rattle.gx_ports.specs.LeafMaps.{Limits, IsCrowdedBy}
+use Rattle.gx_ports.specs.Calls.{Keeps}
+use Rattle.gx_ports.specs.declared.view.View.{Ghosts}
+use Rattle.gx_types.specs.declared.built.Built.{Built}
+use Rattle.gx_ports.specs.declared.stop.Stop.{Stop}
+use Rattle.gx_model.specs.Play.{Playing, End, stopped, end_at, is_inside, next_of, IsAnswered}
+use Rattle.gx_model.specs.Runs.{Step, Runs, IsBadLine, IsEnd, AreFirstLines}
+use Rattle.gx_model.proofs.RunLemmas.{run_on}
+use Rattle.gx_engine.specs.declared.engine.Engine.{Engine}
+use Rattle.gx_engine.specs.Internal.{AreInternal}
+use Rattle.gx_engine.specs.Steps.{schema_of, built_of, leaves_of, is_open, IsDue, IsAt}
+use Rattle.gx_ports.specs.declared.stop.Stop.TheVariants as stop
+use Rattle.gx_play.specs.declared.play.PlayEnd.{PlayEnd}
+use Rattle.gx_play.specs.declared.play.PlayEnd.TheVariants as play_end
+use Rattle.gx_play.specs.Plays.{IsLinePlayed, IsLineCut, IsCommandCut, HasPlayCause, IsBadAt, IsPlayedUp, IsPlayedPart, IsPlayedTo, IsLineEnd, IsSoFar, IsShortLine, IsGivenUp, KeepsState, is_play_fault}
+use Rattle.gx_play.specs.Played.{IsShortAt}
+
+-- no line was played yet
+pub at_start : {S : Type 0} (g : Ghosts S) (start : Playing) (all : Lines) (e : Engine S) → IsAt g start e → IsSoFar g start all all 0 e e
+at_start g start all e at = record {
+  now = start;
+  answers = [];
+  at = at;
+  said = sym (append-nil _);
+  ran = [];
+  many = refl;
+  lines_are = refl;
+  stop_is = refl;
+  runs = (refl, refl);
+}
+
+-- one line more runs
+one_more : (schema : Schema) (start p : Playing) (ran : List (List ℕ)) (answers line : List ℕ) (command : Command) (answer : List ℕ) → Runs schema start ran answers p → IsLineOf schema line command → place_reason (is_inside p) command ≡ None → IsAnswered schema p command answer → Runs schema start (ran ++ line ∷ []) (answers ++ answer) (next_of schema p command)
+one_more schema start p ran answers line command answer runs means placed answered =
+    let step : Step schema p line answer (next_of schema p command) = record { command = command; means = means; allowed = placed; answered = answered; next_is = refl } in
+    subst (λ t. Runs schema start (ran ++ line ∷ []) t (next_of schema p command)) (ap (λ t. answers ++ t) (append-nil answer))
+    (run_on schema start p (next_of schema p command) ran (line ∷ []) answers (answer ++ []) runs (answer, [], next_of schema p command, step, (refl, refl), refl))
+
+-- the lines of which one more ran
+parts_more : (all before left : Lines) (ran : List (List ℕ)) (line : List ℕ) → all.lines ≡ ran ++ before.lines → before ≡ with_line line left → all.lines ≡ (ran ++ line ∷ []) ++ left.lines
+parts_more all before left ran line parts before_is = parts ∙ ap (λ (ls : Lines). ran ++ ls.lines) before_is ∙ sym (append_assoc ran (line ∷ []) left.lines)
+
+-- one more line was played
+pub after_line : {S : Type 0} (g : Ghosts S) (start : Playing) (all before left : Lines) (number : ℕ) (line : List ℕ) (old e new : Engine S) → schema_of e ≡ schema_of old → before ≡ with_line line left → IsTrue g.tells → (so : IsSoFar g start all before number old e) → IsLinePlayed g so.now line e new → IsSoFar g start all left (number + 1) old new
+after_line g start all before left number line old e new schema_is before_is told so played = record {
+  now = next_of (schema_of old) so.now played.command;
+  answers = so.answers ++ played.played.answer;
+  at = subst (λ s. IsAt g (next_of s so.now played.command) new) schema_is played.played.at;
+  said = played.played.said told ∙ ap (λ t. t ++ played.played.answer) so.said ∙ append_assoc _ so.answers played.played.answer;
+  ran = so.ran ++ line ∷ [];
+  many = length-append so.ran (line ∷ []) ∙ ap (λ n. n + 1) so.many;
+  lines_are = parts_more all before left so.ran line so.lines_are before_is;
+  stop_is = so.stop_is ∙ ap (λ (ls : Lines). ls.stop) before_is;
+  runs = one_more (schema_of old) start so.now so.ran so.answers line played.command played.played.answer so.runs
+      (subst (λ s. IsLineOf s line played.command) schema_is played.means) played.placed
+      (subst (λ s. IsAnswered s so.now played.command played.played.answer) schema_is played.played.answered);
+}
+
+-- the play ends there
+ended : {S : Type 0} (g : Ghosts S) (start : Playing) (all left : Lines) (number : ℕ) (next : Result (Option (List ℕ)) LineWhy) (old e : Engine S) (end : End) → (so : IsSoFar g start all left number old e) → AreFirstLines all so.ran next → IsEnd (schema_of old) so.now number next end → IsPlayedUp g start all old e end
+ended g start all left number next old e end so first ends = record {
+  text = so.answers;
+  final = so.now;
+  played = record { ran = so.ran; next = next; first = first; runs = so.runs; ends = subst (λ n. IsEnd (schema_of old) so.now n next end) (sym so.many) ends };
+  said = so.said;
+  at = so.at;
+}
+
+-- no more lines are left
+all_ran : {S : Type 0} (g : Ghosts S) (start : Playing) (all left : Lines) (number : ℕ) (stop : Option LineWhy) (old e : Engine S) → left ≡ record { lines = []; stop = stop } → (so : IsSoFar g start all left number old e) → (all.lines ≡ so.ran) × (all.stop ≡ stop)
+all_ran g start all left number stop old e left_is so = (
+  so.lines_are ∙ ap (λ (ls : Lines). so.ran ++ ls.lines) left_is ∙ append-nil so.ran,
+  so.stop_is ∙ ap (λ (ls : Lines). ls.stop) left_is,
+)
+
+-- at its end, where no transaction is open or one is
+pub at_end : {S : Type 0} (g : Ghosts S) (start : Playing) (all left : Lines) (number : ℕ) (old e : Engine S) (at : Bool) → IsSoFar g start all left number old e → left ≡ no_lines → is_open e ≡ at → IsPlayedUp g start all old e (end_at number at)
+at_end g start all left number old e at so left_is open_is =
+    ended g start all left number (Ok None) old e (end_at number at) so
+    (all_ran g start all left number None old e left_is so) (ap (end_at number) (sym open_is ∙ so.at.stands.inside_same))
+
+-- where the line behind can't be had
+pub at_stop : {S : Type 0} (g : Ghosts S) (start : Playing) (all left : Lines) (number n : ℕ) (reason : LineWhy) (old e : Engine S) → IsSoFar g start all left number old e → n ≡ number + 1 → left ≡ stopped_lines reason → IsPlayedUp g start all old e (stopped n reason)
+at_stop g start all left number n reason old e so n_is left_is =
+    ended g start all left number (Err reason) old e (stopped n reason) so
+    (all_ran g start all left number (Some reason) old e left_is so) (ap (λ k. stopped k reason) n_is)
+
+-- at a line that means no command, or one that may not stand there
+at_bad_line : {S : Type 0} (g : Ghosts S) (start : Playing) (all before left : Lines) (number : ℕ) (line : List ℕ) (reason : LineWhy) (old e : Engine S) → schema_of e ≡ schema_of old → before ≡ with_line line left → IsSoFar g start all before number old e → IsBadLine (schema_of e) (is_open e) line reason → IsPlayedUp g start all old e (stopped (number + 1) reason)
+at_bad_line g start all before left number line reason old e schema_is before_is so bad =
+    ended g start all before number (Ok (Some line)) old e (stopped (number + 1) reason) so
+    (left.lines, so.lines_are ∙ ap (λ (ls : Lines). so.ran ++ ls.lines) before_is)
+    (reason, subst (λ s. IsBadLine s (is_inside so.now) line reason) schema_is (subst (λ i. IsBadLine (schema_of e) i line reason) so.at.stands.inside_same bad), refl)
+
+-- ---- a line that is given up
+
+-- what was last committed stays the last kept state
+kept_after : {S : Type 0} (g : Ghosts S) (p : Playing) (old e new : Engine S) → schema_of e ≡ schema_of old → built_of e ≡ built_of old → IsAt g p e → Keeps g (leaves_of e) (leaves_of new) → KeepsState g (schema_of old) (built_of old) (leaves_of new) p.kept
+kept_after g p old e new schema_is built_is at keeps = (
+  subst (λ (b : Built). AreInternal (schema_of old) b.files (g.kept (leaves_of new)) p.kept) built_is
+      (subst (λ (s : Schema). AreInternal s (built_of e).files (g.kept (leaves_of new)) p.kept) schema_is
+      (subst (λ maps. AreInternal (schema_of e) (built_of e).files maps p.kept) (sym keeps.kept) at.stands.kept_is)),
+  keeps.kept_whole.0 at.kept_whole_is,
+)
+
+-- the same where the play ends
+pub kept_at : {S : Type 0} (g : Ghosts S) (p : Playing) (old e : Engine S) → schema_of e ≡ schema_of old → built_of e ≡ built_of old → IsAt g p e → KeepsState g (schema_of old) (built_of old) (leaves_of e) p.kept
+kept_at g p old e schema_is built_is at = (
+  subst (λ (b : Built). AreInternal (schema_of old) b.files (g.kept (leaves_of e)) p.kept) built_is
+      (subst (λ (s : Schema). AreInternal s (built_of e).files (g.kept (leaves_of e)) p.kept) schema_is at.stands.kept_is),
+  at.kept_whole_is,
+)
+
+-- the pages may be too few for the line
+short_at : {S : Type 0} (g : Ghosts S) (p : Playing) (before left : Lines) (line : List ℕ) (old e : Engine S) → schema_of e ≡ schema_of old → built_of e ≡ built_of old → g.limit (leaves_of e) ≡ g.limit (leaves_of old) → before ≡ with_line line left → IsAt g p e → IsShortLine g e p line → IsShortAt (schema_of old) (built_of old) (g.limit (leaves_of old)) p before.lines
+short_at g p before left line old e schema_is built_is limit_is before_is at (command, means, placed, short) =
+    subst (λ (b : Built). IsShortAt (schema_of old) b (g.limit (leaves_of old)) p before.lines) built_is
+    (subst (λ (s : Schema). IsShortAt s (built_of e) (g.limit (leaves_of old)) p before.lines) schema_is
+    (subst (λ l. IsShortAt (schema_of e) (built_of e) l p before.lines) limit_is
+    (record { line = line; later = left.lines; lines_are = ap (λ (ls : Lines). ls.lines) before_is; command = command; means = means; placed = placed; maps = g.working (leaves_of e); before = at.stands.working_is; short = short })))
+
+-- the answers of the lines before it
+part_before : {S : Type 0} (g : Ghosts S) (start : Playing) (all before : Lines) (number : ℕ) (old e new : Engine S) (why : Stop) → (so : IsSoFar g start all before number old e) → (g.content (leaves_of new)).now.said ≡ (g.content (leaves_of e)).now.said → (why ≢ stop.Fault → KeepsState g (schema_of old) (built_of old) (leaves_of new) so.now.kept) → (why ≡ stop.Full → IsShortAt (schema_of old) (built_of old) (g.limit (leaves_of old)) so.now before.lines) → IsPlayedPart g start all old new why
+part_before g start all before number old e new why so unsaid kept short = record {
+  ran = so.ran;
+  later = before.lines;
+  parts = so.lines_are;
+  text = so.answers;
+  final = so.now;
+  runs = so.runs;
+  front = (length so.answers, unsaid ∙ so.said ∙ ap (λ t. (g.content (leaves_of old)).now.said ++ t) (sym (take_all (length so.answers) so.answers (omega arith))));
+  whole = λ _. unsaid ∙ so.said;
+  kept = kept;
+  short = short;
+}
+
+fault_not_full : {A : Type 0} → stop.Fault ≡ stop.Full → A
+fault_not_full e = absurd (never e)
+  where
+    never : stop.Fault ≡ stop.Full → ⊥
+    never f = cc
+
+-- the same, and a front of its own
+part_within : {S : Type 0} (g : Ghosts S) (start : Playing) (all before left : Lines) (number : ℕ) (line : List ℕ) (command : Command) (answer : List ℕ) (n : ℕ) (old e new : Engine S) → before ≡ with_line line left → (so : IsSoFar g start all before number old e) → IsLineOf (schema_of old) line command → place_reason (is_inside so.now) command ≡ None → IsAnswered (schema_of old) so.now command answer → (g.content (leaves_of new)).now.said ≡ (g.content (leaves_of e)).now.said ++ take n answer → IsPlayedPart g start all old new stop.Fault
+part_within g start all before left number line command answer n old e new before_is so means placed answered said = record {
+  ran = so.ran ++ line ∷ [];
+  later = left.lines;
+  parts = parts_more all before left so.ran line so.lines_are before_is;
+  text = so.answers ++ answer;
+  final = next_of (schema_of old) so.now command;
+  runs = one_more (schema_of old) start so.now so.ran so.answers line command answer so.runs means placed answered;
+  front = (
+    length so.answers + n,
+    said ∙ ap (λ t. t ++ take n answer) so.said ∙ append_assoc (g.content (leaves_of old)).now.said so.answers (take n answer)
+        ∙ ap (λ t. (g.content (leaves_of old)).now.said ++ t) (sym (take-append-add so.answers answer n)),
+  );
+  whole = λ other. absurd (other refl);
+  kept = λ other. absurd (other refl);
+  short = fault_not_full;
+}
+
+-- after a fault a front of its answer may have been said
+pub at_fault : {S : Type 0} (g : Ghosts S) (start : Playing) (all before left : Lines) (number : ℕ) (line : List ℕ) (old e new : Engine S) → schema_of e ≡ schema_of old → before ≡ with_line line left → (so : IsSoFar g start all before number old e) → IsLineCut (schema_of e) so.now line (g.content (leaves_of e)) (g.content (leaves_of new)) → IsPlayedPart g start all old new stop.Fault
+at_fault g start all before left number line old e new schema_is before_is so (inl unsaid) = part_before g start all before number old e new stop.Fault so unsaid (λ other. absurd (other refl)) fault_not_full
+at_fault g start all before left number line old e new schema_is before_is so (inr (command, means, placed, inl unsaid)) = part_before g start all before number old e new stop.Fault so unsaid (λ other. absurd (other refl)) fault_not_full
+at_fault g start all before left number line old e new schema_is before_is so (inr (command, means, placed, inr (answer, answered, (n, said)))) =
+    part_within g start all before left number line command answer n old e new before_is so
+    (subst (λ s. IsLineOf s line command) schema_is means) placed
+    (subst (λ s. IsAnswered s so.now command answer) schema_is answered) said
+
+-- after another stop nothing of it was
+at_other : {S : Type 0} (g : Ghosts S) (start : Playing) (all before left : Lines) (number : ℕ) (line : List ℕ) (why : Stop) (old e new : Engine S) → schema_of e ≡ schema_of old → built_of e ≡ built_of old → g.limit (leaves_of e) ≡ g.limit (leaves_of old) → before ≡ with_line line left → (so : IsSoFar g start all before number old e) → why ≢ stop.Fault → IsGivenUp g so.now line e new why → IsPlayedPart g start all old new why
+at_other g start all before left number line why old e new schema_is built_is limit_is before_is so other up =
+    part_before g start all before number old e new why so (up.unsaid other)
+    (λ _. kept_after g so.now old e new schema_is built_is so.at (up.kept other))
+    (λ full. short_at g so.now before left line old e schema_is built_is limit_is before_is so.at (up.short full))
+
+-- the same of every stop
+pub at_cut : {S : Type 0} (g : Ghosts S) (start : Playing) (all before left : Lines) (number : ℕ) (line : List ℕ) (why : Stop) (old e new : Engine S) → schema_of e ≡ schema_of old → built_of e ≡ built_of old → g.limit (leaves_of e) ≡ g.limit (leaves_of old) → before ≡ with_line line left → (so : IsSoFar g start all before number old e) → IsGivenUp g so.now line e new why → IsPlayedPart g start all old new why
+at_cut g start all before left number line stop.Fault old e new schema_is built_is limit_is before_is so up = at_fault g start all before left number line old e new schema_is before_is so up.cut
+at_cut g start all before left number line stop.Full old e new schema_is built_is limit_is before_is so up = at_other g start all before left number line stop.Full old e new schema_is built_is limit_is before_is so (λ f. cc) up
+at_cut g start all before left number line stop.NoMemory old e new schema_is built_is limit_is before_is so up = at_other g start all before left number line stop.NoMemory old e new schema_is built_is limit_is before_is so (λ f. cc) up
+at_cut g start all before left number line (stop.Damaged block) old e new schema_is built_is limit_is before_is so up = at_other g start all before left number line (stop.Damaged block) old e new schema_is built_is limit_is before_is so (λ f. cc) up
+
+-- the cut of the command that the line means
+pub line_cut : {S : Type 0} (e : Engine S) (p : Playing) (line : List ℕ) (command : Command) (old new : Content) (out : Result (Unit {0}) PlayEnd) → is_open e ≡ is_inside p → IsLineOf (schema_of e) line command → IsDue e command → IsCommandCut (schema_of e) p command old new → OnErr out (IsLineCut (schema_of e) p line old new)
+line_cut e p line command old new (Ok x) same means due cut = tt
+line_cut e p line command old new (Err end) same means due cut = inr (command, means, subst (λ i. place_reason i command ≡ None) same due.allowed, cut)
+
+-- a cause in a later call is one in all of them
+pub rose_since : (before mid now : ℕ) → before ≤ mid → Rose mid now → Rose before now
+rose_since before mid now le rose = omega (arith, rose)
+
+pub cause_since : (limit start : Option Limits) (before mid now : ℕ) (why : Stop) → limit ≡ start → before ≤ mid → HasPlayCause limit mid now why → HasPlayCause start before now why
+cause_since limit start before mid now stop.Fault limit_is le cause = rose_since before mid now le cause
+cause_since limit start before mid now stop.Full limit_is le cause = (cause.0, subst (λ l. IsCrowdedBy l cause.0) limit_is cause.1)
+cause_since limit start before mid now stop.NoMemory limit_is le cause = tt
+cause_since limit start before mid now (stop.Damaged block) limit_is le cause = absurd cause
+
+-- an end that isn't that of a failed call
+pub stop_other : (end : PlayEnd) (s : Stop) → end ≡ play_end.Stop s → s ≢ stop.Fault → end ≢ play_end.Stop stop.Fault
+stop_other end s is other e = other (ap given (sym is ∙ e))
+  where
+    given : PlayEnd → Stop
+    given (play_end.Stop t) = t
+    given (play_end.Line number reason) = s
+
+pub no_play_fault : (end : PlayEnd) (s : Stop) → end ≡ play_end.Stop s → s ≢ stop.Fault → is_play_fault (Err end) ≡ false
+no_play_fault end s is other = ap (λ e. is_play_fault (Err e)) is ∙ by_stop s other
+  where
+    by_stop : (s : Stop) → s ≢ stop.Fault → is_play_fault (Err (play_end.Stop s)) ≡ false
+    by_stop stop.Fault other = absurd (other refl)
+    by_stop stop.Full other = refl
+    by_stop stop.NoMemory other = refl
+    by_stop (stop.Damaged block) other = refl
+
+-- how the play ends where a line isn't carried out
+pub at_line : {S : Type 0} (g : Ghosts S) (start : Playing) (all before left : Lines) (number : ℕ) (line : List ℕ) (end : PlayEnd) (result : Result (Unit {0}) PlayEnd) (old e new : Engine S) → schema_of e ≡ schema_of old → built_of e ≡ built_of old → g.limit (leaves_of e) ≡ g.limit (leaves_of old) → before ≡ with_line line left → (so : IsSoFar g start all before number old e) → result ≡ Err end → ((n : ℕ) (reason : LineWhy) → end ≡ play_end.Line n reason → IsBadAt (schema_of e) (is_open e) (number + 1) line n reason × (new ≡ e)) → ((why : Stop) → end ≡ play_end.Stop why → IsGivenUp g so.now line e new why) → IsPlayedTo g start all old new result
+at_line g start all before left number line (play_end.Line n reason) result old e new schema_is built_is limit_is before_is so result_is bad up =
+    let at = bad n reason refl in
+    subst (λ r. IsPlayedTo g start all old new r) (sym result_is)
+    (subst (λ k. IsPlayedUp g start all old new (stopped k reason)) (sym at.0.0)
+    (subst (λ x. IsPlayedUp g start all old x (stopped (number + 1) reason)) (sym at.1)
+    (at_bad_line g start all before left number line reason old e schema_is before_is so at.0.1)))
+at_line g start all before left number line (play_end.Stop s) result old e new schema_is built_is limit_is before_is so result_is bad up =
+    subst (λ r. IsPlayedTo g start all old new r) (sym result_is)
+    (at_cut g start all before left number line s old e new schema_is built_is limit_is before_is so (up s refl))
+
+-- ---- how many lines there are
+
+with_byte_few : (b : ℕ) (ended : List (List ℕ)) (rest : List ℕ) → length (with_byte b ended rest).ended ≡ length ended
+with_byte_few b [] rest = refl
+with_byte_few b (line ∷ lines) rest = refl
+
+parts_or : (t : Bool) (a c : Parts) (n : ℕ) → length a.ended ≤ n → length c.ended ≤ n → length (if t then a else c).ended ≤ n
+parts_or true a c n le other = le
+parts_or false a c n le other = other
+
+parts_few : (bs : List ℕ) → length (parts_of bs).ended ≤ length bs
+parts_few [] = omega arith
+parts_few (b ∷ bs) = parts_or (b == 10) (record { ended = [] ∷ (parts_of bs).ended; rest = (parts_of bs).rest }) (with_byte b (parts_of bs).ended (parts_of bs).rest) (length (b ∷ bs)) (omega (arith, parts_few bs)) (omega (arith, parts_few bs, with_byte_few b (parts_of bs).ended (parts_of bs).rest))
+
+lines_or : (t : Bool) (a c : Lines) (n : ℕ) → length a.lines ≤ n → length c.lines ≤ n → length (if t then a else c).lines ≤ n
+lines_or true a c n le other = le
+lines_or false a c n le other = other
+
+last_few : (rest : List ℕ) (longer : Bool) → length (last_line rest longer).lines ≤ 1
+last_few rest true = omega arith
+last_few [] false = omega arith
+last_few (b ∷ bs) false = omega arith
+
+limit_few : (ended : List (List ℕ)) (rest : List ℕ) (longer : Bool) → length (up_to_limit ended rest longer).lines ≤ length ended + 1
+limit_few [] rest longer = lines_or (nat_lt longest_line (length rest)) (stopped_lines why.TooLong) (last_line rest longer) 1 (omega arith) (last_few rest longer)
+limit_few (line ∷ lines) rest longer = lines_or (nat_lt longest_line (length line)) (stopped_lines why.TooLong) (with_line (without_cr line) (up_to_limit lines rest longer)) (length (line ∷ lines) + 1) (omega arith) (omega (arith, limit_few lines rest longer))
+
+pub few_lines : (script : List ℕ) → length (script_lines script).lines ≤ 16777217
+unfolding lines_within longest_script
+few_lines script = omega (arith, limit_few (parts_of (take 16777216 script)).ended (parts_of (take 16777216 script)).rest (nat_lt 16777216 (length script)), parts_few (take 16777216 script), taken)
+  where
+    taken : length (take 16777216 script) ≤ 16777216
+    taken = subst (λ n. n ≤ 16777216) (sym (length-take 16777216 script)) (omega arith)
+
+-- the same for the end that is answered
+pub at_line_end : {S : Type 0} (g : Ghosts S) (start : Playing) (all left : Lines) (number : ℕ) (end : PlayEnd) (result : Result (Unit {0}) PlayEnd) (old e : Engine S) → IsSoFar g start all left number old e → result ≡ Err end → IsLineEnd left number end → IsPlayedTo g start all old e result
+at_line_end g start all left number (play_end.Line n reason) result old e so result_is is =
+    subst (λ r. IsPlayedTo g start all old e r) (sym result_is)
+    (at_stop g start all left number n reason old e so is.0 is.1)
+at_line_end g start all left number (play_end.Stop stop) result old e so result_is is = absurd is
+
+-- an error that is passed on as it is
+pub is_err : (r : Result (Unit {0}) PlayEnd) (end : PlayEnd) → IsErrAnd r (λ e. e ≡ end) → r ≡ Err end
+is_err (Ok x) end is = absurd is
+is_err (Err e) end is = ap Err is
+
+-- no line is behind for another reason than its own
+pub no_stop : (lines : Lines) (number : ℕ) (r : Result (Unit {0}) PlayEnd) (end : PlayEnd) (why : Stop) → IsLineEnd lines number end → r ≡ Err end → r ≡ Err (play_end.Stop why) → ⊥
+no_stop lines number r (play_end.Line n reason) why is e f = other (sym e ∙ f)
+  where
+    other : ◌≡◌ {A = Result (Unit {0}) PlayEnd} (Err (play_end.Line n reason)) (Err (play_end.Stop why)) → ⊥
+    other g = cc
+no_stop lines number r (play_end.Stop stop) why is e f = is

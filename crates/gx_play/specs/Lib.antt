@@ -1,0 +1,5 @@
+pub mod Summaries
+pub mod Say
+pub mod Endings
+pub mod Played
+pub mod Plays

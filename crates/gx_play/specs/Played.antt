@@ -1,0 +1,104 @@
+-- What is said of a schema, a start state and a script, and which state is kept then.
+use Rattle.std.specs.Prelude.{◌≡◌, ◌⊎◌, ℕ, ◌+◌, List, ◌∷◌, ◌++◌, take, Option, None}
+use Rattle.gx_device.specs.Content.{Content}
+use Rattle.gx_ports.specs.LeafMaps.{LeafMap, Limits, IsCrowdedBy, entry_count}
+use Rattle.gx_schema.specs.declared.schema.Schema.{Schema}
+use Rattle.gx_commands.specs.declared.command.Command.{Command}
+use Rattle.gx_commands.specs.declared.command.LineWhy.{LineWhy}
+use Rattle.gx_commands.specs.Commands.{place_reason}
+use Rattle.gx_script.specs.Grammar.{IsLineOf}
+use Rattle.gx_commands.specs.Lines.{script_lines}
+use Rattle.gx_equation.specs.Trees.{DefinitionTree}
+use Rattle.gx_types.specs.declared.built.Built.{Built}
+use Rattle.gx_types.specs.Build.{AreTreesOfFiles}
+use Rattle.gx_model.specs.States.{State}
+use Rattle.gx_model.specs.Play.{Playing, End, stopped, start_at, end_text, seen_state, is_inside, next_of}
+use Rattle.gx_model.specs.Runs.{Runs, IsPlayFrom, AreFirstAnswersFrom}
+use Rattle.gx_engine.specs.Internal.{AreInternal, entries_from}
+use Rattle.gx_play.specs.Endings.{memory_line, full_line}
+
+-- such a text was said
+abbrev pub Says : (List ℕ → Type 0) → Content → Content → Type 0
+Says P old new = (text : List ℕ) × P text × (new.now.said ≡ old.now.said ++ text)
+
+-- a front of such a text was said
+abbrev pub SaysFront : (List ℕ → Type 0) → Content → Content → Type 0
+SaysFront P old new = (text : List ℕ) × P text × ((count : ℕ) × (new.now.said ≡ old.now.said ++ take count text))
+
+-- such a text was said, and the state that goes with it is held
+abbrev pub SaysKeeping : (List ℕ → State → Type 0) → (State → Type 0) → Content → Content → Type 0
+SaysKeeping P Holds old new = (text : List ℕ) × (kept : State) × P text kept × (new.now.said ≡ old.now.said ++ text) × Holds kept
+
+-- ---- of a schema, a start state and a script
+
+-- the play of a whole script from a state on: its answers, its last states and its end
+abbrev pub IsPlay : Schema → State → List ℕ → List ℕ → Playing → End → Type 0
+IsPlay schema start script = IsPlayFrom schema (start_at start) (script_lines script)
+
+-- the answers of the script's first lines from a state on
+abbrev pub AreFirst : Schema → State → List ℕ → List ℕ → Type 0
+AreFirst schema start script = AreFirstAnswersFrom schema (start_at start) script
+
+-- the answers of the script's play from a state up to this end, then the line of the end, and the last kept state
+pub record IsPlayText (schema : Schema) (start : State) (script : List ℕ) (end : End) (text : List ℕ) (kept : State) : Type 0 where
+  pub answers : List ℕ
+  pub final : Playing
+  pub play : IsPlay schema start script answers final end
+  pub text_is : text ≡ answers ++ end_text end
+  pub kept_is : kept ≡ final.kept
+
+-- the same, where the play ends at a line
+abbrev pub IsStoppedText : Schema → State → List ℕ → List ℕ → State → Type 0
+IsStoppedText schema start script text kept = (number : ℕ) × (why : LineWhy) × IsPlayText schema start script (stopped number why) text kept
+
+-- the answers of the script's first lines, then the line that there was no memory, and the state that these lines kept
+pub record IsShortText (schema : Schema) (start : State) (script text : List ℕ) (kept : State) : Type 0 where
+  pub answers : List ℕ
+  pub first : AreFirst schema start script answers
+  pub text_is : text ≡ answers ++ memory_line
+  pub kept_is : kept ≡ first.final.kept
+
+-- ---- a full device
+
+-- The first of these lines has a command for which the pages may be too few: for the entries of the state before it
+-- and of that behind it.
+pub record IsShortAt (schema : Schema) (built : Built) (limit : Option Limits) (p : Playing) (lines : List (List ℕ)) : Type 0 where
+  pub line : List ℕ
+  pub later : List (List ℕ)
+  pub lines_are : lines ≡ line ∷ later
+  pub command : Command
+  pub means : IsLineOf schema line command
+  pub placed : place_reason (is_inside p) command ≡ None
+  pub maps : List LeafMap
+  pub before : AreInternal schema built.files maps (seen_state p)
+  pub short : IsCrowdedBy limit (entry_count maps + entries_from built.files (seen_state (next_of schema p command)).files)
+
+-- The script's first lines run from a state, with these answers, and the pages may be too few for the command of the next one.
+pub record IsFullAt (schema : Schema) (built : Built) (limit : Option Limits) (start : State) (script answers : List ℕ) (final : Playing) : Type 0 where
+  pub ran : List (List ℕ)
+  pub later : List (List ℕ)
+  pub parts : (script_lines script).lines ≡ ran ++ later
+  pub runs : Runs schema (start_at start) ran answers final
+  pub short : IsShortAt schema built limit final later
+
+-- such a moment of the play over nodes that the definitions mean
+pub record IsFull (schema : Schema) (ds : List DefinitionTree) (limit : Option Limits) (start : State) (script answers : List ℕ) (final : Playing) : Type 0 where
+  pub built : Built
+  pub trees : AreTreesOfFiles 0 schema.files ds built.files
+  pub full : IsFullAt schema built limit start script answers final
+
+-- those answers, then the line of a full device, and the state that these lines kept
+pub record IsFullText (schema : Schema) (ds : List DefinitionTree) (limit : Option Limits) (start : State) (script text : List ℕ) (kept : State) : Type 0 where
+  pub answers : List ℕ
+  pub final : Playing
+  pub full : IsFull schema ds limit start script answers final
+  pub text_is : text ≡ answers ++ full_line
+  pub kept_is : kept ≡ final.kept
+
+-- one of these
+abbrev pub IsPlayedText : Schema → List DefinitionTree → Option Limits → State → List ℕ → List ℕ → Type 0
+IsPlayedText schema ds limit start script text =
+    (kept : State)
+    × (((end : End) × IsPlayText schema start script end text kept)
+    ⊎ IsShortText schema start script text kept
+    ⊎ IsFullText schema ds limit start script text kept)

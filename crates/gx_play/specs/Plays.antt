@@ -1,0 +1,197 @@
+-- What the play of a script on an engine says, line by line.
+use Rattle.std.specs.Prelude.{◌≡◌, ◌≢◌, ◌⊎◌, ℕ, ◌+◌, ◌<◌, List, [], ◌∷◌, ◌++◌, length, take, Bool, false, IsTrue, Option, None, Result, Ok, Err}
+use Rattle.gx_device.specs.Content.{Content}
+use Rattle.gx_device.specs.Faults.{Rose}
+use Rattle.gx_schema.specs.declared.schema.Schema.{Schema}
+use Rattle.gx_commands.specs.declared.command.Command.{Command}
+use Rattle.gx_commands.specs.declared.command.LineWhy.{LineWhy}
+use Rattle.gx_commands.specs.Commands.{place_reason}
+use Rattle.gx_script.specs.Grammar.{IsLineOf}
+use Rattle.gx_commands.specs.Lines.{Lines, stopped as stopped_lines}
+use Rattle.gx_ports.specs.LeafMaps.{Limits, IsCrowdedBy}
+use Rattle.gx_ports.specs.Calls.{Keeps}
+use Rattle.gx_ports.specs.declared.view.View.{Ghosts}
+use Rattle.gx_ports.specs.Stops.{is_outside}
+use Rattle.gx_ports.specs.declared.stop.Stop.{Stop}
+use Rattle.gx_ports.specs.declared.stop.Stop.TheVariants as stop
+use Rattle.gx_model.specs.States.{State}
+use Rattle.gx_model.specs.Play.{Playing, End, good, stopped, is_inside, next_of, IsAnswered}
+use Rattle.gx_types.specs.declared.built.Built.{Built}
+use Rattle.gx_model.specs.Runs.{Runs, IsBadLine, IsPlayFrom}
+use Rattle.gx_engine.specs.declared.engine.Engine.{Engine}
+use Rattle.gx_engine.specs.Internal.{AreInternal}
+use Rattle.gx_engine.specs.Steps.{IsAt, IsShortFor, schema_of, built_of, leaves_of}
+use Rattle.gx_play.specs.declared.ending.Ending.{Ending}
+use Rattle.gx_play.specs.declared.ending.Ending.TheVariants as ending
+use Rattle.gx_play.specs.Endings.{ending_of}
+use Rattle.gx_play.specs.Played.{IsPlay, AreFirst, IsShortAt, IsFullAt}
+use Rattle.gx_play.specs.declared.play.PlayEnd.{PlayEnd}
+use Rattle.gx_play.specs.declared.play.PlayEnd.TheVariants as play_end
+
+-- a command was carried out and its answer said, and the engine stands for what comes after it
+pub record IsCommandPlayed {S : Type 0} (g : Ghosts S) (p : Playing) (command : Command) (old new : Engine S) : Type 0 where
+  pub answer : List ℕ
+  pub answered : IsAnswered (schema_of old) p command answer
+  pub at : IsAt g (next_of (schema_of old) p command) new
+  pub said : IsTrue g.tells → (g.content (leaves_of new)).now.said ≡ (g.content (leaves_of old)).now.said ++ answer
+
+-- the same of the command that a line means, which may stand there
+pub record IsLinePlayed {S : Type 0} (g : Ghosts S) (p : Playing) (line : List ℕ) (old new : Engine S) : Type 0 where
+  pub command : Command
+  pub means : IsLineOf (schema_of old) line command
+  pub placed : place_reason (is_inside p) command ≡ None
+  pub played : IsCommandPlayed g p command old new
+
+-- A command was given up: nothing was said, or a front of its answer.
+abbrev pub IsCommandCut : Schema → Playing → Command → Content → Content → Type 0
+IsCommandCut schema p command old new = (new.now.said ≡ old.now.said) ⊎ ((answer : List ℕ) × IsAnswered schema p command answer × ((count : ℕ) × (new.now.said ≡ old.now.said ++ take count answer)))
+
+-- the same of the command that a line means, which may stand there; where none was read, nothing was said
+abbrev pub IsLineCut : Schema → Playing → List ℕ → Content → Content → Type 0
+IsLineCut schema p line old new = (new.now.said ≡ old.now.said) ⊎ ((command : Command) × IsLineOf schema line command × (place_reason (is_inside p) command ≡ None) × IsCommandCut schema p command old new)
+
+-- the line of this number is bad
+abbrev pub IsBadAt : Schema → Bool → ℕ → List ℕ → ℕ → LineWhy → Type 0
+IsBadAt schema inside number line n why = (n ≡ number) × IsBadLine schema inside line why
+
+-- why a line may be given up where the leaves stood for a moment of the play: a call below failed, the pages were
+-- too few for what the leaves held, or there was no memory
+abbrev pub HasPlayCause : Option Limits → ℕ → ℕ → Stop → Type 0
+HasPlayCause limit before now stop.NoMemory = Unit {0}
+HasPlayCause limit before now stop.Fault = Rose before now
+HasPlayCause limit before now stop.Full = (needed : ℕ) × IsCrowdedBy limit needed
+HasPlayCause limit before now (stop.Damaged block) = ⊥
+
+-- why a call is given up that needs no page: a call below failed, or there was no memory
+abbrev pub HasCause : ℕ → ℕ → Stop → Type 0
+HasCause before now stop.Fault = Rose before now
+HasCause before now stop.NoMemory = Unit {0}
+HasCause before now other = ⊥
+
+-- whether a call below failed
+abbrev pub is_play_fault : Result (Unit {0}) PlayEnd → Bool
+is_play_fault (Err (play_end.Stop why)) = is_outside why
+is_play_fault _ = false
+
+-- ---- the play of lines
+
+-- the pages may be too few for the command of a line, which may stand there
+abbrev pub IsShortLine : {S : Type 0} → Ghosts S → Engine S → Playing → List ℕ → Type 0
+IsShortLine g e p line = (command : Command) × IsLineOf (schema_of e) line command × (place_reason (is_inside p) command ≡ None) × IsShortFor g e p command
+
+-- A line was given up: unless a call below failed, nothing of it was said, and what was last committed stays.
+pub record IsGivenUp {S : Type 0} (g : Ghosts S) (p : Playing) (line : List ℕ) (old new : Engine S) (why : Stop) : Type 0 where
+  pub unsaid : why ≢ stop.Fault → (g.content (leaves_of new)).now.said ≡ (g.content (leaves_of old)).now.said
+  pub cut : IsLineCut (schema_of old) p line (g.content (leaves_of old)) (g.content (leaves_of new))
+  pub kept : why ≢ stop.Fault → Keeps g (leaves_of old) (leaves_of new)
+  pub short : why ≡ stop.Full → IsShortLine g old p line
+
+-- ---- where a play ends
+
+-- the kept leaves are whole, and hold this state
+abbrev pub KeepsState : {S : Type 0} → Ghosts S → Schema → Built → S → State → Type 0
+KeepsState g schema built leaves s = AreInternal schema built.files (g.kept leaves) s × g.kept_whole leaves
+
+-- the lines were played from a moment on, up to this end, their answers were said, and the engine stands there
+pub record IsPlayedUp {S : Type 0} (g : Ghosts S) (p : Playing) (lines : Lines) (old new : Engine S) (end : End) : Type 0 where
+  pub text : List ℕ
+  pub final : Playing
+  pub played : IsPlayFrom (schema_of old) p lines text final end
+  pub said : (g.content (leaves_of new)).now.said ≡ (g.content (leaves_of old)).now.said ++ text
+  pub at : IsAt g final new
+
+-- The first lines ran from a moment on, and a front of their answers was said. Unless a call below failed, all of them
+-- was, and the last kept state is theirs.
+pub record IsPlayedPart {S : Type 0} (g : Ghosts S) (p : Playing) (lines : Lines) (old new : Engine S) (why : Stop) : Type 0 where
+  pub ran : List (List ℕ)
+  pub later : List (List ℕ)
+  pub parts : lines.lines ≡ ran ++ later
+  pub text : List ℕ
+  pub final : Playing
+  pub runs : Runs (schema_of old) p ran text final
+  pub front : (n : ℕ) × ((g.content (leaves_of new)).now.said ≡ (g.content (leaves_of old)).now.said ++ take n text)
+  pub whole : why ≢ stop.Fault → (g.content (leaves_of new)).now.said ≡ (g.content (leaves_of old)).now.said ++ text
+  pub kept : why ≢ stop.Fault → KeepsState g (schema_of old) (built_of old) (leaves_of new) final.kept
+  pub short : why ≡ stop.Full → IsShortAt (schema_of old) (built_of old) (g.limit (leaves_of old)) final later
+
+-- the same for the end that a play answers
+abbrev pub IsPlayedTo : {S : Type 0} → Ghosts S → Playing → Lines → Engine S → Engine S → Result (Unit {0}) PlayEnd → Type 0
+IsPlayedTo g p lines old new (Ok x) = IsPlayedUp g p lines old new good
+IsPlayedTo g p lines old new (Err (play_end.Line number why)) = IsPlayedUp g p lines old new (stopped number why)
+IsPlayedTo g p lines old new (Err (play_end.Stop why)) = IsPlayedPart g p lines old new why
+
+-- Where the play of all lines stands when so many ran, and these are left.
+pub record IsSoFar {S : Type 0} (g : Ghosts S) (start : Playing) (all left : Lines) (number : ℕ) (old new : Engine S) : Type 0 where
+  pub now : Playing
+  pub answers : List ℕ
+  pub at : IsAt g now new
+  pub said : (g.content (leaves_of new)).now.said ≡ (g.content (leaves_of old)).now.said ++ answers
+  pub ran : List (List ℕ)
+  pub many : length ran ≡ number
+  pub lines_are : all.lines ≡ ran ++ left.lines
+  pub stop_is : all.stop ≡ left.stop
+  pub runs : Runs (schema_of old) start ran answers now
+
+-- why there is no next line
+abbrev pub IsLineEnd : Lines → ℕ → PlayEnd → Type 0
+IsLineEnd lines number (play_end.Line n why) = (n ≡ number + 1) × (lines ≡ stopped_lines why)
+IsLineEnd lines number (play_end.Stop stop) = ⊥
+
+-- ---- a script over leaves that hold a state
+
+-- the leaves are whole, hold this state, and nothing of it is still to be committed
+pub record IsHolding {S : Type 0} (g : Ghosts S) (schema : Schema) (built : Built) (s : State) (leaves : S) : Type 0 where
+  pub working_is : AreInternal schema built.files (g.working leaves) s
+  pub kept_same : g.kept leaves ≡ g.working leaves
+  pub whole_is : g.whole leaves
+  pub kept_whole_is : g.kept_whole leaves
+
+-- The script was played from a state up to this end. What was said before grew by its answers, and its last kept state is
+-- held.
+pub record IsPlayedOut (schema : Schema) (start : State) (Holds : State → Type 0) (script before now : List ℕ) (end : End) : Type 0 where
+  pub answers : List ℕ
+  pub final : Playing
+  pub play : IsPlay schema start script answers final end
+  pub said : now ≡ before ++ answers
+  pub holds : Holds final.kept
+
+-- the same of its first lines
+pub record IsPlayedFirst (schema : Schema) (start : State) (Holds : State → Type 0) (script before now : List ℕ) : Type 0 where
+  pub answers : List ℕ
+  pub first : AreFirst schema start script answers
+  pub said : now ≡ before ++ answers
+  pub holds : Holds first.final.kept
+
+-- the same, where the pages may be too few for the command of the next line
+pub record IsPlayedFull (schema : Schema) (built : Built) (limit : Option Limits) (start : State) (Holds : State → Type 0) (script before now : List ℕ) : Type 0 where
+  pub answers : List ℕ
+  pub final : Playing
+  pub full : IsFullAt schema built limit start script answers final
+  pub said : now ≡ before ++ answers
+  pub holds : Holds final.kept
+
+-- a front of the answers of its first lines was said
+pub record IsPlayedFront (schema : Schema) (start : State) (script before now : List ℕ) : Type 0 where
+  pub answers : List ℕ
+  pub first : AreFirst schema start script answers
+  pub count : ℕ
+  pub said : now ≡ before ++ take count answers
+
+-- how the play of a script ended, before the line of the end is said
+abbrev pub IsPlayedAs : Schema → Built → Option Limits → State → (State → Type 0) → List ℕ → List ℕ → List ℕ → Result (Unit {0}) Ending → Type 0
+IsPlayedAs schema built limit start Holds script before now (Ok x) = IsPlayedOut schema start Holds script before now good
+IsPlayedAs schema built limit start Holds script before now (Err (ending.Line number why)) = IsPlayedOut schema start Holds script before now (stopped number why)
+IsPlayedAs schema built limit start Holds script before now (Err ending.NoMemory) = IsPlayedFirst schema start Holds script before now
+IsPlayedAs schema built limit start Holds script before now (Err ending.Full) = IsPlayedFull schema built limit start Holds script before now
+IsPlayedAs schema built limit start Holds script before now (Err ending.Fault) = IsPlayedFront schema start script before now
+IsPlayedAs schema built limit start Holds script before now (Err _) = ⊥
+
+-- what an end of the play means for the request
+abbrev pub IsEndingOf : Result (Unit {0}) PlayEnd → Result (Unit {0}) Ending → Type 0
+IsEndingOf (Ok x) result = result ≡ Ok tt
+IsEndingOf (Err end) result = result ≡ Err (ending_of end)
+
+-- the bytes that were heard of a script: all of them, or so many that it is too long
+pub record IsHeard (script left heard : List ℕ) : Type 0 where
+  pub front : script ≡ heard ++ left
+  pub end : (left ≡ []) ⊎ (16777216 < length heard)

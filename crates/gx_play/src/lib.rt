@@ -1,0 +1,21 @@
+//! Playing a script over leaves line by line, and what is said of how a request ends.
+#![tactic(auto)]
+
+mod ending;
+mod hearing;
+mod lines;
+mod over_leaves;
+mod play;
+mod say;
+mod script;
+mod status;
+mod summary;
+
+pub use ending::{DeviceWhy, Ending, end};
+pub use hearing::hear_all;
+pub use lines::{next_line, placed_command};
+pub use over_leaves::play_over;
+pub use play::PlayEnd;
+pub use say::say_all;
+pub use status::Status;
+pub use summary::summarize;

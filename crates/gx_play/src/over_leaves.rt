@@ -1,0 +1,61 @@
+// Hearing a script and playing it over leaves.
+ghost use Rattle.std.specs.Prelude.{◌≡◌, ◌≤◌, [], Ok, false, length, IsTrue, IsErrOf, IfErr};
+ghost use Rattle.gx_device.specs.Faults.{Rose};
+ghost use Rattle.gx_schema.specs.WellFormed.{IsWellFormed};
+ghost use Rattle.gx_model.specs.States.{State};
+ghost use Rattle.gx_engine.specs.Steps.{AreFor};
+ghost use Rattle.gx_play.specs.Endings.{IsPlayEnding, is_fault};
+ghost use Rattle.gx_play.specs.Plays.{IsHolding, KeepsState, IsPlayedAs, IsEndingOf};
+
+use crate::ending::Ending;
+use crate::play::{PlayEnd, play};
+use crate::script::hear_script;
+use gx_engine::Engine;
+use gx_ports::Leaves;
+use gx_schema::Schema;
+use gx_types::Built;
+use std::alloc::Global;
+
+/// Hears the script and plays it over leaves, which are handed back. On leaves that hold a state, of
+/// a device that tells its content, exactly the answers of the play from that state were said, up
+/// to the line that ends it, and the last kept state is in the kept leaves; after a stop the answers of the
+/// first lines, and their last kept state; after `Fault` a front of the answers. `Full` comes only where
+/// the pages may be too few for the command of the next line, and damage isn't found.
+pub fn play_over<'a, B: Leaves + Drop>(
+    alloc: Global,
+    schema: Schema,
+    built: Built,
+    leaves: B,
+) -> (Result<(), Ending<'a>>, B)
+    requires built { AreFor schema built (length (B.working leaves)) }
+    requires well_formed { IsWellFormed schema }
+    ensures answered { IsTrue B.tells → (s : State) → IsHolding B.View schema built s leaves →
+        IsPlayedAs schema built (B.limit leaves) s (KeepsState B.View schema built result.1)
+        (B.content leaves).script (B.content leaves).now.said (B.content result.1).now.said
+        result.0 }
+    ensures heard { IsTrue B.tells → (s : State) → IsHolding B.View schema built s leaves →
+        result.0 ≡ Ok tt → (B.content result.1).script ≡ [] }
+    ensures ending { IfErr result.0 IsPlayEnding }
+    ensures fault { IsErrOf result.0 Ending.Fault → Rose (B.faults leaves) (B.faults result.1) }
+    ensures head { B.head result.1 ≡ B.head leaves }
+    ensures shelf { (B.content result.1).now.shelf ≡ (B.content leaves).now.shelf }
+    ensures aside { (B.content result.1).aside ≡ (B.content leaves).aside }
+    ensures counted { is_fault result.0 ≡ false → B.faults result.1 ≡ B.faults leaves }
+    ensures later { B.faults leaves ≤ B.faults result.1 }
+{
+    let mut leaves = leaves;
+    let script = match hear_script(alloc, &mut leaves) {
+        Ok(script) => script,
+        Err(ending) => return (Err(ending), leaves),
+    };
+    let mut engine = Engine::start(schema, built, leaves);
+    let played = play(alloc, &script, &mut engine);
+    (ended(played), engine.into_leaves())
+}
+
+// How the request ends where its play does.
+fn ended<'a>(played: Result<(), PlayEnd>) -> Result<(), Ending<'a>>
+    ensures { IsEndingOf played result }
+{
+    Ok(played?)
+}

@@ -1,0 +1,37 @@
+// Fetching the texts that the words name.
+ghost use Rattle.std.specs.Prelude.{◌≡◌, ◌≤◌, false, length, IsTrue, IfOk, IfErr, IsErrOf, Some};
+ghost use Rattle.gx_device.specs.Content.{SameContent};
+ghost use Rattle.gx_device.specs.Faults.{Rose};
+ghost use Rattle.gx_play.specs.Endings.{is_fault};
+ghost use Rattle.gx_requests.specs.Requests.{IsText, IsUnfetched, text_limit};
+
+use gx_device::{FetchStop, Machine};
+use gx_play::Ending;
+use std::alloc::Global;
+
+/// The most bytes that a text may have, and that the two canonical texts may have together.
+pub const TEXT_LIMIT: u32 = 16380;
+
+/// The text of that name, of at most 16,380 bytes. `Missing` comes only where there is none,
+/// `TooLong` only where it is longer, `Fault` only where a call of the machine failed.
+pub fn fetch_text<'a, M: Machine>(
+    alloc: Global,
+    name: &'a str,
+    machine: &mut M,
+) -> Result<Vec<u8>, Ending<'a>>
+    ensures text { IsTrue M.tells → IfOk result (λ text. IsText (M.content machine.old).aside.texts name.now text.items) }
+    ensures short { IfOk result (λ text. length text.items ≤ text_limit) }
+    ensures unfetched { IfErr result (IsUnfetched M.tells (M.content machine.old).aside.texts (M.faults machine.old) (M.faults machine.new) name.now) }
+    ensures fault { IsErrOf result Ending.Fault → Rose (M.faults machine.old) (M.faults machine.new) }
+    ensures counted { is_fault result ≡ false → M.faults machine.new ≡ M.faults machine.old }
+    ensures later { M.faults machine.old ≤ M.faults machine.new }
+    ensures content { SameContent (M.content machine.old) (M.content machine.new) }
+{
+    match machine.fetch(alloc, name, TEXT_LIMIT) {
+        Ok(text) => Ok(text),
+        Err(FetchStop::Missing) => Err(Ending::Missing(name)),
+        Err(FetchStop::TooLong) => Err(Ending::TooLong(name)),
+        Err(FetchStop::Fault) => Err(Ending::Fault),
+        Err(FetchStop::NoMemory) => Err(Ending::NoMemory),
+    }
+}

@@ -1,5 +1,0 @@
-use Rattle.gx_top.proofs.LineLemmas.{bad_line}
-use Rattle.gx_top.proofs.play.placed_command.Goals as goal
-
-pub returns-in-Err-clause-bad : goal.returns-in-Err-clause-bad
-returns-in-Err-clause-bad g c = λ n why e. bad_line _ _ _ _ _ n _ c.in-Ok.command c.in-Err.why why c.schema.ensures c.inside.ensures c.in-Ok.ensures.found c.in-Err.ensures e
