@@ -27,7 +27,7 @@ EQUATION = "part = actual(bplus)\n"
 BLOCKS = 65543
 PEERS = {"sqlite": ["-lsqlite3"], "lmdb": ["-llmdb"]}
 RECORDS = 100_000
-DEVICE_RECORDS = 2_000
+DEVICE_RECORDS = 100_000
 
 
 class Lines(Work):
@@ -47,6 +47,11 @@ class Lines(Work):
         for _ in range(count):
             self.line(line(self.random))
         return self
+
+
+def range_of_100(it):
+    least = it.randrange(RECORDS - 100)
+    return f"find part where number >= {least} and number < {least + 100}"
 
 
 def in_memory():
@@ -85,11 +90,7 @@ def in_memory():
     yield f"{RECORDS:,} deletes given up", aborted, begin
     yield f"{RECORDS:,} finds by key", records().many(RECORDS, lambda it: f"find part where number = {it.randrange(RECORDS)}"), begin
 
-    def ranged(it):
-        least = it.randrange(RECORDS - 100)
-        return f"find part where number >= {least} and number < {least + 100}"
-
-    yield "10,000 finds of 100 by a range of keys", records().many(10_000, ranged), begin
+    yield "10,000 finds of 100 by a range of keys", records().many(10_000, range_of_100), begin
     yield "10 scans", records().many(10, lambda it: "find part"), begin
     yield "10 scans in another order", records().many(10, lambda it: "find part order name"), begin
 
@@ -107,10 +108,11 @@ def on_device():
     numbers = hundreds.shuffled(DEVICE_RECORDS)
     for at in range(0, len(numbers), 100):
         hundreds.inserted(0, numbers[at : at + 100])
-    yield f"{DEVICE_RECORDS // 100:,} transactions of 100 inserts", hundreds
+    yield f"{DEVICE_RECORDS:,} inserts in {DEVICE_RECORDS // 100:,} transactions", hundreds
     whole = f"{DEVICE_RECORDS:,} inserts in one transaction"
     yield whole, Lines(1).inserted(DEVICE_RECORDS)
     yield f"{whole}, and 1,000 gets", Lines(1).inserted(DEVICE_RECORDS).many(1_000, lambda it: f"get part {it.randrange(DEVICE_RECORDS)}")
+    yield f"{whole}, and 1,000 finds of 100 by a range of keys", Lines(1).inserted(DEVICE_RECORDS).many(1_000, range_of_100)
     yield f"{whole}, and 10 scans", Lines(1).inserted(DEVICE_RECORDS).many(10, lambda it: "find part")
 
 
@@ -210,8 +212,7 @@ def main():
     words.add_argument("--device")
     words.add_argument("--equation")
     asked = words.parse_args()
-    # A device has heaps alone so far.
-    equation = asked.equation or ("part = actual(heap)" if asked.device else EQUATION)
+    equation = asked.equation or EQUATION
     with tempfile.TemporaryDirectory() as folder:
         pathlib.Path(f"{folder}/schema").write_text(SCHEMA, encoding="utf-8")
         pathlib.Path(f"{folder}/equation").write_text(equation.rstrip() + "\n", encoding="utf-8")

@@ -4,8 +4,8 @@ _genesis() {
     local word=${COMP_WORDS[COMP_CWORD]}
     COMPREPLY=()
     case $COMP_CWORD in
-        1) mapfile -t COMPREPLY < <(compgen -W 'check try make run --prove --version --help' -- "$word") ;;
-        2 | 3) [[ ${COMP_WORDS[1]} == @(check|try|make|run) ]] &&
+        1) mapfile -t COMPREPLY < <(compgen -W 'check try explain make run --prove --version --help' -- "$word") ;;
+        2 | 3) [[ ${COMP_WORDS[1]} == @(check|try|explain|make|run) ]] &&
             mapfile -t COMPREPLY < <(compgen -f -- "$word") ;;
         4) [[ ${COMP_WORDS[1]} == @(make|run) ]] &&
             mapfile -t COMPREPLY < <(compgen -f -- "$word") ;;
