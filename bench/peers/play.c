@@ -177,6 +177,9 @@ static void play(void)
         say(peer_update(part.number, number()) ? "ok\n" : "refused: no record\n");
     } else if (!strcmp(verb, "delete")) {
         say(peer_delete(number()) ? "ok\n" : "refused: no record\n");
+    } else if (!strcmp(verb, "reorganize")) {
+        // The peers keep no order that this would mend.
+        say("ok\n");
     } else {
         fail("another command");
     }
