@@ -1,6 +1,7 @@
 mod ChangeLemmas
 mod RecordLemmas
 mod PlannedLemmas
+mod SpanLemmas
 mod WorkLemmas
 mod StepLemmas
 mod ToldLemmas

@@ -1,9 +1,9 @@
 -- The records that meet the conditions of a `find`, by its plan.
-use Rattle.std.proofs.Common.{[], ◌≡◌, ◌≢◌, ℕ, zero, suc, ◌<◌, ◌≤◌, List, ◌∷◌, ◌++◌, length, map, take, drop, get_or, Bool, true, false, cond, eqb, Option, Some, None, Result, Ok, Err, refl, sym, ap, subst, ◌∙◌, arith, inl, inr, append-nil}
-use Rattle.std.specs.Prelude.{◌&&◌, ◌⊎◌, IfSome, OnOk, pos, unwrap_or}
+use Rattle.std.proofs.Common.{[], ◌≡◌, ◌≢◌, ℕ, zero, suc, ◌<◌, ◌≤◌, List, ◌∷◌, ◌++◌, length, map, take, drop, get_or, Bool, true, false, cond, eqb, Some, None, Result, Ok, Err, refl, sym, ap, subst, ◌∙◌, arith, inl, inr, append-nil}
+use Rattle.std.specs.Prelude.{◌&&◌, ◌⊎◌, OnOk, pos, unwrap_or}
 use Rattle.std.specs.List.{list_all, slice_get}
 use Rattle.std.specs.Option.{option_map}
-use Rattle.std.proofs.lemmas.Bool.{cases_Bool, eqb-true}
+use Rattle.std.proofs.lemmas.Bool.{eqb-true}
 use Rattle.gx_values.specs.declared.values.Kind.{Kind}
 use Rattle.gx_values.specs.declared.values.Kind.TheVariants as kind
 use Rattle.gx_values.specs.declared.values.Op.{Op}
@@ -12,9 +12,9 @@ use Rattle.gx_values.specs.declared.values.Value.{Value}
 use Rattle.gx_values.specs.declared.values.Value.TheVariants as value
 use Rattle.gx_values.specs.declared.records.Field.{Field}
 use Rattle.gx_values.specs.declared.keys.Span.{Span}
-use Rattle.gx_values.specs.Values.{Fits, AreFit, value_cmp, is_met}
-use Rattle.gx_values.specs.Keys.{bytes_of, key_of, is_inside, width_of, IsKeyKind}
-use Rattle.gx_values.specs.Spans.{IsSpanKind, IsValueSpan, HoldsThoseMet}
+use Rattle.gx_values.specs.Values.{Fits, AreFit}
+use Rattle.gx_values.specs.Keys.{bytes_of, key_of, width_of, IsKeyKind}
+use Rattle.gx_values.specs.Spans.{IsSpanKind, IsValueSpan}
 use Rattle.gx_schema.specs.declared.schema.FileDef.{FileDef}
 use Rattle.gx_schema.specs.Lookups.{no_field, field_at, key_kind}
 use Rattle.gx_commands.specs.declared.command.Cond.{Cond}
@@ -32,15 +32,11 @@ use Rattle.gx_planner.specs.declared.plans.Plan.{Plan}
 use Rattle.gx_planner.specs.declared.plans.Plan.TheVariants.{Key, Index, KeyRange, IndexRange}
 use Rattle.gx_planner.specs.Plans.{rank_of, rank_by, is_indexed, HasRank, Applies}
 use Rattle.gx_model.specs.States.{Row, IsRowOf}
-use Rattle.gx_model.specs.Found.{value_at, meets_cond, meets_conds}
+use Rattle.gx_model.specs.Found.{value_at}
 use Rattle.gx_scan.proofs.FileLemmas.{key_of_form}
-use Rattle.gx_engine.specs.Planned.{HoldsKeysMet, fields_indexed}
+use Rattle.gx_engine.specs.Planned.{fields_indexed}
 
 -- ---- what may be there
-
-pub if_so : {A : Type 0} (o : Option A) (P Q : A → Type 0) → IfSome o P → ((x : A) → P x → Q x) → IfSome o Q
-if_so None P Q h more = tt
-if_so (Some a) P Q h more = more a h
 
 pub ok_so : {A E : Type 0} (r : Result A E) (P Q : Type 0) → OnOk r P → (P → Q) → OnOk r Q
 ok_so (Ok x) P Q h more = more h
@@ -147,7 +143,7 @@ indexed_at t file field e = go file.fields field e
     go (f ∷ fs) zero h = h
     go (f ∷ fs) (suc i) h = go fs i h
 
--- ---- the span of a condition on the key
+-- ---- the span of the key
 
 pub span_kind : (k : Kind) → IsKeyKind k → width_of k ≤ MAX_KEY_LEN → IsSpanKind k
 span_kind kind.Int key small = tt
@@ -165,19 +161,9 @@ key_spanned file s some is = record {
   hi_whole = λ key rest fit e. alone file key rest s.hi some fit is.hi_whole e;
 }
 
-met_at : (r : Row) (c : Cond) → c.field ≡ 0 → meets_cond r c ≡ is_met c.op (value_cmp r.0 c.bound)
-met_at r c e = ap (λ (n : ℕ). is_met c.op (value_cmp (value_at r n) c.bound)) e
-
-pub keys_met : (file : FileDef) (c : Cond) (s : Span) → c.field ≡ 0 → HoldsThoseMet (key_kind file) c.op c.bound s → HoldsKeysMet file c s
-keys_met file c s zero_is holds r fits =
-    ap (is_inside s.lo s.hi) (sym (append-nil (bytes_of r.0))) ∙ holds r.0 [] fits ∙ sym (met_at r c zero_is)
-
-pub none_met : (r : Row) (c : Cond) → c.field ≡ 0 → is_met c.op (value_cmp r.0 c.bound) ≡ false → meets_cond r c ≡ false
-none_met r c e unmet = met_at r c e ∙ unmet
-
 -- ---- all conditions
 
-both : (a b : Bool) → (a && b) ≡ true → (a ≡ true) × (b ≡ true)
+pub both : (a b : Bool) → (a && b) ≡ true → (a ≡ true) × (b ≡ true)
 both true b h = (refl, h)
 both false b h = absurd cc
 
@@ -186,29 +172,11 @@ one_met p [] x h all = absurd h
 one_met p (y ∷ ys) x (inl e) all = ap p e ∙ (both (p y) (list_all p ys) all).0
 one_met p (y ∷ ys) x (inr h) all = one_met p ys x h (both (p y) (list_all p ys) all).1
 
--- the key of a record that meets all of them is inside the span of one
-pub covered_by : (file : FileDef) (c : Cond) (conds : List Cond) (s : Span) (r : Row) → In c conds → HoldsKeysMet file c s → Fits (key_kind file) r.0 → meets_conds conds r ≡ true → is_inside s.lo s.hi (bytes_of r.0) ≡ true
-covered_by file c conds s r there holds fits met = holds r fits ∙ one_met (meets_cond r) conds c there met
-
-pub none_of : (r : Row) (c : Cond) (conds : List Cond) → In c conds → meets_cond r c ≡ false → meets_conds conds r ≡ false
-none_of r c conds there unmet = elim (cases_Bool (meets_conds conds r)) [
-  | inl t ↦ let met = one_met (meets_cond r) conds c there t in absurd cc
-  | inr f ↦ f
-]
-
--- ---- the span of a condition on a data field
+-- ---- the value of a field
 
 all_fit : (fs : List Field) (k : Value) (vs : List Value) → 0 < length fs → Fits (get_or fs 0 no_field).kind k → AreFit (drop 1 fs) vs → AreFit fs (k ∷ vs)
 all_fit [] k vs some fit fits = absurd (omega arith)
 all_fit (f ∷ fs) k vs some fit fits = (fit, fits)
 
-value_kind : (file : FileDef) (r : Row) (field : ℕ) → IsRowOf file r → field < length file.fields → Fits (field_at file field).kind (value_at r field)
+pub value_kind : (file : FileDef) (r : Row) (field : ℕ) → IsRowOf file r → field < length file.fields → Fits (field_at file field).kind (value_at r field)
 value_kind file r field fit lt = fit_at field file.fields (r.0 ∷ r.1) no_field (value.Int (pos 0)) (all_fit file.fields r.0 r.1 (omega arith) fit.0 fit.1) lt
-
--- a record's field is inside the span exactly where the record meets the condition
-pub field_met : (file : FileDef) (c : Cond) (s : Span) (r : Row) → c.field < length file.fields → HoldsThoseMet (field_at file c.field).kind c.op c.bound s → IsRowOf file r → is_inside s.lo s.hi (bytes_of (value_at r c.field)) ≡ meets_cond r c
-field_met file c s r lt holds fit =
-    ap (is_inside s.lo s.hi) (sym (append-nil (bytes_of (value_at r c.field)))) ∙ holds (value_at r c.field) [] (value_kind file r c.field fit lt)
-
-pub field_unmet : (file : FileDef) (c : Cond) (r : Row) → c.field < length file.fields → ((v : Value) → Fits (field_at file c.field).kind v → is_met c.op (value_cmp v c.bound) ≡ false) → IsRowOf file r → meets_cond r c ≡ false
-field_unmet file c r lt nothing fit = nothing (value_at r c.field) (value_kind file r c.field fit lt)

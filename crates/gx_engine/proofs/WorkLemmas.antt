@@ -1,12 +1,12 @@
 -- The bound on the steps of commands that read.
-use Rattle.std.proofs.Common.{[], ◌≡◌, ℕ, zero, suc, ◌+◌, ◌*◌, ◌<◌, ◌≤◌, List, ◌∷◌, length, get_or, true, Option, Some, None, Result, Ok, Err, inl, inr, refl, sym, ap, subst, ◌∙◌, arith}
-use Rattle.std.specs.Prelude.{◌⊎◌, OnOk}
+use Rattle.std.proofs.Common.{[], ◌≡◌, ◌≢◌, ℕ, zero, suc, ◌+◌, ◌*◌, ◌<◌, ◌≤◌, List, ◌∷◌, length, get_or, Bool, true, false, cond, Option, Some, None, Result, Ok, Err, inl, inr, refl, sym, ap, subst, ◌∙◌, arith}
+use Rattle.std.specs.Prelude.{◌⊎◌, OnOk, filter}
 use Rattle.std.specs.List.{slice_get}
 use Rattle.std.specs.FinMap as fin
-use Rattle.std.proofs.Math.Nat.{mul-le-mul_left}
+use Rattle.std.proofs.Math.Nat.{mul-le-mul_left, mul-le-mul_right}
+use Rattle.gx_values.specs.declared.values.Op.TheVariants as op
 use Rattle.gx_values.specs.declared.keys.Span.{Span}
 use Rattle.gx_values.specs.Keys.{bytes_of, is_inside}
-use Rattle.gx_values.specs.Spans.{HoldsThoseMet}
 use Rattle.gx_schema.specs.declared.schema.FileDef.{FileDef}
 use Rattle.gx_schema.specs.declared.schema.Schema.{Schema}
 use Rattle.gx_schema.specs.Lookups.{file_at, field_at}
@@ -28,20 +28,34 @@ use Rattle.gx_model.specs.Found.{value_at, meets_of}
 use Rattle.gx_scan.specs.Files.{rec_of}
 use Rattle.gx_scan.specs.Steps.{HaveAtMost, is_key_inside, rows_inside, rows_with}
 use Rattle.gx_scan.proofs.ListingLemmas.{same_filter}
-use Rattle.gx_engine.specs.Planned.{HoldsKeysMet}
+use Rattle.gx_engine.specs.Spans.{HoldsAllMet}
 use Rattle.gx_engine.specs.Work.{plan_for, condition_of, meets_one, rows_meeting, is_candidate, candidates, most_of, most_entries, most_with, step_bound, find_bound}
-use Rattle.gx_engine.proofs.PlannedLemmas.{field_met}
+use Rattle.gx_engine.proofs.SpanLemmas.{inside_meets, key_inside}
 
 -- ---- the records that are looked at
 
--- by a condition on the key
-pub keys_meeting : (file : FileDef) (c : Cond) (s : Span) (f : File) → HoldsKeysMet file c s → IsFileOf file f → length (rows_inside s f) ≡ length (rows_meeting (Some c) f)
-keys_meeting file c s f holds fit = ap length (same_filter (is_key_inside s) (meets_one (Some c)) (fin.entries f) (λ r h. holds r (all_at (IsRowOf file) (fin.entries f) r fit h).0))
+one_fewer : {A : Type 0} (x : A) (ps qs : List A) (a b : Bool) → (a ≡ true → b ≡ true) → length ps ≤ length qs → length (cond a (x ∷ ps) ps) ≤ length (cond b (x ∷ qs) qs)
+one_fewer x ps qs true true more le = omega (arith, le)
+one_fewer x ps qs true false more le = absurd (let e : false ≡ true = more refl in cc)
+one_fewer x ps qs false true more le = omega (arith, le)
+one_fewer x ps qs false false more le = le
 
--- by a condition on another field
-pub fields_meeting : (file : FileDef) (c : Cond) (s : Span) (f : File) → c.field < length file.fields → HoldsThoseMet (field_at file c.field).kind c.op c.bound s → IsFileOf file f → length (rows_with c.field s f) ≡ length (rows_meeting (Some c) f)
-fields_meeting file c s f lt holds fit =
-    ap length (same_filter (λ r. is_inside s.lo s.hi (bytes_of (value_at r c.field))) (meets_one (Some c)) (fin.entries f) (λ r h. field_met file c s r lt holds (all_at (IsRowOf file) (fin.entries f) r fit h)))
+-- where each that passes one test passes another, no more pass it
+fewer : {A : Type 0} (p q : A → Bool) (xs : List A) → ((x : A) → In x xs → p x ≡ true → q x ≡ true) → length (filter p xs) ≤ length (filter q xs)
+fewer p q [] more = omega arith
+fewer p q (x ∷ xs) more = one_fewer x (filter p xs) (filter q xs) (p x) (q x) (more x (inl refl)) (fewer p q xs (λ y h. more y (inr h)))
+
+-- inside the span of all conditions on the key
+pub keys_within : (file : FileDef) (c : Cond) (conds : List Cond) (s : Span) (f : File) → In c conds → c.field ≡ 0 → c.op ≢ op.Unequal → c.field < length file.fields → HoldsAllMet (field_at file c.field).kind c.field conds s → IsFileOf file f → length (rows_inside s f) ≤ length (rows_meeting (Some c) f)
+keys_within file c conds s f there key other lt holds fit =
+    fewer (is_key_inside s) (meets_one (Some c)) (fin.entries f)
+    (λ r h inside. inside_meets file c conds s r there other lt holds (all_at (IsRowOf file) (fin.entries f) r fit h) (key_inside s r c.field key ∙ inside))
+
+-- inside that of all conditions on another field
+pub fields_within : (file : FileDef) (c : Cond) (conds : List Cond) (s : Span) (f : File) → In c conds → c.op ≢ op.Unequal → c.field < length file.fields → HoldsAllMet (field_at file c.field).kind c.field conds s → IsFileOf file f → length (rows_with c.field s f) ≤ length (rows_meeting (Some c) f)
+fields_within file c conds s f there other lt holds fit =
+    fewer (λ r. is_inside s.lo s.hi (bytes_of (value_at r c.field))) (meets_one (Some c)) (fin.entries f)
+    (λ r h inside. inside_meets file c conds s r there other lt holds (all_at (IsRowOf file) (fin.entries f) r fit h) inside)
 
 -- without a condition
 pub all_meeting : (s : Span) (f : File) → ((key : List ℕ) → is_inside s.lo s.hi key ≡ true) → length (rows_inside s f) ≡ length (rows_meeting None f)
@@ -70,15 +84,20 @@ one_condition s q Scan r none = refl
 -- ---- sums
 
 -- by the key: a step for each leaf, and the entries of the candidates
-pub key_steps : (count most leaves before after n : ℕ) → n ≡ count → after ≤ before + (leaves + n * most) → after ≤ before + (leaves + count * most)
-key_steps count most leaves before after n same few = subst (λ k. after ≤ before + (leaves + k * most)) same few
+pub key_steps : (count most leaves before after n : ℕ) → n ≤ count → after ≤ before + (leaves + n * most) → after ≤ before + (leaves + count * most)
+key_steps count most leaves before after n le few =
+    let product : n * most ≤ count * most = mul-le-mul_right most le in
+    omega (arith, few, product)
 
 pub key_within : (count most leaves before after n : ℕ) → count ≡ n → after ≤ before + (leaves + count * most) → after ≤ before + step_bound n most leaves
 key_within count most leaves before after n same few = subst (λ k. after ≤ before + step_bound k most leaves) same (omega (arith, few))
 
 -- by an index
-pub index_steps : (count most leaves before after n : ℕ) → n ≡ count → after ≤ before + ((n + 1) * leaves + 2 * (n * most)) → after ≤ before + ((count + 1) * leaves + 2 * (count * most))
-index_steps count most leaves before after n same few = subst (λ k. after ≤ before + ((k + 1) * leaves + 2 * (k * most))) same few
+pub index_steps : (count most leaves before after n : ℕ) → n ≤ count → after ≤ before + ((n + 1) * leaves + 2 * (n * most)) → after ≤ before + ((count + 1) * leaves + 2 * (count * most))
+index_steps count most leaves before after n le few =
+    let entries : n * most ≤ count * most = mul-le-mul_right most le in
+    let selections : n * leaves ≤ count * leaves = mul-le-mul_right leaves le in
+    omega (arith, few, entries, selections)
 
 pub index_within : (count most leaves before after n : ℕ) → count ≡ n → after ≤ before + ((count + 1) * leaves + 2 * (count * most)) → after ≤ before + step_bound n most leaves
 index_within count most leaves before after n same few = subst (λ k. after ≤ before + step_bound k most leaves) same (omega (arith, few))

@@ -1,6 +1,7 @@
 // Finding by an indexed field.
 ghost use Rattle.std.specs.Prelude.{◌≡◌, ◌≢◌, ◌<◌, ◌≤◌, ◌+◌, ◌*◌, [], ℕ, true, Some, length, filter, IfOk, OnOk, IsErrOf};
 ghost use Rattle.std.specs.FinMap as fin;
+ghost use Rattle.std.specs.List.{AllByRecursion};
 ghost use Rattle.std.specs.List.Sorted.{IsPermutation};
 ghost use Rattle.gx_values.specs.declared.values.Op.TheVariants as op;
 ghost use Rattle.gx_schema.specs.Lookups.{field_at};
@@ -19,6 +20,7 @@ ghost use Rattle.gx_scan.specs.Steps.{HaveAtMost};
 ghost use Rattle.gx_engine.specs.Planned.{fields_indexed};
 ghost use Rattle.gx_engine.specs.Work.{rows_meeting};
 
+use crate::spans::span_of_conditions;
 use gx_commands::Cond;
 use gx_ports::{Leaves, Stop};
 use gx_rows::Row;
@@ -26,7 +28,7 @@ use gx_scan::rows_where;
 use gx_schema::FileDef;
 use gx_stack::Node;
 use gx_types::AnyMapping;
-use gx_values::{Kind, NoMemory, span};
+use gx_values::NoMemory;
 use std::alloc::Global;
 
 /// Whether each field of a file is indexed in its node, by the number of the field. `NoMemory`: there was
@@ -48,8 +50,8 @@ pub fn indexed_fields(
 }
 
 /// Appends the records that meet the conditions to none, in any order. One of the conditions is on an
-/// indexed field: the index says which records are looked at, and each of them is tested for all
-/// conditions.
+/// indexed field: the index says whose value is inside the span of all conditions on it, and each of these
+/// records is tested for all conditions.
 pub(crate) fn add_by_index<B: Leaves>(
     alloc: Global,
     file: &FileDef,
@@ -62,7 +64,7 @@ pub(crate) fn add_by_index<B: Leaves>(
     requires tree { IsTreeFor file.now (tree_of node.now) (length (B.working leaves.old)) }
     requires storable { IsStorable file.now }
     requires named { AreNamed file.now }
-    requires cond { IsCondOf file.now cond.now }
+    requires fit { AllByRecursion (IsCondOf file.now) conds.now }
     requires there { In cond.now conds.now }
     requires past_key { 0 < cond.now.field }
     requires op { cond.now.op ≢ op.Unequal }
@@ -84,15 +86,8 @@ pub(crate) fn add_by_index<B: Leaves>(
     ensures block { (n : ℕ) → IsErrOf result (Stop.Damaged n) → B.whole leaves.old → n ≡ 0 }
     ensures not_full { ¬ IsErrOf result Stop.Full }
 {
-    match span(field_kind(file, cond.field), cond.op, &cond.bound) {
+    match span_of_conditions(file, cond.field, conds) {
         Some(span) => rows_where(alloc, file, node, cond.field, &span, conds, leaves, rows),
         None => Ok(()),
     }
-}
-
-fn field_kind(file: &FileDef, field: u16) -> Kind
-    requires { field < length file.now.fields }
-    ensures { result ≡ (field_at file.now field).kind }
-{
-    file.fields.0[usize::from(field)].kind
 }

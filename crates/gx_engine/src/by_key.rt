@@ -1,24 +1,21 @@
 // Finding by the key.
-ghost use Rattle.std.specs.Prelude.{◌≡◌, ◌≢◌, ◌<◌, ◌≤◌, ◌+◌, ◌*◌, [], ℕ, length, filter, false, Some, slice_get, IsNone, IfSome, OnOk, IsErrOf};
+ghost use Rattle.std.specs.Prelude.{◌≡◌, ◌≢◌, ◌<◌, ◌≤◌, ◌+◌, ◌*◌, [], ℕ, length, filter, Some, slice_get, OnOk, IsErrOf};
 ghost use Rattle.std.specs.FinMap as fin;
+ghost use Rattle.std.specs.List.{AllByRecursion};
 ghost use Rattle.std.specs.List.Sorted.{IsPermutation};
-ghost use Rattle.gx_values.specs.Values.{Fits};
 ghost use Rattle.gx_values.specs.declared.values.Op.TheVariants as op;
-ghost use Rattle.gx_schema.specs.Lookups.{key_kind};
 ghost use Rattle.gx_commands.specs.Commands.{IsCondOf};
 ghost use Rattle.gx_ports.specs.Calls.{Reads, Ends};
 ghost use Rattle.gx_mapping.specs.Rule.{In};
-ghost use Rattle.gx_stack.specs.Selected.{IsKeySpan};
 ghost use Rattle.gx_stack.specs.Tree.{leaves_of};
 ghost use Rattle.gx_stack.specs.Seen.{tree_of};
-ghost use Rattle.gx_typing.specs.Dues.{file_form};
-ghost use Rattle.gx_model.specs.States.{Row, File as FileMap};
-ghost use Rattle.gx_model.specs.Found.{meets_cond, meets_conds};
+ghost use Rattle.gx_model.specs.States.{File as FileMap};
+ghost use Rattle.gx_model.specs.Found.{meets_conds};
 ghost use Rattle.gx_scan.specs.Files.{IsInternal, HasFile, IsStorable, IsTreeFor};
 ghost use Rattle.gx_scan.specs.Steps.{HaveAtMost};
-ghost use Rattle.gx_engine.specs.Planned.{HoldsKeysMet};
 ghost use Rattle.gx_engine.specs.Work.{rows_meeting};
 
+use crate::spans::span_of_conditions;
 use gx_commands::{Cond, Find};
 use gx_ports::{Leaves, Stop};
 use gx_rows::Row;
@@ -26,7 +23,6 @@ use gx_scan::rows_within;
 use gx_schema::FileDef;
 use gx_stack::Node;
 use gx_types::AnyMapping;
-use gx_values::{Kind, Span, span};
 use std::alloc::Global;
 
 /// The condition of this number.
@@ -38,7 +34,8 @@ pub(crate) fn condition_at(find: &Find, number: u16) -> &Cond
 }
 
 /// Appends the records that meet the conditions to none, in any order. One of the conditions is on the
-/// key: its span says which records are looked at, and each of them is tested for all conditions.
+/// key: the records whose key is inside the span of all conditions on it are looked at, and each of them is
+/// tested for all conditions.
 pub(crate) fn add_by_key<B: Leaves>(
     alloc: Global,
     file: &FileDef,
@@ -50,7 +47,7 @@ pub(crate) fn add_by_key<B: Leaves>(
 ) -> Result<(), Stop>
     requires tree { IsTreeFor file.now (tree_of node.now) (length (B.working leaves.old)) }
     requires storable { IsStorable file.now }
-    requires cond { IsCondOf file.now cond.now }
+    requires fit { AllByRecursion (IsCondOf file.now) conds.now }
     requires there { In cond.now conds.now }
     requires key { cond.now.field ≡ 0 }
     requires op { cond.now.op ≢ op.Unequal }
@@ -71,29 +68,8 @@ pub(crate) fn add_by_key<B: Leaves>(
     ensures block { (n : ℕ) → IsErrOf result (Stop.Damaged n) → B.whole leaves.old → n ≡ 0 }
     ensures not_full { ¬ IsErrOf result Stop.Full }
 {
-    match key_span(file, cond) {
+    match span_of_conditions(file, cond.field, conds) {
         Some(span) => rows_within(alloc, file, node, &span, conds, leaves, rows),
         None => Ok(()),
     }
-}
-
-// The span of the keys that meet a condition. `None`: no key meets it.
-fn key_span(file: &FileDef, cond: &Cond) -> Option<Span>
-    requires storable { IsStorable file.now }
-    requires cond { IsCondOf file.now cond.now }
-    requires key { cond.now.field ≡ 0 }
-    requires op { cond.now.op ≢ op.Unequal }
-    ensures keys { IfSome result (IsKeySpan (file_form file.now)) }
-    ensures meets { IfSome result (HoldsKeysMet file.now cond.now) }
-    ensures none { IsNone result → (r : Row) → Fits (key_kind file.now) r.0 →
-        meets_cond r cond.now ≡ false }
-{
-    span(key_kind(file), cond.op, &cond.bound)
-}
-
-fn key_kind(file: &FileDef) -> Kind
-    requires { 0 < length file.now.fields }
-    ensures { result ≡ key_kind file.now }
-{
-    file.fields.0[0].kind
 }

@@ -6,6 +6,7 @@ mod by_key;
 mod engine;
 mod listing;
 mod records;
+mod spans;
 
 pub use by_index::indexed_fields;
 pub use engine::{Engine, StepStop};

@@ -1,13 +1,14 @@
 use Rattle.std.proofs.Common.{rules, ◌≡◌, ◌∙◌, ◌+◌, ◌*◌, ◌≤◌, List, Option, Some, None, Bool, true, filter, length, sym, ap, subst}
 use Rattle.std.specs.Prelude.{OnOk}
 use Rattle.std.specs.FinMap as fin
+use Rattle.std.specs.List.{AllByRecursion}
 use Rattle.std.specs.List.Sorted.{IsPermutation}
 use Rattle.gx_commands.specs.declared.command.Cond.{Cond}
 use Rattle.gx_commands.specs.Commands.{IsCondOf}
 use Rattle.gx_mapping.specs.Rule.{In}
 use Rattle.gx_stack.specs.Tree.{leaves_of}
 use Rattle.gx_stack.specs.Seen.{tree_of}
-use Rattle.gx_gather.proofs.Lists.{all_at, in_at}
+use Rattle.gx_gather.proofs.Lists.{in_at}
 use Rattle.gx_planner.specs.Plans.{is_indexed, least_plan}
 use Rattle.gx_model.specs.Found.{meets_conds}
 use Rattle.gx_scan.specs.Within.{AreAdded}
@@ -24,9 +25,10 @@ condition_at-on_key-requires g c =
     let by = by_key c.args.find.now c.deref.result.now c.plan.result c.in-Key.number c.in-Key.is c.plan.ensures.applies in
     ranked_there c.args.find.now c.deref.result.now by.0 c.in-Key.number by.1
 
-pub add_by_key-requires-clause-cond : goal.add_by_key-requires-clause-cond
-add_by_key-requires-clause-cond g c =
-    all_at (IsCondOf c.args.file.now) c.args.find.now.conds c.condition_at-on_key.result.now c.requires.conds (in_at c.condition_at-on_key.result.now c.args.find.now.conds c.in-Key.number c.condition_at-on_key.ensures)
+pub add_by_key-requires-clause-fit : goal.add_by_key-requires-clause-fit
+add_by_key-requires-clause-fit g c =
+    let conds : c.as_slice-conds.result.now ≡ c.args.find.now.conds = search rules in
+    subst (λ (cs : List Cond). AllByRecursion (IsCondOf c.args.file.now) cs) (sym conds) c.requires.conds
 
 pub add_by_key-requires-clause-there : goal.add_by_key-requires-clause-there
 add_by_key-requires-clause-there g c =
@@ -53,9 +55,10 @@ condition_at-on_index-requires g c =
     let by = by_index c.args.find.now c.deref.result.now c.plan.result c.in-Index.number c.in-Index.is c.plan.ensures.applies in
     ranked_there c.args.find.now c.deref.result.now by.0 c.in-Index.number by.1
 
-pub add_by_index-requires-clause-cond : goal.add_by_index-requires-clause-cond
-add_by_index-requires-clause-cond g c =
-    all_at (IsCondOf c.args.file.now) c.args.find.now.conds c.condition_at-on_index.result.now c.requires.conds (in_at c.condition_at-on_index.result.now c.args.find.now.conds c.in-Index.number c.condition_at-on_index.ensures)
+pub add_by_index-requires-clause-fit : goal.add_by_index-requires-clause-fit
+add_by_index-requires-clause-fit g c =
+    let conds : c.as_slice-conds.result.now ≡ c.args.find.now.conds = search rules in
+    subst (λ (cs : List Cond). AllByRecursion (IsCondOf c.args.file.now) cs) (sym conds) c.requires.conds
 
 pub add_by_index-requires-clause-there : goal.add_by_index-requires-clause-there
 add_by_index-requires-clause-there g c =
