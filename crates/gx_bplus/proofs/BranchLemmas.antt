@@ -1,10 +1,11 @@
 -- Places of children, and the child on the way to a key.
-use Rattle.std.proofs.Common.{◌≡◌, ◌⊎◌, inl, inr, ℕ, zero, suc, ◌+◌, ◌-◌, ◌<◌, ◌≤◌, true, false, cond, List, [], ◌∷◌, length, map, take, drop, get_or, Option, Some, refl, sym, ap, ap₂, ◌∙◌, subst, arith}
+use Rattle.std.proofs.Common.{◌≡◌, ◌⊎◌, ◌↔◌, inl, inr, ℕ, zero, suc, ◌+◌, ◌-◌, ◌<◌, ◌≤◌, true, false, cond, List, [], ◌∷◌, length, map, take, drop, get_or, Option, Some, None, refl, sym, ap, ap₂, ◌∙◌, subst, arith}
+use Rattle.std.specs.Prelude.{◌==◌}
 use Rattle.std.specs.Cmp.Lexicographic.{slice_cmp}
 use Rattle.std.specs.List.{All, count_by, insert, remove}
 use Rattle.std.specs.Ordering.{nat_cmp, is_le}
 use Rattle.std.specs.declared.cmp.Ordering.TheVariants.{Less}
-use Rattle.std.proofs.lemmas.Bool.{cases_Bool, cond-true, cond-false}
+use Rattle.std.proofs.lemmas.Bool.{cases_Bool, cases_eq, cond-true, cond-false, eqb-true, eq-eqb}
 use Rattle.std.proofs.lemmas.List.{length-map, get_or-map}
 use Rattle.std.proofs.lemmas.List.Elements.{All-head, All-tail}
 use Rattle.std.proofs.lemmas.List.Sums.{count_by-le-length}
@@ -140,6 +141,20 @@ bound_is (b ∷ bs) key (suc i) hi at =
     let h = bound_is bs key i hi (rest_at b bs key i at) in
     let e = sym (cond-false (is_below key b.separator) (Some b.separator) (bound_for bs key hi) (first_before b bs key i at)) in
     ((λ l. h.0 (omega (arith, l)) ∙ e), (λ l. h.1 (omega (arith, l)) ∙ e))
+
+-- there is none just where the child at the place is the last one
+pub last_is : (bs : List Branch) (key : List ℕ) (i n : ℕ) → IsPlaceFor bs key i → n ≡ length (separators_in bs) → ((i == n) ≡ true) ↔ (bound_for bs key None ≡ None)
+last_is bs key i n at number =
+    let b = bound_is bs key i None at in (
+      (λ is. let e = eqb-true i n is in sym (b.1 (omega (arith, e, number)))),
+      (λ none. elim (cases_eq i n) [
+        | inl e ↦ eq-eqb i n e
+        | inr d ↦
+            (let some = b.0 (let within = at.within in let same = length-map bs (λ b. b.separator) in omega (arith, d, number, within, same)) in
+            let no : Some (get_or (separators_in bs) i []) ≡ None = some ∙ none in
+            let clash : ⊥ = cc in absurd clash)
+      ]),
+    )
 
 -- it is one of them, or the bound of the page
 pub bound_in : (bs : List Branch) (key : List ℕ) (hi : Option (List ℕ)) (s : List ℕ) → bound_for bs key hi ≡ Some s → (hi ≡ Some s) ⊎ In s (separators_in bs)

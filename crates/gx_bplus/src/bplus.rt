@@ -9,7 +9,7 @@ ghost use Rattle.gx_ports.specs.PageCalls.{KeepsPages, CountsPageFaults};
 ghost use Rattle.gx_bplus.specs.Bplus.{IsBplus};
 
 use crate::putting::{put_alone, put_below};
-use crate::reading::{Shape, child_for, read_page};
+use crate::reading::{Shape, child_for, leads_last, read_page};
 use crate::removal::{remove_alone, remove_below};
 use crate::splitting::{make_room, open_root};
 use gx_device::Failed;
@@ -66,6 +66,7 @@ pub fn put<P: Pages>(pages: &mut P, place: &Place, key: &[u8], body: &[u8]) -> R
         }
         Shape::Inner => {}
     }
+    let mut is_last = leads_last(&page, key);
     let mut at = open_root(pages, place.owner, place.root, &mut page, key)?;
     for _ in 0..pages.pages() {
         let next = child_for(&page, key);
@@ -81,9 +82,11 @@ pub fn put<P: Pages>(pages: &mut P, place: &Place, key: &[u8], body: &[u8]) -> R
                     &mut below,
                     key,
                     body,
+                    is_last,
                 );
             }
             Shape::Inner => {
+                is_last = is_last && leads_last(&below, key);
                 at = make_room(pages, place.owner, at, &mut page, next, &mut below, key)?;
                 page = below;
             }

@@ -17,7 +17,7 @@ use crate::splitting::{divide, raise};
 use gx_ports::{PAGE_LEN, Pages, Stop};
 
 /// Puts an entry on the entry page on the way to its key, below the page at hand, which has room for a
-/// separator. An entry page without room for the entry is split.
+/// separator. An entry page without room for the entry is split, by whether it is the last one of the tree.
 pub(crate) fn put_below<P: Pages>(
     pages: &mut P,
     owner: u16,
@@ -27,6 +27,7 @@ pub(crate) fn put_below<P: Pages>(
     below: &mut [u8],
     key: &[u8],
     body: &[u8],
+    is_last: bool,
 ) -> Result<(), Stop>
     requires least { 1 ≤ owner }
     requires most { owner ≤ MAX_OWNER }
@@ -57,7 +58,7 @@ pub(crate) fn put_below<P: Pages>(
         return Ok(());
     }
     let mut right = [0; PAGE_LEN];
-    let separator = spread(below, &mut right, key, body);
+    let separator = spread(below, &mut right, key, body, is_last);
     divide(
         pages,
         owner,
@@ -104,7 +105,7 @@ pub(crate) fn put_alone<P: Pages>(
         return Ok(());
     }
     let mut right = [0; PAGE_LEN];
-    let separator = spread(page, &mut right, key, body);
+    let separator = spread(page, &mut right, key, body, true);
     raise(pages, owner, root, page, &right, separator.as_slice())?;
     Ok(())
 }

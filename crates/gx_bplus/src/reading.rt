@@ -1,13 +1,13 @@
 // Pages of a tree, as they are read.
-ghost use Rattle.std.specs.Prelude.{◌≡◌, ◌<◌, ◌↔◌, length, IsTrue, OnOk, IfOk, IsErrOf, MatchOption};
+ghost use Rattle.std.specs.Prelude.{◌≡◌, ◌<◌, ◌↔◌, None, length, IsTrue, OnOk, IfOk, IsErrOf, MatchOption};
 ghost use Rattle.gx_ports.specs.Files.{EndsFile};
 ghost use Rattle.gx_ports.specs.PageCalls.{ReadsPages};
 ghost use Rattle.gx_ports.specs.Sheets.{IsPast};
 ghost use Rattle.gx_bnode.specs.Page.{IsInnerPage, first_of, branches_of};
 ghost use Rattle.gx_bplus.specs.Bplus.{Shows, IsTreePage, bytes_at};
-ghost use Rattle.gx_bplus.specs.Tree.{child_for};
+ghost use Rattle.gx_bplus.specs.Tree.{child_for, bound_for};
 
-use gx_bnode::{child, child_of, is_inner};
+use gx_bnode::{child, child_of, is_inner, separators};
 use gx_ports::{Pages, Stop};
 use gx_slots::{NONE, is_ascending, next};
 
@@ -72,4 +72,12 @@ pub(crate) fn child_for(page: &[u8], key: &[u8]) -> u32
     ensures { result ≡ child_for (first_of page.now) (branches_of page.now) key.now }
 {
     child(page, child_of(page, key))
+}
+
+/// Whether no separator of the page stands behind a key, which so leads to the last child.
+pub(crate) fn leads_last(page: &[u8], key: &[u8]) -> bool
+    requires { IsInnerPage page.now }
+    ensures { IsTrue result ↔ bound_for (branches_of page.now) key.now None ≡ None }
+{
+    child_of(page, key) == separators(page)
 }
