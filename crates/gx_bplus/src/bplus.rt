@@ -16,8 +16,8 @@ use gx_device::Failed;
 use gx_ports::{PAGE_LEN, Pages, Place, Stop};
 use gx_slots::clear;
 
-/// Makes an empty tree at a place whose root is free and whose owner has no page. After `Failed` the
-/// pages are to be opened again.
+/// Makes an empty tree at a place whose root is free and whose owner has no page. After `Failed`
+/// the pages are to be opened again.
 pub fn make<P: Pages>(pages: &mut P, place: &Place) -> Result<(), Failed>
     requires kind { place.now.spec.kind ≡ kinds.Bplus }
     requires place { IsPlace (P.ground pages.old) place.now }
@@ -25,7 +25,8 @@ pub fn make<P: Pages>(pages: &mut P, place: &Place) -> Result<(), Failed>
         OnOk result (IsBplus (P.ground pages.old) place.now (P.working pages.new) empty) }
     ensures others { IsTrue P.tells → IsVacant place.now (P.working pages.old) →
         OnOk result
-        (OthersStay (P.ground pages.old) place.now.owner (P.working pages.old) (P.working pages.new)) }
+        (OthersStay (P.ground pages.old) place.now.owner
+        (P.working pages.old) (P.working pages.new)) }
     ensures roots { IsTrue P.tells → IsVacant place.now (P.working pages.old) →
         OnOk result (ClaimsRoots place.now (P.working pages.old) (P.working pages.new)) }
     ensures keeps { KeepsPages P.PageView pages.old pages.new }
@@ -37,9 +38,10 @@ pub fn make<P: Pages>(pages: &mut P, place: &Place) -> Result<(), Failed>
     pages.write(place.root, &page)
 }
 
-/// Sets one pair, of a key of at most `MAX_KEY_LEN` bytes, with its body at most `MAX_ENTRY_LEN`. A page
-/// without room is split on the way down, an entry page where the pair doesn't fit. After a refusal the
-/// pages of this owner may hold anything. After `Fault` the pages are to be opened again.
+/// Sets one pair, of a key of at most `MAX_KEY_LEN` bytes, with its body at most `MAX_ENTRY_LEN`. A
+/// page without room is split on the way down, an entry page where the pair doesn't fit. After a
+/// refusal the pages of this owner may hold anything. After `Fault` the pages are to be opened
+/// again.
 pub fn put<P: Pages>(pages: &mut P, place: &Place, key: &[u8], body: &[u8]) -> Result<(), Stop>
     requires kind { place.now.spec.kind ≡ kinds.Bplus }
     requires place { IsPlace (P.ground pages.old) place.now }
@@ -95,10 +97,10 @@ pub fn put<P: Pages>(pages: &mut P, place: &Place, key: &[u8], body: &[u8]) -> R
     Err(Stop::Damaged(pages.block(at)))
 }
 
-/// Takes the pair at a key of at most `MAX_KEY_LEN` bytes away; a key that isn't there changes nothing.
-/// A page that loses its last entry is freed, and the one child that an inner page has left takes that
-/// page's place. After a refusal the pages of this owner may hold anything. After `Fault` the pages are
-/// to be opened again.
+/// Takes the pair at a key of at most `MAX_KEY_LEN` bytes away; a key that isn't there changes
+/// nothing. A page that loses its last entry is freed, and the one child that an inner page has
+/// left takes that page's place. After a refusal the pages of this owner may hold anything. After
+/// `Fault` the pages are to be opened again.
 pub fn remove<P: Pages>(pages: &mut P, place: &Place, key: &[u8]) -> Result<(), Stop>
     requires kind { place.now.spec.kind ≡ kinds.Bplus }
     requires place { IsPlace (P.ground pages.old) place.now }

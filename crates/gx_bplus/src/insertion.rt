@@ -12,8 +12,8 @@ use crate::removal::take_key;
 use gx_slots::{add, count, entry, middle, rank, split};
 use gx_values::KeyBuf;
 
-/// Sets the entry of a key on an entry page of a tree. False where it doesn't fit, and then the page
-/// has no entry with the key.
+/// Sets the entry of a key on an entry page of a tree. False where it doesn't fit, and then the
+/// page has no entry with the key.
 pub(crate) fn set_entry(page: &mut [u8], key: &[u8], body: &[u8]) -> bool
     requires page { Shows shapes.Entries page.old }
     requires fit { IsFit (record { key = key.now; body = body.now }) }
@@ -29,10 +29,10 @@ pub(crate) fn set_entry(page: &mut [u8], key: &[u8], body: &[u8]) -> bool
     add(page, i, key, body)
 }
 
-/// Spreads the entries of a page without room, and one more, over itself and `right`, which has 4,096
-/// bytes, of any values. Gives the first key of `right`. The page is cut at half of its bytes. But where
-/// it is the last one of its tree, a key behind all others gets a page of its own, so that keys in
-/// ascending order leave full pages behind them.
+/// Spreads the entries of a page without room, and one more, over itself and `right`, which has
+/// 4,096 bytes, of any values. Gives the first key of `right`. The page is cut at half of its
+/// bytes. But where it is the last one of its tree, a key behind all others gets a page of its own,
+/// so that keys in ascending order leave full pages behind them.
 pub(crate) fn spread(
     page: &mut [u8],
     right: &mut [u8],

@@ -16,8 +16,9 @@ use crate::insertion::{set_entry, spread};
 use crate::splitting::{divide, raise};
 use gx_ports::{PAGE_LEN, Pages, Stop};
 
-/// Puts an entry on the entry page on the way to its key, below the page at hand, which has room for a
-/// separator. An entry page without room for the entry is split, by whether it is the last one of the tree.
+/// Puts an entry on the entry page on the way to its key, below the page at hand, which has room
+/// for a separator. An entry page without room for the entry is split, by whether it is the last
+/// one of the tree.
 pub(crate) fn put_below<P: Pages>(
     pages: &mut P,
     owner: u16,
@@ -41,7 +42,8 @@ pub(crate) fn put_below<P: Pages>(
     ensures put { IsTrue P.tells → (root steps : ℕ) (tree : Tree) →
         IsReached (P.ground pages.old) owner (P.working pages.old) root at child key.now tree steps
         page.old below.old →
-        OnOk result (HasPut (P.ground pages.old) owner root (record { key = key.now; body = body.now })
+        OnOk result (HasPut (P.ground pages.old) owner root
+        (record { key = key.now; body = body.now })
         (P.working pages.old) (P.working pages.new) tree) }
     ensures full { IsTrue P.tells → IsErrOf result Stop.Full →
         HasNone (P.ground pages.old) (P.working pages.old) }
@@ -73,8 +75,8 @@ pub(crate) fn put_below<P: Pages>(
     Ok(())
 }
 
-/// Puts an entry into a tree of one page, the root. Where it hasn't room, its parts go to two pages below
-/// it.
+/// Puts an entry into a tree of one page, the root. Where it hasn't room, its parts go to two pages
+/// below it.
 pub(crate) fn put_alone<P: Pages>(
     pages: &mut P,
     owner: u16,
@@ -90,7 +92,8 @@ pub(crate) fn put_alone<P: Pages>(
     requires fit { IsFit (record { key = key.now; body = body.now }) }
     ensures put { IsTrue P.tells → (tree : Tree) →
         IsHeld (P.ground pages.old) owner (P.working pages.old) root tree page.old →
-        OnOk result (HasPut (P.ground pages.old) owner root (record { key = key.now; body = body.now })
+        OnOk result (HasPut (P.ground pages.old) owner root
+        (record { key = key.now; body = body.now })
         (P.working pages.old) (P.working pages.new) tree) }
     ensures full { IsTrue P.tells → IsErrOf result Stop.Full →
         HasNone (P.ground pages.old) (P.working pages.new) }

@@ -35,8 +35,8 @@ pub(crate) fn take_key(page: &mut [u8], key: &[u8]) -> bool
     }
 }
 
-/// Frees the child on the way to a key, which has no other entry, and takes it off its page, which has
-/// two separators or more.
+/// Frees the child on the way to a key, which has no other entry, and takes it off its page, which
+/// has two separators or more.
 fn drop_page<P: Pages>(
     pages: &mut P,
     at: u32,
@@ -65,8 +65,8 @@ fn drop_page<P: Pages>(
     pages.free(child)
 }
 
-/// Frees the child on the way to a key, which has no other entry, and gives its page the bytes of the
-/// one other child, which is freed too.
+/// Frees the child on the way to a key, which has no other entry, and gives its page the bytes of
+/// the one other child, which is freed too.
 fn replace_page<P: Pages>(
     pages: &mut P,
     at: u32,

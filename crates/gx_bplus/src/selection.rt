@@ -17,8 +17,9 @@ use gx_slots::entries;
 use gx_values::{KeyBuf, NoMemory, Span, inside};
 use std::alloc::Global;
 
-/// Appends the entries inside the span, in ascending order of their keys. Each page is found from the
-/// root, by the separator behind the one before. After a refusal `out` may hold more than before.
+/// Appends the entries inside the span, in ascending order of their keys. Each page is found from
+/// the root, by the separator behind the one before. After a refusal `out` may hold more than
+/// before.
 pub fn select<P: Pages>(
     _alloc: Global,
     pages: &mut P,
