@@ -6,12 +6,12 @@ ghost use Rattle.gx_ports.specs.declared.leaves.TheConstants.{MAX_KEY_LEN, MAX_E
 ghost use Rattle.gx_ports.specs.Files.{IsPlace, IsVacant, ClaimsRoots, Holds, OthersStay, EndsFile, SparesOthers, IsFull, IsWhole};
 ghost use Rattle.gx_ports.specs.LeafMaps.{LeafMap};
 ghost use Rattle.gx_ports.specs.PageCalls.{KeepsPages, CountsPageFaults};
-ghost use Rattle.gx_bplus.specs.Bplus.{IsBplus};
+ghost use Rattle.gx_btree.specs.Bplus.{IsBplus};
 
 use crate::putting::{put_alone, put_below};
-use crate::reading::{Shape, child_for, leads_last, read_page};
 use crate::removal::{remove_alone, remove_below};
 use crate::splitting::{make_room, open_root};
+use gx_btree::{Shape, child_for, leads_last, read_page};
 use gx_device::Failed;
 use gx_ports::{PAGE_LEN, Pages, Place, Stop};
 use gx_slots::clear;

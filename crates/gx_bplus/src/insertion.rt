@@ -4,8 +4,8 @@ ghost use Rattle.std.specs.Bool.{OnTrue, OnFalse};
 ghost use Rattle.std.specs.List.{All, sum_by};
 ghost use Rattle.gx_slots.specs.Entries.{Entry, IsFit, entry_len};
 ghost use Rattle.gx_slots.specs.Page.{IsEntryPage, entries_of};
-ghost use Rattle.gx_bplus.specs.declared.reading.Shape.TheVariants as shapes;
-ghost use Rattle.gx_bplus.specs.Bplus.{Shows};
+ghost use Rattle.gx_btree.specs.declared.reading.Shape.TheVariants as shapes;
+ghost use Rattle.gx_btree.specs.Bplus.{Shows};
 ghost use Rattle.gx_bplus.specs.Changes.{IsPutIn, IsTakenFrom, IsSpread};
 
 use crate::removal::take_key;

@@ -6,11 +6,11 @@ ghost use Rattle.gx_ports.specs.PageCalls.{KeepsPages};
 ghost use Rattle.gx_ports.specs.Sheets.{IsPast, HasNone};
 ghost use Rattle.gx_slots.specs.Entries.{IsFit};
 ghost use Rattle.gx_bnode.specs.Page.{IsInnerPage, HasRoom, first_of, branches_of, separators_of};
-ghost use Rattle.gx_bplus.specs.declared.reading.Shape.TheVariants as shapes;
-ghost use Rattle.gx_bplus.specs.Bplus.{Shows};
+ghost use Rattle.gx_btree.specs.declared.reading.Shape.TheVariants as shapes;
+ghost use Rattle.gx_btree.specs.Bplus.{Shows};
+ghost use Rattle.gx_btree.specs.Tree.{Tree, child_for};
 ghost use Rattle.gx_bplus.specs.Search.{IsHeld, IsReached, HasReached, HasPut};
 ghost use Rattle.gx_bplus.specs.Splits.{MayHaveClaimed};
-ghost use Rattle.gx_bplus.specs.Tree.{Tree, child_for};
 
 use crate::insertion::{set_entry, spread};
 use crate::splitting::{divide, raise};

@@ -8,14 +8,14 @@ ghost use Rattle.gx_ports.specs.PageCalls.{KeepsPages};
 ghost use Rattle.gx_ports.specs.Sheets.{IsPast, HasNone};
 ghost use Rattle.gx_bnode.specs.Branches.{AreAscending};
 ghost use Rattle.gx_bnode.specs.Page.{IsInnerPage, HasRoom, first_of, branches_of, separators_of};
+ghost use Rattle.gx_btree.specs.Order.{IsBelow, is_below};
+ghost use Rattle.gx_btree.specs.Tree.{Tree, ShowsInner, child_for, with_branch};
 ghost use Rattle.gx_bplus.specs.Changes.{MayStand};
-ghost use Rattle.gx_bplus.specs.Order.{IsBelow, is_below};
 ghost use Rattle.gx_bplus.specs.Search.{IsHeld, IsReached, HasReached, HasCome};
 ghost use Rattle.gx_bplus.specs.Splits.{IsDivided, IsRaised, MayHaveClaimed};
-ghost use Rattle.gx_bplus.specs.Tree.{Tree, ShowsInner, child_for, with_branch};
 
-use crate::reading::child_for;
 use gx_bnode::{child_of, has_room, insert, make_inner, separator, separators, split};
+use gx_btree::child_for;
 use gx_ports::{PAGE_LEN, Pages, Stop};
 
 /// Splits the inner child on the way to a key where it hasn't room for a separator. Gives the page
