@@ -18,22 +18,19 @@ use Rattle.gx_ports.proofs.KeyLemmas.{same_key, tied}
 use Rattle.gx_slots.specs.Entries.{Entry}
 use Rattle.gx_bnode.specs.Page.{IsInnerPage}
 use Rattle.gx_bnode.specs.Page as bnode
-use Rattle.gx_bplus.specs.Bplus.{IsBplus, IsTreePage, IsOwned, IsWritten, bytes_at}
+use Rattle.gx_btree.specs.Bplus.{IsBplus, IsTreePage, IsOwned, IsWritten, bytes_at, ArePast}
+use Rattle.gx_btree.specs.Hole.{IsAtHand}
+use Rattle.gx_btree.specs.Tree as trees
+use Rattle.gx_btree.specs.Tree.{In, Tree, leaf, entries, ShowsInner, ShowsEntries, child_for}
+use Rattle.gx_btree.proofs.EntryLemmas.{shows_inner}
+use Rattle.gx_btree.proofs.OrderLemmas.{same_or_not}
+use Rattle.gx_btree.proofs.CallLemmas.{ends_weaker, ends_after, pages_read_joined}
+use Rattle.gx_btree.proofs.SheetLemmas.{written_here, written_owned, claimed_owned, claimed_others, written_others, others_joined, written_owners, get_set_other}
+use Rattle.gx_btree.proofs.ShapeLemmas.{hand_page}
+use Rattle.gx_btree.proofs.StepLemmas.{at_root, descend}
+use Rattle.gx_btree.proofs.FileLemmas.{past_of, descent_ends}
 use Rattle.gx_bplus.specs.Changes.{IsTakenFrom}
-use Rattle.gx_bplus.specs.Hole.{IsAtHand}
-use Rattle.gx_bplus.specs.Search.{ArePast, IsReached, HasReached, HasRemoved}
-use Rattle.gx_bplus.specs.Tree as trees
-use Rattle.gx_bplus.specs.Tree.{In, Tree, leaf, entries, pages, ShowsInner, ShowsEntries, child_for}
-use Rattle.gx_bplus.proofs.EntryLemmas.{shows_inner}
-use Rattle.gx_bplus.proofs.OrderLemmas.{same_or_not}
-use Rattle.gx_bplus.proofs.BoundLemmas.{ends}
-use Rattle.gx_bplus.proofs.CallLemmas.{ends_weaker, ends_after, pages_read_joined}
-use Rattle.gx_bplus.proofs.SheetLemmas.{written_here, written_owned, claimed_owned, claimed_others, written_others, others_joined, written_owners, get_set_other}
-use Rattle.gx_bplus.proofs.ShapeLemmas.{hand_page}
-use Rattle.gx_bplus.proofs.StepLemmas.{at_root, descend}
-
-pub past_of : (ground : Ground) (place : Place) (sheets : Sheets) (map : LeafMap) → IsBplus ground place sheets map → ArePast ground place.owner sheets
-past_of ground place sheets map b q o = b.past q ((b.owned q).0 o)
+use Rattle.gx_bplus.specs.Search.{IsReached, HasReached, HasRemoved}
 
 pub root_hand : (ground : Ground) (place : Place) (sheets : Sheets) (map : LeafMap) (key : List ℕ) (b : IsBplus ground place sheets map) → IsAtHand (bytes_at sheets) (IsOwned place.owner sheets) place.root place.root key b.tree 0
 root_hand ground place sheets map key b = at_root (bytes_at sheets) (IsOwned place.owner sheets) place.root key b.tree b.whole b.owned
@@ -73,9 +70,6 @@ removed_file ground place old new map key b r = record {
 
 abbrev no_map : LeafMap
 no_map = empty
-
-pub place_past : (ground : Ground) (place : Place) → IsPlace ground place → place.spec.kind ≡ kinds.Bplus → IsPast ground place.root
-place_past ground place p kind = let r : roots_of place.spec ≡ 1 = ap roots_of_kind kind in record { past = p.past; below = (let b = p.below in omega (arith, b, r)) }
 
 pub root_free : (place : Place) (sheets : Sheets) → IsVacant place sheets → place.spec.kind ≡ kinds.Bplus → slice_get sheets.owners place.root ≡ Some 0
 root_free place sheets vacant kind = let r : roots_of place.spec ≡ 1 = ap roots_of_kind kind in vacant.free place.root (omega arith) (omega (arith, r))
@@ -119,10 +113,6 @@ pub next_hand : {steps : ℕ} (sheets : Sheets) (owner root at next : ℕ) (key 
 next_hand {steps = steps} sheets owner root at next key page old is inner goes h =
     let at_p : ShowsInner (bytes_at sheets at) (bnode.first_of page) (bnode.branches_of page) = subst (λ x. ShowsInner x (bnode.first_of page) (bnode.branches_of page)) (sym is) (shows_inner page inner) in
     subst (λ q. IsAtHand (bytes_at sheets) (IsOwned owner sheets) root q key old (steps + 1)) (sym goes) (descend (bytes_at sheets) (IsOwned owner sheets) root at key old (bnode.first_of page) (bnode.branches_of page) at_p h).0
-
--- it ends within so many steps as there are pages
-pub descent_ends : {steps : ℕ} (ground : Ground) (owner : ℕ) (sheets : Sheets) (root at : ℕ) (key : List ℕ) (old : Tree) → ArePast ground owner sheets → IsAtHand (bytes_at sheets) (IsOwned owner sheets) root at key old steps → steps < ground.size
-descent_ends ground owner sheets root at key old past h = ends (bytes_at sheets) (IsOwned owner sheets) root at key old ground.size h (λ q o. (past q o).below)
 
 -- the answer of a call that never fails on a whole file but by a fault
 pub on_no_fault : {T : Type 0} {Q : Type 0} (r : Result T Stop) → OnOk r Q → ¬ IsErrOf r Fault → ¬ IsErrOf r Full → ¬ IsErrOf r NoMemory → ((n : ℕ) → ¬ IsErrOf r (Damaged n)) → Q

@@ -10,23 +10,23 @@ use Rattle.gx_slots.specs.Entries.{Entry}
 use Rattle.gx_slots.specs.Page.{entries_of}
 use Rattle.gx_bnode.specs.Branches.{Branch}
 use Rattle.gx_bnode.specs.Page.{IsInnerPage, first_of, branches_of, separators_of, children_of}
-use Rattle.gx_bplus.specs.declared.reading.Shape.TheVariants as shapes
-use Rattle.gx_bplus.specs.Bplus.{Shows, bytes_at, IsWritten, IsOwned}
+use Rattle.gx_btree.specs.declared.reading.Shape.TheVariants as shapes
+use Rattle.gx_btree.specs.Bplus.{Shows, bytes_at, IsWritten, IsOwned, ArePast}
+use Rattle.gx_btree.specs.Hole.{IsAtHand}
+use Rattle.gx_btree.specs.Order.{is_below}
+use Rattle.gx_btree.specs.Tree.{In, Tree, pages, ShowsEntries, ShowsInner, child_for, with_branch}
+use Rattle.gx_btree.proofs.BranchLemmas.{same_branches, tops, way_with}
+use Rattle.gx_btree.proofs.EntryLemmas.{shows_entries, shows_inner, entries_up}
+use Rattle.gx_btree.proofs.KidLemmas.{branch}
+use Rattle.gx_btree.proofs.SheetLemmas.{get_below, get_set_same, get_set_other, others_itself, others_joined, written_owned, written_other, written_here, written_others, anew_bytes, claimed_owned, claimed_free, claimed_others}
+use Rattle.gx_btree.proofs.StepLemmas.{at_root, descend, top_in}
 use Rattle.gx_bplus.specs.Changes.{IsPutIn, IsTakenFrom, IsSpread, MayStand}
-use Rattle.gx_bplus.specs.Hole.{IsAtHand}
-use Rattle.gx_bplus.specs.Order.{is_below}
-use Rattle.gx_bplus.specs.Search.{ArePast, IsHeld, IsReached, HasCome, HasPut}
+use Rattle.gx_bplus.specs.Search.{IsHeld, IsReached, HasCome, HasPut}
 use Rattle.gx_bplus.specs.Splits.{IsDivided, IsRaised}
-use Rattle.gx_bplus.specs.Tree.{In, Tree, pages, ShowsEntries, ShowsInner, child_for, with_branch}
-use Rattle.gx_bplus.proofs.BranchLemmas.{same_branches, tops, way_with}
-use Rattle.gx_bplus.proofs.EntryLemmas.{shows_entries, shows_inner, entries_up}
-use Rattle.gx_bplus.proofs.KidLemmas.{branch}
 use Rattle.gx_bplus.proofs.PutLemmas.{added, split}
 use Rattle.gx_bplus.proofs.RemovalLemmas.{IsChild, child_is, reached_node}
 use Rattle.gx_bplus.proofs.SeparatorLemmas.{split_may, spread_may}
-use Rattle.gx_bplus.proofs.SheetLemmas.{get_below, get_set_same, get_set_other, others_itself, others_joined, written_owned, written_other, written_here, written_others, anew_bytes, claimed_owned, claimed_free, claimed_others}
 use Rattle.gx_bplus.proofs.SpreadLemmas.{spread, root_spread, root_split}
-use Rattle.gx_bplus.proofs.StepLemmas.{at_root, descend, top_in}
 
 -- ---- pages that are there stay there
 

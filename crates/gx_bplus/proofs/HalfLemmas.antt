@@ -2,12 +2,12 @@
 use Rattle.std.proofs.Common.{◌≡◌, ◌≢◌, ◌⊎◌, inl, inr, ◌++◌, ◌∷◌, ℕ, List, [], refl, sym, ap, ◌∙◌, subst}
 use Rattle.gx_slots.specs.Entries.{Entry}
 use Rattle.gx_bnode.specs.Branches.{Branch}
-use Rattle.gx_bplus.specs.Order.{IsBelow, IsUpTo}
-use Rattle.gx_bplus.specs.Tree.{In, Tree, Kids, node, last, more, page_of, first_of, branches_of, entries, kids_entries, pages, kids_pages, Stands, AllStand, ShowsInner, Ordered, AreOrdered, IsFilled, Apart, AreApart}
-use Rattle.gx_bplus.specs.Hole.{Same, Joins}
-use Rattle.gx_bplus.proofs.MemberLemmas.{in_left, in_right, in_cases, joins_append}
-use Rattle.gx_bplus.proofs.OrderLemmas.{below_below, up_to_below}
-use Rattle.gx_bplus.proofs.KidLemmas.{branch, all_stand_same, some_key}
+use Rattle.gx_btree.specs.Order.{IsBelow, IsUpTo}
+use Rattle.gx_btree.specs.Tree.{In, Tree, Kids, node, last, more, page_of, first_of, branches_of, entries, kids_entries, pages, kids_pages, Stands, AllStand, ShowsInner, Ordered, AreOrdered, IsFilled, Apart, AreApart}
+use Rattle.gx_btree.specs.Hole.{Same, Joins}
+use Rattle.gx_btree.proofs.MemberLemmas.{in_left, in_right, in_cases, joins_append}
+use Rattle.gx_btree.proofs.OrderLemmas.{below_below, up_to_below}
+use Rattle.gx_btree.proofs.KidLemmas.{branch, all_stand_same, some_key}
 
 -- children on both sides of a separator
 pub record IsCut (at : ℕ → List ℕ) (kids : Kids) (l : List Branch) (s : List ℕ) (c : ℕ) (r : List Branch) : Type 0 where

@@ -10,14 +10,14 @@ use Rattle.std.proofs.lemmas.Bool.{cases_lt}
 use Rattle.gx_bytes.specs.declared.page.TheConstants.{NONE}
 use Rattle.gx_slots.specs.Entries.{Entry, IsFit, AreAscending, entry_len}
 use Rattle.gx_slots.specs.Page.{IsEntryPage, entries_of, next_of, used_by}
-use Rattle.gx_bplus.specs.declared.reading.Shape.TheVariants as shapes
-use Rattle.gx_bplus.specs.Bplus.{Shows}
+use Rattle.gx_btree.specs.declared.reading.Shape.TheVariants as shapes
+use Rattle.gx_btree.specs.Bplus.{Shows}
+use Rattle.gx_btree.specs.Order.{IsBelow, IsUpTo}
+use Rattle.gx_btree.specs.Tree.{In, Ascending}
+use Rattle.gx_btree.proofs.EntryLemmas.{place_in, in_place, ascending_from, entries_up}
+use Rattle.gx_btree.proofs.MemberLemmas.{in_left, in_right}
+use Rattle.gx_btree.proofs.OrderLemmas.{up_to_itself, below_is_up_to, up_to_cases}
 use Rattle.gx_bplus.specs.Changes.{IsPutIn, IsTakenFrom, IsSpread}
-use Rattle.gx_bplus.specs.Order.{IsBelow, IsUpTo}
-use Rattle.gx_bplus.specs.Tree.{In, Ascending}
-use Rattle.gx_bplus.proofs.EntryLemmas.{place_in, in_place, ascending_from, entries_up}
-use Rattle.gx_bplus.proofs.MemberLemmas.{in_left, in_right}
-use Rattle.gx_bplus.proofs.OrderLemmas.{up_to_itself, below_is_up_to, up_to_cases}
 
 -- all that follows a key
 all_in : (P : Entry → Type 0) (es : List Entry) → All P es → (x : Entry) → In x es → P x

@@ -2,15 +2,15 @@
 use Rattle.std.proofs.Common.{◌≡◌, ◌≢◌, ◌⊎◌, inl, inr, ◌++◌, ◌∷◌, ℕ, List, [], refl, sym, ap, ◌∙◌, subst}
 use Rattle.gx_slots.specs.Entries.{Entry}
 use Rattle.gx_bnode.specs.Branches.{Branch}
-use Rattle.gx_bplus.specs.Order.{IsBelow, IsUpTo, IsUnder}
-use Rattle.gx_bplus.specs.Tree.{In, Tree, leaf, node, page_of, first_of, branches_of, entries, kids_entries, pages, kids_pages, Stands, ShowsEntries, ShowsInner, Ascending, Ordered, Apart, IsFilled, child_for, with_branch}
-use Rattle.gx_bplus.specs.Hole.{IsFitting, Same, Joins, IsAtHand}
+use Rattle.gx_btree.specs.Order.{IsBelow, IsUpTo, IsUnder}
+use Rattle.gx_btree.specs.Tree.{In, Tree, leaf, node, page_of, first_of, branches_of, entries, kids_entries, pages, kids_pages, Stands, ShowsEntries, ShowsInner, Ascending, Ordered, Apart, IsFilled, child_for, with_branch}
+use Rattle.gx_btree.specs.Hole.{IsFitting, Same, Joins, IsAtHand}
+use Rattle.gx_btree.proofs.MemberLemmas.{in_left, in_right, in_cases}
+use Rattle.gx_btree.proofs.OrderLemmas.{not_both, not_under_over, up_to_up_to}
+use Rattle.gx_btree.proofs.KidLemmas.{branch, some_key}
+use Rattle.gx_btree.proofs.StepLemmas.{IsAtNode, at_node, node_at, leaf_is, top_in}
 use Rattle.gx_bplus.specs.Changes.{IsPutIn, IsPut}
-use Rattle.gx_bplus.proofs.MemberLemmas.{in_left, in_right, in_cases}
-use Rattle.gx_bplus.proofs.OrderLemmas.{not_both, not_under_over, up_to_up_to}
-use Rattle.gx_bplus.proofs.KidLemmas.{branch, some_key}
 use Rattle.gx_bplus.proofs.HalfLemmas.{halves}
-use Rattle.gx_bplus.proofs.StepLemmas.{IsAtNode, at_node, node_at, leaf_is, top_in}
 
 -- a key within bounds isn't one that stands outside
 pub beside : {steps : ℕ} (at : ℕ → List ℕ) (owned : ℕ → Type 0) (root p : ℕ) (key : List ℕ) (old : Tree) (h : IsAtHand at owned root p key old steps) (x : Entry) → In x h.rest → x.key ≢ key

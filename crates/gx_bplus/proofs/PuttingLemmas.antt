@@ -19,22 +19,23 @@ use Rattle.gx_slots.specs.Entries.{Entry}
 use Rattle.gx_bnode.specs.Branches.{Branch}
 use Rattle.gx_bnode.specs.Page.{IsInnerPage, HasRoom, separators_of}
 use Rattle.gx_bnode.specs.Page as bnode
-use Rattle.gx_bplus.specs.Bplus.{IsBplus, IsTreePage, IsOwned, bytes_at}
+use Rattle.gx_btree.specs.Bplus.{IsBplus, IsTreePage, IsOwned, bytes_at, ArePast}
+use Rattle.gx_btree.specs.Hole.{IsAtHand}
+use Rattle.gx_btree.specs.Tree as trees
+use Rattle.gx_btree.specs.Tree.{In, Tree, entries, Owns, ShowsInner, child_for}
+use Rattle.gx_btree.proofs.CallLemmas.{ends_after, pages_keep_joined}
+use Rattle.gx_btree.proofs.EntryLemmas.{shows_inner}
+use Rattle.gx_btree.proofs.FileLemmas.{past_of, descent_ends}
+use Rattle.gx_btree.proofs.KidLemmas.{some_key}
+use Rattle.gx_btree.proofs.OrderLemmas.{same_or_not}
+use Rattle.gx_btree.proofs.SheetLemmas.{others_itself, others_joined, claimed_others}
+use Rattle.gx_btree.proofs.ShapeLemmas.{hand_page}
+use Rattle.gx_btree.proofs.StepLemmas.{at_node}
 use Rattle.gx_bplus.specs.Changes.{IsPutIn}
-use Rattle.gx_bplus.specs.Hole.{IsAtHand}
-use Rattle.gx_bplus.specs.Search.{ArePast, IsHeld, IsSearch, IsReached, HasReached, HasCome, HasPut}
+use Rattle.gx_bplus.specs.Search.{IsHeld, IsSearch, IsReached, HasReached, HasCome, HasPut}
 use Rattle.gx_bplus.specs.Splits.{MayHaveClaimed}
-use Rattle.gx_bplus.specs.Tree as trees
-use Rattle.gx_bplus.specs.Tree.{In, Tree, entries, Owns, ShowsInner, child_for}
-use Rattle.gx_bplus.proofs.PageCountLemmas.{listed_few}
-use Rattle.gx_bplus.proofs.CallLemmas.{ends_after, pages_keep_joined}
-use Rattle.gx_bplus.proofs.EntryLemmas.{shows_inner}
-use Rattle.gx_bplus.proofs.FileLemmas.{past_of, other_key, next_hand, descent_ends}
-use Rattle.gx_bplus.proofs.KidLemmas.{some_key}
-use Rattle.gx_bplus.proofs.OrderLemmas.{same_or_not}
-use Rattle.gx_bplus.proofs.SheetLemmas.{others_itself, others_joined, claimed_others}
-use Rattle.gx_bplus.proofs.ShapeLemmas.{hand_page}
-use Rattle.gx_bplus.proofs.StepLemmas.{at_node}
+use Rattle.gx_bplus.proofs.ClaimLemmas.{listed_few}
+use Rattle.gx_bplus.proofs.FileLemmas.{other_key, next_hand}
 
 abbrev entry : List ℕ → List ℕ → Entry
 entry key body = record { key = key; body = body }

@@ -3,13 +3,13 @@ use Rattle.std.proofs.Common.{◌≡◌, ◌≢◌, ◌⊎◌, inl, inr, ◌∷�
 use Rattle.std.proofs.lemmas.Bool.{cases_Bool, cond-true, cond-false}
 use Rattle.gx_slots.specs.Entries.{Entry}
 use Rattle.gx_bnode.specs.Branches.{Branch}
-use Rattle.gx_bplus.specs.Order.{IsUpTo, IsUnder, is_below}
-use Rattle.gx_bplus.specs.Tree.{In, Tree, Kids, leaf, node, last, more, page_of, first_of, branches_of, entries, kids_entries, pages, kids_pages, Stands, AllStand, ShowsEntries, ShowsInner, Ascending, Ordered, AreOrdered, IsFilled, Apart, AreApart, IsWhole, Owns, child_for, without_branch, first_without}
-use Rattle.gx_bplus.specs.Hole.{IsFitting, Same, AreMany, IsAtHand}
-use Rattle.gx_bplus.specs.Changes.{IsSome, IsTakenFrom, IsRemoved}
-use Rattle.gx_bplus.proofs.OrderLemmas.{same_or_not, not_both, not_under_over}
-use Rattle.gx_bplus.proofs.KidLemmas.{all_stand_same, some_key}
-use Rattle.gx_bplus.proofs.StepLemmas.{at_node, leaf_is, top_in}
+use Rattle.gx_btree.specs.Order.{IsUpTo, IsUnder, is_below}
+use Rattle.gx_btree.specs.Tree.{In, Tree, Kids, leaf, node, last, more, page_of, first_of, branches_of, entries, kids_entries, pages, kids_pages, Stands, AllStand, ShowsEntries, ShowsInner, Ascending, Ordered, AreOrdered, IsFilled, Apart, AreApart, IsWhole, Owns, child_for, without_branch, first_without, IsSome}
+use Rattle.gx_btree.specs.Hole.{IsFitting, Same, AreMany, IsAtHand}
+use Rattle.gx_btree.proofs.OrderLemmas.{same_or_not, not_both, not_under_over}
+use Rattle.gx_btree.proofs.KidLemmas.{all_stand_same, some_key}
+use Rattle.gx_btree.proofs.StepLemmas.{at_node, leaf_is, top_in}
+use Rattle.gx_bplus.specs.Changes.{IsTakenFrom, IsRemoved}
 use Rattle.gx_bplus.proofs.PutLemmas.{beside}
 
 -- the tree that takes the place of the subtree at hand has its entries but one, and pages among its own

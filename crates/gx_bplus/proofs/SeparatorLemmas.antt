@@ -8,17 +8,17 @@ use Rattle.gx_slots.specs.Entries.{Entry}
 use Rattle.gx_bnode.specs.Branches.{Branch, AreAscending}
 use Rattle.gx_bnode.specs.Page.{branches_of as branches_at, separators_in, separators_of}
 use Rattle.gx_bnode.proofs.PageLemmas.{map-insert}
+use Rattle.gx_btree.specs.Hole.{IsAtHand}
+use Rattle.gx_btree.specs.Order.{IsBelow, IsUpTo, IsUnder, is_below}
+use Rattle.gx_btree.specs.Tree.{In, Tree, leaf, node, page_of, branches_of, entries, kids_entries, Stands, ShowsEntries, ShowsInner, Ordered, Apart, child_for, with_branch}
+use Rattle.gx_btree.proofs.BranchLemmas.{IsPlaceFor, insert_is}
+use Rattle.gx_btree.proofs.EntryLemmas.{place_in, in_place}
+use Rattle.gx_btree.proofs.KidLemmas.{branch, some_key}
+use Rattle.gx_btree.proofs.MemberLemmas.{in_left, in_right}
+use Rattle.gx_btree.proofs.OrderLemmas.{below_below, up_to_below, below_of, up_to_of}
+use Rattle.gx_btree.proofs.StepLemmas.{IsAtNode, at_node, node_at, leaf_is}
 use Rattle.gx_bplus.specs.Changes.{IsSpread, MayStand}
-use Rattle.gx_bplus.specs.Hole.{IsAtHand}
-use Rattle.gx_bplus.specs.Order.{IsBelow, IsUpTo, IsUnder, is_below}
-use Rattle.gx_bplus.specs.Tree.{In, Tree, leaf, node, page_of, branches_of, entries, kids_entries, Stands, ShowsEntries, ShowsInner, Ordered, Apart, child_for, with_branch}
-use Rattle.gx_bplus.proofs.BranchLemmas.{IsPlaceFor, insert_is}
-use Rattle.gx_bplus.proofs.EntryLemmas.{place_in, in_place}
 use Rattle.gx_bplus.proofs.HalfLemmas.{cut_kids}
-use Rattle.gx_bplus.proofs.KidLemmas.{branch, some_key}
-use Rattle.gx_bplus.proofs.MemberLemmas.{in_left, in_right}
-use Rattle.gx_bplus.proofs.OrderLemmas.{below_below, up_to_below, below_of, up_to_of}
-use Rattle.gx_bplus.proofs.StepLemmas.{IsAtNode, at_node, node_at, leaf_is}
 
 -- keys that ascend, by parts
 abbrev Up : List (List ℕ) → Type 0

@@ -2,15 +2,15 @@
 use Rattle.std.proofs.Common.{◌≡◌, ◌≢◌, ◌⊎◌, inl, inr, ◌++◌, ◌∷◌, ℕ, List, [], refl, sym, ap, ◌∙◌, subst}
 use Rattle.gx_slots.specs.Entries.{Entry}
 use Rattle.gx_bnode.specs.Branches.{Branch}
-use Rattle.gx_bplus.specs.Order.{IsUpTo, IsUnder}
-use Rattle.gx_bplus.specs.Tree.{In, Tree, Kids, leaf, node, last, more, page_of, entries, kids_entries, pages, kids_pages, Stands, ShowsEntries, ShowsInner, Ascending, Ordered, Apart, IsWhole, Owns, child_for, with_branch}
-use Rattle.gx_bplus.specs.Hole.{IsAtHand}
+use Rattle.gx_btree.specs.Order.{IsUpTo, IsUnder}
+use Rattle.gx_btree.specs.Tree.{In, Tree, Kids, leaf, node, last, more, page_of, entries, kids_entries, pages, kids_pages, Stands, ShowsEntries, ShowsInner, Ascending, Ordered, Apart, IsWhole, Owns, child_for, with_branch}
+use Rattle.gx_btree.specs.Hole.{IsAtHand}
+use Rattle.gx_btree.proofs.MemberLemmas.{in_left, in_right, in_cases}
+use Rattle.gx_btree.proofs.OrderLemmas.{not_both, not_under_over}
+use Rattle.gx_btree.proofs.KidLemmas.{branch}
+use Rattle.gx_btree.proofs.StepLemmas.{at_root, at_node, node_at, leaf_is, top_in, descend}
 use Rattle.gx_bplus.specs.Changes.{IsPutIn, IsSpread, IsPut}
-use Rattle.gx_bplus.proofs.MemberLemmas.{in_left, in_right, in_cases}
-use Rattle.gx_bplus.proofs.OrderLemmas.{not_both, not_under_over}
-use Rattle.gx_bplus.proofs.KidLemmas.{branch}
 use Rattle.gx_bplus.proofs.HalfLemmas.{halves}
-use Rattle.gx_bplus.proofs.StepLemmas.{at_root, at_node, node_at, leaf_is, top_in, descend}
 use Rattle.gx_bplus.proofs.PutLemmas.{parted, put_through}
 
 -- an entry page below another page goes to two pages, with the entry

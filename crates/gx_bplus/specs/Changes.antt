@@ -3,8 +3,8 @@ use Rattle.std.specs.Prelude.{◌≡◌, ◌≢◌, ◌⊎◌, ◌++◌, ℕ, Li
 use Rattle.gx_slots.specs.Entries.{Entry}
 use Rattle.gx_bnode.specs.Branches.{Branch, AreAscending}
 use Rattle.gx_bnode.specs.Page.{separators_in}
-use Rattle.gx_bplus.specs.Order.{IsBelow, IsUpTo}
-use Rattle.gx_bplus.specs.Tree.{In, Tree, entries, Ascending, IsWhole, Owns, with_branch}
+use Rattle.gx_btree.specs.Order.{IsBelow, IsUpTo}
+use Rattle.gx_btree.specs.Tree.{In, Tree, entries, Ascending, IsWhole, Owns, with_branch, IsSome}
 
 -- an entry is put among others, in the place of the one with its key
 abbrev pub IsPutIn : Entry → List Entry → List Entry → Type 0
@@ -13,9 +13,6 @@ IsPutIn e old new = (x : Entry) → (In x new → (x ≡ e) ⊎ (In x old × (x.
 -- the entry with a key is taken away, where there is one
 abbrev pub IsTakenFrom : List ℕ → List Entry → List Entry → Type 0
 IsTakenFrom key old new = (x : Entry) → (In x new → In x old × (x.key ≢ key)) × (In x old × (x.key ≢ key) → In x new)
-
-abbrev pub IsSome : List Entry → Type 0
-IsSome es = (x : Entry) × In x es
 
 -- The entries with one more stand on two pages, with a separator between.
 pub record IsSpread (es : List Entry) (e : Entry) (left right : List Entry) (separator : List ℕ) : Type 0 where

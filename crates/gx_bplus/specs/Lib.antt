@@ -1,10 +1,3 @@
-pub mod Order
-pub mod Tree
-pub mod Hole
 pub mod Changes
-pub mod Bplus
-pub mod Map
 pub mod Search
 pub mod Splits
-pub mod Selection
-pub mod Checking

@@ -1,17 +1,12 @@
 -- Searches in the pages of a tree.
-use Rattle.std.specs.Prelude.{◌≡◌, ◌≤◌, ℕ, List, Option, Some}
+use Rattle.std.specs.Prelude.{◌≡◌, ◌≤◌, ℕ, List}
 use Rattle.gx_slots.specs.Entries.{Entry}
 use Rattle.gx_ports.specs.Files.{OthersStay}
-use Rattle.gx_ports.specs.Sheets.{Sheets, Ground, IsPast}
-use Rattle.gx_bplus.specs.Order.{IsUpTo, IsUnder}
-use Rattle.gx_bplus.specs.Tree.{In, Tree, entries, separators, IsWhole, Owns}
-use Rattle.gx_bplus.specs.Hole.{IsAtHand}
+use Rattle.gx_ports.specs.Sheets.{Sheets, Ground}
+use Rattle.gx_btree.specs.Tree.{Tree, IsWhole, Owns}
+use Rattle.gx_btree.specs.Hole.{IsAtHand}
+use Rattle.gx_btree.specs.Bplus.{bytes_at, IsOwned, ArePast}
 use Rattle.gx_bplus.specs.Changes.{IsPut, IsRemoved}
-use Rattle.gx_bplus.specs.Bplus.{bytes_at, IsOwned}
-
--- all pages of the owner lie past the table
-abbrev pub ArePast : Ground → ℕ → Sheets → Type 0
-ArePast ground owner sheets = (page : ℕ) → IsOwned owner sheets page → IsPast ground page
 
 -- The search for a key has come to this page, in a tree that the pages hold.
 pub record IsSearch (ground : Ground) (owner : ℕ) (sheets : Sheets) (root page : ℕ) (key : List ℕ) (old : Tree) (steps : ℕ) : Type 0 where
@@ -60,11 +55,3 @@ pub record HasReached (ground : Ground) (sheets : Sheets) (page child : ℕ) (ke
   pub tree : Tree
   pub steps : ℕ
   pub reached : IsReached ground owner sheets root page child key tree steps bytes below
-
--- These are the entries of a tree from the page on the way to a key, and the nearest separator behind it.
-pub record IsFound (tree : Tree) (key : List ℕ) (bound : Option (List ℕ)) (es : List Entry) : Type 0 where
-  pub among : (x : Entry) → In x es → In x (entries tree)
-  pub under : (x : Entry) → In x es → IsUnder x.key bound
-  pub all : (x : Entry) → In x (entries tree) → IsUpTo key x.key → IsUnder x.key bound → In x es
-  pub to : IsUnder key bound
-  pub separator : (s : List ℕ) → bound ≡ Some s → In s (separators tree)

@@ -2,8 +2,8 @@
 use Rattle.std.specs.Prelude.{◌≡◌, ◌⊎◌, ℕ, List, [], ◌∷◌}
 use Rattle.gx_ports.specs.Sheets.{Sheets, Ground, IsClaimed}
 use Rattle.gx_bnode.specs.Page.{first_of, branches_of}
-use Rattle.gx_bplus.specs.Bplus.{IsWritten}
-use Rattle.gx_bplus.specs.Tree.{ShowsInner, with_branch}
+use Rattle.gx_btree.specs.Bplus.{IsWritten}
+use Rattle.gx_btree.specs.Tree.{ShowsInner, with_branch}
 
 -- A free page was given to the right part of the child on the way to a key. The child's page holds the left part, and the page
 -- above has both, with the separator between.

@@ -6,18 +6,18 @@ ghost use Rattle.gx_ports.specs.declared.leaves.TheConstants.{MAX_KEY_LEN, MAX_E
 ghost use Rattle.gx_ports.specs.Files.{IsPlace, IsVacant, ClaimsRoots, Holds, OthersStay, EndsFile, SparesOthers, IsFull, IsWhole};
 ghost use Rattle.gx_ports.specs.LeafMaps.{LeafMap};
 ghost use Rattle.gx_ports.specs.PageCalls.{KeepsPages, CountsPageFaults};
-ghost use Rattle.gx_bplus.specs.Bplus.{IsBplus};
+ghost use Rattle.gx_btree.specs.Bplus.{IsBplus};
 
 use crate::putting::{put_alone, put_below};
-use crate::reading::{Shape, child_for, read_page};
 use crate::removal::{remove_alone, remove_below};
 use crate::splitting::{make_room, open_root};
+use gx_btree::{Shape, child_for, leads_last, read_page};
 use gx_device::Failed;
 use gx_ports::{PAGE_LEN, Pages, Place, Stop};
 use gx_slots::clear;
 
-/// Makes an empty tree at a place whose root is free and whose owner has no page. After `Failed` the
-/// pages are to be opened again.
+/// Makes an empty tree at a place whose root is free and whose owner has no page. After `Failed`
+/// the pages are to be opened again.
 pub fn make<P: Pages>(pages: &mut P, place: &Place) -> Result<(), Failed>
     requires kind { place.now.spec.kind ≡ kinds.Bplus }
     requires place { IsPlace (P.ground pages.old) place.now }
@@ -25,7 +25,8 @@ pub fn make<P: Pages>(pages: &mut P, place: &Place) -> Result<(), Failed>
         OnOk result (IsBplus (P.ground pages.old) place.now (P.working pages.new) empty) }
     ensures others { IsTrue P.tells → IsVacant place.now (P.working pages.old) →
         OnOk result
-        (OthersStay (P.ground pages.old) place.now.owner (P.working pages.old) (P.working pages.new)) }
+        (OthersStay (P.ground pages.old) place.now.owner
+        (P.working pages.old) (P.working pages.new)) }
     ensures roots { IsTrue P.tells → IsVacant place.now (P.working pages.old) →
         OnOk result (ClaimsRoots place.now (P.working pages.old) (P.working pages.new)) }
     ensures keeps { KeepsPages P.PageView pages.old pages.new }
@@ -37,9 +38,10 @@ pub fn make<P: Pages>(pages: &mut P, place: &Place) -> Result<(), Failed>
     pages.write(place.root, &page)
 }
 
-/// Sets one pair, of a key of at most `MAX_KEY_LEN` bytes, with its body at most `MAX_ENTRY_LEN`. A page
-/// without room is split on the way down, an entry page where the pair doesn't fit. After a refusal the
-/// pages of this owner may hold anything. After `Fault` the pages are to be opened again.
+/// Sets one pair, of a key of at most `MAX_KEY_LEN` bytes, with its body at most `MAX_ENTRY_LEN`. A
+/// page without room is split on the way down, an entry page where the pair doesn't fit. After a
+/// refusal the pages of this owner may hold anything. After `Fault` the pages are to be opened
+/// again.
 pub fn put<P: Pages>(pages: &mut P, place: &Place, key: &[u8], body: &[u8]) -> Result<(), Stop>
     requires kind { place.now.spec.kind ≡ kinds.Bplus }
     requires place { IsPlace (P.ground pages.old) place.now }
@@ -66,6 +68,7 @@ pub fn put<P: Pages>(pages: &mut P, place: &Place, key: &[u8], body: &[u8]) -> R
         }
         Shape::Inner => {}
     }
+    let mut is_last = leads_last(&page, key);
     let mut at = open_root(pages, place.owner, place.root, &mut page, key)?;
     for _ in 0..pages.pages() {
         let next = child_for(&page, key);
@@ -81,9 +84,11 @@ pub fn put<P: Pages>(pages: &mut P, place: &Place, key: &[u8], body: &[u8]) -> R
                     &mut below,
                     key,
                     body,
+                    is_last,
                 );
             }
             Shape::Inner => {
+                is_last = is_last && leads_last(&below, key);
                 at = make_room(pages, place.owner, at, &mut page, next, &mut below, key)?;
                 page = below;
             }
@@ -92,10 +97,10 @@ pub fn put<P: Pages>(pages: &mut P, place: &Place, key: &[u8], body: &[u8]) -> R
     Err(Stop::Damaged(pages.block(at)))
 }
 
-/// Takes the pair at a key of at most `MAX_KEY_LEN` bytes away; a key that isn't there changes nothing.
-/// A page that loses its last entry is freed, and the one child that an inner page has left takes that
-/// page's place. After a refusal the pages of this owner may hold anything. After `Fault` the pages are
-/// to be opened again.
+/// Takes the pair at a key of at most `MAX_KEY_LEN` bytes away; a key that isn't there changes
+/// nothing. A page that loses its last entry is freed, and the one child that an inner page has
+/// left takes that page's place. After a refusal the pages of this owner may hold anything. After
+/// `Fault` the pages are to be opened again.
 pub fn remove<P: Pages>(pages: &mut P, place: &Place, key: &[u8]) -> Result<(), Stop>
     requires kind { place.now.spec.kind ≡ kinds.Bplus }
     requires place { IsPlace (P.ground pages.old) place.now }

@@ -4,16 +4,16 @@ ghost use Rattle.std.specs.Bool.{OnTrue, OnFalse};
 ghost use Rattle.std.specs.List.{All, sum_by};
 ghost use Rattle.gx_slots.specs.Entries.{Entry, IsFit, entry_len};
 ghost use Rattle.gx_slots.specs.Page.{IsEntryPage, entries_of};
-ghost use Rattle.gx_bplus.specs.declared.reading.Shape.TheVariants as shapes;
-ghost use Rattle.gx_bplus.specs.Bplus.{Shows};
+ghost use Rattle.gx_btree.specs.declared.reading.Shape.TheVariants as shapes;
+ghost use Rattle.gx_btree.specs.Bplus.{Shows};
 ghost use Rattle.gx_bplus.specs.Changes.{IsPutIn, IsTakenFrom, IsSpread};
 
 use crate::removal::take_key;
 use gx_slots::{add, count, entry, middle, rank, split};
 use gx_values::KeyBuf;
 
-/// Sets the entry of a key on an entry page of a tree. False where it doesn't fit, and then the page
-/// has no entry with the key.
+/// Sets the entry of a key on an entry page of a tree. False where it doesn't fit, and then the
+/// page has no entry with the key.
 pub(crate) fn set_entry(page: &mut [u8], key: &[u8], body: &[u8]) -> bool
     requires page { Shows shapes.Entries page.old }
     requires fit { IsFit (record { key = key.now; body = body.now }) }
@@ -29,10 +29,17 @@ pub(crate) fn set_entry(page: &mut [u8], key: &[u8], body: &[u8]) -> bool
     add(page, i, key, body)
 }
 
-/// Spreads the entries of a page without room, and one more, over itself and `right`, which has 4,096
-/// bytes, of any values. Gives the first key of `right`. The page is cut at half of its bytes, but for a
-/// key behind all others, which gets a page of its own.
-pub(crate) fn spread(page: &mut [u8], right: &mut [u8], key: &[u8], body: &[u8]) -> KeyBuf
+/// Spreads the entries of a page without room, and one more, over itself and `right`, which has
+/// 4,096 bytes, of any values. Gives the first key of `right`. The page is cut at half of its
+/// bytes. But where it is the last one of its tree, a key behind all others gets a page of its own,
+/// so that keys in ascending order leave full pages behind them.
+pub(crate) fn spread(
+    page: &mut [u8],
+    right: &mut [u8],
+    key: &[u8],
+    body: &[u8],
+    is_last: bool,
+) -> KeyBuf
     requires page { Shows shapes.Entries page.old }
     requires more { 3084 < sum_by entry_len (entries_of page.old) }
     requires other { All (λ entry. entry.key ≢ key.now) (entries_of page.old) }
@@ -44,7 +51,7 @@ pub(crate) fn spread(page: &mut [u8], right: &mut [u8], key: &[u8], body: &[u8])
         (entries_of page.new) (entries_of right.new) result }
 {
     let i = rank(page, key);
-    let cut = cut(page, i);
+    let cut = cut(page, i, is_last);
     split(page, cut, right);
     if i < cut {
         add(page, i, key, body);
@@ -65,7 +72,7 @@ fn first_key(page: &[u8]) -> KeyBuf
 }
 
 // How many entries of a page without room stay on it, where another one comes to this place.
-fn cut(page: &[u8], i: u16) -> u16
+fn cut(page: &[u8], i: u16, is_last: bool) -> u16
     requires page { IsEntryPage page.now }
     requires more { 3084 < sum_by entry_len (entries_of page.now) }
     requires place { i ≤ length (entries_of page.now) }
@@ -75,7 +82,7 @@ fn cut(page: &[u8], i: u16) -> u16
         × (sum_by entry_len (take result (entries_of page.now)) ≤ 2044) }
     ensures right { result ≤ i → sum_by entry_len (drop result (entries_of page.now)) ≤ 3048 }
 {
-    if i == count(page) {
+    if is_last && i == count(page) {
         return i;
     }
     middle(page)

@@ -6,18 +6,19 @@ ghost use Rattle.gx_ports.specs.PageCalls.{KeepsPages};
 ghost use Rattle.gx_ports.specs.Sheets.{IsPast, HasNone};
 ghost use Rattle.gx_slots.specs.Entries.{IsFit};
 ghost use Rattle.gx_bnode.specs.Page.{IsInnerPage, HasRoom, first_of, branches_of, separators_of};
-ghost use Rattle.gx_bplus.specs.declared.reading.Shape.TheVariants as shapes;
-ghost use Rattle.gx_bplus.specs.Bplus.{Shows};
+ghost use Rattle.gx_btree.specs.declared.reading.Shape.TheVariants as shapes;
+ghost use Rattle.gx_btree.specs.Bplus.{Shows};
+ghost use Rattle.gx_btree.specs.Tree.{Tree, child_for};
 ghost use Rattle.gx_bplus.specs.Search.{IsHeld, IsReached, HasReached, HasPut};
 ghost use Rattle.gx_bplus.specs.Splits.{MayHaveClaimed};
-ghost use Rattle.gx_bplus.specs.Tree.{Tree, child_for};
 
 use crate::insertion::{set_entry, spread};
 use crate::splitting::{divide, raise};
 use gx_ports::{PAGE_LEN, Pages, Stop};
 
-/// Puts an entry on the entry page on the way to its key, below the page at hand, which has room for a
-/// separator. An entry page without room for the entry is split.
+/// Puts an entry on the entry page on the way to its key, below the page at hand, which has room
+/// for a separator. An entry page without room for the entry is split, by whether it is the last
+/// one of the tree.
 pub(crate) fn put_below<P: Pages>(
     pages: &mut P,
     owner: u16,
@@ -27,6 +28,7 @@ pub(crate) fn put_below<P: Pages>(
     below: &mut [u8],
     key: &[u8],
     body: &[u8],
+    is_last: bool,
 ) -> Result<(), Stop>
     requires least { 1 ≤ owner }
     requires most { owner ≤ MAX_OWNER }
@@ -40,7 +42,8 @@ pub(crate) fn put_below<P: Pages>(
     ensures put { IsTrue P.tells → (root steps : ℕ) (tree : Tree) →
         IsReached (P.ground pages.old) owner (P.working pages.old) root at child key.now tree steps
         page.old below.old →
-        OnOk result (HasPut (P.ground pages.old) owner root (record { key = key.now; body = body.now })
+        OnOk result (HasPut (P.ground pages.old) owner root
+        (record { key = key.now; body = body.now })
         (P.working pages.old) (P.working pages.new) tree) }
     ensures full { IsTrue P.tells → IsErrOf result Stop.Full →
         HasNone (P.ground pages.old) (P.working pages.old) }
@@ -57,7 +60,7 @@ pub(crate) fn put_below<P: Pages>(
         return Ok(());
     }
     let mut right = [0; PAGE_LEN];
-    let separator = spread(below, &mut right, key, body);
+    let separator = spread(below, &mut right, key, body, is_last);
     divide(
         pages,
         owner,
@@ -72,8 +75,8 @@ pub(crate) fn put_below<P: Pages>(
     Ok(())
 }
 
-/// Puts an entry into a tree of one page, the root. Where it hasn't room, its parts go to two pages below
-/// it.
+/// Puts an entry into a tree of one page, the root. Where it hasn't room, its parts go to two pages
+/// below it.
 pub(crate) fn put_alone<P: Pages>(
     pages: &mut P,
     owner: u16,
@@ -89,7 +92,8 @@ pub(crate) fn put_alone<P: Pages>(
     requires fit { IsFit (record { key = key.now; body = body.now }) }
     ensures put { IsTrue P.tells → (tree : Tree) →
         IsHeld (P.ground pages.old) owner (P.working pages.old) root tree page.old →
-        OnOk result (HasPut (P.ground pages.old) owner root (record { key = key.now; body = body.now })
+        OnOk result (HasPut (P.ground pages.old) owner root
+        (record { key = key.now; body = body.now })
         (P.working pages.old) (P.working pages.new) tree) }
     ensures full { IsTrue P.tells → IsErrOf result Stop.Full →
         HasNone (P.ground pages.old) (P.working pages.new) }
@@ -104,7 +108,7 @@ pub(crate) fn put_alone<P: Pages>(
         return Ok(());
     }
     let mut right = [0; PAGE_LEN];
-    let separator = spread(page, &mut right, key, body);
+    let separator = spread(page, &mut right, key, body, true);
     raise(pages, owner, root, page, &right, separator.as_slice())?;
     Ok(())
 }

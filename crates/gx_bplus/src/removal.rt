@@ -6,14 +6,14 @@ ghost use Rattle.gx_ports.specs.PageCalls.{KeepsPages, CountsPageFaults};
 ghost use Rattle.gx_ports.specs.Sheets.{IsPast};
 ghost use Rattle.gx_slots.specs.Page.{entries_of};
 ghost use Rattle.gx_bnode.specs.Page.{IsInnerPage, first_of, branches_of};
-ghost use Rattle.gx_bplus.specs.declared.reading.Shape.TheVariants as shapes;
-ghost use Rattle.gx_bplus.specs.Bplus.{Shows, IsTreePage, IsOwned, bytes_at};
+ghost use Rattle.gx_btree.specs.declared.reading.Shape.TheVariants as shapes;
+ghost use Rattle.gx_btree.specs.Bplus.{Shows, IsTreePage, IsOwned, bytes_at, ArePast};
+ghost use Rattle.gx_btree.specs.Tree.{Tree, IsWhole, Owns, child_for, first_without};
 ghost use Rattle.gx_bplus.specs.Changes.{IsTakenFrom};
-ghost use Rattle.gx_bplus.specs.Search.{ArePast, IsReached, HasReached, HasRemoved};
-ghost use Rattle.gx_bplus.specs.Tree.{Tree, IsWhole, Owns, child_for, first_without};
+ghost use Rattle.gx_bplus.specs.Search.{IsReached, HasReached, HasRemoved};
 
-use crate::reading::read_page;
 use gx_bnode::{child, child_of, drop_child, separators};
+use gx_btree::read_page;
 use gx_device::Failed;
 use gx_ports::{PAGE_LEN, Pages, Stop};
 use gx_slots::{count, find, take};
@@ -35,8 +35,8 @@ pub(crate) fn take_key(page: &mut [u8], key: &[u8]) -> bool
     }
 }
 
-/// Frees the child on the way to a key, which has no other entry, and takes it off its page, which has
-/// two separators or more.
+/// Frees the child on the way to a key, which has no other entry, and takes it off its page, which
+/// has two separators or more.
 fn drop_page<P: Pages>(
     pages: &mut P,
     at: u32,
@@ -65,8 +65,8 @@ fn drop_page<P: Pages>(
     pages.free(child)
 }
 
-/// Frees the child on the way to a key, which has no other entry, and gives its page the bytes of the
-/// one other child, which is freed too.
+/// Frees the child on the way to a key, which has no other entry, and gives its page the bytes of
+/// the one other child, which is freed too.
 fn replace_page<P: Pages>(
     pages: &mut P,
     at: u32,

@@ -8,19 +8,19 @@ ghost use Rattle.gx_ports.specs.PageCalls.{KeepsPages};
 ghost use Rattle.gx_ports.specs.Sheets.{IsPast, HasNone};
 ghost use Rattle.gx_bnode.specs.Branches.{AreAscending};
 ghost use Rattle.gx_bnode.specs.Page.{IsInnerPage, HasRoom, first_of, branches_of, separators_of};
+ghost use Rattle.gx_btree.specs.Order.{IsBelow, is_below};
+ghost use Rattle.gx_btree.specs.Tree.{Tree, ShowsInner, child_for, with_branch};
 ghost use Rattle.gx_bplus.specs.Changes.{MayStand};
-ghost use Rattle.gx_bplus.specs.Order.{IsBelow, is_below};
 ghost use Rattle.gx_bplus.specs.Search.{IsHeld, IsReached, HasReached, HasCome};
 ghost use Rattle.gx_bplus.specs.Splits.{IsDivided, IsRaised, MayHaveClaimed};
-ghost use Rattle.gx_bplus.specs.Tree.{Tree, ShowsInner, child_for, with_branch};
 
-use crate::reading::child_for;
 use gx_bnode::{child_of, has_room, insert, make_inner, separator, separators, split};
+use gx_btree::child_for;
 use gx_ports::{PAGE_LEN, Pages, Stop};
 
-/// Splits the inner child on the way to a key where it hasn't room for a separator. Gives the page on the
-/// way then, which has room, with its bytes in `below`. `Damaged`: the separator doesn't stand between
-/// those beside the child.
+/// Splits the inner child on the way to a key where it hasn't room for a separator. Gives the page
+/// on the way then, which has room, with its bytes in `below`. `Damaged`: the separator doesn't
+/// stand between those beside the child.
 pub(crate) fn make_room<P: Pages>(
     pages: &mut P,
     owner: u16,
@@ -79,9 +79,9 @@ pub(crate) fn make_room<P: Pages>(
     Ok(fresh)
 }
 
-/// Where the inner root hasn't room for a separator, its two parts go to two pages below it. Gives the
-/// page that the search for a key has come to, the root or one of these, which has room, with its bytes
-/// in `page`.
+/// Where the inner root hasn't room for a separator, its two parts go to two pages below it. Gives
+/// the page that the search for a key has come to, the root or one of these, which has room, with
+/// its bytes in `page`.
 pub(crate) fn open_root<P: Pages>(
     pages: &mut P,
     owner: u16,
@@ -121,9 +121,9 @@ pub(crate) fn open_root<P: Pages>(
     Ok(below.right)
 }
 
-/// Gives a page to the right part of the child on the way to a key, whose page gets the left part. The
-/// page above them gets the separator between. `Damaged`: it doesn't stand between those beside the
-/// child, and no page is written.
+/// Gives a page to the right part of the child on the way to a key, whose page gets the left part.
+/// The page above them gets the separator between. `Damaged`: it doesn't stand between those beside
+/// the child, and no page is written.
 pub(crate) fn divide<P: Pages>(
     pages: &mut P,
     owner: u16,
@@ -145,8 +145,8 @@ pub(crate) fn divide<P: Pages>(
     requires right { length right.now ≡ PAGE_LEN }
     requires short { length separator.now ≤ 400 }
     ensures divided { IsTrue P.tells →
-        IfOk result (IsDivided (P.ground pages.old) owner at child page.old key.now separator.now left.now
-        right.now (P.working pages.old) (P.working pages.new)) }
+        IfOk result (IsDivided (P.ground pages.old) owner at child page.old key.now
+        separator.now left.now right.now (P.working pages.old) (P.working pages.new)) }
     ensures past { IfOk result (λ fresh. IsPast (P.ground pages.old) fresh) }
     ensures full { IsTrue P.tells → IsErrOf result Stop.Full →
         HasNone (P.ground pages.old) (P.working pages.old) }
@@ -189,8 +189,9 @@ pub(crate) fn raise<P: Pages>(
     requires right { length right.now ≡ PAGE_LEN }
     requires short { length separator.now ≤ 400 }
     ensures raised { IsTrue P.tells →
-        IfOk result (λ parts. IsRaised (P.ground pages.old) owner root separator.now left.now right.now
-        (P.working pages.old) (P.working pages.new) parts.left parts.right) }
+        IfOk result (λ parts. IsRaised (P.ground pages.old) owner root
+        separator.now left.now right.now (P.working pages.old) (P.working pages.new)
+        parts.left parts.right) }
     ensures left { IfOk result (λ parts. IsPast (P.ground pages.old) parts.left) }
     ensures right { IfOk result (λ parts. IsPast (P.ground pages.old) parts.right) }
     ensures full { IsTrue P.tells → IsErrOf result Stop.Full →
@@ -221,7 +222,8 @@ fn put_child(page: &mut [u8], key: &[u8], separator: &[u8], right: u32) -> bool
     requires room { HasRoom (separators_of page.old) }
     requires short { length separator.now ≤ 400 }
     ensures put { OnTrue result (ShowsInner page.new (first_of page.old)
-        (with_branch (branches_of page.old) key.now (record { separator = separator.now; child = right }))) }
+        (with_branch (branches_of page.old) key.now
+        (record { separator = separator.now; child = right }))) }
     ensures refused { OnFalse result
         (¬ MayStand (branches_of page.old) key.now separator.now) }
 {
@@ -246,7 +248,8 @@ fn is_between(page: &[u8], i: u16, key: &[u8]) -> bool
 fn is_above(page: &[u8], i: u16, key: &[u8]) -> bool
     requires page { IsInnerPage page.now }
     requires place { i ≤ length (separators_of page.now) }
-    ensures { IsTrue result ↔ (0 < i → IsBelow (slice_index_or (separators_of page.now) (i - 1) []) key.now) }
+    ensures { IsTrue result ↔ (0 < i →
+        IsBelow (slice_index_or (separators_of page.now) (i - 1) []) key.now) }
 {
     i == 0 || is_below(separator(page, i - 1), key)
 }

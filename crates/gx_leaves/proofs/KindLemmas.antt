@@ -5,8 +5,8 @@ use Rattle.gx_ports.specs.declared.kinds.LeafKind.TheVariants as kinds
 use Rattle.gx_ports.specs.declared.pages.Place.{Place}
 use Rattle.gx_ports.specs.Sheets.{Ground}
 use Rattle.gx_ports.specs.Files.{IsPlace, AreFileLaws}
-use Rattle.gx_bplus.specs.Bplus.{IsBplus}
-use Rattle.gx_bplus.proofs.BplusLaws.{bplus_laws}
+use Rattle.gx_btree.specs.Bplus.{IsBplus}
+use Rattle.gx_btree.proofs.BplusLaws.{bplus_laws}
 use Rattle.gx_heap.specs.Heap.{IsHeap}
 use Rattle.gx_heap.proofs.HeapLaws.{heap_laws}
 use Rattle.std.proofs.lemmas.Bool.{ltb-true}

@@ -8,8 +8,8 @@ use Rattle.gx_ports.specs.declared.kinds.LeafSpec.{LeafSpec}
 use Rattle.gx_ports.specs.declared.pages.Place.{Place}
 use Rattle.gx_ports.specs.LeafMaps.{LeafMap}
 use Rattle.gx_ports.specs.Sheets.{Sheets, Ground}
-use Rattle.gx_bplus.specs.Bplus.{IsBplus}
-use Rattle.gx_bplus.specs.Map.{bplus_map}
+use Rattle.gx_btree.specs.Bplus.{IsBplus}
+use Rattle.gx_btree.specs.Map.{bplus_map}
 use Rattle.gx_heap.specs.Heap.{IsHeap}
 use Rattle.gx_hash.specs.Hash.{IsHash}
 use Rattle.gx_chain.specs.Map.{owned_map}

@@ -6,7 +6,7 @@ use Rattle.gx_ports.specs.declared.kinds.LeafSpec.{LeafSpec}
 use Rattle.gx_ports.specs.declared.pages.Place.{Place}
 use Rattle.gx_ports.specs.LeafMaps.{LeafMap}
 use Rattle.gx_ports.specs.Sheets.{Sheets, Ground, IsPast}
-use Rattle.gx_bplus.specs.Bplus.{IsBplus}
+use Rattle.gx_btree.specs.Bplus.{IsBplus}
 use Rattle.gx_hash.specs.Hash.{IsHash}
 use Rattle.gx_heap.specs.Heap.{IsHeap}
 use Rattle.gx_leaves.specs.Kinds.{IsFileOf, map_of}

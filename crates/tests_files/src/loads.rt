@@ -1,7 +1,9 @@
 // B+ trees that are loaded with 2,000 entries in some order, and then emptied.
 ghost use Rattle.std.specs.Prelude.{◌≤◌, length};
+ghost use Rattle.tests_files.specs.declared.loads.TheConstants.{LONG_LEN};
 
 use crate::files::{File, OWNER, PAGES, TABLE_OWNER, made};
+use Length::{Long, Short};
 use Order::{Ascending, Random};
 use gx_ports::{Entries, LeafKind};
 use gx_values::{KeyBuf, Kind, Span};
@@ -10,10 +12,32 @@ use std::test::Fail;
 
 const COUNT: u64 = 2000;
 
-const BODY_LEN: usize = 100;
+const SHORT_LEN: usize = 100;
 
-/// The bytes of all entries, each with its two lengths of 2 bytes, its key and its body.
-const LOAD: u64 = COUNT * (2 + 2 + 8 + 100);
+const LONG_LEN: usize = 388;
+
+/// How long the body of each entry is.
+#[derive(Clone, Copy)]
+enum Length {
+    Short,
+    Long,
+}
+
+impl Length {
+    fn bytes(self) -> usize
+        ensures { result ≤ LONG_LEN }
+    {
+        match self {
+            Short => SHORT_LEN,
+            Long => LONG_LEN,
+        }
+    }
+
+    /// The bytes of all entries, each with its two lengths of 2 bytes, its key and its body.
+    fn of_all(self) -> u64 {
+        COUNT * (2 + 2 + 8 + self.bytes() as u64)
+    }
+}
 
 /// The order in which keys are put.
 #[derive(Clone, Copy)]
@@ -38,17 +62,18 @@ fn mixed(place: u64) -> u64 {
     number ^ (number >> 31)
 }
 
-fn body(key: [u8; 8]) -> [u8; BODY_LEN] {
-    [key[7]; BODY_LEN]
+/// The long body of the entry at a key, of which the short one is the front.
+fn body(key: [u8; 8]) -> [u8; LONG_LEN] {
+    [key[7]; LONG_LEN]
 }
 
 /// Puts all entries, and says whether the file took them.
-fn load(file: &mut File, order: Order) -> bool {
+fn load(file: &mut File, order: Order, length: Length) -> bool {
     let mut all = true;
     for place in 0..COUNT {
         let key = key(order, place);
         let body = body(key);
-        all = file.put(&key, &body) && all;
+        all = file.put(&key, &body[..length.bytes()]) && all;
     }
     all
 }
@@ -66,20 +91,20 @@ fn select(alloc: Global, file: &mut File, lo: &[u8], hi: &[u8]) -> Option<Entrie
 }
 
 /// Whether each entry is found at its key, alone.
-fn are_found(alloc: Global, file: &mut File, order: Order) -> bool {
+fn are_found(alloc: Global, file: &mut File, order: Order, length: Length) -> bool {
     let mut all = true;
     for place in 0..COUNT {
         let key = key(order, place);
-        all = all && is_found(alloc, file, key);
+        all = all && is_found(alloc, file, key, length);
     }
     all
 }
 
-fn is_found(alloc: Global, file: &mut File, key: [u8; 8]) -> bool {
+fn is_found(alloc: Global, file: &mut File, key: [u8; 8], length: Length) -> bool {
     match select(alloc, file, &key, &key) {
         Some(entries) if entries.len() == 1 => {
             let entry = entries.entry(0);
-            entry.key == key.as_slice() && entry.body == body(key).as_slice()
+            entry.key == key.as_slice() && entry.body == &body(key)[..length.bytes()]
         }
         _ => false,
     }
@@ -107,14 +132,14 @@ fn unload(file: &mut File, order: Order) -> bool {
 #[test]
 fn trees_are_loaded_and_emptied(rt: HostRuntime) -> Result<(), Fail> {
     let alloc = rt.alloc();
-    for (order, tenths) in [(Ascending, 9), (Random, 6)] {
+    for (order, length, tenths) in [(Ascending, Short, 9), (Random, Short, 6), (Random, Long, 6)] {
         let mut file = made(alloc, &rt, LeafKind::Bplus, Kind::Int)?;
-        assert!(rt; load(&mut file, order));
+        assert!(rt; load(&mut file, order, length));
         assert!(rt; file.check(alloc));
-        assert!(rt; are_found(alloc, &mut file, order));
+        assert!(rt; are_found(alloc, &mut file, order, length));
         let entries = select(alloc, &mut file, b"", b"").expect(&rt, "entries");
         assert!(rt; are_ascending(&entries));
-        assert!(rt; file.pages_are_filled(LOAD, tenths));
+        assert!(rt; file.pages_are_filled(length.of_all(), tenths));
         assert!(rt; unload(&mut file, order));
         assert!(rt; file.check(alloc));
         assert!(rt; file.pages_of(OWNER) == 1);

@@ -1,8 +1,9 @@
 use Rattle.std.proofs.Common.{[], ap, subst, arith}
 use Rattle.gx_slots.specs.Page.{IsPageOf, next_of}
 use Rattle.gx_slots.proofs.PageLemmas.{page_of}
-use Rattle.gx_bplus.specs.Tree.{ShowsEntries}
-use Rattle.gx_bplus.proofs.FileLemmas.{made_file, made_others, made_roots, place_past, root_free}
+use Rattle.gx_btree.specs.Tree.{ShowsEntries}
+use Rattle.gx_btree.proofs.FileLemmas.{place_past}
+use Rattle.gx_bplus.proofs.FileLemmas.{made_file, made_others, made_roots, root_free}
 use Rattle.gx_bplus.proofs.RemovalLemmas.{on_ok}
 use Rattle.gx_bplus.proofs.bplus.make.Goals as goal
 

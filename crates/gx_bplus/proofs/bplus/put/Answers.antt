@@ -1,6 +1,6 @@
 use Rattle.std.proofs.Common.{refl, sym, subst, ap, arith}
 use Rattle.gx_ports.specs.Files.{OthersStay}
-use Rattle.gx_bplus.proofs.CallLemmas.{ends_after, ends_handed}
+use Rattle.gx_btree.proofs.CallLemmas.{ends_after, ends_handed}
 use Rattle.gx_bplus.proofs.FileLemmas.{root_ends}
 use Rattle.gx_bplus.proofs.PuttingLemmas.{put_file, claimed_apart, spared, spared_handed, never_full, full_never, full_handed, held_of, put_from, claimed_from, root_full, growing_starts, growing_reads, growing_reached, growing_ends, growing_full, growing_apart, growing_put, growing_goes, growing_lost}
 use Rattle.gx_bplus.proofs.RemovalLemmas.{on_ok}

@@ -1,6 +1,6 @@
 use Rattle.std.proofs.Common.{refl, subst, ap, arith}
-use Rattle.gx_bplus.specs.Bplus.{Shows}
-use Rattle.gx_bplus.proofs.CallLemmas.{ends_handed}
+use Rattle.gx_btree.specs.Bplus.{Shows}
+use Rattle.gx_btree.proofs.CallLemmas.{ends_handed}
 use Rattle.gx_bplus.proofs.FileLemmas.{removed_file, on_no_fault, root_ends, descent_starts, next_ends, descent_goes, reached_of, reached_ends, removed_of, descent_lost, alone_of}
 use Rattle.gx_bplus.proofs.RemovalLemmas.{on_ok}
 use Rattle.gx_bplus.proofs.bplus.remove.Goals as goal

@@ -1,5 +1,5 @@
 use Rattle.std.proofs.Common.{refl, sym, subst}
-use Rattle.gx_bplus.proofs.CallLemmas.{ends_after, ends_handed}
+use Rattle.gx_btree.proofs.CallLemmas.{ends_after, ends_handed}
 use Rattle.gx_bplus.proofs.GrowthLemmas.{child_put, spread_stands, spread_put}
 use Rattle.gx_bplus.proofs.InsertLemmas.{none_left}
 use Rattle.gx_bplus.specs.Changes.{IsSpread}

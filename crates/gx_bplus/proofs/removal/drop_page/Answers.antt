@@ -1,6 +1,6 @@
 use Rattle.std.proofs.Common.{subst}
 use Rattle.gx_ports.specs.Sheets.{IsOwnedAnew}
-use Rattle.gx_bplus.proofs.BranchLemmas.{place_for}
+use Rattle.gx_btree.proofs.BranchLemmas.{place_for}
 use Rattle.gx_bplus.proofs.RemovalLemmas.{on_ok, drop_sheets}
 use Rattle.gx_bplus.proofs.removal.drop_page.Goals as goal
 

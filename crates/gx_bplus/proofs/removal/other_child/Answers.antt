@@ -1,6 +1,6 @@
 use Rattle.std.proofs.Common.{◌∙◌}
 use Rattle.gx_bnode.specs.Page.{first_of, branches_of}
-use Rattle.gx_bplus.proofs.BranchLemmas.{place_for}
+use Rattle.gx_btree.proofs.BranchLemmas.{place_for}
 use Rattle.gx_bplus.proofs.RemovalLemmas.{other_is}
 use Rattle.gx_bplus.proofs.removal.other_child.Goals as goal
 

@@ -1,8 +1,8 @@
 use Rattle.std.proofs.Common.{subst, arith}
 use Rattle.gx_slots.specs.Page.{entries_of}
+use Rattle.gx_btree.proofs.SheetLemmas.{others_itself, written_here, written_owned, written_others}
 use Rattle.gx_bplus.specs.Changes.{IsTakenFrom}
 use Rattle.gx_bplus.proofs.RemovalLemmas.{alone_sheets}
-use Rattle.gx_bplus.proofs.SheetLemmas.{others_itself, written_here, written_owned, written_others}
 use Rattle.gx_bplus.proofs.removal.remove_alone.Goals as goal
 
 pub returns-in_ok-write-clause-removed : goal.returns-in_ok-write-clause-removed

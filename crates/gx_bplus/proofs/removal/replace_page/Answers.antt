@@ -1,7 +1,7 @@
 use Rattle.std.proofs.Common.{◌∙◌, subst}
 use Rattle.gx_ports.specs.Sheets.{IsOwnedAnew}
+use Rattle.gx_btree.specs.Bplus.{IsWritten}
 use Rattle.gx_bplus.proofs.RemovalLemmas.{replace_sheets}
-use Rattle.gx_bplus.specs.Bplus.{IsWritten}
 use Rattle.gx_bplus.proofs.removal.replace_page.Goals as goal
 
 pub returns-clause-removed : goal.returns-clause-removed

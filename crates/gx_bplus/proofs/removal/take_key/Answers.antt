@@ -1,8 +1,9 @@
 use Rattle.std.proofs.Common.{sym, ◌∙◌, subst}
 use Rattle.gx_slots.specs.Entries.{AreAscending}
 use Rattle.gx_slots.specs.Page.{entries_of}
+use Rattle.gx_btree.proofs.EntryLemmas.{entries_up, ascending_from}
 use Rattle.gx_bplus.specs.Changes.{IsTakenFrom}
-use Rattle.gx_bplus.proofs.EntryLemmas.{entries_up, taken_at, none_taken, ascending_from}
+use Rattle.gx_bplus.proofs.TakenLemmas.{taken_at, none_taken}
 use Rattle.gx_bplus.proofs.removal.take_key.Goals as goal
 
 pub returns-in-Some-clause-shown : goal.returns-in-Some-clause-shown

@@ -1,7 +1,7 @@
 use Rattle.std.proofs.Common.{◌<◌, refl, subst}
 use Rattle.gx_bnode.specs.Page.{branches_of}
+use Rattle.gx_btree.proofs.CallLemmas.{ends_shown}
 use Rattle.gx_bplus.specs.Changes.{MayStand}
-use Rattle.gx_bplus.proofs.CallLemmas.{ends_shown}
 use Rattle.gx_bplus.proofs.splitting.divide.Goals as goal
 
 pub returns-then-not-put_child-clause-ends : goal.returns-then-not-put_child-clause-ends

@@ -1,8 +1,8 @@
 use Rattle.std.proofs.Common.{◌++◌, ◌∷◌, ℕ, List, inl, inr, refl, sym, ap, ◌∙◌}
-use Rattle.gx_bplus.proofs.CallLemmas.{ends_after, ends_handed}
+use Rattle.gx_btree.proofs.CallLemmas.{ends_after, ends_handed}
 use Rattle.gx_bplus.proofs.GrowthLemmas.{halved, halves_may, split_come, stay_come}
 use Rattle.gx_bnode.specs.Page.{separators_of}
-use Rattle.gx_bplus.specs.Order.{is_below}
+use Rattle.gx_btree.specs.Order.{is_below}
 use Rattle.gx_bplus.proofs.splitting.make_room.Goals as goal
 
 pub returns-then-has_room-clause-come : goal.returns-then-has_room-clause-come

@@ -1,7 +1,7 @@
 use Rattle.std.proofs.Common.{◌++◌, ◌∷◌, ℕ, List, inl, inr, refl, sym, ap, ◌∙◌}
 use Rattle.gx_bplus.proofs.GrowthLemmas.{halved, root_come, raised_come}
 use Rattle.gx_bnode.specs.Page.{separators_of}
-use Rattle.gx_bplus.specs.Order.{is_below}
+use Rattle.gx_btree.specs.Order.{is_below}
 use Rattle.gx_bplus.proofs.splitting.open_root.Goals as goal
 
 pub returns-then-has_room-clause-come : goal.returns-then-has_room-clause-come

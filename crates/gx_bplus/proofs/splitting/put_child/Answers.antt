@@ -2,9 +2,9 @@ use Rattle.std.proofs.Common.{◌∙◌, sym, subst, arith}
 use Rattle.std.proofs.lemmas.Bool.{false≢true}
 use Rattle.std.proofs.lemmas.List.{length-map}
 use Rattle.gx_bnode.specs.Page.{branches_of, first_of}
-use Rattle.gx_bplus.specs.Tree.{ShowsInner, with_branch}
-use Rattle.gx_bplus.proofs.BranchLemmas.{place_for, with_is}
-use Rattle.gx_bplus.proofs.EntryLemmas.{shows_inner}
+use Rattle.gx_btree.specs.Tree.{ShowsInner, with_branch}
+use Rattle.gx_btree.proofs.BranchLemmas.{place_for, with_is}
+use Rattle.gx_btree.proofs.EntryLemmas.{shows_inner}
 use Rattle.gx_bplus.proofs.SeparatorLemmas.{may_insert}
 use Rattle.gx_bplus.proofs.splitting.put_child.Goals as goal
 

@@ -1,6 +1,6 @@
 use Rattle.std.proofs.Common.{subst}
 use Rattle.gx_ports.specs.Sheets.{IsClaimed}
-use Rattle.gx_bplus.proofs.BranchLemmas.{one_branch}
+use Rattle.gx_btree.proofs.BranchLemmas.{one_branch}
 use Rattle.gx_bplus.proofs.splitting.raise.Goals as goal
 
 pub returns-clause-raised : goal.returns-clause-raised

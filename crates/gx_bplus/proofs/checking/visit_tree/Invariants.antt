@@ -1,5 +1,0 @@
-use Rattle.gx_bplus.proofs.VisitLemmas.{IsVisiting}
-use Rattle.gx_bplus.proofs.checking.visit_tree.Given as goal
-
-abbrev pub invariant-loop : goal.invariant-loop
-invariant-loop g l = IsVisiting g.P.PageView l.place l.fn.pages l.pages l.visits l.counter

@@ -1,0 +1,25 @@
+-- The map that is read on the pages of an owner.
+use Rattle.std.specs.Prelude.{◌==◌, ◌&&◌, ℕ, zero, suc, Bool, List, [], ◌++◌, length, map, slice_index_or, if◌then◌else◌}
+use Rattle.std.specs.FinMap.{from_entries}
+use Rattle.gx_ports.specs.declared.pages.Place.{Place}
+use Rattle.gx_ports.specs.LeafMaps.{LeafMap}
+use Rattle.gx_ports.specs.Sheets.{Sheets, Ground}
+use Rattle.gx_slots.specs.Entries.{Entry}
+use Rattle.gx_slots.specs.Page.{entries_of}
+use Rattle.gx_btree.specs.Bplus.{bytes_at}
+
+-- the owner has the page, and it begins as an entry page
+abbrev pub has_entries : ℕ → Sheets → ℕ → Bool
+has_entries owner sheets page = (slice_index_or sheets.owners page 0 == owner) && (slice_index_or (bytes_at sheets page) 0 0 == 0x44)
+
+abbrev pub entries_if_owned : ℕ → Sheets → ℕ → List Entry
+entries_if_owned owner sheets page = if has_entries owner sheets page then entries_of (bytes_at sheets page) else []
+
+-- the entries on those of the first pages that are entry pages of the owner
+abbrev pub owned_entries : ℕ → Sheets → ℕ → List Entry
+owned_entries owner sheets zero = []
+owned_entries owner sheets (suc n) = entries_if_owned owner sheets n ++ owned_entries owner sheets n
+
+-- the entries on all entry pages of the owner
+abbrev pub bplus_map : Ground → Place → Sheets → LeafMap
+bplus_map base place sheets = from_entries (map (λ e. (e.key, e.body)) (owned_entries place.owner sheets (length sheets.owners)))

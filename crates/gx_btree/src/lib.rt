@@ -1,0 +1,12 @@
+//! B+ trees of pages, entry pages with ascending keys under inner pages: what stands on them, and
+//! how they are searched and checked.
+#![tactic(auto)]
+
+mod checking;
+mod reading;
+mod searching;
+mod selection;
+
+pub use checking::check;
+pub use reading::{Shape, child_for, leads_last, read_page};
+pub use selection::select;

@@ -1,0 +1,83 @@
+// Pages of a tree, as they are read.
+ghost use Rattle.std.specs.Prelude.{◌≡◌, ◌<◌, ◌↔◌, None, length, IsTrue, OnOk, IfOk, IsErrOf, MatchOption};
+ghost use Rattle.gx_ports.specs.Files.{EndsFile};
+ghost use Rattle.gx_ports.specs.PageCalls.{ReadsPages};
+ghost use Rattle.gx_ports.specs.Sheets.{IsPast};
+ghost use Rattle.gx_bnode.specs.Page.{IsInnerPage, first_of, branches_of};
+ghost use Rattle.gx_btree.specs.Bplus.{Shows, IsTreePage, bytes_at};
+ghost use Rattle.gx_btree.specs.Tree.{child_for, bound_for};
+
+use gx_bnode::{child, child_of, is_inner, separators};
+use gx_ports::{Pages, Stop};
+use gx_slots::{NONE, is_ascending, next};
+
+/// What a page of a tree is.
+#[derive(Clone, Copy, Debug, PartialEq, Eq)]
+pub enum Shape {
+    /// an entry page with ascending keys and no next page
+    Entries,
+    /// an inner page
+    Inner,
+}
+
+/// Reads a page of a tree, whose number stands on the page `from`. `Damaged`: there is no such page
+/// past the table, or it is no page of a tree.
+pub fn read_page<P: Pages>(
+    pages: &mut P,
+    from: u32,
+    page: u32,
+    into: &mut [u8],
+) -> Result<Shape, Stop>
+    requires from { from < (P.ground pages.old).size }
+    requires bytes { length into.old ≡ 4096 }
+    ensures bytes { length into.new ≡ 4096 }
+    ensures past { OnOk result (IsPast (P.ground pages.old) page) }
+    ensures shape { IfOk result (λ shape. Shows shape into.new) }
+    ensures read { IsTrue P.tells → OnOk result (bytes_at (P.working pages.old) page ≡ into.new) }
+    ensures reads { ReadsPages P.PageView pages.old pages.new }
+    ensures ends { EndsFile P.PageView
+        (IsTrue P.tells × IsTreePage (P.ground pages.old) (P.working pages.old) page)
+        pages.old pages.new result }
+    ensures not_full { ¬ IsErrOf result Stop.Full }
+    ensures frugal { ¬ IsErrOf result Stop.NoMemory }
+{
+    if page < pages.tables() || page >= pages.pages() {
+        return Err(Stop::Damaged(pages.block(from)));
+    }
+    pages.read(page, into)?;
+    match shape_of(into) {
+        Some(shape) => Ok(shape),
+        None => Err(Stop::Damaged(pages.block(page))),
+    }
+}
+
+// What the bytes are. None where they are no page of a tree.
+fn shape_of(page: &[u8]) -> Option<Shape>
+    requires { length page.now ≡ 4096 }
+    ensures { MatchOption result ((shape : Shape) → ¬ Shows shape page.now)
+        (λ shape. Shows shape page.now) }
+{
+    if is_inner(page) {
+        return Some(Shape::Inner);
+    }
+    if is_ascending(page) && next(page) == NONE {
+        return Some(Shape::Entries);
+    }
+    None
+}
+
+/// The child on the way to a key.
+pub fn child_for(page: &[u8], key: &[u8]) -> u32
+    requires { IsInnerPage page.now }
+    ensures { result ≡ child_for (first_of page.now) (branches_of page.now) key.now }
+{
+    child(page, child_of(page, key))
+}
+
+/// Whether no separator of the page stands behind a key, which so leads to the last child.
+pub fn leads_last(page: &[u8], key: &[u8]) -> bool
+    requires { IsInnerPage page.now }
+    ensures { IsTrue result ↔ bound_for (branches_of page.now) key.now None ≡ None }
+{
+    child_of(page, key) == separators(page)
+}

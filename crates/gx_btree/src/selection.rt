@@ -1,0 +1,96 @@
+// The entries inside a span.
+ghost use Rattle.std.specs.Prelude.{◌≡◌, ◌++◌, ◌&&◌, length, take, OnOk, IsErrOf};
+ghost use Rattle.std.specs.Cmp.Lexicographic.{slice_cmp};
+ghost use Rattle.std.specs.Ordering.{nat_cmp, is_le, is_gt};
+ghost use Rattle.gx_values.specs.Keys.{is_inside};
+ghost use Rattle.gx_ports.specs.declared.kinds.LeafKind.TheVariants as kinds;
+ghost use Rattle.gx_ports.specs.Files.{IsPlace, Holds, EndsFile, IsWhole};
+ghost use Rattle.gx_ports.specs.LeafMaps.{LeafMap, Extends, selected};
+ghost use Rattle.gx_ports.specs.PageCalls.{ReadsPages};
+ghost use Rattle.gx_slots.specs.Page.{IsEntryPage, entries_of};
+ghost use Rattle.gx_btree.specs.Bplus.{IsBplus};
+ghost use Rattle.gx_btree.specs.Selection.{given_from};
+
+use crate::searching::find;
+use gx_ports::{Entries, PAGE_LEN, Pages, Place, Stop};
+use gx_slots::entries;
+use gx_values::{KeyBuf, NoMemory, Span, inside};
+use std::alloc::Global;
+
+/// Appends the entries inside the span, in ascending order of their keys. Each page is found from
+/// the root, by the separator behind the one before. After a refusal `out` may hold more than
+/// before.
+pub fn select<P: Pages>(
+    _alloc: Global,
+    pages: &mut P,
+    place: &Place,
+    span: &Span,
+    out: &mut Entries,
+) -> Result<(), Stop>
+    requires kind { place.now.spec.kind ≡ kinds.Bplus }
+    requires place { IsPlace (P.ground pages.old) place.now }
+    ensures ok { (map : LeafMap) →
+        Holds P.PageView (IsBplus (P.ground pages.old) place.now) pages.old map →
+        OnOk result (out.new ≡ out.old ++ selected span.now.lo span.now.hi map) }
+    ensures extends { Extends out.old out.new }
+    ensures reads { ReadsPages P.PageView pages.old pages.new }
+    ensures ends { EndsFile P.PageView
+        (IsWhole P.PageView (IsBplus (P.ground pages.old) place.now) pages.old)
+        pages.old pages.new result }
+    ensures not_full { ¬ IsErrOf result Stop.Full }
+{
+    let mut page = [0; PAGE_LEN];
+    let mut key = KeyBuf::from_slice(span.lo.as_slice());
+    for _ in 0..pages.pages() {
+        let bound = find(pages, place, key.as_slice(), &mut page)?;
+        give(&page, key.as_slice(), span, out)?;
+        let Some(next) = bound else {
+            return Ok(());
+        };
+        if is_past(span, next.as_slice()) {
+            return Ok(());
+        }
+        key = next;
+    }
+    Err(Stop::Damaged(pages.block(place.root)))
+}
+
+// Appends the entries of a page inside the span, from a key on.
+fn give(page: &[u8], from: &[u8], span: &Span, out: &mut Entries) -> Result<(), NoMemory>
+    requires { IsEntryPage page.now }
+    ensures ok { OnOk result (out.new
+        ≡ out.old ++ given_from from.now span.now.lo span.now.hi (entries_of page.now)) }
+    ensures extends { Extends out.old out.new }
+{
+    for (key, body) in entries(page) {
+        if is_given(from, span, key) {
+            out.push(key, body)?;
+        }
+    }
+    Ok(())
+}
+
+// Whether a key lies inside the span, and isn't below another one.
+fn is_given(from: &[u8], span: &Span, key: &[u8]) -> bool
+    ensures { result ≡ (is_le (slice_cmp nat_cmp from.now key.now)
+        && is_inside span.now.lo span.now.hi key.now) }
+{
+    is_up_to(from, key) && inside(span, key)
+}
+
+/// Whether `a` is `b` or stands before it, byte by byte, a proper front first.
+pub(crate) fn is_up_to(a: &[u8], b: &[u8]) -> bool
+    ensures { result ≡ is_le (slice_cmp nat_cmp a.now b.now) }
+{
+    a.cmp(b).is_le()
+}
+
+// Whether the key stands behind the span, and so all keys behind it do.
+fn is_past(span: &Span, key: &[u8]) -> bool
+    ensures { result
+        ≡ is_gt (slice_cmp nat_cmp (take (length span.now.hi) key.now) span.now.hi) }
+{
+    let hi = span.hi.as_slice();
+    let front = &key[..key.len().min(hi.len())];
+    front.cmp(hi).is_gt()
+}
