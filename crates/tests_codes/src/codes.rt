@@ -15,8 +15,8 @@ const PACKED: [(i64, &[u8]); 6] = [
 #[test]
 fn ints_are_packed(rt: HostRuntime) -> Result<(), Fail> {
     for (value, code) in PACKED {
-        assert_eq!(rt; pack_into(value).as_slice(), code, "{value}");
-        assert_eq!(rt; unpack(code), Some(value), "{value}");
+        assert!(rt; pack_into(value).as_slice() == code);
+        assert!(rt; unpack(code) == Some(value));
     }
     Ok(())
 }
@@ -26,7 +26,7 @@ fn ints_are_packed(rt: HostRuntime) -> Result<(), Fail> {
 fn other_bytes_are_no_int(rt: HostRuntime) -> Result<(), Fail> {
     let wrong: [&[u8]; 4] = [b"\0\x7F", b"\0", b"\xFF\x80", b"\x01\0\0\0\0\0\0\0\0"];
     for bytes in wrong {
-        assert_eq!(rt; unpack(bytes), None, "{bytes:?}");
+        assert!(rt; unpack(bytes) == None);
     }
     Ok(())
 }
@@ -36,9 +36,9 @@ fn texts_are_coded_by_runs(rt: HostRuntime) -> Result<(), Fail> {
     let alloc = rt.alloc();
     let coded: [(&[u8], &[u8]); 2] = [(b"aaab", b"\x03a\x01b"), (b"", b"")];
     for (text, code) in coded {
-        assert_eq!(rt; rle_into(alloc, text)?.as_slice(), code);
+        assert!(rt; rle_into(alloc, text)?.as_slice() == code);
         let read = unrle(alloc, code, 200)?.ok_or("a text")?;
-        assert_eq!(rt; read.as_slice(), text);
+        assert!(rt; read.as_slice() == text);
     }
     Ok(())
 }
@@ -57,7 +57,7 @@ fn other_bytes_are_no_text(rt: HostRuntime) -> Result<(), Fail> {
         b"\x03a\x03b",
     ];
     for bytes in wrong {
-        assert!(rt; unrle(alloc, bytes, 5)?.is_none(), "{bytes:?}");
+        assert!(rt; unrle(alloc, bytes, 5)?.is_none());
     }
     Ok(())
 }

@@ -28,8 +28,8 @@ const PAGE_OF_ANN: [u8; 24] = [
 
 fn made(alloc: Global, rt: &impl Abort) -> Result<MemoryMachine, Fail> {
     let (answer, machine) = make_on(alloc, machine(alloc)?, BLOCKS, (SCHEMA, EQUATION));
-    assert_eq!(rt; answer, Ok(()));
-    assert_eq!(rt; machine.blocks(), BLOCKS);
+    assert!(rt; answer == Ok(()));
+    assert!(rt; machine.blocks() == BLOCKS);
     Ok(machine)
 }
 
@@ -57,7 +57,7 @@ fn a_new_device_has_its_layout(rt: HostRuntime) -> Result<(), Fail> {
     assert!(rt; !begins(&blocks, 1, &[0xA5]));
     assert!(rt; is(&blocks, 3, TEXTS));
     for text_block in 4..7 {
-        assert!(rt; is(&blocks, text_block, b""), "block {text_block}");
+        assert!(rt; is(&blocks, text_block, b""));
     }
     // The 16 pages of the table, the root page, and 30 free pages.
     let mut owners = [0; 94];
@@ -78,21 +78,21 @@ fn an_entry_is_committed(rt: &impl Abort, alloc: Global, frames: u32) -> Result<
     let mut store = adopted(alloc, machine, frames)?;
     put(alloc, &mut store, 7, &[0x03, 0x61, 0x6E, 0x6E])?;
     let found = count(alloc, &mut store)?;
-    assert_eq!(rt; found, 1);
+    assert!(rt; found == 1);
     let mut machine = close(store);
     let after = blocks_of(alloc, &mut machine)?;
-    assert_eq!(rt; after.len(), BLOCKS as usize);
+    assert!(rt; after.len() == BLOCKS as usize);
     assert!(rt; begins(&after, 70, &PAGE_OF_ANN));
     assert!(rt; begins(&after, 23, &PAGE_OF_ANN));
     assert!(rt; is(&after, 2, &[0, 0, 0x80]));
     assert!(rt; !begins(&after, 1, &[0xA5]));
     for n in 0..BLOCKS as usize {
         let is_other = n != 2 && n != 23 && n != 70;
-        assert!(rt; !is_other || before.get(n) == after.get(n), "block {n}");
+        assert!(rt; !is_other || before.get(n) == after.get(n));
     }
     let mut store = adopted(alloc, machine, frames)?;
     let found = count(alloc, &mut store)?;
-    assert_eq!(rt; found, 1);
+    assert!(rt; found == 1);
     Ok(())
 }
 
@@ -115,17 +115,17 @@ fn the_smallest_device_fills(rt: &impl Abort, alloc: Global, frames: u32) -> Res
     requires most { frames ≤ 1024 }
 {
     let (answer, machine) = make_on(alloc, machine(alloc)?, 41, LONG);
-    assert_eq!(rt; answer, Ok(()));
+    assert!(rt; answer == Ok(()));
     let mut store = adopted(alloc, machine, frames)?;
     let mut body = [b'x'; 201];
     body[0] = 200;
     for key in 1..20 {
-        assert_eq!(rt; put(alloc, &mut store, key, &body), Ok(()), "key {key}");
+        assert!(rt; put(alloc, &mut store, key, &body) == Ok(()));
     }
-    assert_eq!(rt; put(alloc, &mut store, 20, &body), Err(Stop::Full));
+    assert!(rt; put(alloc, &mut store, 20, &body) == Err(Stop::Full));
     let mut store = adopted(alloc, close(store), frames)?;
     let found = count(alloc, &mut store)?;
-    assert_eq!(rt; found, 19);
+    assert!(rt; found == 19);
     Ok(())
 }
 
@@ -143,8 +143,8 @@ fn the_smallest_device_fills_by_more_frames(rt: HostRuntime) -> Result<(), Fail>
 fn a_device_of_another_size_is_not_made(rt: HostRuntime) -> Result<(), Fail> {
     for blocks in [0, 7, 40, 65544, 4_294_967_295] {
         let (answer, machine) = make_on(rt.alloc(), machine(rt.alloc())?, blocks, LONG);
-        assert_eq!(rt; answer, Err(Unopened::Size), "{blocks} blocks");
-        assert_eq!(rt; machine.blocks(), 0);
+        assert!(rt; answer == Err(Unopened::Size), "{blocks} blocks");
+        assert!(rt; machine.blocks() == 0);
     }
     Ok(())
 }

@@ -36,7 +36,7 @@ fn expect_unopened(
     match open_on(alloc, Shelf { machine }, texts) {
         Ok(_) => Err("the device was opened".into()),
         Err((shelf, refused)) => {
-            assert_eq!(rt; refused, why);
+            assert!(rt; refused == why);
             let mut machine = shelf.machine;
             let after = blocks_of(alloc, &mut machine)?;
             assert!(rt; same(&before, &after));
@@ -47,7 +47,7 @@ fn expect_unopened(
 
 fn made(alloc: Global, rt: &impl Abort) -> Result<MemoryMachine, Fail> {
     let (answer, machine) = make_on(alloc, machine(alloc)?, 101, (SCHEMA, HEAP));
-    assert_eq!(rt; answer, Ok(()));
+    assert!(rt; answer == Ok(()));
     Ok(machine)
 }
 
@@ -73,7 +73,7 @@ fn other_texts_are_refused(rt: HostRuntime) -> Result<(), Fail> {
 fn a_device_of_zeros_is_refused(rt: HostRuntime) -> Result<(), Fail> {
     let alloc = rt.alloc();
     let mut machine = machine(alloc)?;
-    assert_eq!(rt; machine.attach(alloc, "d", Some(101)), Ok(()));
+    assert!(rt; machine.attach(alloc, "d", Some(101)) == Ok(()));
     expect_unopened(&rt, alloc, machine, (SCHEMA, HEAP), Unopened::NoDatabase)
 }
 
@@ -81,7 +81,7 @@ fn a_device_of_zeros_is_refused(rt: HostRuntime) -> Result<(), Fail> {
 fn a_device_of_another_size_is_refused(rt: HostRuntime) -> Result<(), Fail> {
     let alloc = rt.alloc();
     let mut machine = machine(alloc)?;
-    assert_eq!(rt; machine.attach(alloc, "d", Some(40)), Ok(()));
+    assert!(rt; machine.attach(alloc, "d", Some(40)) == Ok(()));
     expect_unopened(&rt, alloc, machine, (SCHEMA, HEAP), Unopened::Size)
 }
 
@@ -91,7 +91,7 @@ fn a_name_without_a_device_is_refused(rt: HostRuntime) -> Result<(), Fail> {
     let (_machine, refused) = open_on(alloc, machine(alloc)?, (SCHEMA, HEAP))
         .err()
         .expect(&rt, "a refusal");
-    assert_eq!(rt; refused, Unopened::Missing);
+    assert!(rt; refused == Unopened::Missing);
     Ok(())
 }
 
@@ -101,7 +101,7 @@ fn a_name_with_a_device_is_not_made(rt: HostRuntime) -> Result<(), Fail> {
     let mut machine = made(alloc, &rt)?;
     let before = blocks_of(alloc, &mut machine)?;
     let (answer, shelf) = make_on(alloc, Shelf { machine }, 101, (SCHEMA, HEAP));
-    assert_eq!(rt; answer, Err(Unopened::Exists));
+    assert!(rt; answer == Err(Unopened::Exists));
     let mut machine = shelf.machine;
     let after = blocks_of(alloc, &mut machine)?;
     assert!(rt; same(&before, &after));

@@ -37,9 +37,9 @@ fn bodies_are_read(rt: HostRuntime) -> Result<(), Fail> {
     ];
     let whole = b"\xFF\xFF\xFF\xFF\xFF\xFF\xFF\xFE\x02ab\0\x03\0\xFF\x80";
     let found = read_body(alloc, &fields, whole)?.expect(&rt, "no values");
-    assert_eq!(rt; found.0.len(), 3);
+    assert!(rt; found.0.len() == 3);
     for body in wrong {
-        assert!(rt; read_body(alloc, &fields, body)?.is_none(), "{body:?}");
+        assert!(rt; read_body(alloc, &fields, body)?.is_none());
     }
     Ok(())
 }

@@ -74,12 +74,8 @@ fn expect_order(rt: &impl Abort, frames: &mut Frames, count: u32, order: &[(u32,
     }
     for place in 0..order.len() {
         let (page, changed, fill) = order[order.len() - 1 - place];
-        assert_eq!(rt;
-            frames.victim(),
-            Some((page, changed)),
-            "at {place} from the back"
-        );
-        assert!(rt; holds(frames, page, fill), "at {place} from the back");
+        assert!(rt; frames.victim() == Some((page, changed)));
+        assert!(rt; holds(frames, page, fill));
         assert!(rt; take(frames, Step::Evict(page)));
         assert!(rt; take(frames, Step::Admit(FILLERS + count + place as u32, 0)));
     }
@@ -186,7 +182,7 @@ fn keeps_the_recency_list(rt: HostRuntime) -> Result<(), Fail> {
 fn finds_the_changed_pages(rt: HostRuntime) -> Result<(), Fail> {
     let last = PAGES - 1;
     let mut frames = Frames::make(rt.alloc(), 8, PAGES)?;
-    assert_eq!(rt; frames.next_changed(0), None);
+    assert!(rt; frames.next_changed(0) == None);
     let steps = [
         Step::Admit(last, 1),
         Step::Admit(3, 2),
@@ -203,7 +199,7 @@ fn finds_the_changed_pages(rt: HostRuntime) -> Result<(), Fail> {
         (701, None),
         (u32::MAX, None),
     ] {
-        assert_eq!(rt; frames.next_changed(from), next, "from {from}");
+        assert!(rt; frames.next_changed(from) == next);
     }
     Ok(())
 }
@@ -229,7 +225,7 @@ fn carries_out_calls(rt: HostRuntime) -> Result<(), Fail> {
     assert!(rt; take(&mut frames, Step::Admit(1, 1)));
     assert!(rt; take(&mut frames, Step::Admit(2, 2)));
     frames.carry_out_all(&[Call::Get(1), Call::Write(2, &bytes), Call::Get(1)]);
-    assert_eq!(rt; frames.next_changed(0), Some(2));
+    assert!(rt; frames.next_changed(0) == Some(2));
     frames.carry_out(Call::ForgetChanges);
     expect_order(&rt, &mut frames, 8, &[(1, false, 1)]);
     Ok(())

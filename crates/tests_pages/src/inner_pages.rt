@@ -31,7 +31,7 @@ fn writes_one_separator(rt: HostRuntime) {
     assert!(rt; page.starts_with(&expected));
     assert!(rt; is_inner(&page));
     assert!(rt; has_room(&page));
-    assert_eq!(rt; separators(&page), 1);
+    assert!(rt; separators(&page) == 1);
 }
 
 #[test]
@@ -60,13 +60,13 @@ fn finds_the_child_of_a_key(rt: HostRuntime) {
         (b"z", 3),
     ];
     for (key, expected) in cases {
-        assert_eq!(rt; child_of(&page, key), expected);
+        assert!(rt; child_of(&page, key) == expected);
     }
-    assert_eq!(rt; separators(&page), 3);
+    assert!(rt; separators(&page) == 3);
     assert!(rt; separator(&page, 1) == b"m".as_slice());
-    assert_eq!(rt; child(&page, 0), 1);
-    assert_eq!(rt; child(&page, 3), 4);
-    assert_eq!(rt; branches(&page).count(), 3);
+    assert!(rt; child(&page, 0) == 1);
+    assert!(rt; child(&page, 3) == 4);
+    assert!(rt; branches(&page).count() == 3);
 }
 
 #[test]
@@ -112,7 +112,7 @@ fn tells_inner_pages_from_other_bytes(rt: HostRuntime) {
         (&[0x49, 0, 0xFF, 0xFF, 0, 0, 0, 1], false),
     ];
     for (i, (front, expected)) in cases.iter().enumerate() {
-        assert_eq!(rt; is_inner(&page_of(front)), *expected, "case {i}");
+        assert!(rt; is_inner(&page_of(front)) == *expected);
     }
 }
 
@@ -139,9 +139,9 @@ fn splits_a_page_without_room(rt: HostRuntime) {
     assert!(rt; is_inner(&page) && is_inner(&right));
     assert!(rt; has_room(&page) && has_room(&right));
     let left = separators(&page);
-    assert_eq!(rt; u32::from(left) + u32::from(separators(&right)), 9);
-    assert_eq!(rt; key.as_slice().len(), 400);
-    assert_eq!(rt; u16::from(key.as_slice()[0]), left);
-    assert_eq!(rt; child(&page, left), u32::from(left));
-    assert_eq!(rt; child(&right, 0), u32::from(left) + 1);
+    assert!(rt; u32::from(left) + u32::from(separators(&right)) == 9);
+    assert!(rt; key.as_slice().len() == 400);
+    assert!(rt; u16::from(key.as_slice()[0]) == left);
+    assert!(rt; child(&page, left) == u32::from(left));
+    assert!(rt; child(&right, 0) == u32::from(left) + 1);
 }

@@ -90,14 +90,14 @@ fn are_numbers(table: &[u8], numbers: &[u8]) -> bool
 fn machine(alloc: Global, rt: &impl process::Abort) -> Result<MemoryMachine, Fail> {
     let mut machine = MemoryMachine::new(alloc)?;
     machine.reserve(alloc, 1000, 1_000_000)?;
-    assert_eq!(rt; machine.attach(alloc, "d", Some(BLOCKS)), Ok(()));
+    assert!(rt; machine.attach(alloc, "d", Some(BLOCKS)) == Ok(()));
     Ok(machine)
 }
 
 /// New pages over a device.
 fn made(alloc: Global, rt: &impl process::Abort) -> Result<Paged<MemoryMachine>, Fail> {
     let machine = machine(alloc, rt)?;
-    assert_eq!(rt; machine.blocks(), BLOCKS);
+    assert!(rt; machine.blocks() == BLOCKS);
     let journal = Journal::format(alloc, machine, 8, b"", b"").ok();
     let journal = journal.expect(rt, "a journal");
     Ok(Paged::make(journal).ok().expect(rt, "pages"))
@@ -137,7 +137,7 @@ fn pages_are_claimed_and_freed(rt: HostRuntime) -> Result<(), Fail> {
         assert!(rt; are_owned(&mut pages, 16, &owners));
     }
     let mut machine = pages.into_journal().into_device();
-    assert_eq!(rt; machine.blocks(), BLOCKS);
+    assert!(rt; machine.blocks() == BLOCKS);
     let mut table = [1; PAGE_LEN];
     assert!(rt; machine.read_block(FIRST_HOME, &mut table).is_ok());
     assert!(rt; are_numbers(&table, &[1, 2, 0, 3, 0, 7, 0xFF, 0xFE]));
@@ -160,12 +160,12 @@ fn kept_pages_are_adopted(rt: HostRuntime) -> Result<(), Fail> {
     let mut journal = pages.into_journal();
     assert!(rt; journal.seal().is_ok());
     let machine = journal.into_device();
-    assert_eq!(rt; machine.blocks(), BLOCKS);
+    assert!(rt; machine.blocks() == BLOCKS);
     let journal = Journal::recover(rt.alloc(), machine, 8).ok();
     let mut pages = Paged::adopt(journal.expect(&rt, "a journal"));
     assert!(rt; are_owned(&mut pages, 16, &[9, 0, 0, 0]));
     let mut page = [0; PAGE_LEN];
-    assert_eq!(rt; pages.pages(), 20);
+    assert!(rt; pages.pages() == 20);
     assert!(rt; pages.read(16, &mut page).is_ok());
     assert!(rt; page.iter().all(|byte| *byte == 0x5A));
     assert!(rt; take(&mut pages, Claim(1, Some(17))));

@@ -5,6 +5,8 @@
 #[cfg(test)]
 mod equations;
 #[cfg(test)]
+mod row;
+#[cfg(test)]
 mod schemas;
 #[cfg(test)]
 mod scripts;

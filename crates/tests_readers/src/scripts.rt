@@ -2,6 +2,7 @@
 ghost use Rattle.std.specs.Prelude.{IfOk};
 ghost use Rattle.gx_schema.specs.WellFormed.{IsWellFormed};
 
+use crate::row::check_row;
 use gx_commands::{LineWhy, NoCommand, ScriptLines, allowed};
 use gx_schema::{Schema, read_schema};
 use gx_script::read_command;
@@ -158,7 +159,7 @@ fn reads_commands(rt: HostRuntime) -> Result<(), Fail> {
     let schema = worked_schema(alloc)?;
     for case in CASES {
         let printed = command_text(alloc, &schema, case.line)?;
-        assert_eq!(rt; printed.as_str(), case.command);
+        assert!(rt; printed.as_str() == case.command);
     }
     Ok(())
 }
@@ -188,7 +189,7 @@ fn names_the_first_reason(rt: HostRuntime) -> Result<(), Fail> {
     let schema = worked_schema(alloc)?;
     for (line, reason) in LINES_ON_LINKS {
         let given = read_command(alloc, &schema, line.as_bytes()).err();
-        assert!(rt; given == Some(NoCommand::Bad(reason)), "{line}");
+        check_row(&rt, line, given == Some(NoCommand::Bad(reason)));
     }
     Ok(())
 }
@@ -233,17 +234,17 @@ fn keeps_the_transaction_rule(rt: HostRuntime) -> Result<(), Fail> {
     let alloc = rt.alloc();
     let schema = worked_schema(alloc)?;
     for line in CHANGES {
-        assert_eq!(rt; forbidden(alloc, &schema, true, line)?, None);
+        assert!(rt; forbidden(alloc, &schema, true, line)? == None);
         let outside = forbidden(alloc, &schema, false, line)?;
-        assert_eq!(rt; outside, Some(LineWhy::NoTransaction));
+        assert!(rt; outside == Some(LineWhy::NoTransaction));
     }
     for line in READS {
-        assert_eq!(rt; forbidden(alloc, &schema, true, line)?, None);
-        assert_eq!(rt; forbidden(alloc, &schema, false, line)?, None);
+        assert!(rt; forbidden(alloc, &schema, true, line)? == None);
+        assert!(rt; forbidden(alloc, &schema, false, line)? == None);
     }
     let begun = forbidden(alloc, &schema, true, "begin")?;
-    assert_eq!(rt; begun, Some(LineWhy::InTransaction));
-    assert_eq!(rt; forbidden(alloc, &schema, false, "begin")?, None);
+    assert!(rt; begun == Some(LineWhy::InTransaction));
+    assert!(rt; forbidden(alloc, &schema, false, "begin")? == None);
     assert!(rt; LineWhy::ScriptTooLong.word() == "script too long");
     Ok(())
 }

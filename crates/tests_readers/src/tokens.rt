@@ -142,7 +142,7 @@ fn counts_lines(rt: HostRuntime) {
     ];
     for (text, left, line) in lines {
         if text.len() < 4_294_967_295 {
-            assert_eq!(rt; line_of(text, left), line);
+            assert!(rt; line_of(text, left) == line);
         }
     }
     let fault = Fault {

@@ -4,6 +4,8 @@
 #![tactic(auto)]
 
 #[cfg(test)]
+mod row;
+#[cfg(test)]
 mod texts;
 #[cfg(test)]
 mod types;

@@ -19,10 +19,10 @@ fn a_script_is_heard_in_pieces(rt: HostRuntime) -> Result<(), Fail> {
     let mut machine = machine(rt.alloc(), 4, 0)?;
     let mut into = [0; 2];
     for (count, front) in [(2, b"ab"), (2, b"cd"), (1, b"ed"), (0, b"ed")] {
-        assert_eq!(rt; machine.hear(&mut into), Ok(count));
-        assert_eq!(rt; into.as_slice(), front.as_slice());
+        assert!(rt; machine.hear(&mut into) == Ok(count));
+        assert!(rt; into.as_slice() == front.as_slice());
     }
-    assert_eq!(rt; machine.hear(&mut into), Err(Failed));
+    assert!(rt; machine.hear(&mut into) == Err(Failed));
     Ok(())
 }
 
@@ -45,7 +45,7 @@ fn calls_fail_by_number_and_by_room(rt: HostRuntime) -> Result<(), Fail> {
             let answer = machine.say(piece.as_bytes());
             assert!(rt; answer == Ok(piece.len()) || answer == Err(Failed));
         }
-        assert_eq!(rt; machine.said(), said.as_bytes());
+        assert!(rt; machine.said() == said.as_bytes());
     }
     Ok(())
 }
@@ -56,15 +56,15 @@ fn texts_are_fetched(rt: HostRuntime) -> Result<(), Fail> {
     let mut machine = machine(alloc, 0, 0)?;
     machine.fail_at(alloc, 3)?;
     let text = machine.fetch(alloc, "S", 7).expect(&rt, "a text");
-    assert_eq!(rt; text.as_slice(), b"new one".as_slice());
+    assert!(rt; text.as_slice() == b"new one".as_slice());
     for (name, limit, stop) in [
         ("E", 4, FetchStop::TooLong),
         ("D", 4, FetchStop::Missing),
         ("E", 5, FetchStop::Fault),
     ] {
-        assert_eq!(rt; machine.fetch(alloc, name, limit).err(), Some(stop));
+        assert!(rt; machine.fetch(alloc, name, limit).err() == Some(stop));
     }
     let text = machine.fetch(alloc, "E", 5).expect(&rt, "a text");
-    assert_eq!(rt; text.as_slice(), b"12345".as_slice());
+    assert!(rt; text.as_slice() == b"12345".as_slice());
     Ok(())
 }

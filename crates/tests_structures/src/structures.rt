@@ -4,6 +4,7 @@ ghost use Rattle.gx_schema.specs.WellFormed.{IsWellFormed};
 ghost use Rattle.gx_memory_leaves.specs.Plain.{working_of};
 ghost use Rattle.gx_engine.specs.Steps.{AreFor, IsReady, schema_of, built_of, leaves_of};
 
+use crate::row::check_row;
 use gx_commands::{LONGEST_LINE, LineWhy, allowed};
 use gx_engine::Engine;
 use gx_equation::read_equation;
@@ -282,15 +283,14 @@ fn leaves_hold_the_parts_of_records(rt: HostRuntime) -> Result<(), Fail> {
         let (schema, equation) = (case.schema.as_bytes(), case.equation.as_bytes());
         let mut engine = started(&rt, alloc, schema, equation)?;
         let answers = played(alloc, case.script, &mut engine)?;
-        assert_eq!(rt;
-            answers.as_slice(),
-            case.answers.as_bytes(),
-            "{}",
-            case.script
+        check_row(
+            &rt,
+            case.script,
+            answers.as_slice() == case.answers.as_bytes(),
         );
         let mut leaves = engine.into_leaves();
         let entries = leaves_text(alloc, &mut leaves)?;
-        assert_eq!(rt; entries.as_str(), case.entries, "{}", case.script);
+        check_row(&rt, case.script, entries.as_str() == case.entries);
     }
     Ok(())
 }

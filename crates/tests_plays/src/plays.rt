@@ -1,5 +1,6 @@
 // Plays of scripts: the plain program beside texts worked out by hand, and the program beside the
 // plain one.
+use crate::row::check_row;
 use gx_memory_machine::MemoryMachine;
 use gx_plain::play;
 use gx_schema::read_schema;
@@ -303,7 +304,7 @@ fn plain_plays_are_right(rt: HostRuntime) -> Result<(), Fail> {
     let alloc = rt.alloc();
     for case in PLAIN_CASES {
         let said = plain(alloc, LINKED, case.script.as_bytes())?;
-        assert_eq!(rt; said.as_slice(), case.said.as_bytes(), "{}", case.script);
+        check_row(&rt, case.script, said.as_slice() == case.said.as_bytes());
     }
     Ok(())
 }
@@ -514,7 +515,7 @@ fn the_program_says_what_the_plain_one_does(rt: HostRuntime) -> Result<(), Fail>
         let said = plain(alloc, FILES, script.as_bytes())?;
         for equation in EQUATIONS {
             let machine = tried(alloc, equation, script.as_bytes())?;
-            assert_eq!(rt; machine.said(), said.as_slice(), "{equation} {script}");
+            check_row(&rt, script, machine.said() == said.as_slice());
         }
     }
     Ok(())
@@ -531,9 +532,9 @@ fn commented(alloc: Global, letters: usize) -> Result<Vec<u8>, Fail> {
 // Plays a script with the program and with the plain one, and expects both to say the same.
 fn expect_alike(rt: &impl Abort, alloc: Global, script: &[u8], said: &str) -> Result<(), Fail> {
     let machine = tried(alloc, EQUATIONS[0], script)?;
-    assert_eq!(rt; machine.said(), said.as_bytes());
+    assert!(rt; machine.said() == said.as_bytes());
     let plain = plain(alloc, FILES, script)?;
-    assert_eq!(rt; plain.as_slice(), said.as_bytes());
+    assert!(rt; plain.as_slice() == said.as_bytes());
     Ok(())
 }
 

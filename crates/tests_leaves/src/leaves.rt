@@ -112,10 +112,10 @@ fn changes_are_kept_or_given_up(rt: HostRuntime) -> Result<(), Fail> {
         }
         let other = selected(alloc, &mut leaves, 0, ("", ""))?;
         assert!(rt; other.is_empty());
-        assert_eq!(rt; leaves.leaves(), 2);
+        assert!(rt; leaves.leaves() == 2);
         leaves.reorganize(alloc, 1)?;
         let changed = selected(alloc, &mut leaves, 1, ("", ""))?;
-        assert_eq!(rt; changed.as_slice(), after.as_bytes());
+        assert!(rt; changed.as_slice() == after.as_bytes());
     }
     Ok(())
 }
@@ -138,13 +138,13 @@ fn spans_select_in_order(rt: HostRuntime) -> Result<(), Fail> {
     let alloc = rt.alloc();
     let mut leaves = made(alloc, MemoryMachine::new(alloc)?)?;
     for key in ["ba", "a", "abc", "", "b", "ab"] {
-        assert_eq!(rt; leaves.leaves(), 2);
+        assert!(rt; leaves.leaves() == 2);
         let key = key.as_bytes();
         leaves.put(alloc, 0, &key[..key.len().min(3)], b"")?;
     }
     for (ends, inside) in SPANS {
         let found = selected(alloc, &mut leaves, 0, ends)?;
-        assert_eq!(rt; found.as_slice(), inside.as_bytes());
+        assert!(rt; found.as_slice() == inside.as_bytes());
     }
     Ok(())
 }
@@ -158,8 +158,8 @@ fn a_device_is_kept(rt: HostRuntime) -> Result<(), Fail> {
     let mut leaves = made(alloc, machine)?;
     let mut into = [0; 8];
     let heard = leaves.hear(&mut into)?;
-    assert_eq!(rt; &into[..heard], b"heard".as_slice());
-    assert_eq!(rt; leaves.say(b"said"), Ok(4));
-    assert_eq!(rt; leaves.into_device().said(), b"said".as_slice());
+    assert!(rt; &into[..heard] == b"heard".as_slice());
+    assert!(rt; leaves.say(b"said") == Ok(4));
+    assert!(rt; leaves.into_device().said() == b"said".as_slice());
     Ok(())
 }

@@ -1,0 +1,8 @@
+//! Tests of plays of scripts, in which the program is compared with the plain one. There is no code here
+//! beside them.
+#![tactic(auto)]
+
+#[cfg(test)]
+mod plays;
+#[cfg(test)]
+mod row;

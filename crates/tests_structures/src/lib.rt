@@ -1,0 +1,7 @@
+//! Tests of what leaves hold after commands, under each layer. There is no code here beside them.
+#![tactic(auto)]
+
+#[cfg(test)]
+mod row;
+#[cfg(test)]
+mod structures;
