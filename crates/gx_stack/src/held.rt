@@ -119,7 +119,8 @@ fn is_same_part(a: &Part, b: &Part) -> bool
         && is_same_values(&a.rec.fields.0, &b.rec.fields.0)
 }
 
-fn are_same_parts(a: &[Part], b: &[Part]) -> bool
+/// Whether two lists of parts are the same.
+pub fn are_same_parts(a: &[Part], b: &[Part]) -> bool
     ensures yes { result ≡ true → a.now ≡ b.now }
     ensures no { result ≡ false → a.now ≢ b.now }
 {

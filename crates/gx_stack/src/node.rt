@@ -65,6 +65,16 @@ impl<M: Mapping> Node<M> {
             IsInternal M.rule (tree_of self.now) S maps → In r R → In r S }
     {}
 
+    /// The form of the records.
+    pub fn form(&self) -> &Form
+        ensures { result.now ≡ tree_form M.rule (tree_of self.now) }
+    {
+        match self {
+            Node::Leaf(node) => &node.form,
+            Node::Layer(layer) => layer.mapping.form(),
+        }
+    }
+
     // Appends the leaf entries that come from one record.
     fn entries(&self, alloc: Global, rec: &Rec, out: &mut Vec<LeafEntry>) -> Result<(), NoMemory>
         requires valid { IsValid M.rule (tree_of self.now) }

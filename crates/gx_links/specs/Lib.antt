@@ -1,0 +1,4 @@
+pub mod Links
+pub mod Kinds
+pub mod Linksets
+pub mod Rows

@@ -1,0 +1,6 @@
+//! Linksets: each keeps a link, from members to their owners, in nodes.
+#![tactic(auto)]
+
+mod linkset;
+
+pub use linkset::{Linkset, MOST_MEMBERS};

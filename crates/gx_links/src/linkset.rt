@@ -1,0 +1,157 @@
+// The trait of the linksets.
+ghost use Rattle.std.specs.Prelude.{◌≡◌, ◌<◌, ◌+◌, ℕ, List, length, IfOk, OnOk, IsErrOf};
+ghost use Rattle.std.specs.FinMap.{insert, remove};
+ghost use Rattle.gx_values.specs.declared.values.Value.{Value as FieldValue};
+ghost use Rattle.gx_values.specs.Values.{Fits};
+ghost use Rattle.gx_ports.specs.LeafMaps.{LeafMap, map_at, entry_count, Extends, IsCrowdedBy};
+ghost use Rattle.gx_ports.specs.Calls.{Keeps, Reads, Ends};
+ghost use Rattle.gx_mapping.specs.Rule.{In};
+ghost use Rattle.gx_links.specs.Links.{Link, members_of, most_members};
+ghost use Rattle.gx_links.specs.Linksets.{LinkRule, LinksetLaws, HasLink, AreMembers, IsOwner, CanConnect, CanDisconnect};
+
+use gx_ports::{Leaves, Stop};
+use gx_values::{Value, Values};
+use std::alloc::Global;
+
+/// The most members that an owner has in one link.
+pub const MOST_MEMBERS: usize = 500;
+
+/// What keeps a link in nodes: of each member it knows the owner, if there is one, and of each owner the
+/// members.
+///
+/// Members and owners are keys of one value. What the nodes' leaves hold is said by `held`, for leaves
+/// that are whole. Refusals of all calls: `Damaged`, some leaf's stored form isn't whole, or the leaves hold
+/// no link, which is said of block 0. `Fault`: the count of faults rose; with any other answer it stays.
+/// `NoMemory`: there was none.
+pub trait Linkset {
+    /// What contracts see of a linkset.
+    ghost rule: { Self → LinkRule };
+
+    /// Which maps stand for a link.
+    ghost held: { Self → Link → List LeafMap → Type 0 };
+
+    /// The nodes are valid, have the forms that the linkset needs, and share no leaf.
+    ghost valid: { Self → Type 0 };
+
+    /// Appends the members of an owner, in ascending order. After a refusal `out` may have more at its
+    /// end.
+    fn members<B: Leaves>(
+        &self,
+        alloc: Global,
+        leaves: &mut B,
+        owner: &Value,
+        out: &mut Values,
+    ) -> Result<(), Stop>
+        requires valid { valid self.now }
+        requires below { (n : ℕ) → In n (rule self.now).leaves → n < length (B.working leaves.old) }
+        requires owner { Fits (rule self.now).owner owner.now }
+        ensures found { OnOk result
+            (AreMembers (rule self.now) (held self.now) (B.whole leaves.old)
+            (B.working leaves.old) owner.now (B.work leaves.old) (B.work leaves.new) out.old
+            out.new) }
+        ensures front { Extends out.old out.new }
+        ensures reads { Reads B.View leaves.old leaves.new }
+        ensures ends { Ends B.View
+            (B.whole leaves.old × HasLink (rule self.now) (held self.now) (B.working leaves.old))
+            leaves.old leaves.new result }
+        ensures block { (n : ℕ) → IsErrOf result (Stop.Damaged n) → B.whole leaves.old → n ≡ 0 }
+        ensures not_full { ¬ IsErrOf result Stop.Full };
+
+    /// The owner of a member. `None`: it has none.
+    fn owner<B: Leaves>(
+        &self,
+        alloc: Global,
+        leaves: &mut B,
+        member: &Value,
+    ) -> Result<Option<Value>, Stop>
+        requires valid { valid self.now }
+        requires below { (n : ℕ) → In n (rule self.now).leaves → n < length (B.working leaves.old) }
+        requires member { Fits (rule self.now).member member.now }
+        ensures found { IfOk result
+            (IsOwner (rule self.now) (held self.now) (B.whole leaves.old) (B.working leaves.old)
+            member.now (B.work leaves.old) (B.work leaves.new)) }
+        ensures reads { Reads B.View leaves.old leaves.new }
+        ensures ends { Ends B.View
+            (B.whole leaves.old × HasLink (rule self.now) (held self.now) (B.working leaves.old))
+            leaves.old leaves.new result }
+        ensures block { (n : ℕ) → IsErrOf result (Stop.Damaged n) → B.whole leaves.old → n ≡ 0 }
+        ensures not_full { ¬ IsErrOf result Stop.Full };
+
+    /// Gives a member without an owner its owner, which has just these members so far.
+    ///
+    /// `Full`: the pages may not be enough for the entries of the owner with its new member, besides all
+    /// that there are. After a refusal a part of the change may be made.
+    fn connect_among<B: Leaves>(
+        &self,
+        alloc: Global,
+        leaves: &mut B,
+        owner: &Value,
+        member: &Value,
+        members: &Values,
+    ) -> Result<(), Stop>
+        requires valid { valid self.now }
+        requires below { (n : ℕ) → In n (rule self.now).leaves → n < length (B.working leaves.old) }
+        requires owner { Fits (rule self.now).owner owner.now }
+        requires member { Fits (rule self.now).member member.now }
+        requires members { (m : FieldValue) → In m members.now → Fits (rule self.now).member m }
+        requires room { length members.now < MOST_MEMBERS }
+
+        // The leaves hold the link with the pair, and all other leaves stay.
+        ensures connected { (link : Link) → B.whole leaves.old →
+            CanConnect (rule self.now) (held self.now) (B.working leaves.old) link owner.now
+            member.now members.now → OnOk result
+            (held self.now (insert link member.now owner.now) (B.working leaves.new)) }
+        ensures others { (n : ℕ) → B.whole leaves.old → ¬ IsErrOf result Stop.Fault →
+            ¬ In n (rule self.now).leaves →
+            map_at (B.working leaves.new) n ≡ map_at (B.working leaves.old) n }
+
+        ensures keeps { Keeps B.View leaves.old leaves.new }
+        ensures work { B.work leaves.new ≡ B.work leaves.old }
+        ensures ends { Ends B.View (B.whole leaves.old) leaves.old leaves.new result }
+        ensures full { (link : Link) → B.whole leaves.old →
+            CanConnect (rule self.now) (held self.now) (B.working leaves.old) link owner.now
+            member.now members.now → IsErrOf result Stop.Full → IsCrowdedBy (B.limit leaves.old)
+            (entry_count (B.working leaves.old)
+            + length ((rule self.now).entries owner.now
+            (members_of (insert link member.now owner.now) owner.now))) };
+
+    /// Takes a member from its owner.
+    ///
+    /// `Full`: the pages may not be enough for the entries of the owner without the member, besides all
+    /// that there are. After a refusal a part of the change may be made.
+    fn disconnect_from<B: Leaves>(
+        &self,
+        alloc: Global,
+        leaves: &mut B,
+        owner: &Value,
+        member: &Value,
+    ) -> Result<(), Stop>
+        requires valid { valid self.now }
+        requires below { (n : ℕ) → In n (rule self.now).leaves → n < length (B.working leaves.old) }
+        requires owner { Fits (rule self.now).owner owner.now }
+        requires member { Fits (rule self.now).member member.now }
+
+        // The leaves hold the link without the pair, and all other leaves stay.
+        ensures disconnected { (link : Link) → B.whole leaves.old →
+            CanDisconnect (rule self.now) (held self.now) (B.working leaves.old) link owner.now
+            member.now → OnOk result
+            (held self.now (remove link member.now) (B.working leaves.new)) }
+        ensures others { (n : ℕ) → B.whole leaves.old → ¬ IsErrOf result Stop.Fault →
+            ¬ In n (rule self.now).leaves →
+            map_at (B.working leaves.new) n ≡ map_at (B.working leaves.old) n }
+
+        ensures keeps { Keeps B.View leaves.old leaves.new }
+        ensures ends { Ends B.View
+            (B.whole leaves.old × HasLink (rule self.now) (held self.now) (B.working leaves.old))
+            leaves.old leaves.new result }
+        ensures block { (n : ℕ) → IsErrOf result (Stop.Damaged n) → B.whole leaves.old → n ≡ 0 }
+        ensures full { (link : Link) → B.whole leaves.old →
+            CanDisconnect (rule self.now) (held self.now) (B.working leaves.old) link owner.now
+            member.now → IsErrOf result Stop.Full → IsCrowdedBy (B.limit leaves.old)
+            (entry_count (B.working leaves.old)
+            + length ((rule self.now).entries owner.now
+            (members_of (remove link member.now) owner.now))) };
+
+    /// What is true of each linkset.
+    ghost laws: { (l : Self) → valid l → LinksetLaws (rule l) (held l) };
+}
