@@ -11,6 +11,7 @@ ghost use Rattle.gx_slots.specs.Scan.{HoldsAscending};
 use crate::format::split_entry;
 use crate::page::{KIND, entries};
 use gx_bytes::{has_kind, page_body, record_count};
+use gx_order::compare_bytes;
 
 /// Whether the bytes are an entry page whose keys ascend. The page has 4,096 bytes, of any values.
 pub fn is_ascending(page: &[u8]) -> bool
@@ -69,5 +70,5 @@ pub fn rank(page: &[u8], key: &[u8]) -> u16
 fn is_below(a: &[u8], b: &[u8]) -> bool
     ensures { result ≡ is_lt (slice_cmp nat_cmp a.now b.now) }
 {
-    a.cmp(b).is_lt()
+    compare_bytes(a, b).is_lt()
 }
