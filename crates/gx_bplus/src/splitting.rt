@@ -16,6 +16,7 @@ ghost use Rattle.gx_bplus.specs.Splits.{IsDivided, IsRaised, MayHaveClaimed};
 
 use gx_bnode::{child_of, has_room, insert, make_inner, separator, separators, split};
 use gx_btree::child_for;
+use gx_order::compare_bytes;
 use gx_ports::{PAGE_LEN, Pages, Stop};
 
 /// Splits the inner child on the way to a key where it hasn't room for a separator. Gives the page
@@ -268,5 +269,5 @@ fn is_under(page: &[u8], i: u16, key: &[u8]) -> bool
 fn is_below(a: &[u8], b: &[u8]) -> bool
     ensures { result ≡ is_below a.now b.now }
 {
-    a.cmp(b).is_lt()
+    compare_bytes(a, b).is_lt()
 }

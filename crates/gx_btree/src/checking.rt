@@ -15,6 +15,7 @@ use crate::reading::{Shape, read_page};
 use crate::selection::is_up_to;
 use gx_bnode::{branches, child};
 use gx_device::Failed;
+use gx_order::compare_bytes;
 use gx_ports::{PAGE_LEN, Pages, Place, Stop};
 use gx_slots::{count, entry};
 use gx_values::{KeyBuf, NoMemory};
@@ -211,7 +212,7 @@ fn is_under(key: &[u8], bound: &Option<KeyBuf>) -> bool
     ensures { IsTrue result ↔ IsUnder key.now bound.now }
 {
     match bound {
-        Some(bound) => key.cmp(bound.as_slice()).is_lt(),
+        Some(bound) => compare_bytes(key, bound.as_slice()).is_lt(),
         None => true,
     }
 }

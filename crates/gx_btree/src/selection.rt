@@ -12,6 +12,7 @@ ghost use Rattle.gx_btree.specs.Bplus.{IsBplus};
 ghost use Rattle.gx_btree.specs.Selection.{given_from};
 
 use crate::searching::find;
+use gx_order::compare_bytes;
 use gx_ports::{Entries, PAGE_LEN, Pages, Place, Stop};
 use gx_slots::entries;
 use gx_values::{KeyBuf, NoMemory, Span, inside};
@@ -82,7 +83,7 @@ fn is_given(from: &[u8], span: &Span, key: &[u8]) -> bool
 pub(crate) fn is_up_to(a: &[u8], b: &[u8]) -> bool
     ensures { result ≡ is_le (slice_cmp nat_cmp a.now b.now) }
 {
-    a.cmp(b).is_le()
+    compare_bytes(a, b).is_le()
 }
 
 // Whether the key stands behind the span, and so all keys behind it do.
@@ -92,5 +93,5 @@ fn is_past(span: &Span, key: &[u8]) -> bool
 {
     let hi = span.hi.as_slice();
     let front = &key[..key.len().min(hi.len())];
-    front.cmp(hi).is_gt()
+    compare_bytes(front, hi).is_gt()
 }
