@@ -57,7 +57,7 @@ fn records_go_by_their_keys(rt: HostRuntime) -> Result<(), Fail> {
                 lo: value_key(&Value::Int(key)),
                 hi: value_key(&Value::Int(key)),
             };
-            assert!(rt; layer.skips(child, &span) == child != want);
+            assert!(rt; layer.skips(child, &span) == (child != want));
         }
     }
     Ok(())
