@@ -1,7 +1,7 @@
 use Rattle.std.proofs.Common.{rules, ◌≡◌, true, ℕ, length, ap}
 use Rattle.std.specs.Prelude.{◌&&◌, ◌==◌}
 use Rattle.gx_engine.proofs.StartLemmas.{are_storable}
-use Rattle.tests_program.proofs.structures.built.Goals as goal
+use Rattle.tests_structures.proofs.structures.built.Goals as goal
 
 pub returns-clause-stored : goal.returns-clause-stored
 returns-clause-stored g c =

@@ -1,6 +1,6 @@
 use Rattle.std.proofs.Common.{◌≡◌}
 use Rattle.gx_engine.specs.Steps.{IsReady, schema_of}
-use Rattle.tests_program.proofs.structures.played.Given as goal
+use Rattle.tests_structures.proofs.structures.played.Given as goal
 
 abbrev pub invariant-loop-line : goal.invariant-loop-line
 invariant-loop-line g l = record {
