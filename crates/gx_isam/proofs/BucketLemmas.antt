@@ -146,7 +146,7 @@ module _ (ground : Ground) (place : Place) (s t : Sheets) (map : LeafMap) (some 
   abbrev count : ℕ
   count = bucket_count (bytes_at s place.root)
 
-  abbrev pages_now : ℕ → List ℕ
+  abbrev pub pages_now : ℕ → List ℕ
   pages_now = changed h.pages j now
 
   off_before : (i q : ℕ) → i < count → i ≢ j → Contains (h.pages i) q → Contains (root ∷ h.pages j) q → ⊥
@@ -189,7 +189,7 @@ module _ (ground : Ground) (place : Place) (s t : Sheets) (map : LeafMap) (some 
         λ none. h.buckets.filled i q (in_old i less) old (ap entries_of (sym (bytes_stay i q (in_old i less) d old)) ∙ none))
   ]
 
-  owned_now : (q : ℕ) → slice_get t.owners q ≡ Some place.owner → (q ≡ root) ⊎ IsOfChain pages_now (bucket_count (bytes_at t root)) q
+  pub owned_now : (q : ℕ) → slice_get t.owners q ≡ Some place.owner → (q ≡ root) ⊎ IsOfChain pages_now (bucket_count (bytes_at t root)) q
   owned_now q o = elim (contains_or_not (root ∷ now) q) [
     | inl at ↦ elim (contains_cases root q now at) [
       | inl e ↦ inl (sym e)
@@ -221,12 +221,12 @@ module _ (ground : Ground) (place : Place) (s t : Sheets) (map : LeafMap) (some 
       (λ q at. elim (contains_cases root q now at) [ inl e ↦ subst (λ n. slice_get t.owners n ≡ Some place.owner) e c.root | inr later ↦ c.chain.owned q later ])
       c.beside
 
-  -- at one key of the bucket it has what was put, and else what it had
-  module _ (key : List ℕ) (its : bucket_of (bytes_at s root) key ≡ j) (Put : List ℕ → List ℕ → Type 0) (put_key : (k b : List ℕ) → Put k b → k ≡ key)
-      (entries : (k b : List ℕ) → IsOn t now k b ↔ (Put k b ⊎ ((k ≢ key) × IsOn s (h.pages j) k b))) where
+  -- The bucket has what was put, and what stays of what it had.
+  module _ (Put : List ℕ → List ℕ → Type 0) (put_here : (k b : List ℕ) → Put k b → bucket_of (bytes_at s root) k ≡ j) (Stays : List ℕ → Type 0) (stays : (k : List ℕ) → bucket_of (bytes_at s root) k ≢ j → Stays k)
+      (entries : (k b : List ℕ) → IsOn t now k b ↔ (Put k b ⊎ (Stays k × IsOn s (h.pages j) k b))) where
     placed_here : (k b : List ℕ) → IsOn t now k b → bucket_of (bytes_at s root) k ≡ j
     placed_here k b on = elim ((entries k b).0 on) [
-      | inl put ↦ ap (bucket_of (bytes_at s root)) (put_key k b put) ∙ its
+      | inl put ↦ put_here k b put
       | inr old ↦ h.buckets.placed j k b below old.1
     ]
 
@@ -236,7 +236,7 @@ module _ (ground : Ground) (place : Place) (s t : Sheets) (map : LeafMap) (some 
       | inr d ↦ h.buckets.placed i k b (in_old i less) ((on_other i k b (in_old i less) d).1 on)
     ]
 
-    on_now : (i : ℕ) (k b : List ℕ) → i < count → bucket_of (bytes_at s root) k ≡ i → IsOn t (pages_now i) k b ↔ (Put k b ⊎ ((k ≢ key) × IsOn s (h.pages i) k b))
+    on_now : (i : ℕ) (k b : List ℕ) → i < count → bucket_of (bytes_at s root) k ≡ i → IsOn t (pages_now i) k b ↔ (Put k b ⊎ (Stays k × IsOn s (h.pages i) k b))
     on_now i k b in_i at = elim (cases_eq i j) [
       | inl e ↦ (
         λ on. elim ((entries k b).0 (subst (λ (x : List ℕ). IsOn t x k b) (changed_here h.pages j now i e) on)) [
@@ -248,18 +248,33 @@ module _ (ground : Ground) (place : Place) (s t : Sheets) (map : LeafMap) (some 
           | inr old ↦ inr (old.0, subst (λ n. IsOn s (h.pages n) k b) e old.1)
         ])),
       )
-      | inr d ↦ (let other : k ≢ key = λ same. d (sym at ∙ ap (bucket_of (bytes_at s root)) same ∙ its) in (
-        λ on. inr (other, (on_other i k b in_i d).1 on),
-        λ put. elim put [ inl here ↦ absurd (other (put_key k b here)) | inr old ↦ (on_other i k b in_i d).0 old.1 ],
-      ))
+      | inr d ↦ (
+        λ on. inr (stays k (λ is. d (sym at ∙ is)), (on_other i k b in_i d).1 on),
+        λ put. elim put [ inl here ↦ absurd (d (sym at ∙ put_here k b here)) | inr old ↦ (on_other i k b in_i d).0 old.1 ],
+      )
     ]
 
-    pub bucket_isam : (new : LeafMap) → ((k b : List ℕ) → (fin.get new k ≡ Some b) ↔ (Put k b ⊎ ((k ≢ key) × IsOn s (h.pages (bucket_of (bytes_at s root) k)) k b))) → IsIsam ground place t new
-    bucket_isam new found = as_isam ground place t new pages_now c.index c.root (record { chains = chains_now; filled = filled_now; placed = placed_now }) owned_now
-        (λ k b. (let on = on_now (bucket_of (bytes_at s root) k) k b (bucket_below (bytes_at s root) k h.index.some) refl in (
-          λ is. subst (λ i. IsOn t (pages_now i) k b) (sym (same_bucket k)) (on.1 ((found k b).0 is)),
-          λ here. (found k b).1 (on.0 (subst (λ i. IsOn t (pages_now i) k b) (same_bucket k) here)),
-        )))
+    pub buckets_now : AreBuckets ground place.owner t (bytes_at t root) pages_now
+    buckets_now = record { chains = chains_now; filled = filled_now; placed = placed_now }
+
+    pub on_bucket : (k b : List ℕ) → IsOn t (pages_now (bucket_of (bytes_at t root) k)) k b ↔ (Put k b ⊎ (Stays k × IsOn s (h.pages (bucket_of (bytes_at s root) k)) k b))
+    on_bucket k b = (let on = on_now (bucket_of (bytes_at s root) k) k b (bucket_below (bytes_at s root) k h.index.some) refl in (
+      λ here. on.0 (subst (λ i. IsOn t (pages_now i) k b) (same_bucket k) here),
+      λ is. subst (λ i. IsOn t (pages_now i) k b) (sym (same_bucket k)) (on.1 is),
+    ))
+
+    pub bucket_isam : (new : LeafMap) → ((k b : List ℕ) → (fin.get new k ≡ Some b) ↔ (Put k b ⊎ (Stays k × IsOn s (h.pages (bucket_of (bytes_at s root) k)) k b))) → IsIsam ground place t new
+    bucket_isam new found = as_isam ground place t new pages_now c.index c.root buckets_now owned_now
+        (λ k b. (
+          λ is. (on_bucket k b).1 ((found k b).0 is),
+          λ here. (found k b).1 ((on_bucket k b).0 here),
+        ))
+
+  -- at one key of the bucket it has what was put, and else what it had
+  module _ (key : List ℕ) (its : bucket_of (bytes_at s root) key ≡ j) (Put : List ℕ → List ℕ → Type 0) (put_key : (k b : List ℕ) → Put k b → k ≡ key)
+      (entries : (k b : List ℕ) → IsOn t now k b ↔ (Put k b ⊎ ((k ≢ key) × IsOn s (h.pages j) k b))) where
+    pub key_isam : (new : LeafMap) → ((k b : List ℕ) → (fin.get new k ≡ Some b) ↔ (Put k b ⊎ ((k ≢ key) × IsOn s (h.pages (bucket_of (bytes_at s root) k)) k b))) → IsIsam ground place t new
+    key_isam = bucket_isam Put (λ k b put. ap (bucket_of (bytes_at s root)) (put_key k b put) ∙ its) (λ k. k ≢ key) (λ k d same. d (ap (bucket_of (bytes_at s root)) same ∙ its)) entries
 
 -- ---- one pair is set or taken away
 

@@ -9,6 +9,7 @@ use Rattle.gx_ports.specs.Files.{OthersStay}
 use Rattle.gx_ports.specs.LeafMaps.{LeafMap}
 use Rattle.gx_ports.specs.PageCalls.{ReadsPages}
 use Rattle.gx_ports.specs.Sheets.{Sheets, Ground, IsPast}
+use Rattle.gx_slots.specs.Entries.{Entry}
 use Rattle.gx_slots.specs.Page.{IsEntryPage}
 use Rattle.gx_chain.specs.Chain.{bytes_at, IsChain, IsOn, LeadsOn}
 use Rattle.gx_chain.specs.Changes.{IsPutIn, IsRemovedFrom}
@@ -16,9 +17,9 @@ use Rattle.gx_chain.proofs.ChainLemmas.{linked_page}
 use Rattle.gx_chain.proofs.ListLemmas.{contains_here, contains_none}
 use Rattle.gx_isam.specs.Index.{bucket_count, bucket_of, first_of}
 use Rattle.gx_isam.specs.Isam.{IsIsam}
-use Rattle.gx_isam.specs.Change.{IsBegun, IsSettled}
-use Rattle.gx_isam.proofs.BucketLemmas.{as_isam, bucket_isam, bucket_others, found_put, found_removed}
-use Rattle.gx_isam.proofs.BeginLemmas.{no_pages, begun_bucket, begun_on}
+use Rattle.gx_isam.specs.Change.{IsHungBefore, IsSettled}
+use Rattle.gx_isam.proofs.BucketLemmas.{as_isam, key_isam, bucket_others, found_put, found_removed}
+use Rattle.gx_isam.proofs.HangLemmas.{no_pages, some_there, only_entry, that_entry, hung_bucket, hung_on}
 use Rattle.gx_isam.proofs.SettleLemmas.{headed, settled}
 
 -- ---- the same file after calls that read
@@ -60,19 +61,25 @@ module _ (ground : Ground) (place : Place) (s : Sheets) (map : LeafMap) (least :
     first_none : first_of (bytes_at s place.root) bucket ≡ NONE
     first_none = ap (λ (b : List ℕ). first_of b bucket) (sym page_is) ∙ none
 
-    pub put_begun : (body : List ℕ) (u : Sheets) → IsBegun ground place page bucket key body s u → IsIsam ground place u (fin.insert map key body) × OthersStay ground place.owner s u
+    none_on : (k b : List ℕ) → IsOn s (h.pages bucket) k b → ⊥
+    none_on k b on = contains_none on.page (subst (λ (x : List ℕ). Contains x on.page) (no_pages ground place.owner s (h.pages bucket) small (chain_first NONE none)) on.among)
+
+    pub put_begun : (body : List ℕ) (u : Sheets) → IsHungBefore ground place page bucket (record { key = key; body = body } ∷ []) s u → IsIsam ground place u (fin.insert map key body) × OthersStay ground place.owner s u
     put_begun body u begun =
-        let b = subst (λ (x : List ℕ). IsBegun ground place x bucket key body s u) page_is begun in
-        let changed = begun_bucket ground place s u map least past small h bucket within first_none key body b in (
-          bucket_isam ground place s u map least h bucket within (b.fresh ∷ []) changed key at (λ k c. (k ≡ key) × (c ≡ body)) (λ k c put. put.0)
-              (begun_on ground place s u map least past small h bucket within first_none key body b) (fin.insert map key body) (found_put ground place s map key h body),
-          bucket_others ground place s u map least h bucket within (b.fresh ∷ []) changed,
+        let entry : Entry = record { key = key; body = body } in
+        let b = subst (λ (x : List ℕ). IsHungBefore ground place x bucket (entry ∷ []) s u) page_is begun in
+        let apart = λ (k x y : List ℕ) (here : Contains (entry ∷ []) (record { key = k; body = x })) (on : IsOn s (h.pages bucket) k y). none_on k y on in
+        let changed = hung_bucket ground place s u map least h bucket within (entry ∷ []) (some_there entry []) apart b in (
+          key_isam ground place s u map least h bucket within (b.fresh ∷ h.pages bucket) changed key at (λ k c. (k ≡ key) × (c ≡ body)) (λ k c put. put.0)
+              (λ k c. (
+                λ on. elim ((hung_on ground place s u map least h bucket within (entry ∷ []) (some_there entry []) apart b k c).0 on) [ inl here ↦ inl (only_entry key body k c here) | inr old ↦ absurd (none_on k c old) ],
+                λ put. elim put [ inl is ↦ (hung_on ground place s u map least h bucket within (entry ∷ []) (some_there entry []) apart b k c).1 (inl (that_entry key body k c is)) | inr old ↦ absurd (none_on k c old.1) ],
+              )) (fin.insert map key body) (found_put ground place s map key h body),
+          bucket_others ground place s u map least h bucket within (b.fresh ∷ h.pages bucket) changed,
         )
 
     lacks : (k b : List ℕ) → IsOn s (h.pages (bucket_of (bytes_at s place.root) k)) k b → k ≢ key
-    lacks k b on same =
-        let here = subst (λ (x : List ℕ). IsOn s x k b) (ap h.pages (ap (bucket_of (bytes_at s place.root)) same ∙ at) ∙ no_pages ground place.owner s (h.pages bucket) small (chain_first NONE none)) on in
-        contains_none here.page here.among
+    lacks k b on same = none_on k b (subst (λ n. IsOn s (h.pages n) k b) (ap (bucket_of (bytes_at s place.root)) same ∙ at) on)
 
     pub removed_none : IsIsam ground place s (fin.remove map key)
     removed_none = as_isam ground place s (fin.remove map key) h.pages h.index h.root h.buckets h.owned
@@ -92,7 +99,7 @@ module _ (ground : Ground) (place : Place) (s : Sheets) (map : LeafMap) (least :
     pub put_settled : (body : List ℕ) → IsPutIn ground place.owner first key body s t (h.pages bucket) → IsSettled ground place page bucket first t u → IsIsam ground place u (fin.insert map key body) × OthersStay ground place.owner s u
     put_settled body put after =
         let c = settled ground place s t u map least past h bucket within first first_is some put.pages put.chain put.beside (settled_index after) in (
-          bucket_isam ground place s u map least h bucket within c.now c.bucket key at (λ k b. (k ≡ key) × (b ≡ body)) (λ k b is. is.0)
+          key_isam ground place s u map least h bucket within c.now c.bucket key at (λ k b. (k ≡ key) × (b ≡ body)) (λ k b is. is.0)
               (λ k b. (λ on. (put.entries k b).0 ((c.on k b).0 on), λ old. (c.on k b).1 ((put.entries k b).1 old)))
               (fin.insert map key body) (found_put ground place s map key h body),
           bucket_others ground place s u map least h bucket within c.now c.bucket,
@@ -101,7 +108,7 @@ module _ (ground : Ground) (place : Place) (s : Sheets) (map : LeafMap) (least :
     pub removed_settled : IsRemovedFrom ground place.owner first key s t (h.pages bucket) → IsSettled ground place page bucket first t u → IsIsam ground place u (fin.remove map key) × OthersStay ground place.owner s u
     removed_settled less after =
         let c = settled ground place s t u map least past h bucket within first first_is some less.pages less.chain less.beside (settled_index after) in (
-          bucket_isam ground place s u map least h bucket within c.now c.bucket key at (λ k b. ⊥) (λ k b never. absurd never)
+          key_isam ground place s u map least h bucket within c.now c.bucket key at (λ k b. ⊥) (λ k b never. absurd never)
               (λ k b. (λ on. inr ((less.entries k b).0 ((c.on k b).0 on)), λ old. elim old [ inl never ↦ absurd never | inr was ↦ (c.on k b).1 ((less.entries k b).1 was) ]))
               (fin.remove map key) (found_removed ground place s map key h),
           bucket_others ground place s u map least h bucket within c.now c.bucket,

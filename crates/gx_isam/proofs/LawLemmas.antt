@@ -18,7 +18,7 @@ use Rattle.gx_chain.proofs.WriteLemmas.{slice_get_set, slice_get_set_same}
 use Rattle.gx_slots.specs.Page.{entries_of}
 use Rattle.gx_isam.specs.Index.{IsIndexPage, bucket_count, bucket_of, first_of}
 use Rattle.gx_isam.specs.Gathered.{pages_below}
-use Rattle.gx_isam.specs.Isam.{AreBuckets, IsIsam, IsOfChain}
+use Rattle.gx_isam.specs.Isam.{AreBuckets, IsIsam, IsOfChain, IsOnChain}
 use Rattle.gx_isam.specs.Map.{isam_map}
 use Rattle.gx_isam.proofs.BucketLemmas.{as_isam, bucket_below, isam_at, root_off}
 use Rattle.gx_isam.proofs.MakeLemmas.{one_root}
@@ -61,21 +61,14 @@ module _ (ground : Ground) (place : Place) (s : Sheets) (pages : ℕ → List �
     λ on. (map_is k c).1 (record { page = on.page; among = on.among; here = on.here }),
   ))
 
-  -- they hold the map that is read on them
-  pub isam_of : IsIsam ground place s (isam_map place s)
-  isam_of = record {
-    index = index;
-    root = root_owned;
-    pages = pages;
-    buckets = b;
-    owned = owned;
-    map_is = λ k c.
-        let is_on = owned_map_is place.owner rootless all some apart are_owned all_owned k c in
-        let below = on_below s pages count k c in (
-          λ is. (let on = is_on.0 is in below.0 (record { page = on.page; among = on.among; here = on.here })),
-          λ chain. (let on = below.1 chain in is_on.1 (record { page = on.page; among = on.among; here = on.here })),
-        );
-  }
+  -- that map has what stands on the chains
+  pub isam_map_on : (k c : List ℕ) → (fin.get (isam_map place s) k ≡ Some c) ↔ IsOnChain s pages count k c
+  isam_map_on k c =
+      let is_on = owned_map_is place.owner rootless all some apart are_owned all_owned k c in
+      let below = on_below s pages count k c in (
+        λ is. (let on = is_on.0 is in below.0 (record { page = on.page; among = on.among; here = on.here })),
+        λ chain. (let on = below.1 chain in is_on.1 (record { page = on.page; among = on.among; here = on.here })),
+      )
 
 -- its pages decide
 pub isam_same : (ground : Ground) (place : Place) (s t : Sheets) (map : LeafMap) → ground.tables ≤ place.root → SameFor ground place.owner s t → IsIsam ground place s map → IsIsam ground place t map

@@ -3,7 +3,7 @@ pub mod ScanLemmas
 pub mod IndexLemmas
 pub mod BucketLemmas
 pub mod SettleLemmas
-pub mod BeginLemmas
+pub mod HangLemmas
 pub mod WriteLemmas
 pub mod ChangeLemmas
 pub mod MakeLemmas
@@ -12,3 +12,7 @@ pub mod SpanLemmas
 pub mod LawLemmas
 pub mod PlacedLemmas
 pub mod VisitedLemmas
+pub mod LayoutLemmas
+pub mod SelectedLemmas
+pub mod RebuildLemmas
+pub mod FreshLemmas

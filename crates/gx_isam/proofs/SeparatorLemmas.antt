@@ -18,6 +18,11 @@ pub length-separator_bytes : (separator : List ℕ) → length (separator_bytes 
 unfolding separator_bytes
 length-separator_bytes separator = omega arith
 
+-- a length and a separator
+pub separator_parts : (separator : List ℕ) → separator_bytes separator ≡ to_be_bytes w16 (length separator) ++ separator
+unfolding separator_bytes
+separator_parts separator = refl
+
 -- a length, a separator and a tail
 pub written_parts : (separator tail : List ℕ) → separator_bytes separator ++ tail ≡ to_be_bytes w16 (length separator) ++ (separator ++ tail)
 unfolding separator_bytes

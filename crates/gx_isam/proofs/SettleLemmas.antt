@@ -1,4 +1,4 @@
--- The first page of a chain that has no entry is left out.
+-- The first page of a chain is left out.
 use Rattle.std.proofs.Common.{◌≡◌, ◌≢◌, ◌↔◌, inl, inr, ℕ, ◌<◌, ◌≤◌, List, [], ◌∷◌, set, Some, sym, ap, subst, ◌∙◌, arith}
 use Rattle.std.specs.Prelude.{slice_get}
 use Rattle.std.specs.List.{Contains}
@@ -83,7 +83,7 @@ module _ (ground : Ground) (place : Place) (s t u : Sheets) (map : LeafMap) (som
     };
   }
 
-  module _ (l : IsLeftOut ground place (bytes_at s root) j first t u) (rest : List ℕ) (is : pages ≡ first ∷ rest) where
+  module _ (l : IsLeftOut ground place (bytes_at s root) j first (next_at t first) t u) (rest : List ℕ) (is : pages ≡ first ∷ rest) where
     abbrev m : Sheets
     m = l.between
 
@@ -125,16 +125,6 @@ module _ (ground : Ground) (place : Place) (s t u : Sheets) (map : LeafMap) (som
     root_now : bytes_at u root ≡ bytes_at m root
     root_now = at_other m u root (l.freed.bytes root past)
 
-    -- the same entries stand on the rest
-    pub on_rest : (k b : List ℕ) → IsOn u rest k b ↔ IsOn t pages k b
-    on_rest k b = (
-      λ on. (let old = same_on_back ground place.owner 0 t u rest rest_same k b on in record { page = old.page; among = rest_in old.page old.among; here = old.here }),
-      λ on. elim (contains_cases first on.page rest (subst (λ (x : List ℕ). Contains x on.page) is on.among)) [
-        | inl e ↦ absurd (contains_none (record { key = k; body = b }) (subst (λ (x : List Entry). Contains x (record { key = k; body = b })) (ap (entries_at t) (sym e) ∙ l.empty) on.here))
-        | inr later ↦ same_on ground place.owner 0 t u rest rest_same k b (record { page = on.page; among = later; here = on.here })
-      ],
-    )
-
     pub left_out : IsBucketChanged ground place j s u (h.pages j) rest
     left_out = record {
       index = subst IsIndexPage (sym root_now) l.written.is_page;
@@ -170,6 +160,26 @@ module _ (ground : Ground) (place : Place) (s t u : Sheets) (map : LeafMap) (som
       };
     }
 
+    -- the entries of the first page are gone
+    pub on_rest : (k b : List ℕ) → IsOn u rest k b ↔ (((c : List ℕ) → Contains (entries_at t first) (record { key = k; body = c }) → ⊥) × IsOn t pages k b)
+    on_rest k b = (
+      λ on. (let old = same_on_back ground place.owner 0 t u rest rest_same k b on in (
+        λ c at. rest_apart old.page old.among (chain.apart old.page first k b c (rest_in old.page old.among) first_in old.here at),
+        record { page = old.page; among = rest_in old.page old.among; here = old.here },
+      )),
+      λ gone. elim (contains_cases first gone.1.page rest (subst (λ (x : List ℕ). Contains x gone.1.page) is gone.1.among)) [
+        | inl e ↦ absurd (gone.0 b (subst (λ n. Contains (entries_at t n) (record { key = k; body = b })) (sym e) gone.1.here))
+        | inr later ↦ same_on ground place.owner 0 t u rest rest_same k b (record { page = gone.1.page; among = later; here = gone.1.here })
+      ],
+    )
+
+    -- there were none
+    pub on_rest_of_empty : entries_at t first ≡ [] → (k b : List ℕ) → IsOn u rest k b ↔ IsOn t pages k b
+    on_rest_of_empty empty k b = (
+      λ on. ((on_rest k b).0 on).1,
+      λ old. (on_rest k b).1 (λ c at. contains_none (record { key = k; body = c }) (subst (λ (x : List Entry). Contains x (record { key = k; body = c })) empty at), old),
+    )
+
   -- either way the bucket has changed, and has the entries of the changed chain
   pub record IsSettledChange : Type 0 where
     pub now : List ℕ
@@ -182,4 +192,5 @@ module _ (ground : Ground) (place : Place) (s t u : Sheets) (map : LeafMap) (som
     bucket = subst (λ (x : Sheets). IsBucketChanged ground place j s x (h.pages j) pages) (sym stays.1) (still_filled stays.0);
     on = λ k b. (λ on. subst (λ (x : Sheets). IsOn x pages k b) stays.1 on, λ on. subst (λ (x : Sheets). IsOn x pages k b) (sym stays.1) on);
   }
-  settled (inr l) = let head = headed ground place.owner t first pages chain first_some in record { now = head.0; bucket = left_out l head.0 head.1; on = on_rest l head.0 head.1 }
+  settled (inr out) = (let head = headed ground place.owner t first pages chain first_some in
+      record { now = head.0; bucket = left_out out.1 head.0 head.1; on = on_rest_of_empty out.1 head.0 head.1 out.0 })

@@ -20,7 +20,7 @@ use Rattle.gx_isam.specs.Isam.{IsIsam, IsOfChain}
 use Rattle.gx_isam.specs.Map.{isam_map}
 use Rattle.gx_isam.specs.Visited.{ArePlaced, IsVisitedBucket, HasUnseenBucket, AreVisitedBuckets, IsRootAndSeen, HasEntryAt}
 use Rattle.gx_isam.proofs.BucketLemmas.{changed, changed_here, changed_other, once}
-use Rattle.gx_isam.proofs.BeginLemmas.{no_pages}
+use Rattle.gx_isam.proofs.HangLemmas.{no_pages}
 use Rattle.gx_isam.proofs.ChangeLemmas.{entry_first}
 use Rattle.gx_isam.proofs.LawLemmas.{isam_of}
 use Rattle.gx_isam.proofs.SettleLemmas.{headed}

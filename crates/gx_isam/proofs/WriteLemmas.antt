@@ -44,3 +44,22 @@ changed_spared g sound ground owner s old new (Err stop.Fault) whole ends ok ful
 changed_spared g sound ground owner s old new (Err stop.Full) whole ends ok full frugal fault = absurd (full refl)
 changed_spared g sound ground owner s old new (Err (stop.Damaged n)) whole ends ok full frugal fault = absurd (ends.cause.damaged n refl whole)
 changed_spared g sound ground owner s old new (Err stop.NoMemory) whole ends ok full frugal fault = absurd (frugal refl)
+
+-- what is sound isn't refused but for a fault
+pub no_refusal : {S T : Type 0} (g : Ghosts S) (sound : Type 0) (old new : S) (why : Stop) → sound → EndsFile {T = T} g sound old new (Err why) → (IsErrOf {T = T} (Err why) stop.Full → ⊥) → (IsErrOf {T = T} (Err why) stop.NoMemory → ⊥) → (why ≡ stop.Fault → ⊥) → ⊥
+no_refusal g sound old new stop.Fault whole ends full frugal fault = fault refl
+no_refusal g sound old new stop.Full whole ends full frugal fault = full refl
+no_refusal g sound old new (stop.Damaged n) whole ends full frugal fault = ends.cause.damaged n refl whole
+no_refusal g sound old new stop.NoMemory whole ends full frugal fault = frugal refl
+
+-- nor is it but for a fault or where no page was found, and then nothing has changed
+pub only_full : {S T : Type 0} (g : Ghosts S) (old new : S) (why : Stop) → EndsFile {T = T} g (Unit {0}) old new (Err why) → (IsErrOf {T = T} (Err why) stop.Full → g.working new ≡ g.working old) → (IsErrOf {T = T} (Err why) stop.NoMemory → ⊥) → (why ≡ stop.Fault → ⊥) → g.working new ≡ g.working old
+only_full g old new stop.Fault ends full frugal fault = absurd (fault refl)
+only_full g old new stop.Full ends full frugal fault = full refl
+only_full g old new (stop.Damaged n) ends full frugal fault = absurd (ends.cause.damaged n refl tt)
+only_full g old new stop.NoMemory ends full frugal fault = absurd (frugal refl)
+
+-- a refusal that is handed on is answered
+pub handed_refusal : {T : Type 0} (result : Result T Stop) (why e : Stop) → IsErrAnd result (λ s. s ≡ why) → why ≡ e → IsErrOf result e
+handed_refusal (Ok x) why e handed is = absurd handed
+handed_refusal (Err s) why e handed is = ap Err (handed ∙ is)

@@ -1,8 +1,9 @@
 -- What changes make of the index page and of the chains behind it.
-use Rattle.std.specs.Prelude.{◌≡◌, ◌≢◌, ◌⊎◌, ℕ, ◌<◌, List, [], ◌∷◌, slice_get, Option, MatchOption}
+use Rattle.std.specs.Prelude.{◌≡◌, ◌≢◌, ◌⊎◌, ℕ, ◌<◌, List, [], slice_get, Option, MatchOption}
 use Rattle.gx_bytes.specs.declared.page.TheConstants.{NONE}
 use Rattle.gx_ports.specs.declared.pages.Place.{Place}
 use Rattle.gx_ports.specs.Sheets.{Sheets, Ground, IsPast, IsClaimed, IsOwnedAnew}
+use Rattle.gx_slots.specs.Entries.{Entry}
 use Rattle.gx_chain.specs.Chain.{bytes_at, entries_at, next_at}
 use Rattle.gx_chain.specs.Changes.{IsRewritten}
 use Rattle.gx_isam.specs.Index.{IsIndexPage, bucket_count, first_of, separators_of}
@@ -21,22 +22,22 @@ pub record IsIndexWritten (root : ℕ) (index : List ℕ) (bucket first : ℕ) (
   pub separators : separators_of (bytes_at new root) ≡ separators_of index
   pub others : (page : ℕ) → page ≢ root → slice_get new.bytes page ≡ slice_get old.bytes page
 
--- a claimed page with one entry is the chain of a bucket
-pub record IsBegun (ground : Ground) (place : Place) (index : List ℕ) (bucket : ℕ) (key body : List ℕ) (old new : Sheets) : Type 0 where
+-- a claimed page with these entries stands before the first page of a bucket
+pub record IsHungBefore (ground : Ground) (place : Place) (index : List ℕ) (bucket : ℕ) (entries : List Entry) (old new : Sheets) : Type 0 where
   pub fresh : ℕ
   pub claimed : Sheets
   pub filled : Sheets
   pub claim : IsClaimed fresh place.owner ground old claimed
-  pub page : IsRewritten fresh NONE (record { key = key; body = body } ∷ []) claimed filled
+  pub page : IsRewritten fresh (first_of index bucket) entries claimed filled
   pub written : IsIndexWritten place.root index bucket fresh filled new
 
 -- the first page of a chain was left out, and is free
-pub record IsLeftOut (ground : Ground) (place : Place) (index : List ℕ) (bucket first : ℕ) (old new : Sheets) : Type 0 where
-  pub empty : entries_at old first ≡ []
+pub record IsLeftOut (ground : Ground) (place : Place) (index : List ℕ) (bucket first next : ℕ) (old new : Sheets) : Type 0 where
   pub between : Sheets
-  pub written : IsIndexWritten place.root index bucket (next_at old first) old between
+  pub written : IsIndexWritten place.root index bucket next old between
   pub freed : IsOwnedAnew first 0 ground between new
 
 -- it was left out where it had no entry
 abbrev pub IsSettled : Ground → Place → List ℕ → ℕ → ℕ → Sheets → Sheets → Type 0
-IsSettled ground place index bucket first old new = ((entries_at old first ≢ []) × (new ≡ old)) ⊎ IsLeftOut ground place index bucket first old new
+IsSettled ground place index bucket first old new =
+    ((entries_at old first ≢ []) × (new ≡ old)) ⊎ ((entries_at old first ≡ []) × IsLeftOut ground place index bucket first (next_at old first) old new)

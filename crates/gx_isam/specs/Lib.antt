@@ -4,3 +4,5 @@ pub mod Change
 pub mod Gathered
 pub mod Visited
 pub mod Map
+pub mod Fresh
+pub mod Layout

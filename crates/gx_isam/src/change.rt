@@ -1,18 +1,20 @@
 // The chain of a bucket begins, and its first page leaves it.
-ghost use Rattle.std.specs.Prelude.{◌≡◌, ◌+◌, ◌<◌, ◌≤◌, length, IsTrue, OnOk, IsErrOf};
+ghost use Rattle.std.specs.Prelude.{◌≡◌, ◌+◌, ◌<◌, ◌≤◌, ◌≢◌, ◌∷◌, ℕ, [], length, IsTrue, OnOk, IsErrOf};
 ghost use Rattle.gx_ports.specs.declared.leaves.TheConstants.{MAX_KEY_LEN, MAX_ENTRY_LEN};
 ghost use Rattle.gx_ports.specs.declared.pages.TheConstants.{PAGE_LEN};
 ghost use Rattle.gx_ports.specs.Files.{IsPlace, EndsFile};
-ghost use Rattle.gx_ports.specs.PageCalls.{KeepsPages};
+ghost use Rattle.gx_ports.specs.PageCalls.{KeepsPages, CountsPageFaults};
 ghost use Rattle.gx_ports.specs.Sheets.{IsPast, HasNone};
-ghost use Rattle.gx_chain.specs.Chain.{IsEntryAt};
-ghost use Rattle.gx_isam.specs.Index.{IsIndexPage, bucket_count};
-ghost use Rattle.gx_isam.specs.Change.{IsBegun, IsSettled};
+ghost use Rattle.gx_slots.specs.Page.{IsEntryPage, entries_of};
+ghost use Rattle.gx_chain.specs.Chain.{bytes_at, IsEntryAt};
+ghost use Rattle.gx_isam.specs.Index.{IsIndexPage, bucket_count, separators_of, first_of};
+ghost use Rattle.gx_isam.specs.Change.{IsHungBefore, IsLeftOut, IsSettled};
 
-use crate::index::set_first;
+use crate::index::{first, set_first};
 use crate::read::read_entries;
+use gx_device::Failed;
 use gx_ports::{PAGE_LEN, Pages, Place, Stop};
-use gx_slots::{add, clear, count, next};
+use gx_slots::{add, clear, count, next, set_next};
 
 /// Begins the chain of a bucket by a page with one entry. The page is claimed before any is
 /// written. `Full`: no page past the table is free, and nothing has changed.
@@ -31,7 +33,8 @@ pub(crate) fn begin_chain<P: Pages>(
     requires key { length key.now ≤ MAX_KEY_LEN }
     requires entry { length key.now + length body.now ≤ MAX_ENTRY_LEN }
     ensures begun { IsTrue P.tells → OnOk result
-        (IsBegun (P.ground pages.old) place.now index.old bucket key.now body.now
+        (IsHungBefore (P.ground pages.old) place.now index.old bucket
+        (record { key = key.now; body = body.now } ∷ [])
         (P.working pages.old) (P.working pages.new)) }
     ensures full { IsTrue P.tells → IsErrOf result Stop.Full →
         HasNone (P.ground pages.old) (P.working pages.old) }
@@ -41,11 +44,46 @@ pub(crate) fn begin_chain<P: Pages>(
     ensures ends { EndsFile P.PageView (Unit {0}) pages.old pages.new result }
     ensures frugal { ¬ IsErrOf result Stop.NoMemory }
 {
-    let fresh = pages.claim(place.owner)?;
     let mut page = [0; PAGE_LEN];
     clear(&mut page);
     add(&mut page, 0, key, body);
-    pages.write(fresh, &page)?;
+    hang_before(pages, place, index, bucket, &mut page)
+}
+
+/// Claims a page for these entries, and hangs it before the first page of the chain of a bucket.
+/// `Full`: no page past the table is free, and nothing has changed.
+pub(crate) fn hang_before<P: Pages>(
+    pages: &mut P,
+    place: &Place,
+    index: &mut [u8],
+    bucket: u16,
+    page: &mut [u8],
+) -> Result<(), Stop>
+    requires place { IsPlace (P.ground pages.old) place.now }
+    requires root { IsPast (P.ground pages.old) place.now.root }
+    requires index { IsIndexPage index.old }
+    requires bucket { bucket < bucket_count index.old }
+    requires page { IsEntryPage page.old }
+    ensures hung { IsTrue P.tells → OnOk result
+        (IsHungBefore (P.ground pages.old) place.now index.old bucket (entries_of page.old)
+        (P.working pages.old) (P.working pages.new)) }
+    ensures written { IsTrue P.tells →
+        OnOk result (index.new ≡ bytes_at (P.working pages.new) place.now.root) }
+    ensures index { IsIndexPage index.new }
+    ensures count { bucket_count index.new ≡ bucket_count index.old }
+    ensures separators { separators_of index.new ≡ separators_of index.old }
+    ensures page_len { length page.new ≡ PAGE_LEN }
+    ensures full { IsTrue P.tells → IsErrOf result Stop.Full →
+        HasNone (P.ground pages.old) (P.working pages.old) }
+    ensures unchanged { IsErrOf result Stop.Full →
+        P.working pages.new ≡ P.working pages.old }
+    ensures keeps { KeepsPages P.PageView pages.old pages.new }
+    ensures ends { EndsFile P.PageView (Unit {0}) pages.old pages.new result }
+    ensures frugal { ¬ IsErrOf result Stop.NoMemory }
+{
+    let fresh = pages.claim(place.owner)?;
+    set_next(page, first(index, bucket));
+    pages.write(fresh, page)?;
     set_first(index, bucket, fresh);
     pages.write(place.root, index)?;
     Ok(())
@@ -77,7 +115,37 @@ pub(crate) fn leave_out_empty<P: Pages>(
     if count(&page) > 0 {
         return Ok(());
     }
-    set_first(index, bucket, next(&page));
+    leave_out(pages, place, index, bucket, first, next(&page))?;
+    Ok(())
+}
+
+/// Leaves the first page of a chain out, of which `next` is the next one, and makes it free. After
+/// `Failed` the pages are to be opened again.
+pub(crate) fn leave_out<P: Pages>(
+    pages: &mut P,
+    place: &Place,
+    index: &mut [u8],
+    bucket: u16,
+    first: u32,
+    next: u32,
+) -> Result<(), Failed>
+    requires root { IsPast (P.ground pages.old) place.now.root }
+    requires first { IsPast (P.ground pages.old) first }
+    requires index { IsIndexPage index.old }
+    requires bucket { bucket < bucket_count index.old }
+    ensures left_out { IsTrue P.tells → OnOk result
+        (IsLeftOut (P.ground pages.old) place.now index.old bucket first next
+        (P.working pages.old) (P.working pages.new)) }
+    ensures written { IsTrue P.tells →
+        OnOk result (index.new ≡ bytes_at (P.working pages.new) place.now.root) }
+    ensures index { IsIndexPage index.new }
+    ensures count { bucket_count index.new ≡ bucket_count index.old }
+    ensures firsts { (other : ℕ) → other < bucket_count index.old → other ≢ bucket →
+        first_of index.new other ≡ first_of index.old other }
+    ensures keeps { KeepsPages P.PageView pages.old pages.new }
+    ensures faults { CountsPageFaults P.PageView pages.old pages.new result }
+{
+    set_first(index, bucket, next);
     pages.write(place.root, index)?;
     pages.free(first)?;
     Ok(())

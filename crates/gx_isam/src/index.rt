@@ -9,16 +9,16 @@ ghost use Rattle.gx_isam.specs.Index.{IsFit, HoldsAscending, IsIndexPage, behind
 use gx_bytes::{NONE, has_kind, overwrite, record_count, split_u16, split_u32, write_header};
 
 /// The byte that an index page begins with.
-const KIND: u8 = 0x58;
+pub(crate) const KIND: u8 = 0x58;
 
 /// The greatest number of buckets.
-const MAX_BUCKETS: u16 = 64;
+pub(crate) const MAX_BUCKETS: u16 = 64;
 
 /// Where the first pages of the buckets begin.
-const FIRSTS_AT: usize = 4;
+pub(crate) const FIRSTS_AT: usize = 4;
 
 /// The number of bytes of a first page.
-const FIRST_LEN: usize = 4;
+pub(crate) const FIRST_LEN: usize = 4;
 
 /// Makes an index page of one bucket, which has no page. The page has 4,096 bytes, of any values.
 pub(crate) fn clear_index(page: &mut [u8])
@@ -155,8 +155,8 @@ fn are_some_separators(bytes: &[u8], count: u16) -> bool
     true
 }
 
-// Whether `a` stands before `b`, byte by byte, a proper front first.
-fn is_below(a: &[u8], b: &[u8]) -> bool
+/// Whether `a` stands before `b`, byte by byte, a proper front first.
+pub(crate) fn is_below(a: &[u8], b: &[u8]) -> bool
     ensures { result ≡ is_lt (key_cmp a.now b.now) }
 {
     a.cmp(b).is_lt()

@@ -1,22 +1,26 @@
 // The calls on an indexed sequential file.
-ghost use Rattle.std.specs.Prelude.{◌≡◌, ◌+◌, ◌≤◌, ◌++◌, length, IsTrue, OnOk, IsErrOf};
+ghost use Rattle.std.specs.Prelude.{◌≡◌, ◌+◌, ◌≤◌, ◌++◌, [], length, IsTrue, IfOk, OnOk, IsErrOf};
 ghost use Rattle.std.specs.FinMap.{empty, insert, remove};
 ghost use Rattle.gx_ports.specs.declared.leaves.TheConstants.{MAX_KEY_LEN, MAX_ENTRY_LEN};
 ghost use Rattle.gx_ports.specs.declared.kinds.LeafKind.TheVariants.{Isam};
 ghost use Rattle.gx_ports.specs.Files.{IsPlace, IsVacant, ClaimsRoots, Holds, OthersStay, EndsFile, SparesOthers, IsFull, IsWhole};
 ghost use Rattle.gx_ports.specs.LeafMaps.{LeafMap, Extends, selected};
 ghost use Rattle.gx_ports.specs.PageCalls.{KeepsPages, ReadsPages, CountsPageFaults};
+ghost use Rattle.gx_isam.specs.Fresh.{IsFresh};
 ghost use Rattle.gx_isam.specs.Isam.{IsIsam};
+ghost use Rattle.gx_isam.specs.Layout.{AreOrdered};
 
 use crate::change::{begin_chain, leave_out_empty};
 use crate::index::{bucket_of, clear_index};
+use crate::layout::{are_ordered, write_index};
 use crate::read::{first_page, read_index};
+use crate::rebuild::{fill_chains, free_chains};
 use crate::spans::gather_inside;
 use crate::visits::{seek_others, visit_buckets};
 use gx_chain::{append_sorted, no_visits, put_in, remove_from};
 use gx_device::Failed;
 use gx_ports::{Entries, PAGE_LEN, Pages, Place, Stop};
-use gx_values::Span;
+use gx_values::{KeyBuf, Span};
 use std::alloc::Global;
 
 /// Makes an empty indexed sequential file at a place whose root is free and whose owner has no
@@ -134,6 +138,63 @@ pub fn select<P: Pages>(
     let mut found = gather_inside(alloc, pages, place, span)?;
     append_sorted(&mut found, out)?;
     Ok(())
+}
+
+/// Lays the file out anew: its entries are dealt out evenly to as many buckets as `IsFresh` says,
+/// and the pages of each chain are filled in the order of the keys. The entries are read first, so
+/// that `NoMemory` and `Damaged` leave the pages as they were. `Full`: no page past the table is
+/// free. `Fault`: the pages are to be opened again. After `Full` only a part of the entries may
+/// stand there.
+pub fn reorganize<P: Pages>(alloc: Global, pages: &mut P, place: &Place) -> Result<(), Stop>
+    requires kind { place.now.spec.kind ≡ Isam }
+    requires place { IsPlace (P.ground pages.old) place.now }
+    ensures ok { (map : LeafMap) →
+        Holds P.PageView (IsIsam (P.ground pages.old) place.now) pages.old map →
+        OnOk result (IsIsam (P.ground pages.old) place.now (P.working pages.new) map) }
+    ensures fresh { (map : LeafMap) →
+        Holds P.PageView (IsIsam (P.ground pages.old) place.now) pages.old map →
+        OnOk result (IsFresh place.now (P.working pages.new) map) }
+    ensures others { SparesOthers P.PageView (IsIsam (P.ground pages.old) place.now)
+        place.now.owner pages.old pages.new result }
+    ensures full { IsFull P.PageView (IsIsam (P.ground pages.old) place.now)
+        place.now pages.old pages.new result }
+    ensures keeps { KeepsPages P.PageView pages.old pages.new }
+    ensures ends { EndsFile P.PageView
+        (IsWhole P.PageView (IsIsam (P.ground pages.old) place.now) pages.old)
+        pages.old pages.new result }
+{
+    let entries = gather_all(alloc, pages, place)?;
+    free_chains(pages, place)?;
+    let mut index = [0; PAGE_LEN];
+    write_index(&mut index, &entries);
+    pages.write(place.root, &index)?;
+    fill_chains(pages, place, &mut index, &entries)
+}
+
+// All entries of the file. `Damaged`: no whole file stands there.
+fn gather_all<P: Pages>(alloc: Global, pages: &mut P, place: &Place) -> Result<Entries, Stop>
+    requires kind { place.now.spec.kind ≡ Isam }
+    requires place { IsPlace (P.ground pages.old) place.now }
+    ensures all { (map : LeafMap) →
+        Holds P.PageView (IsIsam (P.ground pages.old) place.now) pages.old map →
+        IfOk result (λ entries. entries ≡ selected [] [] map) }
+    ensures ordered { IfOk result AreOrdered }
+    ensures reads { ReadsPages P.PageView pages.old pages.new }
+    ensures ends { EndsFile P.PageView
+        (IsWhole P.PageView (IsIsam (P.ground pages.old) place.now) pages.old)
+        pages.old pages.new result }
+    ensures not_full { ¬ IsErrOf result Stop.Full }
+{
+    let all = Span {
+        lo: KeyBuf::from_slice(&[]),
+        hi: KeyBuf::from_slice(&[]),
+    };
+    let mut entries = Entries::new(alloc);
+    select(alloc, pages, place, &all, &mut entries)?;
+    if !are_ordered(&entries) {
+        return Err(Stop::Damaged(pages.block(place.root)));
+    }
+    Ok(entries)
 }
 
 /// Looks whether the file is whole. Each page of its chains is read once, and the first one of a

@@ -5,8 +5,10 @@
 mod change;
 mod index;
 mod isam;
+mod layout;
 mod read;
+mod rebuild;
 mod spans;
 mod visits;
 
-pub use isam::{check, make, put, remove, select};
+pub use isam::{check, make, put, remove, reorganize, select};
