@@ -1,6 +1,7 @@
 -- A piece that is said part by part.
 use Rattle.std.proofs.Common.{◌≡◌, ℕ, zero, suc, ◌+◌, ◌-◌, List, [], ◌∷◌, ◌++◌, length, take, drop, refl, sym, ap, ◌∙◌, arith, append_assoc}
-use Rattle.std.proofs.lemmas.List.{drop-drop, take_all, length-drop}
+use Rattle.std.proofs.lemmas.List.{append-nil, drop-drop, take_all, length-drop}
+use Rattle.gx_device.specs.Quiet.{IsPrefix}
 use Rattle.gx_ports.specs.Calls.{Talks}
 use Rattle.gx_ports.specs.declared.view.View.{Ghosts}
 use Rattle.gx_engine.specs.declared.engine.Engine.{Engine}
@@ -19,7 +20,20 @@ said_more piece rest old mid new done n is so_far next =
 pub rest_more : (piece rest : List ℕ) (done n : ℕ) → rest ≡ drop done piece → take (length rest - n) (drop n rest) ≡ drop (done + n) piece
 rest_more piece rest done n is = take_all (length rest - n) (drop n rest) (omega (arith, length-drop n rest)) ∙ ap (drop n) is ∙ drop-drop n done piece
 
--- what `hear` and `say` keep, once and one after the other
+-- ---- what was said before stays in front
+
+pub begins_same : (xs ys : List ℕ) → ys ≡ xs → IsPrefix xs ys
+begins_same xs ys same = ([], same ∙ sym (append-nil xs))
+
+pub begins_then : (xs ys zs : List ℕ) → IsPrefix xs ys → IsPrefix ys zs → IsPrefix xs zs
+begins_then xs ys zs p q = (p.0 ++ q.0, q.1 ∙ ap (λ (t : List ℕ). t ++ q.0) p.1 ∙ append_assoc xs p.0 q.0)
+
+-- a front of a piece was said behind it
+pub begins_front : (xs ys zs piece : List ℕ) → ys ≡ xs → ((n : ℕ) × (zs ≡ ys ++ take n piece)) → IsPrefix xs zs
+begins_front xs ys zs piece same said = (take said.0 piece, said.1 ∙ ap (λ (t : List ℕ). t ++ take said.0 piece) same)
+
+-- ---- what `hear` and `say` keep, once and one after the other
+
 pub talks_itself : {S : Type 0} (g : Ghosts S) (a : S) → Talks g a a
 talks_itself g a = record { working = refl; whole = λ h. h; kept = refl; kept_whole = (λ h. h, λ h. h); work = refl; limit = refl; head = refl; calm = λ s h. h }
 

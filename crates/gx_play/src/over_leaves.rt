@@ -1,6 +1,7 @@
 // Hearing a script and playing it over leaves.
 ghost use Rattle.std.specs.Prelude.{◌≡◌, ◌≤◌, [], Ok, false, length, IsTrue, IsErrOf, IfErr};
 ghost use Rattle.gx_device.specs.Faults.{Rose};
+ghost use Rattle.gx_device.specs.Quiet.{IsPrefix};
 ghost use Rattle.gx_schema.specs.WellFormed.{IsWellFormed};
 ghost use Rattle.gx_model.specs.States.{State};
 ghost use Rattle.gx_engine.specs.Steps.{AreFor};
@@ -20,7 +21,8 @@ use std::alloc::Global;
 /// a device that tells its content, exactly the answers of the play from that state were said, up
 /// to the line that ends it, and the last kept state is in the kept leaves; after a stop the answers of the
 /// first lines, and their last kept state; after `Fault` a front of the answers. `Full` comes only where
-/// the pages may be too few for the command of the next line, and damage isn't found.
+/// the pages may be too few for the command of the next line, and damage isn't found. On any leaves of
+/// such a device what was said before stays, in front.
 pub fn play_over<'a, B: Leaves + Drop>(
     alloc: Global,
     schema: Schema,
@@ -38,6 +40,8 @@ pub fn play_over<'a, B: Leaves + Drop>(
     ensures ending { IfErr result.0 IsPlayEnding }
     ensures fault { IsErrOf result.0 Ending.Fault → Rose (B.faults leaves) (B.faults result.1) }
     ensures head { B.head result.1 ≡ B.head leaves }
+    ensures begins { IsTrue B.tells →
+        IsPrefix (B.content leaves).now.said (B.content result.1).now.said }
     ensures shelf { (B.content result.1).now.shelf ≡ (B.content leaves).now.shelf }
     ensures aside { (B.content result.1).aside ≡ (B.content leaves).aside }
     ensures counted { is_fault result.0 ≡ false → B.faults result.1 ≡ B.faults leaves }

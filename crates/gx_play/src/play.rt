@@ -2,6 +2,7 @@
 ghost use Rattle.std.specs.Prelude.{◌≡◌, ◌≢◌, ◌^◌, ◌<◌, ◌≤◌, ◌+◌, ◌++◌, List, ℕ, Option, None, Ok, Err, false, length, take, IsTrue, IfOk, IfErr, IfSome, OnOk, OnErr, ◌-◌, option_map};
 ghost use Rattle.gx_schema.specs.WellFormed.{IsWellFormed};
 ghost use Rattle.gx_device.specs.Faults.{Rose};
+ghost use Rattle.gx_device.specs.Quiet.{IsPrefix};
 ghost use Rattle.gx_ports.specs.Stops.{is_fault};
 ghost use Rattle.gx_ports.specs.Calls.{Keeps};
 ghost use Rattle.gx_engine.specs.Steps.{IsReady, IsAt, IsDue, IsShortFor, schema_of, built_of, is_open, stop_of, leaves_of};
@@ -78,6 +79,8 @@ fn play_line<B: Leaves + Drop>(
     ensures limit { B.limit (leaves_of engine.new) ≡ B.limit (leaves_of engine.old) }
     ensures head { B.head (leaves_of engine.new) ≡ B.head (leaves_of engine.old) }
     ensures rest { OnlySays (B.content (leaves_of engine.old)) (B.content (leaves_of engine.new)) }
+    ensures begins { IsTrue B.tells → IsPrefix (B.content (leaves_of engine.old)).now.said
+        (B.content (leaves_of engine.new)).now.said }
     ensures counted { is_play_fault result ≡ false →
         B.faults (leaves_of engine.new) ≡ B.faults (leaves_of engine.old) }
     ensures later { B.faults (leaves_of engine.old) ≤ B.faults (leaves_of engine.new) }
@@ -137,6 +140,8 @@ fn carry_out<B: Leaves + Drop>(
     ensures limit { B.limit (leaves_of engine.new) ≡ B.limit (leaves_of engine.old) }
     ensures head { B.head (leaves_of engine.new) ≡ B.head (leaves_of engine.old) }
     ensures rest { OnlySays (B.content (leaves_of engine.old)) (B.content (leaves_of engine.new)) }
+    ensures begins { IsTrue B.tells → IsPrefix (B.content (leaves_of engine.old)).now.said
+        (B.content (leaves_of engine.new)).now.said }
     ensures counted { is_fault result ≡ false →
         B.faults (leaves_of engine.new) ≡ B.faults (leaves_of engine.old) }
     ensures later { B.faults (leaves_of engine.old) ≤ B.faults (leaves_of engine.new) }
@@ -156,7 +161,7 @@ fn carry_out<B: Leaves + Drop>(
 /// after `Stop` exactly the answers of the first lines, and the kept leaves stand for the last state
 /// that these kept; after `Stop(Fault)` a front of the answers. Of a stop, `Fault` comes only where the
 /// count of faults rose, `Full` only where the pages may be too few for the command of the next line,
-/// and `Damaged` never.
+/// and `Damaged` never. Whatever the engine stands for, what was said before stays, in front.
 pub fn play<B: Leaves + Drop>(
     alloc: Global,
     script: &[u8],
@@ -177,6 +182,8 @@ pub fn play<B: Leaves + Drop>(
     ensures built { built_of engine.new ≡ built_of engine.old }
     ensures head { B.head (leaves_of engine.new) ≡ B.head (leaves_of engine.old) }
     ensures rest { OnlySays (B.content (leaves_of engine.old)) (B.content (leaves_of engine.new)) }
+    ensures begins { IsTrue B.tells → IsPrefix (B.content (leaves_of engine.old)).now.said
+        (B.content (leaves_of engine.new)).now.said }
     ensures counted { is_play_fault result ≡ false →
         B.faults (leaves_of engine.new) ≡ B.faults (leaves_of engine.old) }
     ensures later { B.faults (leaves_of engine.old) ≤ B.faults (leaves_of engine.new) }

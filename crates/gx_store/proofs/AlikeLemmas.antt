@@ -28,6 +28,9 @@ alike_same old new same = subst (λ (bs : List (List ℕ)). ReadAlike old bs) (s
 pub alike_then : (old mid new : List (List ℕ)) → ReadAlike old mid → new ≡ mid → ReadAlike old new
 alike_then old mid new is same = subst (λ (bs : List (List ℕ)). ReadAlike old bs) (sym same) is
 
+pub alike_back : (old new : List (List ℕ)) → ReadAlike old new → ReadAlike new old
+alike_back old new is = record { count = sym is.count; head = sym is.head; pages = sym is.pages }
+
 -- what opens one opens the other, with the same maps
 pub reopens_alike : (schema equation : List ℕ) (specs : List LeafSpec) (maps : List LeafMap) (old new : List (List ℕ)) → ReadAlike old new
     → Reopens schema equation specs maps old → Reopens schema equation specs maps new

@@ -1,5 +1,5 @@
 // A database's leaves are opened.
-ghost use Rattle.std.specs.Prelude.{◌≡◌, ◌+◌, ◌≤◌, ℕ, List, Some, true, length, IsTrue, IfOk, IfErr, OnOk};
+ghost use Rattle.std.specs.Prelude.{◌≡◌, ◌+◌, ◌≤◌, ℕ, List, Some, None, true, length, IsTrue, IfOk, IfErr, OnOk};
 ghost use Rattle.gx_device.specs.Content.{device_at, Silent};
 ghost use Rattle.gx_device.specs.Faults.{Counted};
 ghost use Rattle.gx_ports.specs.LeafMaps.{LeafMap};
@@ -30,7 +30,7 @@ use std::alloc::Global;
 /// `OtherTexts`. After the first three no block was written. `Fault`: the count of faults rose;
 /// with every other answer it stays. `NoMemory`: there was none. With every answer but `Fault` the
 /// device still reads as it did, so that what opened it opens it again; whatever it answers, no
-/// block was written but by recovery.
+/// block was written but by recovery, and no device was made.
 pub fn open<M: Machine + Drop>(
     alloc: Global,
     machine: M,
@@ -54,6 +54,9 @@ pub fn open<M: Machine + Drop>(
     ensures untouched { CanAttach M.tells (M.content machine) →
         IfErr result (λ e. is_untouched e.1 ≡ true →
         device_at (M.content e.0).now name.now ≡ device_at (M.content machine).now name.now) }
+    ensures absent { CanAttach M.tells (M.content machine) →
+        device_at (M.content machine).now name.now ≡ None →
+        device_at (M.content (machine_left result)).now name.now ≡ None }
     ensures named { CanAttach M.tells (M.content machine) → IfOk result
         (λ s. (M.content (machine_of s)).now.shelf.name ≡ Some name.now) }
     ensures attaches { CanAttach M.tells (M.content machine) →

@@ -1,10 +1,12 @@
 use Rattle.std.proofs.Common.{refl, sym, ap, subst, ◌∙◌, arith}
+use Rattle.gx_device.specs.Quiet.{IsPrefix}
 use Rattle.gx_model.specs.Play.{start_at}
 use Rattle.gx_ports.specs.declared.stop.Stop.TheVariants as stop
 use Rattle.gx_engine.specs.Steps.{leaves_of}
 use Rattle.gx_play.specs.Plays.{IsHeard}
 use Rattle.gx_play.proofs.HoldingLemmas.{holding_after, at_first, kept_in}
 use Rattle.gx_play.proofs.OverLemmas.{played_as, played_over, unheard, heard_to_end, play_ending, outside_ending, stop_of_ending, rose_before}
+use Rattle.gx_play.proofs.SayLemmas.{begins_same, begins_then}
 use Rattle.gx_play.proofs.over_leaves.play_over.Goals as goal
 
 pub returns-in-Err-clause-answered : goal.returns-in-Err-clause-answered
@@ -48,3 +50,14 @@ returns-clause-fault g c = λ e.
     rose_before (g.B.View.faults c.args.leaves) (g.B.View.faults (leaves_of c.start-engine.result)) (g.B.View.faults (leaves_of c.play-played.new.engine)) (g.B.View.faults c.into_leaves.result)
     (omega (arith, c.in-Ok.ensures.later, ap g.B.View.faults c.start-engine.ensures.leaves))
     (ap g.B.View.faults (sym c.into_leaves.ensures)) rose
+
+pub returns-in-Err-clause-begins : goal.returns-in-Err-clause-begins
+returns-in-Err-clause-begins g c = λ told. begins_same _ _ (ap (λ n. n.said) c.in-Err.ensures.rest.now)
+
+pub returns-clause-begins : goal.returns-clause-begins
+returns-clause-begins g c = λ told.
+    let content = g.B.View.content in
+    subst (IsPrefix (content c.args.leaves).now.said) (ap (λ l. (content l).now.said) (sym c.into_leaves.ensures))
+    (begins_then (content c.args.leaves).now.said (content (leaves_of c.start-engine.result)).now.said (content (leaves_of c.play-played.new.engine)).now.said
+    (begins_same (content c.args.leaves).now.said (content (leaves_of c.start-engine.result)).now.said (ap (λ l. (content l).now.said) c.start-engine.ensures.leaves ∙ ap (λ n. n.said) c.in-Ok.ensures.rest.now))
+    (c.play-played.ensures.begins told))

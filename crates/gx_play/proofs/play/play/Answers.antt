@@ -3,6 +3,7 @@ use Rattle.gx_commands.specs.Lines.{script_lines}
 use Rattle.gx_play.specs.declared.play.PlayEnd.TheVariants as play_end
 use Rattle.gx_play.specs.Plays.{IsSoFar}
 use Rattle.gx_play.proofs.PlayLemmas.{few_lines, at_start, after_line, at_line_end, at_end, at_line, is_err, stop_other, no_play_fault}
+use Rattle.gx_play.proofs.SayLemmas.{begins_same, begins_then}
 use Rattle.gx_play.proofs.play.play.Goals as goal
 
 pub loop-line-init : goal.loop-line-init
@@ -15,6 +16,7 @@ loop-line-init g c = record {
   so_far = λ told p at. subst (λ ls. IsSoFar g.B.View p (script_lines c.args.script.now) ls 0 c.args.engine.now c.args.engine.now) (sym c.new-lines.ensures.lines) (at_start _ p _ c.args.engine.now at);
   stands = λ p at. (p, at);
   limit = refl;
+  begins = λ told. begins_same _ _ refl;
   rest = record { shelf = refl; script = refl; aside = refl };
   head = refl;
   counted = refl;
@@ -34,6 +36,7 @@ loop-line-preserved g c = record {
       let now = c.loop-line.invariant.stands p at in
       (_, (c.in_ok-play_line.ensures.played now.0 now.1).played.at);
   limit = c.in_ok-play_line.ensures.limit ∙ c.loop-line.invariant.limit;
+  begins = λ told. begins_then _ _ _ (c.loop-line.invariant.begins told) (c.in_ok-play_line.ensures.begins told);
   rest = record { shelf = c.in_ok-play_line.ensures.rest.shelf ∙ c.loop-line.invariant.rest.shelf; script = c.in_ok-play_line.ensures.rest.script ∙ c.loop-line.invariant.rest.script; aside = c.in_ok-play_line.ensures.rest.aside ∙ c.loop-line.invariant.rest.aside };
   head = c.in_ok-play_line.ensures.head ∙ c.loop-line.invariant.head;
   counted = c.in_ok-play_line.ensures.counted refl ∙ c.loop-line.invariant.counted;
@@ -59,3 +62,6 @@ returns-then-inside-clause-played g c = λ told p at. at_end _ p _ c.loop-line.l
 
 pub returns-clause-played : goal.returns-clause-played
 returns-clause-played g c = λ told p at. at_end _ p _ c.loop-line.lines c.loop-line.number _ c.loop-line.engine false (c.loop-line.invariant.so_far told p at) (search rules) (search rules)
+
+pub returns-in_err-play_line-clause-begins : goal.returns-in_err-play_line-clause-begins
+returns-in_err-play_line-clause-begins g c = λ told. begins_then _ _ _ (c.loop-line.invariant.begins told) (c.in_err-play_line.ensures.begins told)

@@ -1,4 +1,5 @@
 use Rattle.std.proofs.Common.{◌≡◌, ◌≤◌, ◌+◌, None, length, IsTrue}
+use Rattle.gx_device.specs.Quiet.{IsPrefix}
 use Rattle.gx_engine.specs.Steps.{IsReady, IsAt, schema_of, built_of, stop_of, leaves_of}
 use Rattle.gx_model.specs.Play.{Playing}
 use Rattle.gx_commands.specs.Lines.{script_lines}
@@ -17,6 +18,7 @@ invariant-loop-line g l = record {
   stands : (p : Playing) → IsAt g.B.View p l.fn.engine → (q : Playing) × IsAt g.B.View q l.engine;
   limit : g.B.View.limit (leaves_of l.engine) ≡ g.B.View.limit (leaves_of l.fn.engine);
   head : g.B.View.head (leaves_of l.engine) ≡ g.B.View.head (leaves_of l.fn.engine);
+  begins : IsTrue g.B.View.tells → IsPrefix (g.B.View.content (leaves_of l.fn.engine)).now.said (g.B.View.content (leaves_of l.engine)).now.said;
   rest : OnlySays (g.B.View.content (leaves_of l.fn.engine)) (g.B.View.content (leaves_of l.engine));
   counted : g.B.View.faults (leaves_of l.engine) ≡ g.B.View.faults (leaves_of l.fn.engine);
 }

@@ -1,4 +1,4 @@
-use Rattle.std.proofs.Common.{◌∙◌, ℕ, List, refl, sym, ap, subst}
+use Rattle.std.proofs.Common.{◌≡◌, ◌∙◌, ℕ, List, Some, None, refl, sym, ap, subst}
 use Rattle.std.specs.Prelude.{Err}
 use Rattle.std.proofs.lemmas.Result.{IfOk-weaker, IfErr-weaker, on_ok_weaker}
 use Rattle.gx_device.specs.Content.{Moment, Silent, device_at}
@@ -22,6 +22,9 @@ returns-in-Err-clause-unopened g c = λ can.
 
 pub returns-in-Err-clause-untouched : goal.returns-in-Err-clause-untouched
 returns-in-Err-clause-untouched g c = λ can e. ap (λ (m : Moment). device_at m c.args.name.now) c.in-Err.ensures.refused.now
+
+pub returns-in-Err-clause-absent : goal.returns-in-Err-clause-absent
+returns-in-Err-clause-absent g c = λ can none. ap (λ (m : Moment). device_at m c.args.name.now) c.in-Err.ensures.refused.now ∙ none
 
 pub returns-in-Err-clause-attaches : goal.returns-in-Err-clause-attaches
 returns-in-Err-clause-attaches g c = λ can. refused_rest c.args.name.now _ _ c.in-Err.ensures.refused
@@ -55,6 +58,11 @@ returns-clause-untouched g c = λ can.
     (λ e is same none. left_alone c.args.name.now (g.M.Device.content c.args.machine) (g.M.Device.content c.attach.new.self) (g.M.Device.content e.0) can.free o
     (subst (λ r. Silent (g.M.Device.content c.attach.new.self) (g.M.Device.content (machine_left r))) is c.open_attached.ensures.silent) (same none))
     (c.open_attached.ensures.untouched can.told)
+
+pub returns-clause-absent : goal.returns-clause-absent
+returns-clause-absent g c = λ can none.
+    let o = c.in_default.ensures.opened can.told can.free refl in
+    absurd (let wrong : ◌≡◌ {A = _} None (Some o.blocks) = sym none ∙ o.was in cc)
 
 pub returns-clause-named : goal.returns-clause-named
 returns-clause-named g c = λ can.
