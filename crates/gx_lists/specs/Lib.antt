@@ -1,0 +1,3 @@
+pub mod Spans
+pub mod Inverted
+pub mod InvertedLaws

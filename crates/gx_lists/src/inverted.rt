@@ -1,0 +1,90 @@
+// Inverted lists.
+ghost use Rattle.std.specs.Prelude.{◌≡◌};
+
+use crate::records::{add_members, owned_rec, owner_of, pair_rec};
+use crate::spans::value_span;
+use gx_gather::Recs;
+use gx_links::Linkset;
+use gx_mapping::Mapping;
+use gx_ports::{Leaves, Stop};
+use gx_stack::Node;
+use gx_values::{Value, Values};
+use std::alloc::Global;
+
+/// An inverted list: a link in two nodes, each pair once under its owner and once under its member.
+pub struct Inverted<'a, M: Mapping> {
+    /// a record of each pair under its owner and then its member, without data
+    pub down: &'a Node<M>,
+    /// a record of each member, with its owner
+    pub up: &'a Node<M>,
+}
+
+impl<'a, M: Mapping> Linkset for Inverted<'a, M> {
+    ghost use Rattle.gx_stack.specs.Seen.{tree_of};
+    ghost use Rattle.gx_links.specs.Rows.{IsHeldLink};
+    ghost use Rattle.gx_lists.specs.Inverted.{two_nodes, inverted_rows, inverted_rule, IsInverted};
+    ghost use Rattle.gx_lists.specs.InvertedLaws.{inverted_laws};
+
+    ghost rule = { λ l. inverted_rule M.rule (tree_of l.down.now) (tree_of l.up.now) };
+
+    ghost held = { λ l. IsHeldLink M.rule (two_nodes (tree_of l.down.now) (tree_of l.up.now))
+        inverted_rows };
+
+    ghost valid = { λ l. IsInverted M.rule (tree_of l.down.now) (tree_of l.up.now) };
+
+    ghost laws = { λ l valid. inverted_laws M.rule M.laws (tree_of l.down.now) (tree_of l.up.now)
+        valid };
+
+    fn members<B: Leaves>(
+        &self,
+        alloc: Global,
+        leaves: &mut B,
+        owner: &Value,
+        out: &mut Values,
+    ) -> Result<(), Stop> {
+        let mut found = Recs::new(alloc);
+        let span = value_span(self.down.form(), owner);
+        self.down.select(alloc, leaves, &span, &mut found)?;
+        add_members(found, out)?;
+        Ok(())
+    }
+
+    fn owner<B: Leaves>(
+        &self,
+        alloc: Global,
+        leaves: &mut B,
+        member: &Value,
+    ) -> Result<Option<Value>, Stop> {
+        let mut found = Recs::new(alloc);
+        let span = value_span(self.up.form(), member);
+        self.up.select(alloc, leaves, &span, &mut found)?;
+        Ok(owner_of(found))
+    }
+
+    fn connect_among<B: Leaves>(
+        &self,
+        alloc: Global,
+        leaves: &mut B,
+        owner: &Value,
+        member: &Value,
+        _members: &Values,
+    ) -> Result<(), Stop> {
+        let pair = pair_rec(alloc, owner, member)?;
+        let owned = owned_rec(alloc, owner, member)?;
+        self.down.replace(alloc, leaves, None, Some(&pair))?;
+        self.up.replace(alloc, leaves, None, Some(&owned))
+    }
+
+    fn disconnect_from<B: Leaves>(
+        &self,
+        alloc: Global,
+        leaves: &mut B,
+        owner: &Value,
+        member: &Value,
+    ) -> Result<(), Stop> {
+        let pair = pair_rec(alloc, owner, member)?;
+        let owned = owned_rec(alloc, owner, member)?;
+        self.down.replace(alloc, leaves, Some(&pair), None)?;
+        self.up.replace(alloc, leaves, Some(&owned), None)
+    }
+}
