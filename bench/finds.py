@@ -15,7 +15,9 @@ from scripts import RECORDS, SCHEMA, Work
 EQUATION = "part = index(quantity, index(name, actual(bplus), bplus), bplus)\n"
 INDEXES = ["create index by_quantity on part (quantity);", "create index by_name on part (name);"]
 ONES = 20_000
-RANGES = 50
+RANGES = 2_000
+# no run takes longer than a minute
+LIMIT = ["timeout", "60"]
 
 
 class Finds(Work):
@@ -86,8 +88,8 @@ def main():
         ours, theirs, before = {}, {}, {}
         for number, (title, work, begin) in enumerate(works()):
             work.write(folder, str(number))
-            ours[title] = Job(f"genesis: {title}", [program, "try", f"{folder}/schema", f"{folder}/equation"], f"{folder}/{number}.script")
-            theirs[title] = Job(f"sqlite3: {title}", ["sqlite3", "-batch", ":memory:"], f"{folder}/{number}.sql")
+            ours[title] = Job(f"genesis: {title}", [*LIMIT, program, "try", f"{folder}/schema", f"{folder}/equation"], f"{folder}/{number}.script")
+            theirs[title] = Job(f"sqlite3: {title}", [*LIMIT, "sqlite3", "-batch", ":memory:"], f"{folder}/{number}.sql")
             before[title] = begin
             if records(ours[title].run()) != theirs[title].run().splitlines():
                 sys.exit(f"{title}: the records that sqlite3 says are others")
