@@ -1,6 +1,7 @@
 -- What is to be defined, in its order.
 use Rattle.std.specs.Prelude.{List, ◌++◌, map, take, slice_index_or}
 use Rattle.gx_values.specs.declared.records.Form.{Form}
+use Rattle.gx_values.specs.declared.values.Kind.{Kind}
 use Rattle.gx_schema.specs.declared.schema.FileDef.{FileDef}
 use Rattle.gx_schema.specs.declared.schema.LinkDef.{LinkDef}
 use Rattle.gx_schema.specs.declared.schema.Schema.{Schema}
@@ -15,9 +16,15 @@ file_form file = record { keys = take 1 file.fields; fields = data_fields file }
 abbrev pub file_due : FileDef → Due
 file_due file = record { name = file.name; stored = stored.File (file_form file) }
 
--- a link has the kinds of the keys of its two files
+-- the kinds of the keys of a link's owner file and of its member file
+abbrev pub owner_kind : List FileDef → LinkDef → Kind
+owner_kind files link = key_kind (slice_index_or files link.owner no_file)
+
+abbrev pub member_kind : List FileDef → LinkDef → Kind
+member_kind files link = key_kind (slice_index_or files link.member no_file)
+
 abbrev pub link_due : List FileDef → LinkDef → Due
-link_due files link = record { name = link.name; stored = stored.Link (key_kind (slice_index_or files link.owner no_file)) (key_kind (slice_index_or files link.member no_file)) }
+link_due files link = record { name = link.name; stored = stored.Link (owner_kind files link) (member_kind files link) }
 
 -- the files, and then the links
 abbrev pub dues : Schema → List Due

@@ -2,6 +2,7 @@
 ghost use Rattle.std.specs.Prelude.{◌≡◌, slice_index_or, take, drop, IfOk};
 ghost use Rattle.gx_schema.specs.Lookups.{key_kind, no_file};
 ghost use Rattle.gx_typing.specs.Dues.{file_form, file_due, link_due, dues};
+ghost use Rattle.gx_typing.specs.Dues.{owner_kind, member_kind};
 
 use gx_forms::{copy_fields, first_kind};
 use gx_schema::{FileDef, LinkDef, Schema};
@@ -70,12 +71,22 @@ fn key_kind(files: &[FileDef], number: u16) -> Kind
     }
 }
 
+/// The kinds of the keys of the owner file and of the member file of a link between two of the
+/// files.
+pub fn link_kinds(files: &[FileDef], link: &LinkDef) -> (Kind, Kind)
+    ensures owner { result.0 ≡ owner_kind files.now link.now }
+    ensures member { result.1 ≡ member_kind files.now link.now }
+{
+    (key_kind(files, link.owner), key_kind(files, link.member))
+}
+
 fn link_due(files: &[FileDef], link: &LinkDef) -> Due
     ensures { result ≡ link_due files.now link.now }
 {
+    let (owner, member) = link_kinds(files, link);
     Due {
         name: copy_name(&link.name),
-        stored: Stored::Link(key_kind(files, link.owner), key_kind(files, link.member)),
+        stored: Stored::Link(owner, member),
     }
 }
 

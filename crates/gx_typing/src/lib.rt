@@ -9,7 +9,7 @@ mod terms;
 mod typing;
 mod whole;
 
-pub use dues::file_form;
+pub use dues::{file_form, link_kinds};
 pub use reasons::{TypeWhy, Untyped};
 pub use typing::{Owners, Specs, Typing, root_pages, smallest_device};
 pub use whole::typed;

@@ -1,8 +1,5 @@
 // Typing of sides.
-ghost use Rattle.std.specs.Prelude.{◌≡◌, IfOk};
 ghost use Rattle.gx_equation.specs.Seen.{side_of};
-ghost use Rattle.gx_forms.specs.Forms.{array_form, ring_form, inverted_form};
-ghost use Rattle.gx_forms.specs.Narrow.{narrow};
 ghost use Rattle.gx_typing.specs.Sides.{link_typed, side_typed};
 ghost use Rattle.gx_typing.specs.Typing.{Answers};
 
@@ -11,58 +8,9 @@ use crate::reasons::{TypeWhy, Untyped};
 use crate::terms::{behind, both_typed, here, term_typed};
 use crate::typing::Typing;
 use gx_equation::Side;
-use gx_forms::{key_width, make_field};
-use gx_values::{Fields, Form, Kind};
-use std::alloc::{AllocError, Global};
-
-/// The most members of an owner in a link.
-const MOST_MEMBERS: u16 = 500;
-
-// The form of the child of `array`: an owner, and the keys of its members.
-fn array_form(alloc: Global, owner: Kind, member: Kind) -> Result<Form, AllocError>
-    ensures { IfOk result (λ made. narrow made ≡ narrow (array_form owner member)) }
-{
-    let members = Kind::Bytes(key_width(member).saturating_mul(MOST_MEMBERS));
-    Ok(Form {
-        keys: Fields(vec![in alloc; make_field(b"owner", owner)]?),
-        fields: Fields(vec![in alloc; make_field(b"members", members)]?),
-    })
-}
-
-// The forms of the children of `ring`: an owner and its first member, and a member and the next one.
-fn ring_forms(alloc: Global, owner: Kind, member: Kind) -> Result<(Form, Form), AllocError>
-    ensures { IfOk result (λ made. (narrow made.0 ≡ narrow (ring_form owner member 0)) × (narrow made.1 ≡ narrow (ring_form owner member 1))) }
-{
-    let next = Kind::Bytes(key_width(owner).max(key_width(member)));
-    let firsts = Form {
-        keys: Fields(vec![in alloc; make_field(b"owner", owner)]?),
-        fields: Fields(vec![in alloc; make_field(b"first", member)]?),
-    };
-    let nexts = Form {
-        keys: Fields(vec![in alloc; make_field(b"member", member)]?),
-        fields: Fields(vec![in alloc;
-            make_field(b"last", Kind::Int),
-            make_field(b"next", next),
-            make_field(b"owner", owner),
-        ]?),
-    };
-    Ok((firsts, nexts))
-}
-
-// The forms of the children of `inverted`: an owner with a member, and a member and its owner.
-fn inverted_forms(alloc: Global, owner: Kind, member: Kind) -> Result<(Form, Form), AllocError>
-    ensures { IfOk result (λ made. (narrow made.0 ≡ narrow (inverted_form owner member 0)) × (narrow made.1 ≡ narrow (inverted_form owner member 1))) }
-{
-    let pairs = Form {
-        keys: Fields(vec![in alloc; make_field(b"owner", owner), make_field(b"member", member)]?),
-        fields: Fields(Vec::new(alloc)),
-    };
-    let owners = Form {
-        keys: Fields(vec![in alloc; make_field(b"member", member)]?),
-        fields: Fields(vec![in alloc; make_field(b"owner", owner)]?),
-    };
-    Ok((pairs, owners))
-}
+use gx_forms::{array_form, inverted_forms, ring_forms};
+use gx_values::Kind;
+use std::alloc::Global;
 
 // A side where that of a link is due, by the kinds of the keys of its owner file and of its member file.
 fn link_typed<'a>(
