@@ -67,7 +67,7 @@ def works():
     yield f"{ONES:,} finds of one by the key", Finds().many(ONES, lambda it: f"number = {it.randrange(RECORDS)}"), begin
     yield f"{RANGES:,} finds of 100 by a range of keys", Finds().many(RANGES, keys), begin
     yield f"{RANGES:,} finds of 100 by a range of an indexed field", Finds().many(RANGES, quantities), begin
-    yield "the same with a second condition", Finds().many(RANGES, lambda it: f"{quantities(it)} and number < {RECORDS // 2}"), begin
+    yield "the same with a second condition", Finds().many(RANGES, lambda it: f'{quantities(it)} and name < "n"'), begin
     yield "the same in the order of another field", Finds().many(RANGES, quantities, "name"), begin
 
 
