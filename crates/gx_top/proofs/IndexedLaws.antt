@@ -83,9 +83,8 @@ side_indexed_as n form (link_side linkset ts) u name is = absurd is
 
 -- the same of a file and its node, by their number
 pub file_indexed_as : (n : ℕ) (files : List FileDef) (ds : List DefinitionTree) (nodes : List (Node AnyMapping)) (i : ℕ) (name : List ℕ) → AreTreesOfFiles n files ds nodes → is_indexed any_rule (tree_at nodes i) name ≡ file_indexed files ds i name
-file_indexed_as n [] [] [] i name are = refl
-file_indexed_as n [] [] (x ∷ xs) i name are = absurd are
-file_indexed_as n [] (d ∷ ds) xs i name are = absurd are
+file_indexed_as n [] ds [] i name are = refl
+file_indexed_as n [] ds (x ∷ xs) i name are = absurd are
 file_indexed_as n (file ∷ files) [] xs i name are = absurd are
 file_indexed_as n (file ∷ files) (d ∷ ds) [] i name are = absurd are
 file_indexed_as n (file ∷ files) (d ∷ ds) (x ∷ xs) zero name are = side_indexed_as n (file_form file) d.side (tree_of x) name are.0

@@ -1,5 +1,5 @@
 -- The nodes of a typed equation's files are what an engine needs.
-use Rattle.std.proofs.Common.{◌≡◌, ℕ, zero, suc, ◌+◌, ◌<◌, ◌≤◌, true, List, [], ◌∷◌, ◌++◌, length, map, refl, sym, ap, ◌∙◌, arith, length-append}
+use Rattle.std.proofs.Common.{◌≡◌, ℕ, zero, suc, ◌+◌, ◌<◌, ◌≤◌, List, [], ◌∷◌, ◌++◌, length, map, refl, sym, ap, ◌∙◌, arith, length-append}
 use Rattle.std.specs.Prelude.{slice_index_or}
 use Rattle.gx_values.specs.declared.records.Form.{Form}
 use Rattle.gx_mapping.specs.Rule.{In}
@@ -10,7 +10,7 @@ use Rattle.gx_schema.specs.Lookups.{no_file}
 use Rattle.gx_schema.specs.Rules.{AreFiles, IsSchema}
 use Rattle.gx_equation.specs.declared.heads.Head.{Head}
 use Rattle.gx_equation.specs.declared.heads.Head.TheVariants as heads
-use Rattle.gx_equation.specs.Trees.{Tree, Trees, node, none, kid, SideTree, file_side, link_side, DefinitionTree}
+use Rattle.gx_equation.specs.Trees.{Tree, Trees, node, none, kid, kids_from, SideTree, file_side, link_side, DefinitionTree}
 use Rattle.gx_stack.specs.declared.node.Node.{Node}
 use Rattle.gx_stack.specs.Tree.{leaves_of as node_leaves, tree_form, IsValid}
 use Rattle.gx_stack.specs.Seen.{tree_of}
@@ -19,45 +19,32 @@ use Rattle.gx_typing.specs.declared.dues.Due.{Due}
 use Rattle.gx_typing.specs.declared.dues.Stored.{Stored}
 use Rattle.gx_typing.specs.declared.dues.Stored.TheVariants as stored
 use Rattle.gx_types.specs.Any.{any_rule}
-use Rattle.gx_types.specs.Build.{is_built_side, heads_built, leaf_count, leaf_counts, side_leaf_count, all_leaf_count, IsTreeOfSide, AreTreesOfFiles, IsReadySide, AreReadyFiles}
+use Rattle.gx_types.specs.Build.{leaf_count, leaf_counts, side_leaf_count, all_leaf_count, file_leaf_count, link_definitions, IsTreeOfSide, AreTreesOfFiles, IsReadySide, AreReadyFiles}
 use Rattle.gx_types.specs.FileForms.{IsFileForm}
 use Rattle.gx_types.proofs.MakerLaws.{file_fits}
 use Rattle.std.specs.List.{AllByRecursion}
 use Rattle.gx_equation.specs.Printing.{IsSide, IsDefinition, AreWritten}
 use Rattle.gx_typing.specs.Dues.{file_form, file_due, link_due}
-use Rattle.gx_forms.specs.Forms.{kid_form}
+use Rattle.gx_forms.specs.Forms.{kid_form, link_form}
 use Rattle.gx_types.specs.Nodes.{tree_at, AreNodes}
 use Rattle.gx_typing.specs.Places.{leaves_at}
 use Rattle.gx_typing.specs.Typed.{IsTypedSide, AreTyped, leaf_here, leaves_of, leaves_of_kids, leaves_of_side, leaves_of_all, leaves, IsTyped}
-use Rattle.gx_types.proofs.ReadyLaws.{both_built}
 use Rattle.gx_types.proofs.TreeLaws.{leaves_between, valid}
 
--- ---- definitions for the files alone
+-- ---- definitions
 
--- a link's definition has no side that is built
-no_links : (files : List FileDef) (links : List LinkDef) (ds : List DefinitionTree) (n : ℕ) → AreTyped (map (link_due files) links) ds → heads_built ds ≡ true → AreReadyFiles n [] ds
-no_links files [] [] n typed built = tt
-no_links files [] (d ∷ ds) n typed built = absurd typed
-no_links files (link ∷ links) [] n typed built = absurd typed
-no_links files (link ∷ links) (d ∷ ds) n typed built = absurd (no_side (link_due files link).stored d.side typed.1 (both_built (is_built_side d.side) (heads_built ds) built).0)
-  where
-    no_side : (due : Stored) (side : SideTree) → IsTypedSide (link_due files link).stored side → is_built_side side ≡ true → ⊥
-    no_side due (file_side t) is b = is
-    no_side due (link_side linkset ts) is b = absurd cc
+side_ready : (n : ℕ) (form : Form) (side : SideTree) → IsFileForm 16 form → IsSide side → IsTypedSide (stored.File form) side → n + side_leaf_count side ≤ 255 → IsReadySide n form side
+side_ready n form (file_side t) fits term typed few = record { levels = 16; few_levels = omega arith; term = term; records = fits; typed = typed; few = few }
+side_ready n form (link_side linkset ts) fits term typed few = absurd typed
 
-side_ready : (n : ℕ) (form : Form) (side : SideTree) → IsFileForm 16 form → IsSide side → IsTypedSide (stored.File form) side → is_built_side side ≡ true → n + side_leaf_count side ≤ 255 → IsReadySide n form side
-side_ready n form (file_side t) fits term typed built few = record { levels = 16; few_levels = omega arith; term = term; records = fits; typed = typed; built = built; few = few }
-side_ready n form (link_side linkset ts) fits term typed built few = absurd typed
-
-ready_from : (all before files : List FileDef) (links : List LinkDef) (ds : List DefinitionTree) (n : ℕ) → AreFiles before files → AllByRecursion IsDefinition ds → AreTyped (map file_due files ++ map (link_due all) links) ds → heads_built ds ≡ true → n + all_leaf_count ds ≤ 255
+ready_from : (all before files : List FileDef) (links : List LinkDef) (ds : List DefinitionTree) (n : ℕ) → AreFiles before files → AllByRecursion IsDefinition ds → AreTyped (map file_due files ++ map (link_due all) links) ds → n + all_leaf_count ds ≤ 255
     → AreReadyFiles n files ds
-ready_from all before [] links ds n are terms typed built few = no_links all links ds n typed built
-ready_from all before (file ∷ files) links [] n are terms typed built few = absurd typed
-ready_from all before (file ∷ files) links (d ∷ ds) n are terms typed built few =
-    let b = both_built (is_built_side d.side) (heads_built ds) built in
+ready_from all before [] links ds n are terms typed few = tt
+ready_from all before (file ∷ files) links [] n are terms typed few = absurd typed
+ready_from all before (file ∷ files) links (d ∷ ds) n are terms typed few =
     let total : n + (side_leaf_count d.side + all_leaf_count ds) ≤ 255 = few in (
-      side_ready n (file_form file) d.side (file_fits file file.fields refl are.0.fields) terms.0.side typed.1 b.0 (omega arith),
-      ready_from all (before ++ file ∷ []) files links ds (n + side_leaf_count d.side) are.1 terms.1 typed.2 b.1 (omega arith),
+      side_ready n (file_form file) d.side (file_fits file file.fields refl are.0.fields) terms.0.side typed.1 (omega arith),
+      ready_from all (before ++ file ∷ []) files links ds (n + side_leaf_count d.side) are.1 terms.1 typed.2 (omega arith),
     )
 
 -- ---- how many leaves there are
@@ -82,23 +69,40 @@ mutual
   kids_count owner forms i (kid t ts) =
       omega (arith, length-append (leaves_of owner (forms i) t) (leaves_of_kids owner forms (suc i) ts), term_count owner (forms i) t, kids_count owner forms (suc i) ts)
 
-side_count : (owner : ℕ) (due : Stored) (side : SideTree) → IsTypedSide due side → is_built_side side ≡ true → length (leaves_of_side owner due side) ≡ side_leaf_count side
-side_count owner (stored.File form) (file_side t) typed built = term_count owner form t
-side_count owner (stored.File form) (link_side linkset ts) typed built = absurd typed
-side_count owner (stored.Link o m) (file_side t) typed built = absurd typed
-side_count owner (stored.Link o m) (link_side linkset ts) typed built = absurd cc
+side_count : (owner : ℕ) (due : Stored) (side : SideTree) → IsTypedSide due side → length (leaves_of_side owner due side) ≡ side_leaf_count side
+side_count owner (stored.File form) (file_side t) typed = term_count owner form t
+side_count owner (stored.File form) (link_side linkset ts) typed = absurd typed
+side_count owner (stored.Link o m) (file_side t) typed = absurd typed
+side_count owner (stored.Link o m) (link_side linkset ts) typed = kids_count owner (link_form linkset o m) 0 (kids_from ts)
 
-all_count : (owner : ℕ) (dues : List Due) (ds : List DefinitionTree) → AreTyped dues ds → heads_built ds ≡ true → length (leaves_of_all owner dues ds) ≡ all_leaf_count ds
-all_count owner [] [] typed built = refl
-all_count owner [] (d ∷ ds) typed built = absurd typed
-all_count owner (due ∷ dues) [] typed built = absurd typed
-all_count owner (due ∷ dues) (d ∷ ds) typed built =
-    let b = both_built (is_built_side d.side) (heads_built ds) built in
-    omega (arith, length-append (leaves_of_side owner due.stored d.side) (leaves_of_all (suc owner) dues ds), side_count owner due.stored d.side typed.1 b.0, all_count (suc owner) dues ds typed.2 b.1)
+all_count : (owner : ℕ) (dues : List Due) (ds : List DefinitionTree) → AreTyped dues ds → length (leaves_of_all owner dues ds) ≡ all_leaf_count ds
+all_count owner [] [] typed = refl
+all_count owner [] (d ∷ ds) typed = absurd typed
+all_count owner (due ∷ dues) [] typed = absurd typed
+all_count owner (due ∷ dues) (d ∷ ds) typed =
+    omega (arith, length-append (leaves_of_side owner due.stored d.side) (leaves_of_all (suc owner) dues ds), side_count owner due.stored d.side typed.1, all_count (suc owner) dues ds typed.2)
 
-pub files_ready : (schema : Schema) (ds : List DefinitionTree) → IsSchema schema → AreWritten ds → IsTyped schema ds → heads_built ds ≡ true → AreReadyFiles 0 schema.files ds
-files_ready schema ds is written typed built =
-    ready_from schema.files [] schema.files schema.links ds 0 is.files written.each typed.definitions built (omega (arith, all_count 0 _ ds typed.definitions built, typed.few))
+pub few_leaves : (schema : Schema) (ds : List DefinitionTree) → IsTyped schema ds → all_leaf_count ds ≤ 255
+few_leaves schema ds typed = omega (arith, all_count 0 _ ds typed.definitions, typed.few)
+
+pub files_ready : (schema : Schema) (ds : List DefinitionTree) → IsSchema schema → AreWritten ds → IsTyped schema ds → AreReadyFiles 0 schema.files ds
+files_ready schema ds is written typed =
+    ready_from schema.files [] schema.files schema.links ds 0 is.files written.each typed.definitions (omega (arith, few_leaves schema ds typed))
+
+-- a definition for each file
+pub many_definitions : (n : ℕ) (files : List FileDef) (ds : List DefinitionTree) → AreReadyFiles n files ds → length files ≤ length ds
+many_definitions n [] ds ready = omega arith
+many_definitions n (file ∷ files) [] ready = absurd ready
+many_definitions n (file ∷ files) (d ∷ ds) ready = omega (arith, many_definitions (n + side_leaf_count d.side) files ds ready.1)
+
+-- the leaves of the first definitions, and of those behind
+pub split_count : (files : List FileDef) (ds : List DefinitionTree) → all_leaf_count ds ≡ file_leaf_count files ds + all_leaf_count (link_definitions files ds)
+split_count [] ds = omega arith
+split_count (file ∷ files) [] = omega arith
+split_count (file ∷ files) (d ∷ ds) = omega (arith, split_count files ds)
+
+pub total_count : (schema : Schema) (ds : List DefinitionTree) (total : ℕ) → IsTyped schema ds → total ≡ length (leaves schema ds) → file_leaf_count schema.files ds + all_leaf_count (link_definitions schema.files ds) ≡ total
+total_count schema ds total typed total_is = sym (split_count schema.files ds) ∙ sym (all_count 0 _ ds typed.definitions) ∙ sym total_is
 
 -- ---- the nodes
 
@@ -118,7 +122,7 @@ side_between : (n : ℕ) (form : Form) (side : SideTree) (x : Node AnyMapping) (
 side_between n form (file_side t) x m is h = leaves_between n form t (tree_of x) m is h
 side_between n form (link_side linkset ts) x m is h = absurd is
 
-node_between : (n : ℕ) (files : List FileDef) (ds : List DefinitionTree) (xs : List (Node AnyMapping)) (i m : ℕ) → AreTreesOfFiles n files ds xs → i < length files → In m (node_leaves (tree_at xs i)) → (n ≤ m) × (m < n + all_leaf_count ds)
+pub node_between : (n : ℕ) (files : List FileDef) (ds : List DefinitionTree) (xs : List (Node AnyMapping)) (i m : ℕ) → AreTreesOfFiles n files ds xs → i < length files → In m (node_leaves (tree_at xs i)) → (n ≤ m) × (m < n + file_leaf_count files ds)
 node_between n [] ds xs i m are lt h = absurd (omega arith)
 node_between n (file ∷ files) [] xs i m are lt h = absurd are
 node_between n (file ∷ files) (d ∷ ds) [] i m are lt h = absurd are
@@ -143,21 +147,19 @@ nodes_apart n (file ∷ files) (d ∷ ds) (x ∷ xs) (suc i) (suc j) m are lt_i 
     ap suc (nodes_apart (n + side_leaf_count d.side) files ds xs i j m are.1 (omega arith) (omega arith) h k)
 
 as_many_nodes : (n : ℕ) (files : List FileDef) (ds : List DefinitionTree) (xs : List (Node AnyMapping)) → AreTreesOfFiles n files ds xs → length xs ≡ length files
-as_many_nodes n [] [] [] are = refl
-as_many_nodes n [] [] (x ∷ xs) are = absurd are
-as_many_nodes n [] (d ∷ ds) xs are = absurd are
+as_many_nodes n [] ds [] are = refl
+as_many_nodes n [] ds (x ∷ xs) are = absurd are
 as_many_nodes n (file ∷ files) [] xs are = absurd are
 as_many_nodes n (file ∷ files) (d ∷ ds) [] are = absurd are
 as_many_nodes n (file ∷ files) (d ∷ ds) (x ∷ xs) are = ap suc (as_many_nodes (n + side_leaf_count d.side) files ds xs are.1)
 
-pub are_nodes : (schema : Schema) (ds : List DefinitionTree) (xs : List (Node AnyMapping)) (total : ℕ) → IsSchema schema → AreWritten ds → IsTyped schema ds → heads_built ds ≡ true → AreTreesOfFiles 0 schema.files ds xs → total ≡ length (leaves schema ds) → AreNodes schema xs total
-are_nodes schema ds xs total is written typed built are total_is =
-    let ready = files_ready schema ds is written typed built in
-    let e : all_leaf_count ds ≡ total = sym (all_count 0 _ ds typed.definitions built) ∙ sym total_is in
+pub are_nodes : (schema : Schema) (ds : List DefinitionTree) (xs : List (Node AnyMapping)) (total : ℕ) → IsSchema schema → AreWritten ds → IsTyped schema ds → AreTreesOfFiles 0 schema.files ds xs → total ≡ length (leaves schema ds) → AreNodes schema xs total
+are_nodes schema ds xs total is written typed are total_is =
+    let ready = files_ready schema ds is written typed in
     record {
       many = as_many_nodes 0 schema.files ds xs are;
       valid = λ i lt. (node_valid 0 schema.files ds xs i ready are lt).0;
       form = λ i lt. (node_valid 0 schema.files ds xs i ready are lt).1;
-      below = λ i n lt h. omega (arith, (node_between 0 schema.files ds xs i n are lt h).1);
+      below = λ i n lt h. omega (arith, (node_between 0 schema.files ds xs i n are lt h).1, total_count schema ds total typed total_is);
       apart = λ i j n lt_i lt_j h k. nodes_apart 0 schema.files ds xs i j n are lt_i lt_j h k;
     }

@@ -2,6 +2,8 @@ pub mod CodeExamples
 pub mod FileLaws
 pub mod FormLaws
 pub mod HeadLaws
+pub mod LinkLaws
+pub mod LinkSteps
 pub mod MakerLaws
 pub mod NodeSteps
 pub mod ReadyLaws

@@ -1,5 +1,5 @@
 -- The forms of files and of links are kept from the start, and the makers of mappings can take what is kept.
-use Rattle.std.proofs.Common.{◌≡◌, ℕ, zero, suc, ◌+◌, ◌*◌, ◌<◌, ◌≤◌, Bool, true, false, List, [], ◌∷◌, ◌++◌, length, Some, refl, sym, ap, subst, ◌∙◌, arith, length-append}
+use Rattle.std.proofs.Common.{◌≡◌, ℕ, zero, suc, ◌+◌, ◌*◌, ◌<◌, ◌≤◌, Bool, true, false, List, [], ◌∷◌, ◌++◌, length, refl, sym, ap, subst, ◌∙◌, arith, length-append}
 use Rattle.std.specs.Prelude.{◌||◌, ◌==◌, max, nat_eq, slice_index_or}
 use Rattle.std.specs.List.{AllByRecursion}
 use Rattle.std.specs.Cmp.Lexicographic.{pointwise, bytes_decides}
@@ -33,10 +33,9 @@ use Rattle.gx_equation.specs.declared.heads.Linkset.{Linkset}
 use Rattle.gx_equation.specs.declared.heads.Linkset.TheVariants as linksets
 use Rattle.gx_equation.specs.Printing.{IsBound, IsCount, IsTerm, IsSide}
 use Rattle.gx_equation.specs.Trees.{Tree, Trees, node, none, kid, kids_from, list_of, arity, link_side}
-use Rattle.gx_types.specs.Build.{are_built_terms, leaf_count, leaf_counts, IsReady, AreReady}
+use Rattle.gx_types.specs.Build.{leaf_count, leaf_counts, IsReady, AreReady}
 use Rattle.gx_typing.specs.Dues.{file_form}
-use Rattle.gx_forms.specs.Fields.{kind_in}
-use Rattle.gx_forms.specs.Forms.{index_kind, kid_form, link_form}
+use Rattle.gx_forms.specs.Forms.{link_form}
 use Rattle.gx_types.specs.FileForms.{IsLimited, AreLimited, AreDistinct, room_of, rooms, IsFileForm}
 use Rattle.gx_types.specs.HeadRules.{place_in}
 use Rattle.gx_types.specs.Makers.{kind_of, CanMake}
@@ -44,7 +43,7 @@ use Rattle.gx_typing.specs.Places.{leaves_at}
 use Rattle.gx_typing.specs.Typed.{IsCodeFor, IsOneBytes, IsPartitioned, IsTypedTerm, AreTypedTerms}
 use Rattle.gx_typing.specs.Typing.{count}
 use Rattle.gx_types.proofs.FormLaws.{body_room, count_list, keys_narrow, one_limited}
-use Rattle.gx_types.proofs.HeadLaws.{key_kind, place_is, typed_kind}
+use Rattle.gx_types.proofs.HeadLaws.{place_is, typed_kind}
 use Rattle.gx_types.proofs.ReadyLaws.{within, kind_is, bounds_fit, sorted_bounds}
 
 -- ---- the forms of files
@@ -121,12 +120,12 @@ file_fits file (f ∷ fs) is are =
 
 -- ---- the forms of links
 
-first_width : (k : Kind) → IsKind true k → width_of k ≤ 101
+pub first_width : (k : Kind) → IsKind true k → width_of k ≤ 101
 first_width kinds.Int is = omega arith
 first_width (kinds.Text n) is = omega (arith, is.2 refl)
 first_width (kinds.Bytes n) is = absurd is
 
-greater : (a b n : ℕ) → a ≤ n → b ≤ n → max a b ≤ n
+pub greater : (a b n : ℕ) → a ≤ n → b ≤ n → max a b ≤ n
 greater a b n le also = grind arith
 
 pub link_fits : (linkset : Linkset) (o m : Kind) → IsKind true o → IsKind true m → (i : ℕ) → IsFileForm 15 (link_form linkset o m i)
@@ -176,15 +175,14 @@ list_again [] = refl
 list_again (t ∷ ts) = ap (λ (us : List Tree). t ∷ us) (list_again ts)
 
 -- the children of a link's head
-pub link_ready : (n : ℕ) (linkset : Linkset) (o m : Kind) (ts : List Tree) → IsKind true o → IsKind true m → IsSide (link_side linkset ts) → AreTypedTerms (link_form linkset o m) 0 (kids_from ts) → are_built_terms (kids_from ts) ≡ true
+pub link_ready : (n : ℕ) (linkset : Linkset) (o m : Kind) (ts : List Tree) → IsKind true o → IsKind true m → IsSide (link_side linkset ts) → AreTypedTerms (link_form linkset o m) 0 (kids_from ts)
     → n + leaf_counts (kids_from ts) ≤ 255 → AreReady n (link_form linkset o m) 0 (kids_from ts)
-link_ready n linkset o m ts is_o is_m side typed built few = record {
+link_ready n linkset o m ts is_o is_m side typed few = record {
   levels = 15;
   few_levels = omega arith;
   terms = subst (AllByRecursion (IsTerm 15)) (sym (list_again ts)) side.1;
   records = λ c from below. link_fits linkset o m is_o is_m c;
   typed = typed;
-  built = built;
   few = few;
 }
 

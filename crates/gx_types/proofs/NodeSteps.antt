@@ -24,7 +24,7 @@ use Rattle.gx_stack.specs.declared.node.Node.{Node}
 use Rattle.gx_stack.specs.Tree.{no_kids}
 use Rattle.gx_stack.specs.Seen.{tree_of as node_tree, kids_from as node_kids}
 use Rattle.gx_types.specs.declared.any.AnyMapping.{AnyMapping}
-use Rattle.gx_types.specs.Build.{kids_of, leaf_count, leaf_counts, IsFirstOf, IsTreeOf, AreTreesOf, AreTreesOfFiles, IsReady, AreReady, AreReadyFiles}
+use Rattle.gx_types.specs.Build.{kids_of, leaf_count, leaf_counts, IsFirstOf, file_leaf_count, IsTreeOf, AreTreesOf, AreTreesOfFiles, IsReady, AreReady}
 use Rattle.gx_forms.specs.Fields.{kind_in}
 use Rattle.gx_types.proofs.ReadyLaws.{first_ready, others_ready}
 use Rattle.gx_typing.proofs.SeenAs.{seen_transpose, seen_partition}
@@ -101,13 +101,13 @@ all_trees next forms ts i Goal nodes end so_far =
     let last : drop i ts ≡ [] = none_left i ts end in
     subst Goal (append-nil nodes) (so_far [] (subst (λ (us : List Tree). AreTreesOf next forms i (kids_from us) no_kids) (sym last) tt))
 
--- behind the last definition
-pub all_files : (files : List FileDef) (definitions : List Definition) (left : List FileDef) (rest : List Definition) (next : ℕ) (nodes : List (Node AnyMapping)) → length rest < 1 → AreReadyFiles next left (definitions_of rest)
-    → ((more : List (Node AnyMapping)) → AreTreesOfFiles next left (definitions_of rest) more → AreTreesOfFiles 0 files (definitions_of definitions) (nodes ++ more))
-    → AreTreesOfFiles 0 files (definitions_of definitions) nodes
-all_files files definitions [] [] next nodes end ready so_far = subst (AreTreesOfFiles 0 files (definitions_of definitions)) (append-nil nodes) (so_far [] tt)
-all_files files definitions (file ∷ left) [] next nodes end ready so_far = absurd ready
-all_files files definitions left (d ∷ rest) next nodes end ready so_far = absurd (omega arith)
+-- behind the last file
+pub all_files : (first next total : ℕ) (files left : List FileDef) (definitions rest : List Definition) (nodes : List (Node AnyMapping)) → length left < 1
+    → ((more : List (Node AnyMapping)) → AreTreesOfFiles next left (definitions_of rest) more → AreTreesOfFiles first files (definitions_of definitions) (nodes ++ more))
+    → next + file_leaf_count left (definitions_of rest) ≡ total
+    → AreTreesOfFiles first files (definitions_of definitions) nodes × (next ≡ total)
+all_files first next total files [] definitions rest nodes end so_far count = (subst (AreTreesOfFiles first files (definitions_of definitions)) (append-nil nodes) (so_far [] tt), omega (arith, count))
+all_files first next total files (file ∷ left) definitions rest nodes end so_far count = absurd (omega (arith, end))
 
 -- ---- one field of several
 

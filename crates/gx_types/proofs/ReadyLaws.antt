@@ -1,11 +1,11 @@
 -- What building asks of a term is met by its children, and is what the mappings of its heads ask.
 use Rattle.std.proofs.Common.{◌≡◌, ◌≢◌, ℕ, zero, suc, ◌+◌, ◌<◌, ◌≤◌, Bool, true, false, List, [], ◌∷◌, length, Some, None, refl, sym, inl, inr, ◌∙◌, arith}
-use Rattle.std.specs.Prelude.{◌&&◌, ◌==◌, nat_eq, slice_index_or, Option}
+use Rattle.std.specs.Prelude.{nat_eq, slice_index_or, Option}
 use Rattle.std.specs.Cmp.Lexicographic.{pointwise, bytes_decides}
 use Rattle.std.specs.List.{AllByRecursion}
 use Rattle.std.specs.List.Sorted.{IsStrictlySortedBy}
 use Rattle.std.specs.declared.cmp.Ordering.TheVariants.{Less}
-use Rattle.std.proofs.lemmas.Bool.{cond-true, cond-false, eqb-true}
+use Rattle.std.proofs.lemmas.Bool.{cond-true, cond-false}
 use Rattle.gx_values.specs.Values.{value_cmp, Fits, AreSized, IsSized}
 use Rattle.gx_values.specs.declared.values.Kind.{Kind}
 use Rattle.gx_values.specs.declared.values.Kind.TheVariants as kinds
@@ -22,21 +22,12 @@ use Rattle.gx_equation.specs.Trees.{Tree, Trees, node, kid}
 use Rattle.gx_types.specs.FileForms.{IsFileForm}
 use Rattle.gx_equation.specs.Printing.{IsTerm}
 use Rattle.gx_types.proofs.FormLaws.{kept}
-use Rattle.gx_types.specs.Build.{is_built_head, is_built_term, are_built_terms, leaf_count, leaf_counts, IsFirstOf, IsPlaceOf, IsReady, AreReady}
+use Rattle.gx_types.specs.Build.{leaf_count, leaf_counts, IsFirstOf, IsPlaceOf, IsReady, AreReady}
 use Rattle.gx_forms.specs.Fields.{kind_in}
 use Rattle.gx_forms.specs.Forms.{kid_form}
 use Rattle.gx_typing.specs.Places.{leaves_at}
 use Rattle.gx_typing.specs.Typed.{IsField, IsBoundFor, AscendStrictly}
 use Rattle.gx_typing.specs.Typing.{count}
-
--- ---- tests
-
-pub both_built : (a b : Bool) → (a && b) ≡ true → (a ≡ true) × (b ≡ true)
-both_built true b h = (refl, h)
-both_built false b h = absurd cc
-
-pub is_number : (a b : ℕ) → (a == b) ≡ true → a ≡ b
-is_number a b h = eqb-true a b h
 
 -- ---- children
 
@@ -46,7 +37,6 @@ kids_ready n form top kids r = go r.levels r.few_levels r.term r.records
     go : (levels : ℕ) → levels ≤ 16 → IsTerm levels (node top kids) → IsFileForm levels form → AreReady n (kid_form top form) 0 kids
     go zero le term fits = absurd term
     go (suc levels) le term fits =
-        let b = both_built (is_built_head top (count kids)) (are_built_terms kids) r.built in
         let few : n + (leaves_at top + leaf_counts kids) ≤ 255 = r.few in
         record {
           levels = levels;
@@ -54,19 +44,16 @@ kids_ready n form top kids r = go r.levels r.few_levels r.term r.records
           terms = term.2;
           records = λ c from below. kept top form (count kids) levels term.0 r.typed.0 (omega arith) fits c (omega arith);
           typed = r.typed.1;
-          built = b.1;
           few = omega arith;
         }
 
 pub first_ready : (n : ℕ) (forms : ℕ → Form) (i : ℕ) (t : Tree) (ts : Trees) → AreReady n forms i (kid t ts) → IsReady n (forms i) t
 first_ready n forms i t ts r =
-    let b = both_built (is_built_term t) (are_built_terms ts) r.built in
     let few : n + (leaf_count t + leaf_counts ts) ≤ 255 = r.few in
-    record { levels = r.levels; few_levels = r.few_levels; term = r.terms.0; records = r.records i (omega arith) (omega arith); typed = r.typed.0; built = b.0; few = omega arith }
+    record { levels = r.levels; few_levels = r.few_levels; term = r.terms.0; records = r.records i (omega arith) (omega arith); typed = r.typed.0; few = omega arith }
 
 pub others_ready : (n : ℕ) (forms : ℕ → Form) (i : ℕ) (t : Tree) (ts : Trees) → AreReady n forms i (kid t ts) → AreReady (n + leaf_count t) forms (suc i) ts
 others_ready n forms i t ts r =
-    let b = both_built (is_built_term t) (are_built_terms ts) r.built in
     let few : n + (leaf_count t + leaf_counts ts) ≤ 255 = r.few in
     record {
       levels = r.levels;
@@ -74,7 +61,6 @@ others_ready n forms i t ts r =
       terms = r.terms.1;
       records = λ c from below. r.records c (omega arith) (omega arith);
       typed = r.typed.1;
-      built = b.1;
       few = omega arith;
     }
 

@@ -74,7 +74,7 @@ mutual
       let b = kids_between n (kid_form top form) 0 kids ks x is.1 h in
       (b.0, omega (arith, b.1))
 
-  kids_between : (n : ℕ) (forms : ℕ → Form) (i : ℕ) (ts : Trees) (us : NodeKids AnyMapping) (x : ℕ) → AreTreesOf n forms i ts us → In x (kids_leaves us) → (n ≤ x) × (x < n + leaf_counts ts)
+  pub kids_between : (n : ℕ) (forms : ℕ → Form) (i : ℕ) (ts : Trees) (us : NodeKids AnyMapping) (x : ℕ) → AreTreesOf n forms i ts us → In x (kids_leaves us) → (n ≤ x) × (x < n + leaf_counts ts)
   kids_between n forms i none no_kids x are h = absurd h
   kids_between n forms i none (node_kid u us) x are h = absurd are
   kids_between n forms i (kid t ts) no_kids x are h = absurd are
@@ -135,7 +135,7 @@ as_many n forms i (kid t ts) (node_kid u us) are = ap suc (as_many (n + leaf_cou
 
 -- ---- valid nodes
 
-all_shift : (c : ℕ) → c ≡ 0 + c
+pub all_shift : (c : ℕ) → c ≡ 0 + c
 all_shift c = omega arith
 
 no_shift : (i : ℕ) → i + 0 ≡ i
@@ -157,7 +157,7 @@ mutual
     mapping_form top form m is.0,
   )
 
-  are_valid : (n : ℕ) (forms : ℕ → Form) (i : ℕ) (ts : Trees) (us : NodeKids AnyMapping) (given : ℕ → Form) → ((c : ℕ) → given c ≡ forms (i + c)) → AreReady n forms i ts → AreTreesOf n forms i ts us → AreValid any_rule given us
+  pub are_valid : (n : ℕ) (forms : ℕ → Form) (i : ℕ) (ts : Trees) (us : NodeKids AnyMapping) (given : ℕ → Form) → ((c : ℕ) → given c ≡ forms (i + c)) → AreReady n forms i ts → AreTreesOf n forms i ts us → AreValid any_rule given us
   are_valid n forms i none no_kids given same ready are = tt
   are_valid n forms i none (node_kid u us) given same ready are = absurd are
   are_valid n forms i (kid t ts) no_kids given same ready are = absurd are

@@ -1,6 +1,7 @@
 pub mod Any
 pub mod FileForms
 pub mod HeadRules
+pub mod Links
 pub mod Makers
 pub mod Nodes
 pub mod Build

@@ -1,14 +1,17 @@
--- The nodes that store the records of a schema's files.
+-- The nodes that store the records of a schema's files, and its links.
 use Rattle.std.specs.Prelude.{◌≡◌, ℕ, zero, suc, ◌<◌, List, [], ◌∷◌, length}
 use Rattle.gx_schema.specs.declared.schema.Schema.{Schema}
-use Rattle.gx_schema.specs.Lookups.{file_at}
+use Rattle.gx_schema.specs.Lookups.{file_at, link_at}
 use Rattle.gx_mapping.specs.Rule.{In}
 use Rattle.gx_stack.specs.declared.node.Node.{Node}
-use Rattle.gx_stack.specs.Tree.{Tree, leaf, leaves_of, tree_form, IsValid}
+use Rattle.gx_stack.specs.Tree.{Tree, leaf, leaves_of, kids_leaves, tree_form, IsValid, AreValid}
 use Rattle.gx_stack.specs.Seen.{tree_of}
 use Rattle.gx_types.specs.declared.any.AnyMapping.{AnyMapping}
+use Rattle.gx_types.specs.declared.built.LinkTree.{LinkTree}
 use Rattle.gx_types.specs.Any.{any_rule}
-use Rattle.gx_typing.specs.Dues.{file_form}
+use Rattle.gx_types.specs.Links.{linkset_at, link_kids_at}
+use Rattle.gx_typing.specs.Dues.{file_form, owner_kind, member_kind}
+use Rattle.gx_forms.specs.Forms.{link_form}
 
 -- what stands in the place of a tree that isn't there
 abbrev pub no_tree : Tree AnyMapping
@@ -26,3 +29,13 @@ pub record AreNodes (schema : Schema) (nodes : List (Node AnyMapping)) (leaves :
   pub form : (i : ℕ) → i < length schema.files → tree_form any_rule (tree_at nodes i) ≡ file_form (file_at schema i)
   pub below : (i n : ℕ) → i < length schema.files → In n (leaves_of (tree_at nodes i)) → n < leaves
   pub apart : (i j n : ℕ) → i < length schema.files → j < length schema.files → In n (leaves_of (tree_at nodes i)) → In n (leaves_of (tree_at nodes j)) → i ≡ j
+
+-- nodes for each link, valid and of the forms of their linkset; each leaf is one of so many, and is in the nodes of one link alone
+-- and in those of no file
+pub record AreLinkNodes (schema : Schema) (nodes : List (Node AnyMapping)) (links : List LinkTree) (leaves : ℕ) : Type 0 where
+  pub many : length links ≡ length schema.links
+  pub valid : (i : ℕ) → i < length schema.links →
+      AreValid any_rule (link_form (linkset_at links i) (owner_kind schema.files (link_at schema i)) (member_kind schema.files (link_at schema i))) (link_kids_at links i)
+  pub below : (i n : ℕ) → i < length schema.links → In n (kids_leaves (link_kids_at links i)) → n < leaves
+  pub apart : (i j n : ℕ) → i < length schema.links → j < length schema.links → In n (kids_leaves (link_kids_at links i)) → In n (kids_leaves (link_kids_at links j)) → i ≡ j
+  pub file_apart : (i j n : ℕ) → i < length schema.files → j < length schema.links → In n (leaves_of (tree_at nodes i)) → In n (kids_leaves (link_kids_at links j)) → ⊥

@@ -1,14 +1,17 @@
-// What an equation gives: its leaves, and a node for each file.
+// What an equation gives: its leaves, and the nodes of files and links.
 ghost use Rattle.std.specs.Prelude.{◌≡◌, ◌≤◌, length, true, IfOk};
 ghost use Rattle.gx_schema.specs.Rules.{IsSchema};
 ghost use Rattle.gx_equation.specs.Printing.{AreWritten};
 ghost use Rattle.gx_equation.specs.Seen.{tree_of, trees_of, side_of, definitions_of};
 ghost use Rattle.gx_equation.specs.Trees.{kids_from};
-ghost use Rattle.gx_types.specs.Build.{is_built_term, are_built_terms, is_built_side, heads_built, AreTreesOfFiles};
-ghost use Rattle.gx_types.specs.Nodes.{AreNodes};
+ghost use Rattle.gx_types.specs.Build.{is_built_term, are_built_terms, is_built_side, heads_built};
+ghost use Rattle.gx_types.specs.Build.{file_leaf_count, link_definitions};
+ghost use Rattle.gx_types.specs.Build.{AreTreesOfFiles, AreTreesOfLinks};
+ghost use Rattle.gx_types.specs.Nodes.{AreNodes, AreLinkNodes};
 ghost use Rattle.gx_typing.specs.Typed.{IsTyped, leaves, typing_with};
 
-use crate::built::{Built, Trees};
+use crate::built::{Built, LinkTrees, Trees};
+use crate::links::trees_of_links;
 use crate::nodes::nodes_of_files;
 use gx_equation::{Definition, Equation, Side, Term};
 use gx_schema::Schema;
@@ -65,8 +68,9 @@ pub fn heads_built(equation: &Equation) -> bool
     true
 }
 
-/// The leaves of a typed equation, and the nodes of the files of its schema, whose leaves have the numbers of the typing, from 0 on.
-/// `NoMemory` comes where there was none for the nodes.
+/// The leaves of a typed equation, and the nodes of the files and of the links of its schema, whose
+/// leaves have the numbers of the typing, from 0 on. `NoMemory` comes where there was none for the
+/// nodes.
 pub fn build(
     alloc: Global,
     schema: &Schema,
@@ -77,18 +81,32 @@ pub fn build(
     requires written { AreWritten (definitions_of equation.now.definitions) }
     requires typed { IsTyped schema.now (definitions_of equation.now.definitions) }
     requires leaves { typing ≡ typing_with (leaves schema.now (definitions_of equation.now.definitions)) }
-    requires built { heads_built (definitions_of equation.now.definitions) ≡ true }
     // The leaves are those of the typing.
-    ensures leaves { IfOk result (λ built. typing ≡ record { specs = built.specs; owners = built.owners }) }
+    ensures leaves { IfOk result
+        (λ built. typing ≡ record { specs = built.specs; owners = built.owners }) }
     ensures owned { IfOk result (λ built. length built.owners ≡ length built.specs) }
     ensures few { IfOk result (λ built. length built.specs ≤ 255) }
-    // Each node is what the definition of its file means.
-    ensures trees { IfOk result (λ built. AreTreesOfFiles 0 schema.now.files (definitions_of equation.now.definitions) built.files) }
+    // Each node is what the definition of its file or of its link means.
+    ensures trees { IfOk result (λ built. AreTreesOfFiles 0 schema.now.files
+        (definitions_of equation.now.definitions) built.files) }
+    ensures link_trees { IfOk result (λ built. AreTreesOfLinks schema.now.files
+        (file_leaf_count schema.now.files (definitions_of equation.now.definitions))
+        schema.now.links
+        (link_definitions schema.now.files (definitions_of equation.now.definitions)) built.links) }
     ensures nodes { IfOk result (λ built. AreNodes schema.now built.files (length built.specs)) }
+    ensures link_nodes { IfOk result
+        (λ built. AreLinkNodes schema.now built.files built.links (length built.specs)) }
 {
-    let files = nodes_of_files(alloc, schema.files.as_slice(), &equation.definitions.0)?;
+    let of_files = schema.files.as_slice();
+    let of_links = schema.links.as_slice();
+    let definitions = equation.definitions.0.as_slice();
+    let mut next = 0;
+    let files = nodes_of_files(alloc, of_files, definitions, &mut next)?;
+    let (_, behind) = definitions.split_at(of_files.len());
+    let links = trees_of_links(alloc, of_files, of_links, behind, &mut next)?;
     Ok(Built {
         files: Trees(files),
+        links: LinkTrees(links),
         specs: typing.specs,
         owners: typing.owners,
     })

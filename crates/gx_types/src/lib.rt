@@ -1,12 +1,14 @@
-//! Nodes: how the records of a schema's files are stored, by the mappings of a typed equation.
+//! Nodes: how the records of a schema's files and its links are stored, by the mappings of a typed
+//! equation.
 #![tactic(auto)]
 
 mod any;
 mod building;
 mod built;
+mod links;
 mod mappings;
 mod nodes;
 
 pub use any::{AnyMapping, Passing};
 pub use building::{build, heads_built};
-pub use built::{Built, Trees};
+pub use built::{Built, LinkTree, LinkTrees, Trees};

@@ -5,7 +5,7 @@ ghost use Rattle.gx_equation.specs.Trees.{list_of};
 ghost use Rattle.gx_stack.specs.Seen.{tree_of as node_tree, kids_from as node_kids};
 ghost use Rattle.gx_stack.specs.Tree.{leaf, layer};
 ghost use Rattle.gx_types.specs.Any.{any_rule};
-ghost use Rattle.gx_types.specs.Build.{leaf_count, leaf_counts, side_leaf_count, kids_of, IsTreeOf, AreTreesOf, IsTreeOfSide, AreTreesOfFiles, IsReady, AreReady, IsReadySide, AreReadyFiles};
+ghost use Rattle.gx_types.specs.Build.{leaf_count, leaf_counts, side_leaf_count, file_leaf_count, kids_of, IsTreeOf, AreTreesOf, IsTreeOfSide, AreTreesOfFiles, IsReady, AreReady, IsReadySide, AreReadyFiles};
 ghost use Rattle.gx_typing.specs.Dues.{file_form};
 ghost use Rattle.gx_typing.specs.Typing.{count};
 
@@ -126,24 +126,29 @@ fn node_of_file(
     }
 }
 
-/// A node for each file by its definition, in the order of the files. `NoMemory`: there was none for them.
+/// A node for each file by its definition, in the order of the files; definitions of links may
+/// stand behind. The leaves have the numbers from `next` on, which then is the number behind them.
+/// `NoMemory`: there was none for them.
 pub fn nodes_of_files(
     alloc: Global,
     files: &[FileDef],
     definitions: &[Definition],
+    next: &mut u32,
 ) -> Result<Vec<Node<AnyMapping>>, NoMemory>
-    requires { AreReadyFiles 0 files.now (definitions_of definitions.now) }
-    ensures { IfOk result (λ nodes. AreTreesOfFiles 0 files.now (definitions_of definitions.now) nodes.items) }
+    requires { AreReadyFiles next.old files.now (definitions_of definitions.now) }
+    ensures trees { IfOk result
+        (λ nodes. AreTreesOfFiles next.old files.now (definitions_of definitions.now) nodes.items) }
+    ensures next { OnOk result
+        (next.new ≡ next.old + file_leaf_count files.now (definitions_of definitions.now)) }
 {
     let mut nodes = Vec::with_capacity(alloc, files.len())?;
-    let mut next = 0;
     let mut left = files;
     let mut rest = definitions;
-    while let [definition, after @ ..] = rest {
-        let [file, others @ ..] = left else {
+    while let [file, others @ ..] = left {
+        let [definition, after @ ..] = rest else {
             unreachable!()
         };
-        nodes.push(node_of_file(alloc, file, &definition.side, &mut next)?)?;
+        nodes.push(node_of_file(alloc, file, &definition.side, next)?)?;
         left = others;
         rest = after;
     }
