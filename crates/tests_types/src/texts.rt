@@ -6,7 +6,7 @@ ghost use Rattle.gx_equation.specs.Seen.{definitions_of};
 
 use gx_equation::{Equation, read_equation};
 use gx_schema::{Schema, read_schema};
-use gx_types::{Built, build, heads_built};
+use gx_types::{Built, build};
 use gx_typing::{Untyped, typed};
 use std::alloc::Global;
 
@@ -30,16 +30,8 @@ pub(crate) fn read_texts(
     Ok((schema, equation))
 }
 
-// What is built of the texts, or none where the schema has links.
-pub(crate) fn build_texts(
-    alloc: Global,
-    schema: &[u8],
-    equation: &[u8],
-) -> Result<Option<Built>, Untyped> {
+pub(crate) fn build_texts(alloc: Global, schema: &[u8], equation: &[u8]) -> Result<Built, Untyped> {
     let (schema, equation) = read_texts(alloc, schema, equation)?;
-    if !heads_built(&equation) {
-        return Ok(None);
-    }
     let typing = typed(alloc, &schema, &equation)?;
-    Ok(Some(build(alloc, &schema, &equation, typing)?))
+    Ok(build(alloc, &schema, &equation, typing)?)
 }

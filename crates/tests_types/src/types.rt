@@ -13,7 +13,7 @@ use gx_equation::{Equation, read_equation};
 use gx_mapping::Mapping;
 use gx_schema::{Schema, read_schema};
 use gx_stack::Node;
-use gx_types::{AnyMapping, Built, build, heads_built};
+use gx_types::{AnyMapping, Built, LinkTree};
 use gx_typing::{TypeWhy, Typing, Untyped, root_pages, smallest_device, typed};
 use gx_values::{Field, Fields, Form, Kind, Name, NoMemory, Rec, Value, Values};
 use std::alloc::Global;
@@ -252,7 +252,9 @@ fn counts_pages(rt: HostRuntime) -> Result<(), Fail> {
 }
 
 // Appends the numbers of the leaves in the order in which they stand in the node.
-fn push_leaves(node: &Node<AnyMapping>, numbers: &mut Vec<u32>) -> Result<(), Fail> {
+type AnyNode = Node<AnyMapping>;
+
+fn push_leaves(node: &AnyNode, numbers: &mut Vec<u32>) -> Result<(), Fail> {
     match node {
         Node::Leaf(leaf) => numbers.push(leaf.leaf)?,
         Node::Layer(layer) => {
@@ -271,8 +273,7 @@ fn builds_a_node_for_each_file(rt: HostRuntime) -> Result<(), Fail> {
         alloc,
         b"file f (k int, v int) file g (k text 7)",
         b"f = index(v, actual(heap), heap) g = bplus",
-    )?
-    .ok_or("nodes")?;
+    )?;
     let mut leaves = Vec::new(alloc);
     for node in &built.files.0 {
         let mut numbers = Vec::new(alloc);
@@ -287,16 +288,40 @@ fn builds_a_node_for_each_file(rt: HostRuntime) -> Result<(), Fail> {
     Ok(())
 }
 
+// The nodes of two links, of which the first is a ring and the second an array.
+fn ring_and_array(built: &Built) -> Option<(&AnyNode, &AnyNode, &AnyNode)> {
+    match built.links.0.as_slice() {
+        [LinkTree::Ring(first, next), LinkTree::Array(lists)] => Some((first, next, lists)),
+        _ => None,
+    }
+}
+
 #[test]
-fn builds_no_links(rt: HostRuntime) -> Result<(), Fail> {
+fn builds_the_nodes_of_links(rt: HostRuntime) -> Result<(), Fail> {
     let alloc = rt.alloc();
-    let schema = b"file f (k int) link l (f, f)".as_slice();
-    let linked = build_texts(
+    let built = build_texts(
         alloc,
-        schema,
-        b"f = heap l = ring(actual(heap), actual(heap))",
+        b"file f (k int) link l (f, f) link m (f, f)",
+        b"f = heap l = ring(actual(heap), transpose(actual(heap), heap, actual(heap)))
+m = array(divide(800, heap))",
     )?;
-    assert!(rt; linked.is_none());
+    let (first, next, lists) = ring_and_array(&built).ok_or("a ring and an array")?;
+    let mut firsts = Vec::new(alloc);
+    let mut nexts = Vec::new(alloc);
+    let mut members = Vec::new(alloc);
+    push_leaves(first, &mut firsts)?;
+    push_leaves(next, &mut nexts)?;
+    push_leaves(lists, &mut members)?;
+    assert_eq!(rt; firsts.as_slice(), [1].as_slice());
+    assert_eq!(rt; nexts.as_slice(), [2, 3, 4].as_slice());
+    assert_eq!(rt; members.as_slice(), [5].as_slice());
+    assert_eq!(rt; built.owners.0.as_slice(), [0, 1, 1, 1, 1, 2].as_slice());
+    Ok(())
+}
+
+#[test]
+fn refuses_a_leaf_of_several_fields(rt: HostRuntime) -> Result<(), Fail> {
+    let alloc = rt.alloc();
     let schema = b"file f (k int, v int)".as_slice();
     let error = build_texts(alloc, schema, b"f = partition(v 10, actual(heap), heap)")
         .err()
