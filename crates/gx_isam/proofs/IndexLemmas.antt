@@ -1,15 +1,14 @@
 -- Index pages: what is read of one, and what a change makes of it.
 use Rattle.std.proofs.Common.{◌≡◌, ◌≢◌, ◌⊎◌, inl, inr, ℕ, ◌+◌, ◌-◌, ◌*◌, ◌^◌, ◌<◌, ◌≤◌, Bool, true, false, cond, List, ◌++◌, length, take, drop, get_or, refl, sym, ap, ap₂, ◌∙◌, subst, arith}
 use Rattle.std.specs.Int.{w16, w32, to_be_bytes, from_be_bytes, from_bool}
-use Rattle.std.specs.Ordering.{is_le}
+use Rattle.std.specs.List.{count_by}
 use Rattle.std.proofs.lemmas.Bool.{cases_lt}
 use Rattle.std.proofs.lemmas.List.{drop_at, drop-drop, length-take-le, get_or-take, get_or-drop, get_or_append_left}
 use Rattle.std.proofs.lemmas.List.Sums.{sum_by-cons}
 use Rattle.std.proofs.lemmas.Nat.{from_be_bytes-to_be_bytes_4}
 use Rattle.gx_bytes.specs.Parts.{overwritten}
 use Rattle.gx_bytes.proofs.RecordLemmas.{count_behind, records-next}
-use Rattle.gx_ports.specs.Keyed.{key_cmp}
-use Rattle.gx_isam.specs.Index.{IsFit, HoldsAscending, HoldsCount, IsIndexPage, behind_firsts, bucket_among, bucket_count, first_of, separator_bytes, separators_in, separators_of}
+use Rattle.gx_isam.specs.Index.{IsFit, HoldsAscending, HoldsCount, IsIndexPage, behind_firsts, bucket_count, first_of, separator_bytes, separators_in, separators_of}
 use Rattle.gx_isam.proofs.SeparatorLemmas.{separator_format}
 
 -- the number that bytes begin with
@@ -22,16 +21,16 @@ page_holds bytes page = record { held = page.separators.separators; count = page
 
 -- ---- the bucket of a key
 
--- some separators were passed: those at or below the key that were found, and those ahead, are all
-pub record IsCounting (key bytes : List ℕ) (count place : ℕ) (rest : List ℕ) (bucket : ℕ) : Type 0 where
+-- some separators were passed: those that met the test, and those ahead that do, are all
+pub record IsCounting (test : List ℕ → Bool) (bytes : List ℕ) (count place : ℕ) (rest : List ℕ) (bucket : ℕ) : Type 0 where
   pub low : 1 ≤ place
   pub high : place ≤ count
   pub few : bucket < place
   pub ahead : HoldsCount (count - place) rest
-  pub counted : bucket + bucket_among (separators_in (count - place) rest) key ≡ bucket_among (separators_in (count - 1) bytes) key
+  pub counted : bucket + count_by test (separators_in (count - place) rest) ≡ count_by test (separators_in (count - 1) bytes)
 
-pub counting_first : (key bytes : List ℕ) (count : ℕ) → 1 ≤ count → HoldsCount (count - 1) bytes → IsCounting key bytes count 1 bytes 0
-counting_first key bytes count some holds = record { low = omega arith; high = some; few = omega arith; ahead = holds; counted = omega arith }
+pub counting_first : (test : List ℕ → Bool) (bytes : List ℕ) (count : ℕ) → 1 ≤ count → HoldsCount (count - 1) bytes → IsCounting test bytes count 1 bytes 0
+counting_first test bytes count some holds = record { low = omega arith; high = some; few = omega arith; ahead = holds; counted = omega arith }
 
 abbrev pub tick : Bool → ℕ
 tick b = cond b 1 0
@@ -44,16 +43,16 @@ pub tick_small : (n : ℕ) (b : Bool) → n ≡ tick b → n ≤ 1
 tick_small n true is = omega (arith, is)
 tick_small n false is = omega (arith, is)
 
-pub counting_more : (key bytes : List ℕ) (count place : ℕ) (rest : List ℕ) (bucket : ℕ) (separator behind : List ℕ) (more : ℕ) → IsCounting key bytes count place rest bucket → place < count → IsFit separator → rest ≡ separator_bytes separator ++ behind
-    → more ≡ tick (is_le (key_cmp separator key)) → more ≤ 1 → IsCounting key bytes count (place + 1) behind (bucket + more)
-counting_more key bytes count place rest bucket separator behind more i less fit is more_is one =
+pub counting_more : (test : List ℕ → Bool) (bytes : List ℕ) (count place : ℕ) (rest : List ℕ) (bucket : ℕ) (separator behind : List ℕ) (more : ℕ) → IsCounting test bytes count place rest bucket → place < count → IsFit separator → rest ≡ separator_bytes separator ++ behind
+    → more ≡ tick (test separator) → more ≤ 1 → IsCounting test bytes count (place + 1) behind (bucket + more)
+counting_more test bytes count place rest bucket separator behind more i less fit is more_is one =
     let low = i.low in
     let few = i.few in
     let counted = i.counted in
     let left : count - place - 1 ≡ count - (place + 1) = omega (arith, less) in
-    let next = ap (λ (xs : List (List ℕ)). bucket_among xs key) (records-next separator_format (count - place) separator rest behind (omega (arith, less)) fit is) in
-    let here = sum_by-cons (λ (s : List ℕ). tick (is_le (key_cmp s key))) separator (separators_in (count - place - 1) behind) in
-    let same = ap (λ (n : ℕ). bucket_among (separators_in n behind) key) left in
+    let next = ap (count_by test) (records-next separator_format (count - place) separator rest behind (omega (arith, less)) fit is) in
+    let here = sum_by-cons (λ (s : List ℕ). tick (test s)) separator (separators_in (count - place - 1) behind) in
+    let same = ap (λ (n : ℕ). count_by test (separators_in n behind)) left in
     record {
       low = omega (arith, low);
       high = omega (arith, less);
@@ -62,10 +61,10 @@ counting_more key bytes count place rest bucket separator behind more i less fit
       counted = omega (arith, counted, next, here, same, more_is);
     }
 
-pub counting_end : (key bytes : List ℕ) (count place : ℕ) (rest : List ℕ) (bucket : ℕ) → IsCounting key bytes count place rest bucket → place ≡ count → bucket ≡ bucket_among (separators_in (count - 1) bytes) key
-counting_end key bytes count place rest bucket i end =
+pub counting_end : (test : List ℕ → Bool) (bytes : List ℕ) (count place : ℕ) (rest : List ℕ) (bucket : ℕ) → IsCounting test bytes count place rest bucket → place ≡ count → bucket ≡ count_by test (separators_in (count - 1) bytes)
+counting_end test bytes count place rest bucket i end =
     let none : count - place ≡ 0 = omega (arith, end) in
-    let empty = ap (λ (n : ℕ). bucket_among (separators_in n rest) key) none in
+    let empty = ap (λ (n : ℕ). count_by test (separators_in n rest)) none in
     let counted = i.counted in
     omega (arith, counted, empty)
 

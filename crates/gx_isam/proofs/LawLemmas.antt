@@ -70,6 +70,10 @@ module _ (ground : Ground) (place : Place) (s : Sheets) (pages : ℕ → List �
         λ chain. (let on = below.1 chain in is_on.1 (record { page = on.page; among = on.among; here = on.here })),
       )
 
+  -- and they hold it
+  pub isam_of : IsIsam ground place s (isam_map place s)
+  isam_of = record { index = index; root = root_owned; pages = pages; buckets = b; owned = owned; map_is = isam_map_on }
+
 -- its pages decide
 pub isam_same : (ground : Ground) (place : Place) (s t : Sheets) (map : LeafMap) → ground.tables ≤ place.root → SameFor ground place.owner s t → IsIsam ground place s map → IsIsam ground place t map
 isam_same ground place s t map past same h =

@@ -49,7 +49,7 @@ pairs_joined (x ∷ xs) ys one two off = pairs_cons x (xs ++ ys)
     (λ c. elim (Contains-append_cases xs ys x c) [ inl here ↦ pairs_head x xs one here | inr there ↦ off x (0, omega arith, refl) there ])
     (pairs_joined xs ys (pairs_tail x xs one) two (λ q in_x in_y. off q (contains_later x q xs in_x) in_y))
 
-once_below : (pages : ℕ → List ℕ) (n : ℕ) → ((i : ℕ) → i < n → AllPairs (λ a b. a ≢ b) (pages i)) → ((i j q : ℕ) → i < n → j < n → Contains (pages i) q → Contains (pages j) q → i ≡ j) → AllPairs (λ a b. a ≢ b) (pages_below pages n)
+pub once_below : (pages : ℕ → List ℕ) (n : ℕ) → ((i : ℕ) → i < n → AllPairs (λ a b. a ≢ b) (pages i)) → ((i j q : ℕ) → i < n → j < n → Contains (pages i) q → Contains (pages j) q → i ≡ j) → AllPairs (λ a b. a ≢ b) (pages_below pages n)
 once_below pages zero each apart = λ i j d less below. absurd (omega (arith, below))
 once_below pages (suc n) each apart = pairs_joined (pages_below pages n) (pages n)
     (once_below pages n (λ i less. each i (omega (arith, less))) (λ i j q in_i in_j. apart i j q (omega (arith, in_i)) (omega (arith, in_j))))

@@ -74,6 +74,14 @@ pub record IsIndexPage (bytes : List ℕ) : Type 0 where
 abbrev pub bucket_among : List (List ℕ) → List ℕ → ℕ
 bucket_among separators key = count_by (λ separator. is_le (key_cmp separator key)) separators
 
+-- the last bucket that has keys whose front is at or below this one: how many separators have such a front
+abbrev pub last_among : List (List ℕ) → List ℕ → ℕ
+last_among separators hi = count_by (λ separator. is_le (key_cmp (take (length hi) separator) hi)) separators
+
+-- the same by an index page
+abbrev pub last_bucket : List ℕ → List ℕ → ℕ
+last_bucket bytes hi = last_among (separators_of bytes) hi
+
 -- the bucket of a key by an index page
 abbrev pub bucket_of : List ℕ → List ℕ → ℕ
 bucket_of bytes key = bucket_among (separators_of bytes) key

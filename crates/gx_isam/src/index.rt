@@ -1,10 +1,10 @@
 // The index page of an indexed sequential file.
-ghost use Rattle.std.specs.Prelude.{◌≡◌, ◌≢◌, ◌↔◌, ℕ, ◌+◌, ◌-◌, ◌*◌, ◌<◌, ◌≤◌, length, IsTrue};
+ghost use Rattle.std.specs.Prelude.{◌≡◌, ◌≢◌, ◌↔◌, ℕ, ◌+◌, ◌-◌, ◌*◌, ◌<◌, ◌≤◌, length, take, IsTrue};
 ghost use Rattle.std.specs.Ordering.{is_le, is_lt};
 ghost use Rattle.gx_bytes.specs.Records.{SplitsRecord};
 ghost use Rattle.gx_bytes.specs.declared.page.TheConstants.{NONE};
 ghost use Rattle.gx_ports.specs.Keyed.{key_cmp};
-ghost use Rattle.gx_isam.specs.Index.{IsFit, HoldsAscending, IsIndexPage, behind_firsts, bucket_count, bucket_of, first_of, lent, separator_bytes, separators_of};
+ghost use Rattle.gx_isam.specs.Index.{IsFit, HoldsAscending, IsIndexPage, behind_firsts, bucket_count, bucket_of, first_of, last_bucket, lent, separator_bytes, separators_of};
 
 use gx_bytes::{NONE, has_kind, overwrite, record_count, split_u16, split_u32, write_header};
 
@@ -98,6 +98,23 @@ pub(crate) fn bucket_of(page: &[u8], key: &[u8]) -> u16
     bucket
 }
 
+/// The last bucket with keys that begin with `hi`, or with less: how many separators do.
+pub(crate) fn last_bucket(page: &[u8], hi: &[u8]) -> u16
+    requires { IsIndexPage page.now }
+    ensures value { result ≡ last_bucket page.now hi.now }
+    ensures below { result < bucket_count page.now }
+{
+    let count = record_count(page);
+    let mut rest = behind_firsts(page, count);
+    let mut bucket = 0;
+    for _ in 1..count {
+        let (separator, behind) = split_separator(rest).unwrap();
+        bucket += u16::from(is_front_at_most(separator, hi));
+        rest = behind;
+    }
+    bucket
+}
+
 // The bytes behind the first pages of so many buckets.
 fn behind_firsts(page: &[u8], count: u16) -> &[u8]
     requires size { length page.now ≡ 4096 }
@@ -160,6 +177,13 @@ pub(crate) fn is_below(a: &[u8], b: &[u8]) -> bool
     ensures { result ≡ is_lt (key_cmp a.now b.now) }
 {
     a.cmp(b).is_lt()
+}
+
+// Whether the front of `a` that is as long as `hi` is `hi`, or stands before it.
+fn is_front_at_most(a: &[u8], hi: &[u8]) -> bool
+    ensures { result ≡ is_le (key_cmp (take (length hi.now) a.now) hi.now) }
+{
+    is_at_most(&a[..a.len().min(hi.len())], hi)
 }
 
 // Whether `a` is `b`, or stands before it.

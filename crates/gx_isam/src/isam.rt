@@ -113,7 +113,8 @@ pub fn remove<P: Pages>(pages: &mut P, place: &Place, key: &[u8]) -> Result<(), 
     }
 }
 
-/// Appends the entries inside the span, in ascending order of their keys. All chains are read.
+/// Appends the entries inside the span, in ascending order of their keys. The chains of the buckets
+/// that have keys inside it are read.
 /// `Damaged`: no whole file stands there. `Fault`: a page couldn't be read. `NoMemory`: there was
 /// none for the entries. After a refusal `out` may hold more than before.
 pub fn select<P: Pages>(

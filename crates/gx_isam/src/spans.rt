@@ -11,14 +11,15 @@ ghost use Rattle.gx_isam.specs.Gathered.{AreGathered};
 ghost use Rattle.gx_isam.specs.Index.{IsIndexPage, bucket_count, first_of};
 ghost use Rattle.gx_isam.specs.Isam.{IsIsam};
 
-use crate::index::buckets;
+use crate::index::{bucket_of, last_bucket};
 use crate::read::{first_page, read_index};
 use gx_chain::gather_from;
 use gx_ports::{Entry, PAGE_LEN, Pages, Place, Stop};
 use gx_values::Span;
 use std::alloc::Global;
 
-/// The entries inside the span, one chain after the other.
+/// The entries inside the span, one chain after the other. Only those chains are read whose buckets
+/// have keys inside it.
 pub(crate) fn gather_inside<P: Pages>(
     alloc: Global,
     pages: &mut P,
@@ -39,7 +40,9 @@ pub(crate) fn gather_inside<P: Pages>(
     let mut index = [0; PAGE_LEN];
     read_index(pages, place.root, &mut index)?;
     let mut found = Vec::new(alloc);
-    for bucket in 0..buckets(&index) {
+    let from = bucket_of(&index, span.lo.as_slice());
+    let last = last_bucket(&index, span.hi.as_slice());
+    for bucket in from..last + 1 {
         gather_bucket(alloc, pages, place.root, &index, bucket, span, &mut found)?;
     }
     Ok(found)

@@ -1,5 +1,5 @@
 -- What a call on one file does to the leaves.
-use Rattle.std.proofs.Common.{◌≡◌, ℕ, ◌+◌, ◌*◌, ◌<◌, List, length, set, IsTrue, sym, ap, subst, ◌∙◌}
+use Rattle.std.proofs.Common.{◌≡◌, ◌≢◌, ℕ, ◌+◌, ◌*◌, ◌<◌, List, length, set, IsTrue, sym, ap, subst, ◌∙◌}
 use Rattle.std.specs.Prelude.{slice_get, Some, Result, Ok, Err, OnOk, IsErrOf, IsErrAnd}
 use Rattle.std.specs.FinMap.{empty}
 use Rattle.std.proofs.lemmas.List.{set-get_or}
@@ -11,10 +11,11 @@ use Rattle.gx_ports.specs.Stops.{is_outside, HasStopCause}
 use Rattle.gx_ports.specs.LeafMaps.{LeafMap, map_at, entry_count, SameElsewhere}
 use Rattle.gx_ports.specs.PageCalls.{KeepsPages}
 use Rattle.gx_ports.specs.Files.{Holds, IsWhole, SparesOthers, IsFull}
-use Rattle.gx_leaves.specs.Kinds.{IsFileAt}
+use Rattle.gx_leaves.specs.Kinds.{IsFileAt, IsFreshOf, map_in}
 use Rattle.gx_leaves.specs.Places.{IsLaidOut}
-use Rattle.gx_leaves.specs.Wholeness.{maps_of, limits_of, AreWhole, AreLaid}
-use Rattle.gx_leaves.proofs.FrameLemmas.{held_at, elsewhere, maps_set, laid_stays}
+use Rattle.gx_leaves.specs.Wholeness.{maps_of, limits_of, AreWhole, AreLaid, IsFreshAt}
+use Rattle.gx_leaves.proofs.FrameLemmas.{fresh_stays as others_fresh, held_at, elsewhere, laws_at, maps_set, laid_stays}
+use Rattle.gx_leaves.proofs.SumLemmas.{some_same}
 use Rattle.gx_leaves.proofs.CrowdLemmas.{crowded}
 
 module _ {S : Type 0} (g : Ghosts S) (places : List Place) where
@@ -66,6 +67,19 @@ module _ {S : Type 0} (g : Ghosts S) (places : List Place) where
           crowded (g.ground old) places laid (g.working old) (g.working new) leaf place at (spares (file_whole whole) (λ f. cc)) whole.laid (is.none whole.told e)
           (many whole.told ∙ (λ i. (keeps.ground i).size))
           (λ m file. is.few m (record { told = whole.told; file = file }) e)
+
+      -- a file that was laid out anew is fresh
+      pub fresh_now : (result : Result T Stop) (m : LeafMap) → OnOk result (IsFileAt (g.ground old) place (g.working new) m) → OnOk result (IsFreshOf place.spec.kind place (g.working new) m) → OnOk result (IsFreshAt (g.ground new) places (g.working new) leaf)
+      fresh_now (Ok x) m file fresh = subst (λ b. IsFreshAt b places (g.working new) leaf) (sym keeps.ground)
+          (λ other there. (let same = some_same place other (sym at ∙ there) in
+          subst (λ p. IsFreshOf p.spec.kind p (g.working new) (map_in (g.ground old) p (g.working new))) same
+          (subst (λ n. IsFreshOf place.spec.kind place (g.working new) n) (sym ((laws_at (g.ground old) places laid leaf place at).one (g.working new) m file)) fresh)))
+      fresh_now (Err e) m file fresh = tt
+
+      pub fresh_stays : (result : Result T Stop) → SparesOthers g (IsFileAt (g.ground old) place) place.owner old new result → Whole old → OnOk result ((i : ℕ) → i ≢ leaf → IsFreshAt (g.ground old) places (g.working old) i → IsFreshAt (g.ground new) places (g.working new) i)
+      fresh_stays (Ok x) spares whole = λ i differ fresh. subst (λ b. IsFreshAt b places (g.working new) i) (sym keeps.ground)
+          (others_fresh (g.ground old) places laid (g.working old) (g.working new) leaf place at (spares (file_whole whole) (λ e. cc)) whole.laid i differ fresh)
+      fresh_stays (Err e) spares whole = tt
 
 -- the same refusal again
 pub same_cause : {T U : Type 0} (before now : ℕ) (sound : Type 0) (result : Result U Stop) (why : Stop) → HasStopCause {T = T} before now sound (Err why) → IsErrAnd result (λ s. s ≡ why) → HasStopCause before now sound result

@@ -8,10 +8,10 @@ use Rattle.gx_ports.specs.declared.pages.Place.{Place}
 use Rattle.gx_ports.specs.LeafMaps.{LeafMap, map_at, SameElsewhere}
 use Rattle.gx_ports.specs.Sheets.{Sheets, Ground}
 use Rattle.gx_ports.specs.Files.{AreFileLaws, OthersStay}
-use Rattle.gx_leaves.specs.Kinds.{IsFileAt, map_in}
+use Rattle.gx_leaves.specs.Kinds.{IsFileAt, IsFreshOf, map_in}
 use Rattle.gx_leaves.specs.Places.{IsLaidOut}
-use Rattle.gx_leaves.specs.Wholeness.{maps_of, table_owner, IsTable, AreLaid}
-use Rattle.gx_leaves.proofs.KindLemmas.{file_laws}
+use Rattle.gx_leaves.specs.Wholeness.{maps_of, table_owner, IsFreshAt, IsTable, AreLaid}
+use Rattle.gx_leaves.proofs.KindLemmas.{file_laws, fresh_with}
 use Rattle.gx_leaves.proofs.SumLemmas.{some_same, map_set_at, map_same_at, map_at_some}
 use Rattle.gx_leaves.proofs.PlaceLemmas.{placed}
 
@@ -46,6 +46,18 @@ module _ (base : Ground) (places : List Place) (laid : IsLaidOut base places) (o
       let h = whole.each i other there in
       let laws = laws_at base places laid i other there in
       laws.one new h.0 (file_stays i other differ there h.0 h.1) ∙ sym (laws.one old h.0 h.1)
+
+  -- and is as fresh
+  pub fresh_stays : AreLaid base places old → (i : ℕ) → i ≢ leaf → IsFreshAt base places old i → IsFreshAt base places new i
+  fresh_stays whole i differ fresh other there =
+      let p = placed base places laid i other there in
+      let q = placed base places laid leaf place at in
+      let d = differ in
+      let apart : other.owner ≢ place.owner = λ e. d (omega (arith, e, p.number, q.number)) in
+      let some : other.owner ≢ 0 = omega (arith, p.number) in
+      let h = whole.each i other there in
+      subst (λ m. IsFreshOf other.spec.kind other new m) (sym (map_stays whole i other differ there))
+      (fresh_with base other p.is.past old new h.0 (map_in base other old) (others other.owner apart some) h.1 (fresh other there))
 
   pub elsewhere : AreLaid base places old → SameElsewhere (maps_of base places old) (maps_of base places new) leaf
   elsewhere whole i differ = map_same_at (λ p. map_in base p old) (λ p. map_in base p new) places i empty (λ other there. map_stays whole i other differ there)

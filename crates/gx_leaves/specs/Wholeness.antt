@@ -46,9 +46,9 @@ pub record IsWholeAt (tells : Bool) (base : Ground) (places : List Place) (sheet
 abbrev pub limits_of : Ground → List Place → Limits
 limits_of base places = record { pages = base.size; fixed = base.tables + root_pages (specs_of places) }
 
--- each leaf at this number is fresh
-abbrev pub IsFreshAt : List Place → ℕ → Type 0
-IsFreshAt places leaf = (place : Place) → slice_get places leaf ≡ Some place → IsFreshOf place.spec.kind
+-- the leaf at this number is fresh
+abbrev pub IsFreshAt : Ground → List Place → Sheets → ℕ → Type 0
+IsFreshAt base places sheets leaf = (place : Place) → slice_get places leaf ≡ Some place → IsFreshOf place.spec.kind place sheets (map_in base place sheets)
 
 -- blocks have this head, and stand for sheets with these maps
 pub record StandsFor (stands : List (List ℕ) → Sheets → List (List ℕ) → Type 0) (head : Head) (maps : List LeafMap) (blocks : List (List ℕ)) : Type 0 where

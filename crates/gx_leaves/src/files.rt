@@ -11,6 +11,7 @@ use gx_bplus as bplus;
 use gx_device::Failed;
 use gx_hash as hash;
 use gx_heap as heap;
+use gx_isam as isam;
 use gx_ports::{Entries, LeafKind, Pages, Place, Stop};
 use gx_values::Span;
 use std::alloc::Global;
@@ -33,8 +34,8 @@ pub fn make_file<P: Pages>(pages: &mut P, place: &Place) -> Result<(), Failed>
     match place.spec.kind {
         LeafKind::Heap => heap::make(pages, place),
         LeafKind::Hash(_) => hash::make(pages, place),
+        LeafKind::Isam => isam::make(pages, place),
         LeafKind::Bplus => bplus::make(pages, place),
-        LeafKind::Isam => unreachable!(),
     }
 }
 
@@ -66,8 +67,8 @@ pub fn put_in_file<P: Pages>(
     match place.spec.kind {
         LeafKind::Heap => heap::put(pages, place, key, body),
         LeafKind::Hash(_) => hash::put(pages, place, key, body),
+        LeafKind::Isam => isam::put(pages, place, key, body),
         LeafKind::Bplus => bplus::put(pages, place, key, body),
-        LeafKind::Isam => unreachable!(),
     }
 }
 
@@ -91,8 +92,8 @@ pub fn remove_from_file<P: Pages>(pages: &mut P, place: &Place, key: &[u8]) -> R
     match place.spec.kind {
         LeafKind::Heap => heap::remove(pages, place, key),
         LeafKind::Hash(_) => hash::remove(pages, place, key),
+        LeafKind::Isam => isam::remove(pages, place, key),
         LeafKind::Bplus => bplus::remove(pages, place, key),
-        LeafKind::Isam => unreachable!(),
     }
 }
 
@@ -119,19 +120,21 @@ pub fn select_in_file<P: Pages>(
     match place.spec.kind {
         LeafKind::Heap => heap::select(alloc, pages, place, span, out),
         LeafKind::Hash(_) => hash::select(alloc, pages, place, span, out),
+        LeafKind::Isam => isam::select(alloc, pages, place, span, out),
         LeafKind::Bplus => bplus::select(alloc, pages, place, span, out),
-        LeafKind::Isam => unreachable!(),
     }
 }
 
-/// Lays the entries out anew.
-pub fn reorganize_file<P: Pages>(pages: &mut P, place: &Place) -> Result<(), Stop>
+/// Lays the entries of an indexed sequential file out anew. A file of another kind stays as it is.
+pub fn reorganize_file<P: Pages>(alloc: Global, pages: &mut P, place: &Place) -> Result<(), Stop>
     requires built { IsTrue (is_built place.now.spec.kind) }
     requires place { IsPlace (P.ground pages.old) place.now }
     ensures ok { (map : LeafMap) →
         Holds P.PageView (IsFileAt (P.ground pages.old) place.now) pages.old map → OnOk result
         (IsFileAt (P.ground pages.old) place.now (P.working pages.new) map) }
-    ensures fresh { OnOk result (IsFreshOf place.now.spec.kind) }
+    ensures fresh { (map : LeafMap) →
+        Holds P.PageView (IsFileAt (P.ground pages.old) place.now) pages.old map → OnOk result
+        (IsFreshOf place.now.spec.kind place.now (P.working pages.new) map) }
     ensures others { SparesOthers P.PageView (IsFileAt (P.ground pages.old) place.now)
         place.now.owner pages.old pages.new result }
     ensures full { IsFull P.PageView (IsFileAt (P.ground pages.old) place.now)
@@ -144,6 +147,6 @@ pub fn reorganize_file<P: Pages>(pages: &mut P, place: &Place) -> Result<(), Sto
     match place.spec.kind {
         // heaps and chains are in no order, and a tree in its order, as ever
         LeafKind::Heap | LeafKind::Hash(_) | LeafKind::Bplus => Ok(()),
-        LeafKind::Isam => unreachable!(),
+        LeafKind::Isam => isam::reorganize(alloc, pages, place),
     }
 }

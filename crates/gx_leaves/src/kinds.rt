@@ -4,7 +4,8 @@ ghost use Rattle.gx_leaves.specs.Kinds.{are_built, is_built};
 
 use gx_ports::{LeafKind, LeafSpec};
 
-/// Whether the kind of each leaf is built.
+/// Whether there are calls for the kind of each leaf. There are for all kinds, but for a hashed file
+/// of no chain.
 pub fn kinds_built(specs: &[LeafSpec]) -> bool
     ensures { result ≡ are_built specs.now }
 {
@@ -15,8 +16,7 @@ fn kind_built(kind: LeafKind) -> bool
     ensures { result ≡ is_built kind }
 {
     match kind {
-        LeafKind::Heap | LeafKind::Bplus => true,
+        LeafKind::Heap | LeafKind::Isam | LeafKind::Bplus => true,
         LeafKind::Hash(buckets) => buckets > 0,
-        LeafKind::Isam => false,
     }
 }

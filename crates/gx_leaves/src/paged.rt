@@ -132,7 +132,8 @@ impl<P: Pages + Drop> View for PagedLeaves<P> {
 
     ghost steady = { λ l. P.steady l.pages };
 
-    ghost fresh = { λ l leaf. IsFreshAt l.places.items leaf };
+    ghost fresh = { λ l leaf. IsFreshAt
+        (P.ground l.pages) l.places.items (P.working l.pages) leaf };
 
     ghost frugal = { true };
 
@@ -178,9 +179,9 @@ impl<P: Pages + Drop> Leaves for PagedLeaves<P> {
         Ok(())
     }
 
-    fn reorganize(&mut self, _alloc: Global, leaf: u32) -> Result<(), Stop> {
+    fn reorganize(&mut self, alloc: Global, leaf: u32) -> Result<(), Stop> {
         let place = self.place(leaf);
-        reorganize_file(&mut self.pages, &place)
+        reorganize_file(alloc, &mut self.pages, &place)
     }
 
     fn commit(&mut self) -> Result<(), Failed> {

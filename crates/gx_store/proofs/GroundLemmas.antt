@@ -9,6 +9,7 @@ use Rattle.gx_ports.specs.Sheets.{Sheets, Ground, IsPast}
 use Rattle.gx_btree.specs.Bplus.{IsBplus}
 use Rattle.gx_hash.specs.Hash.{IsHash}
 use Rattle.gx_heap.specs.Heap.{IsHeap}
+use Rattle.gx_isam.specs.Isam.{IsIsam}
 use Rattle.gx_leaves.specs.Kinds.{IsFileOf, map_of}
 use Rattle.gx_leaves.specs.Places.{places_from, places_of}
 use Rattle.gx_leaves.specs.Wholeness.{AreLaid, maps_of}
@@ -68,10 +69,31 @@ module _ (a b : Ground) (size : a.size ≡ b.size) (tables : a.tables ≡ b.tabl
     map_is = h.map_is;
   }
 
+  isam_there : (place : Place) (sheets : Sheets) (m : LeafMap) → IsIsam a place sheets m → IsIsam b place sheets m
+  isam_there place sheets m h = record {
+    index = h.index;
+    root = h.root;
+    pages = h.pages;
+    buckets = record {
+      chains = λ bucket below. (let chain = h.buckets.chains bucket below in record {
+        linked = chain.linked;
+        once = chain.once;
+        past = λ page among. past_there page (chain.past page among);
+        owned = chain.owned;
+        filled = chain.filled;
+        apart = chain.apart;
+      });
+      filled = h.buckets.filled;
+      placed = h.buckets.placed;
+    };
+    owned = h.owned;
+    map_is = h.map_is;
+  }
+
   file_there : (kind : LeafKind) (place : Place) (sheets : Sheets) (m : LeafMap) → IsFileOf kind a place sheets m → IsFileOf kind b place sheets m
   file_there kinds.Heap place sheets m h = heap_there place sheets m h
   file_there (kinds.Hash buckets) place sheets m h = hash_there place sheets m h
-  file_there kinds.Isam place sheets m h = h
+  file_there kinds.Isam place sheets m h = isam_there place sheets m h
   file_there kinds.Bplus place sheets m h = bplus_there place sheets m h
 
   map_there : (kind : LeafKind) (place : Place) (sheets : Sheets) → map_of kind a place sheets ≡ map_of kind b place sheets

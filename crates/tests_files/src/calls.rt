@@ -83,6 +83,7 @@ fn each_call_is_carried_out(rt: HostRuntime) -> Result<(), Fail> {
     let kinds = [
         (LeafKind::Heap, 1),
         (LeafKind::Hash(8), 8),
+        (LeafKind::Isam, 1),
         (LeafKind::Bplus, 1),
     ];
     for (kind, roots) in kinds {

@@ -10,6 +10,7 @@ use gx_bplus as bplus;
 use gx_device::{Device, Machine};
 use gx_hash as hash;
 use gx_heap as heap;
+use gx_isam as isam;
 use gx_journal::Journal;
 use gx_memory_machine::MemoryMachine;
 use gx_pages::Paged;
@@ -90,8 +91,9 @@ impl File {
         match place.spec.kind {
             Heap => heap::make(pages, place).is_ok(),
             Hash(1..) => hash::make(pages, place).is_ok(),
+            Isam => isam::make(pages, place).is_ok(),
             Bplus => bplus::make(pages, place).is_ok(),
-            Hash(0) | Isam => false,
+            Hash(0) => false,
         }
     }
 
@@ -107,8 +109,9 @@ impl File {
         match place.spec.kind {
             Heap => heap::put(pages, place, key, body).is_ok(),
             Hash(1..) => hash::put(pages, place, key, body).is_ok(),
+            Isam => isam::put(pages, place, key, body).is_ok(),
             Bplus => bplus::put(pages, place, key, body).is_ok(),
-            Hash(0) | Isam => false,
+            Hash(0) => false,
         }
     }
 
@@ -123,8 +126,9 @@ impl File {
         match place.spec.kind {
             Heap => heap::remove(pages, place, key).is_ok(),
             Hash(1..) => hash::remove(pages, place, key).is_ok(),
+            Isam => isam::remove(pages, place, key).is_ok(),
             Bplus => bplus::remove(pages, place, key).is_ok(),
-            Hash(0) | Isam => false,
+            Hash(0) => false,
         }
     }
 
@@ -138,11 +142,21 @@ impl File {
         let selected = match place.spec.kind {
             Heap => heap::select(alloc, pages, place, span, &mut out),
             Hash(1..) => hash::select(alloc, pages, place, span, &mut out),
+            Isam => isam::select(alloc, pages, place, span, &mut out),
             Bplus => bplus::select(alloc, pages, place, span, &mut out),
-            Hash(0) | Isam => return None,
+            Hash(0) => return None,
         };
         selected.ok()?;
         Some(out)
+    }
+
+    /// Lays an indexed sequential file out anew, and says whether it went on.
+    pub(crate) fn reorganize(&mut self, alloc: Global) -> bool {
+        let File { pages, place } = self;
+        match place.spec.kind {
+            Isam if is_place(pages, place) => isam::reorganize(alloc, pages, place).is_ok(),
+            _ => true,
+        }
     }
 
     /// Whether the file is found whole.
@@ -154,8 +168,9 @@ impl File {
         match place.spec.kind {
             Heap => heap::check(alloc, pages, place).is_ok(),
             Hash(1..) => hash::check(alloc, pages, place).is_ok(),
+            Isam => isam::check(alloc, pages, place).is_ok(),
             Bplus => bplus::check(alloc, pages, place).is_ok(),
-            Hash(0) | Isam => false,
+            Hash(0) => false,
         }
     }
 

@@ -148,6 +148,10 @@ fn play(rt: &impl Abort, alloc: Global, trial: Trial) -> Result<(), Fail>
     for _ in 0..trial.rounds {
         assert!(rt; round(alloc, &mut random, trial.keys, &mut file, &mut map)?);
         assert!(rt; is_map(alloc, &mut file, &map));
+        if trial.kind == LeafKind::Isam {
+            assert!(rt; file.reorganize(alloc));
+            assert!(rt; is_map(alloc, &mut file, &map));
+        }
     }
     assert!(rt; empty(trial.keys, &mut file));
     assert!(rt; file.check(alloc));
@@ -175,4 +179,16 @@ fn files_hold_what_a_map_holds(rt: HostRuntime) -> Result<(), Fail> {
         play(&rt, rt.alloc(), trial)?;
     }
     Ok(())
+}
+
+// Between two rounds the file is laid out anew.
+#[test]
+fn indexed_files_hold_what_a_map_holds(rt: HostRuntime) -> Result<(), Fail> {
+    let trial = Trial {
+        kind: LeafKind::Isam,
+        roots: 1,
+        keys: 300,
+        rounds: 20,
+    };
+    play(&rt, rt.alloc(), trial)
 }

@@ -1,5 +1,5 @@
 use Rattle.gx_ports.specs.LeafMaps.{map_at}
-use Rattle.gx_leaves.proofs.ChangeLemmas.{maps, holds, file_whole, others_stay, stays_whole, stays, full}
+use Rattle.gx_leaves.proofs.ChangeLemmas.{maps, holds, file_whole, others_stay, stays_whole, stays, full, fresh_now, fresh_stays}
 use Rattle.gx_leaves.proofs.paged.PagedLeavesLeaves.reorganize.Goals as goal
 
 pub returns-clause-ok : goal.returns-clause-ok
@@ -31,3 +31,15 @@ pub returns-clause-full : goal.returns-clause-full
 returns-clause-full g c =
     let l = c.args.self.now in
     full g.P.PageView l.places.items l.pages l.laid_out c.args.leaf c.place-place.result c.place-place.ensures.at c.reorganize_file.new.pages c.reorganize_file.ensures.keeps c.reorganize_file.result c.reorganize_file.ensures.others c.reorganize_file.ensures.full (λ told. (g.met.P.Pages.many c.reorganize_file.new.pages told).0)
+
+pub returns-clause-fresh : goal.returns-clause-fresh
+returns-clause-fresh g c = λ whole.
+    let l = c.args.self.now in
+    let old = map_at (maps g.P.PageView l.places.items l.pages) c.args.leaf in
+    let held = holds g.P.PageView l.places.items l.pages l.laid_out c.args.leaf c.place-place.result c.place-place.ensures.at whole in
+    fresh_now g.P.PageView l.places.items l.pages l.laid_out c.args.leaf c.place-place.result c.place-place.ensures.at c.reorganize_file.new.pages c.reorganize_file.ensures.keeps c.reorganize_file.result old (c.reorganize_file.ensures.ok old held) (c.reorganize_file.ensures.fresh old held)
+
+pub returns-clause-fresh_others : goal.returns-clause-fresh_others
+returns-clause-fresh_others g c = λ whole.
+    let l = c.args.self.now in
+    fresh_stays g.P.PageView l.places.items l.pages l.laid_out c.args.leaf c.place-place.result c.place-place.ensures.at c.reorganize_file.new.pages c.reorganize_file.ensures.keeps c.reorganize_file.result c.reorganize_file.ensures.others whole
