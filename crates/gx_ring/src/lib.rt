@@ -1,0 +1,2 @@
+//! The ring: a linkset in which each owner leads to its first member, and each member to the next.
+#![tactic(auto)]
