@@ -136,10 +136,11 @@ module _ {M : Type 0} (rule : M → Rule) (heads nexts : Tree M) (valid : IsRing
   chain_at link maps owner r m is held first_is (h, key) =
       let q = in_heads rule heads nexts valid link r h in
       let same : q.0 ≡ owner = ap (λ ks. get_or ks 0 no_value) (sym (head_key q.0 (members_of link q.0) r q.1) ∙ key) in
-      let member : q.1.member ≡ m = ap (λ (x : Rec). get_or x.fields 0 no_value) (sym q.1.is) ∙ sym first_is in
-      (
+      let member : q.1.member ≡ m = ap (λ (x : Rec). get_or x.fields 0 no_value) (sym q.1.is) ∙ sym first_is in (
         record { link = link; is_link = is; held = held; owner = owner; rest = q.1.others; members = ap (members_of link) (sym same) ∙ q.1.members ∙ ap (λ x. x ∷ q.1.others) member },
-        (refl, (refl, q.1.is ∙ (λ i. head_rec (same i) (member i)))),
+        refl,
+        refl,
+        q.1.is ∙ (λ i. head_rec (same i) (member i)),
       )
 
   steps_sum : (c a b before half steps eh ec total : ℕ) → half ≤ before + (a + eh) → steps ≤ half + (c * b + ec) → eh + ec ≤ total → steps ≤ before + (suc c * (a + b) + total)

@@ -51,29 +51,31 @@ module _ {M : Type 0} (rule : M → Rule) (heads nexts : Tree M) (valid : IsRing
       came_behind held a =
           let h = internal_elsewhere rule heads (sets.head_rows rule heads nexts valid link) maps now heads_valid (λ n i. a.two.others n (λ j. apart n i j) ∙ a.one.others n (λ j. apart n i j)) held.0 in
           let one = a.one.internal (sets.chain_rows rule heads nexts valid link) (sets.chain_set rule heads nexts valid link is_link) (sets.half_change rule heads nexts valid link o m is_link is_more free us p ys members after other) held.1.0 in
-          let two = a.two.internal (sets.half rule heads nexts valid link o m is_link is_more free us p ys members after other) (sets.half_set rule heads nexts valid link o m is_link is_more free us p ys members after other) (sets.half_free rule heads nexts valid link o m is_link is_more free us p ys members after other) one in
-          (
+          let two = a.two.internal (sets.half rule heads nexts valid link o m is_link is_more free us p ys members after other) (sets.half_set rule heads nexts valid link o m is_link is_more free us p ys members after other) (sets.half_free rule heads nexts valid link o m is_link is_more free us p ys members after other) one in (
             internal_of_members rule heads (sets.head_rows rule heads nexts valid link) (sets.head_rows rule heads nexts valid (fin.insert link m o)) now heads_valid
-              (sets.heads_same rule heads nexts valid link (fin.insert link m o) (λ x. sym (sets.first_stays rule heads nexts valid link o m is_link is_more free us p ys members after other x)))
-              (sets.heads_same rule heads nexts valid (fin.insert link m o) link (sets.first_stays rule heads nexts valid link o m is_link is_more free us p ys members after other)) h,
+                (sets.heads_same rule heads nexts valid link (fin.insert link m o) (λ x. sym (sets.first_stays rule heads nexts valid link o m is_link is_more free us p ys members after other x)))
+                (sets.heads_same rule heads nexts valid (fin.insert link m o) link (sets.first_stays rule heads nexts valid link o m is_link is_more free us p ys members after other)) h,
             (
               internal_of_members rule nexts (changed (sets.half rule heads nexts valid link o m is_link is_more free us p ys members after other) None (Some (chain_rec o m (first ys)))) (sets.chain_rows rule heads nexts valid (fin.insert link m o)) now nexts_valid
-                (sets.half_to rule heads nexts valid link o m is_link is_more free us p ys members after other) (sets.half_from rule heads nexts valid link o m is_link is_more free us p ys members after other) two,
-              tt))
+                  (sets.half_to rule heads nexts valid link o m is_link is_more free us p ys members after other) (sets.half_from rule heads nexts valid link o m is_link is_more free us p ys members after other) two,
+              tt,
+            ),
+          )
 
       went_behind : Held (fin.insert link m o) maps → AreReplaced rule nexts nexts (reversed (own_change o m (first ys))) (reversed (lead_change o m (Some p) (first ys))) maps now → Held link now
       went_behind held a =
           let h = internal_elsewhere rule heads (sets.head_rows rule heads nexts valid (fin.insert link m o)) maps now heads_valid (λ n i. a.two.others n (λ j. apart n i j) ∙ a.one.others n (λ j. apart n i j)) held.0 in
           let one = a.one.internal (sets.chain_rows rule heads nexts valid (fin.insert link m o)) (sets.chain_set rule heads nexts valid (fin.insert link m o) is_more) (sets.less_change rule heads nexts valid link o m is_link is_more free us p ys members after other) held.1.0 in
-          let two = a.two.internal (sets.less rule heads nexts valid link o m is_link is_more free us p ys members after other) (sets.less_set rule heads nexts valid link o m is_link is_more free us p ys members after other) (sets.back_change rule heads nexts valid link o m is_link is_more free us p ys members after other) one in
-          (
+          let two = a.two.internal (sets.less rule heads nexts valid link o m is_link is_more free us p ys members after other) (sets.less_set rule heads nexts valid link o m is_link is_more free us p ys members after other) (sets.back_change rule heads nexts valid link o m is_link is_more free us p ys members after other) one in (
             internal_of_members rule heads (sets.head_rows rule heads nexts valid (fin.insert link m o)) (sets.head_rows rule heads nexts valid link) now heads_valid
-              (sets.heads_same rule heads nexts valid (fin.insert link m o) link (sets.first_stays rule heads nexts valid link o m is_link is_more free us p ys members after other))
-              (sets.heads_same rule heads nexts valid link (fin.insert link m o) (λ x. sym (sets.first_stays rule heads nexts valid link o m is_link is_more free us p ys members after other x))) h,
+                (sets.heads_same rule heads nexts valid (fin.insert link m o) link (sets.first_stays rule heads nexts valid link o m is_link is_more free us p ys members after other))
+                (sets.heads_same rule heads nexts valid link (fin.insert link m o) (λ x. sym (sets.first_stays rule heads nexts valid link o m is_link is_more free us p ys members after other x))) h,
             (
               internal_of_members rule nexts (changed (sets.less rule heads nexts valid link o m is_link is_more free us p ys members after other) (Some (chain_rec o p (Some m))) (Some (chain_rec o p (first ys)))) (sets.chain_rows rule heads nexts valid link) now nexts_valid
-                (sets.back_to rule heads nexts valid link o m is_link is_more free us p ys members after other) (sets.back_from rule heads nexts valid link o m is_link is_more free us p ys members after other) two,
-              tt))
+                  (sets.back_to rule heads nexts valid link o m is_link is_more free us p ys members after other) (sets.back_from rule heads nexts valid link o m is_link is_more free us p ys members after other) two,
+              tt,
+            ),
+          )
 
     -- ---- before all others
 
@@ -83,28 +85,30 @@ module _ {M : Type 0} (rule : M → Rule) (heads nexts : Tree M) (valid : IsRing
           let one = a.one.internal (sets.head_rows rule heads nexts valid link) (sets.head_set rule heads nexts valid link is_link) (sets.lead_changes rule heads nexts valid link o m is_link is_more free ys members after (first ys) refl) held.0 in
           let h = internal_elsewhere rule heads (changed (sets.head_rows rule heads nexts valid link) (head_if o (first ys)) (Some (head_rec o m))) a.half now heads_valid (λ n i. a.two.others n (λ j. apart n i j)) one in
           let c = internal_elsewhere rule nexts (sets.chain_rows rule heads nexts valid link) maps a.half nexts_valid (λ n i. a.one.others n (λ j. apart n j i)) held.1.0 in
-          let two = a.two.internal (sets.chain_rows rule heads nexts valid link) (sets.chain_set rule heads nexts valid link is_link) (sets.lead_chain_change rule heads nexts valid link o m is_link is_more free ys members after) c in
-          (
+          let two = a.two.internal (sets.chain_rows rule heads nexts valid link) (sets.chain_set rule heads nexts valid link is_link) (sets.lead_chain_change rule heads nexts valid link o m is_link is_more free ys members after) c in (
             internal_of_members rule heads (changed (sets.head_rows rule heads nexts valid link) (head_if o (first ys)) (Some (head_rec o m))) (sets.head_rows rule heads nexts valid (fin.insert link m o)) now heads_valid
-              (sets.lead_head_to rule heads nexts valid link o m is_link is_more free ys members after (first ys) refl) (sets.lead_head_from rule heads nexts valid link o m is_link is_more free ys members after (first ys) refl) h,
+                (sets.lead_head_to rule heads nexts valid link o m is_link is_more free ys members after (first ys) refl) (sets.lead_head_from rule heads nexts valid link o m is_link is_more free ys members after (first ys) refl) h,
             (
               internal_of_members rule nexts (changed (sets.chain_rows rule heads nexts valid link) None (Some (chain_rec o m (first ys)))) (sets.chain_rows rule heads nexts valid (fin.insert link m o)) now nexts_valid
-                (sets.lead_chain_to rule heads nexts valid link o m is_link is_more free ys members after) (sets.lead_chain_from rule heads nexts valid link o m is_link is_more free ys members after) two,
-              tt))
+                  (sets.lead_chain_to rule heads nexts valid link o m is_link is_more free ys members after) (sets.lead_chain_from rule heads nexts valid link o m is_link is_more free ys members after) two,
+              tt,
+            ),
+          )
 
       went_first : Held (fin.insert link m o) maps → AreReplaced rule nexts heads (reversed (own_change o m (first ys))) (reversed (lead_change o m None (first ys))) maps now → Held link now
       went_first held a =
           let one = a.one.internal (sets.chain_rows rule heads nexts valid (fin.insert link m o)) (sets.chain_set rule heads nexts valid (fin.insert link m o) is_more) (sets.unlead_chain_change rule heads nexts valid link o m is_link is_more free ys members after) held.1.0 in
           let c = internal_elsewhere rule nexts (changed (sets.chain_rows rule heads nexts valid (fin.insert link m o)) (Some (chain_rec o m (first ys))) None) a.half now nexts_valid (λ n i. a.two.others n (λ j. apart n j i)) one in
           let h = internal_elsewhere rule heads (sets.head_rows rule heads nexts valid (fin.insert link m o)) maps a.half heads_valid (λ n i. a.one.others n (λ j. apart n i j)) held.0 in
-          let two = a.two.internal (sets.head_rows rule heads nexts valid (fin.insert link m o)) (sets.head_set rule heads nexts valid (fin.insert link m o) is_more) (sets.unlead_changes rule heads nexts valid link o m is_link is_more free ys members after (first ys)) h in
-          (
+          let two = a.two.internal (sets.head_rows rule heads nexts valid (fin.insert link m o)) (sets.head_set rule heads nexts valid (fin.insert link m o) is_more) (sets.unlead_changes rule heads nexts valid link o m is_link is_more free ys members after (first ys)) h in (
             internal_of_members rule heads (changed (sets.head_rows rule heads nexts valid (fin.insert link m o)) (Some (head_rec o m)) (head_if o (first ys))) (sets.head_rows rule heads nexts valid link) now heads_valid
-              (sets.unlead_head_to rule heads nexts valid link o m is_link is_more free ys members after (first ys) refl) (sets.unlead_head_from rule heads nexts valid link o m is_link is_more free ys members after (first ys) refl) two,
+                (sets.unlead_head_to rule heads nexts valid link o m is_link is_more free ys members after (first ys) refl) (sets.unlead_head_from rule heads nexts valid link o m is_link is_more free ys members after (first ys) refl) two,
             (
               internal_of_members rule nexts (changed (sets.chain_rows rule heads nexts valid (fin.insert link m o)) (Some (chain_rec o m (first ys))) None) (sets.chain_rows rule heads nexts valid link) now nexts_valid
-                (sets.unlead_chain_to rule heads nexts valid link o m is_link is_more free ys members after) (sets.unlead_chain_from rule heads nexts valid link o m is_link is_more free ys members after) c,
-              tt))
+                  (sets.unlead_chain_to rule heads nexts valid link o m is_link is_more free ys members after) (sets.unlead_chain_from rule heads nexts valid link o m is_link is_more free ys members after) c,
+              tt,
+            ),
+          )
 
     -- ---- wherever it stands
 

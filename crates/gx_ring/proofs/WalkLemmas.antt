@@ -152,10 +152,10 @@ module _ {M : Type 0} (rule : M → Rule) (heads nexts : Tree M) (valid : IsRing
           rest = rest;
           split = split ∙ sym (append_assoc step.passed (at ∷ []) (y ∷ rest)) ∙ ap (λ z. (step.passed ++ at ∷ []) ++ z ∷ rest) (sym (some_same next y e));
           few_steps =
-            let same : entry_total rule nexts (chain o (next ∷ rest)) ≡ entry_total rule nexts (chain o (y ∷ rest)) = ap (λ z. entry_total rule nexts (chain o (z ∷ rest))) (some_same next y e) in
-            let longer : length (step.passed ++ at ∷ []) * length (leaves_of nexts) ≡ length step.passed * length (leaves_of nexts) + length (leaves_of nexts) = ap (λ n. n * length (leaves_of nexts)) (let e : length (step.passed ++ at ∷ []) ≡ suc (length step.passed) = omega (arith, length-append step.passed (at ∷ [])) in e) ∙ suc-mul (length step.passed) (length (leaves_of nexts)) in
-            let this : entry_total rule nexts (chain o (at ∷ y ∷ rest)) ≡ length (entries_of rule nexts (chain_rec o at (first (y ∷ rest)))) + entry_total rule nexts (chain o (y ∷ rest)) = sum_by-cons (λ r. length (entries_of rule nexts r)) (chain_rec o at (first (y ∷ rest))) (chain o (y ∷ rest)) in
-            omega (arith, few, more, same, longer, this);
+              let same : entry_total rule nexts (chain o (next ∷ rest)) ≡ entry_total rule nexts (chain o (y ∷ rest)) = ap (λ z. entry_total rule nexts (chain o (z ∷ rest))) (some_same next y e) in
+              let longer : length (step.passed ++ at ∷ []) * length (leaves_of nexts) ≡ length step.passed * length (leaves_of nexts) + length (leaves_of nexts) = ap (λ n. n * length (leaves_of nexts)) (let e : length (step.passed ++ at ∷ []) ≡ suc (length step.passed) = omega (arith, length-append step.passed (at ∷ [])) in e) ∙ suc-mul (length step.passed) (length (leaves_of nexts)) in
+              let this : entry_total rule nexts (chain o (at ∷ y ∷ rest)) ≡ length (entries_of rule nexts (chain_rec o at (first (y ∷ rest)))) + entry_total rule nexts (chain o (y ∷ rest)) = sum_by-cons (λ r. length (entries_of rule nexts r)) (chain_rec o at (first (y ∷ rest))) (chain o (y ∷ rest)) in
+              omega (arith, few, more, same, longer, this);
         }
 
     pub last_step : IsNext rule heads nexts whole maps at steps steps_after None → AreWalked rule heads nexts whole maps head steps_before steps_after before after

@@ -48,8 +48,10 @@ pub fn replace_both<M: Mapping, B: Leaves>(
         n < length (B.working leaves.old) }
     requires second_below { (n : ℕ) → In n (leaves_of (tree_of second.now)) →
         n < length (B.working leaves.old) }
-    requires first_fits { FitsChange (tree_form M.rule (tree_of first.now)) first_change.now }
-    requires second_fits { FitsChange (tree_form M.rule (tree_of second.now)) second_change.now }
+    requires first_fits { FitsChange (tree_form M.rule (tree_of first.now))
+        first_change.now }
+    requires second_fits { FitsChange (tree_form M.rule (tree_of second.now))
+        second_change.now }
     ensures changed { B.whole leaves.old → OnOk result
         (AreReplaced M.rule (tree_of first.now) (tree_of second.now) first_change.now second_change.now
         (B.working leaves.old) (B.working leaves.new)) }

@@ -24,7 +24,11 @@ pub fn head_rec(alloc: Global, owner: &Value, member: &Value) -> Result<Rec, NoM
 }
 
 // The record of an owner that may have no member.
-pub fn head_if(alloc: Global, owner: &Value, member: Option<&Value>) -> Result<Option<Rec>, NoMemory>
+pub fn head_if(
+    alloc: Global,
+    owner: &Value,
+    member: Option<&Value>,
+) -> Result<Option<Rec>, NoMemory>
     requires owner { IsKeyValue owner.now }
     requires member { IfThere (option_map (λ v. v.now) member) IsKeyValue }
     ensures { IfOk result (λ rec. rec ≡ head_if owner.now (option_map (λ v. v.now) member.entry)) }
