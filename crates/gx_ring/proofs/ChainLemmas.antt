@@ -1,5 +1,5 @@
 -- The chains of a link's owners, and what one member more makes of them.
-use Rattle.std.proofs.Common.{◌≡◌, ◌≢◌, ◌≤◌, ◌+◌, ℕ, List, [], ◌∷◌, ◌++◌, ◌⊎◌, Option, Some, None, inl, inr, refl, sym, ap, subst, ◌∙◌, arith}
+use Rattle.std.proofs.Common.{◌≡◌, ◌≢◌, ◌≤◌, ◌+◌, ℕ, List, [], ◌∷◌, ◌++◌, ◌⊎◌, Some, None, inl, inr, refl, sym, ap, subst, ◌∙◌, arith}
 use Rattle.std.specs.FinMap as fin
 use Rattle.std.specs.List.{sum_by}
 use Rattle.std.proofs.lemmas.List.Sums.{sum_by-cons}
@@ -9,7 +9,7 @@ use Rattle.gx_values.specs.declared.records.Rec.{Rec}
 use Rattle.gx_values.specs.Values.{value_cmp}
 use Rattle.gx_values.proofs.OrderLemmas.{value_cmp_total}
 use Rattle.gx_mapping.specs.Rule.{In}
-use Rattle.gx_gather.proofs.Lists.{in_left, in_right, in_cases, all_at, all_of, some_same, none_some}
+use Rattle.gx_gather.proofs.Lists.{in_left, in_right, in_cases, all_at, all_of, some_same}
 use Rattle.gx_gather.proofs.Orders.{Ascends, not_before_itself, ascends_append}
 use Rattle.gx_links.specs.Links.{Link, members_of}
 use Rattle.gx_links.proofs.MemberLemmas.{value_cases, in_members, from_members, members_ascend, members_are, new_here, still_there, from_insert, others_stay}

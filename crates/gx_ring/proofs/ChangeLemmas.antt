@@ -2,25 +2,23 @@
 use Rattle.std.proofs.Common.{◌≡◌, ◌≢◌, ℕ, List, [], ◌∷◌, ◌++◌, ◌⊎◌, Bool, true, false, not, Option, Some, None, inl, inr, refl, sym, ap, subst, ◌∙◌, get_or}
 use Rattle.std.specs.FinMap as fin
 use Rattle.std.specs.Ordering.{eq_by_cmp}
-use Rattle.std.specs.declared.cmp.Ordering.TheVariants.{Less}
 use Rattle.std.proofs.lemmas.Bool.{true≢false}
 use Rattle.gx_values.specs.declared.values.Value.{Value}
 use Rattle.gx_values.specs.declared.records.Form.{Form}
 use Rattle.gx_values.specs.declared.records.Rec.{Rec}
-use Rattle.gx_values.specs.Values.{value_cmp, values_cmp, Fits}
-use Rattle.gx_mapping.specs.declared.parts.Part.{Part}
+use Rattle.gx_values.specs.Values.{values_cmp}
 use Rattle.gx_mapping.specs.Rule.{Rule, In, IsOf}
 use Rattle.gx_gather.specs.Gather.{part_for}
-use Rattle.gx_gather.proofs.Lists.{in_filter, filter_in, some_same, none_some, in_right}
+use Rattle.gx_gather.proofs.Lists.{in_filter, filter_in, some_same, none_some}
 use Rattle.gx_gather.proofs.Orders.{values_itself, values_other}
 use Rattle.gx_stack.specs.Tree.{Tree, tree_form}
 use Rattle.gx_stack.specs.Internal.{IsSet, IsChange, changed, has_key_of}
 use Rattle.gx_links.specs.Links.{Link, members_of, IsLink}
 use Rattle.gx_links.specs.Rows.{node_rows, two_forms, RowLaws}
-use Rattle.gx_links.proofs.MemberLemmas.{value_cases, from_members, others_stay}
+use Rattle.gx_links.proofs.MemberLemmas.{value_cases, others_stay}
 use Rattle.gx_links.proofs.RowLemmas.{in_node_rows, from_node_rows, node_set}
 use Rattle.gx_ring.specs.Ring.{first, head_rec, chain_rec, head_if, chain, ring_rows, owner_kind, member_kind, IsRing, key_value, no_value}
-use Rattle.gx_ring.specs.RingLaws.{IsHead, head_row, chain_row, row_cases, tells, tells_key, in_chain, key_in_chain, owned_in_chain, ring_row_laws}
+use Rattle.gx_ring.specs.RingLaws.{IsHead, head_row, chain_row, row_cases, tells_key, key_in_chain, owned_in_chain, ring_row_laws}
 use Rattle.gx_ring.proofs.ChainLemmas.{IsChained, there_behind, chain_behind, behind_chain, heads_behind, chain_front, front_chain}
 
 -- ---- changes
@@ -132,9 +130,6 @@ module _ {M : Type 0} (rule : M → Rule) (heads nexts : Tree M) (valid : IsRing
       none_some q.0 (sym free ∙ ap (λ ks. fin.get link (get_or ks 0 no_value)) (sym e) ∙ owned_in_chain link q.0 r q.1)
 
   module _ (link : Link) (o m : Value) (is_link : IsLink (owner_kind rule heads) (member_kind rule nexts) link) (is_more : IsLink (owner_kind rule heads) (member_kind rule nexts) (fin.insert link m o)) (free : fin.get link m ≡ None) where
-    more : Link
-    more = fin.insert link m o
-
     -- ---- behind another one
 
     module _ (us : List Value) (p : Value) (ys : List Value) (members : members_of link o ≡ us ++ p ∷ ys) (now : members_of (fin.insert link m o) o ≡ us ++ p ∷ m ∷ ys) (other : p ≢ m) where

@@ -1,26 +1,25 @@
 -- What changes when a member comes or goes, and that nodes can take it.
-use Rattle.std.proofs.Common.{◌≡◌, ◌≤◌, ◌<◌, ◌+◌, ℕ, List, [], ◌∷◌, ◌++◌, length, slice_get, take, drop, Option, Some, None, inl, inr, refl, sym, ap, subst, ◌∙◌, arith}
+use Rattle.std.proofs.Common.{◌≡◌, ◌≤◌, ℕ, List, slice_get, take, drop, Option, Some, None, refl, sym, ap, subst, ◌∙◌, arith}
 use Rattle.std.specs.FinMap as fin
 use Rattle.gx_values.specs.declared.values.Kind.{Kind}
 use Rattle.gx_values.specs.declared.values.Kind.TheVariants as kind
 use Rattle.gx_values.specs.declared.values.Value.{Value}
 use Rattle.gx_values.specs.Values.{Fits}
-use Rattle.gx_values.specs.Keys.{bytes_of, width_of}
+use Rattle.gx_values.specs.Keys.{width_of}
 use Rattle.gx_values.specs.Spans.{IsSpanKind}
 use Rattle.gx_values.proofs.CopyLemmas.{fit_sized}
 use Rattle.gx_values.proofs.KeyLemmas.{fit_bytes}
-use Rattle.gx_ports.specs.LeafMaps.{LeafMap, IsCrowdedBy, Limits}
+use Rattle.gx_ports.specs.LeafMaps.{IsCrowdedBy, Limits}
 use Rattle.gx_mapping.specs.Rule.{Rule, In, IsOf}
 use Rattle.gx_gather.proofs.Lists.{take_in, in_at, in_right}
 use Rattle.gx_stack.specs.Tree.{Tree, leaves_of, tree_form, IsValid}
 use Rattle.gx_stack.specs.Internal.{IfThere}
-use Rattle.gx_links.specs.Links.{Link, members_of, IsLink}
-use Rattle.gx_ring.specs.declared.changes.Change.{Change}
-use Rattle.gx_ring.specs.Ring.{first, head_rec, chain_rec, head_if, owner_kind, member_kind, IsRing, ring_rule}
+use Rattle.gx_links.specs.Links.{Link, members_of}
+use Rattle.gx_ring.specs.Ring.{head_rec, chain_rec, head_if, owner_kind, member_kind, IsRing, ring_rule}
 use Rattle.gx_ring.specs.RingLaws.{head_fits, chain_fits}
 use Rattle.gx_ring.specs.Records.{IsKeyValue}
 use Rattle.gx_ring.specs.Places.{place_of, before_in, next_in}
-use Rattle.gx_ring.specs.Steps.{leading, lead_change, own_change, reversed}
+use Rattle.gx_ring.specs.Steps.{leading, lead_change, own_change}
 use Rattle.gx_ring.specs.Changes.{FitsChange}
 use Rattle.gx_ring.proofs.PlaceLemmas.{IsPlace, place_there, cut}
 use Rattle.gx_ring.proofs.HeldLemmas.{heads_valid, nexts_valid}

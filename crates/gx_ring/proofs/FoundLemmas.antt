@@ -1,5 +1,5 @@
 -- The owner of a member and the members of an owner, as the nodes' records tell them.
-use Rattle.std.proofs.Common.{◌≡◌, ◌≢◌, ◌≤◌, ◌<◌, ◌+◌, ◌*◌, ℕ, suc, true, List, [], ◌∷◌, ◌++◌, length, Option, Some, None, inl, inr, refl, sym, ap, subst, ◌∙◌, get_or, length-append, arith}
+use Rattle.std.proofs.Common.{◌≡◌, ◌≤◌, ◌<◌, ◌+◌, ◌*◌, ℕ, suc, List, [], ◌∷◌, ◌++◌, length, Option, Some, None, inl, inr, refl, sym, ap, subst, ◌∙◌, get_or, length-append, arith}
 use Rattle.std.proofs.Math.Nat.{suc-mul, mul-le-mul_left}
 use Rattle.std.specs.List.{sum_by}
 use Rattle.std.proofs.lemmas.List.Sums.{sum_by-cons}
@@ -11,17 +11,17 @@ use Rattle.gx_values.specs.declared.records.Rec.{Rec}
 use Rattle.gx_values.specs.Values.{Fits}
 use Rattle.gx_ports.specs.LeafMaps.{LeafMap}
 use Rattle.gx_mapping.specs.Rule.{Rule, In, IsOf}
-use Rattle.gx_gather.proofs.Lists.{in_left, in_right, some_same, none_some}
+use Rattle.gx_gather.proofs.Lists.{in_left, in_right}
 use Rattle.gx_stack.specs.Tree.{Tree, leaves_of, tree_form, entries_of, entry_total}
-use Rattle.gx_stack.specs.Internal.{IfThere, HasSet, entries_if}
+use Rattle.gx_stack.specs.Internal.{HasSet}
 use Rattle.gx_links.specs.Kinds.{AreOfKinds}
 use Rattle.gx_links.specs.Links.{Link, members_of, IsLink}
 use Rattle.gx_links.specs.Linksets.{HasLink, AreMembers, IsOwner}
 use Rattle.gx_links.specs.Rows.{IsHeldLink, owner_entries}
 use Rattle.gx_links.proofs.KindLemmas.{fit_kinds}
-use Rattle.gx_links.proofs.MemberLemmas.{from_members, in_members}
-use Rattle.gx_ring.specs.Ring.{first, head_rec, chain_rec, chain, ring_rows, two_nodes, owner_kind, member_kind, next_kind, IsRing, ring_rule, key_value, no_value}
-use Rattle.gx_ring.specs.RingLaws.{IsHead, tells_key, owner_in, owner_in_chain, owned_in_chain, chain_of}
+use Rattle.gx_links.proofs.MemberLemmas.{in_members}
+use Rattle.gx_ring.specs.Ring.{head_rec, chain, ring_rows, two_nodes, owner_kind, member_kind, next_kind, IsRing, ring_rule, no_value}
+use Rattle.gx_ring.specs.RingLaws.{owner_in_chain, owned_in_chain, chain_of}
 use Rattle.gx_ring.specs.Reads.{IsFoundAt, IsRecordAt}
 use Rattle.gx_ring.specs.Walks.{HasChain, AreWalked}
 use Rattle.gx_ring.proofs.ChangeLemmas.{head_rows, chain_rows, head_set, chain_set, head_in, chain_in, in_heads, in_chains, head_key}

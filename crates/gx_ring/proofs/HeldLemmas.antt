@@ -1,5 +1,5 @@
 -- What the nodes hold once a member came or went.
-use Rattle.std.proofs.Common.{◌≡◌, ◌≢◌, ◌<◌, ◌≤◌, ◌+◌, ℕ, suc, List, [], ◌∷◌, ◌++◌, length, map, Option, Some, None, inl, inr, refl, sym, ap, subst, ◌∙◌, append_assoc, length-append, arith}
+use Rattle.std.proofs.Common.{◌≡◌, ◌≢◌, ◌≤◌, ◌+◌, ℕ, List, [], ◌∷◌, ◌++◌, length, map, Option, Some, None, inl, refl, sym, ap, subst, ◌∙◌, append_assoc, length-append, arith}
 use Rattle.std.specs.List.{flat_map, sum_by}
 use Rattle.std.proofs.lemmas.List.Sums.{sum_by-cons}
 use Rattle.std.specs.FinMap as fin
@@ -14,12 +14,11 @@ use Rattle.gx_mapping.specs.Rule.{Rule, In}
 use Rattle.gx_gather.specs.Gather.{part_for}
 use Rattle.gx_gather.proofs.Lists.{in_left, in_right, none_some, some_same}
 use Rattle.gx_gather.proofs.Orders.{not_before_itself}
-use Rattle.gx_stack.specs.Tree.{Tree, leaves_of, tree_form, entries_of, kid_entries, IsValid}
-use Rattle.gx_stack.specs.Internal.{IsInternal, changed, entries_if}
+use Rattle.gx_stack.specs.Tree.{Tree, leaves_of, entries_of, kid_entries, IsValid}
+use Rattle.gx_stack.specs.Internal.{changed, entries_if}
 use Rattle.gx_stack.proofs.Same.{internal_of_members, internal_elsewhere}
 use Rattle.gx_links.specs.Links.{Link, members_of, IsLink}
 use Rattle.gx_links.specs.Rows.{IsHeldLink, owner_entries}
-use Rattle.gx_ring.specs.declared.changes.Change.{Change}
 use Rattle.gx_ring.specs.Ring.{first, head_rec, chain_rec, head_if, chain, ring_rows, two_nodes, owner_kind, member_kind, IsRing}
 use Rattle.gx_ring.specs.Steps.{leading, lead_change, own_change, reversed}
 use Rattle.gx_ring.specs.Changes.{AreReplaced}
@@ -141,9 +140,6 @@ module _ {M : Type 0} (rule : M → Rule) (heads nexts : Tree M) (valid : IsRing
 -- ---- how many entries
 
 module _ {M : Type 0} (rule : M → Rule) (heads nexts : Tree M) where
-  abbrev pub weight : Rec → ℕ
-  weight r = length (entries_of rule nexts r)
-
   chain_length : (rs : List Rec) → length (flat_map (λ (p : Part). kid_entries rule (two_nodes heads nexts) p.child p.rec) (map (part_for 1) rs)) ≡ sum_by (λ r. length (entries_of rule nexts r)) rs
   chain_length [] = refl
   chain_length (r ∷ rs) =

@@ -1,5 +1,5 @@
 -- The one record that a selection of one key finds.
-use Rattle.std.proofs.Common.{◌≡◌, ◌≢◌, ◌≤◌, ◌+◌, ℕ, Bool, true, false, List, [], ◌∷◌, ◌++◌, length, slice_get, Option, Some, None, inl, inr, refl, sym, ap, subst, ◌∙◌, arith}
+use Rattle.std.proofs.Common.{◌≡◌, ℕ, true, List, [], ◌∷◌, length, slice_get, Option, inl, inr, refl, sym, ap, subst, ◌∙◌, arith}
 use Rattle.std.specs.declared.cmp.Ordering.TheVariants.{Less}
 use Rattle.gx_values.specs.declared.values.Kind.{Kind}
 use Rattle.gx_values.specs.declared.values.Value.{Value}
@@ -10,10 +10,10 @@ use Rattle.gx_values.specs.Keys.{key_of, is_inside}
 use Rattle.gx_ports.specs.LeafMaps.{LeafMap}
 use Rattle.gx_mapping.specs.Rule.{Rule, In, IsOf}
 use Rattle.gx_gather.specs.Gather.{rec_cmp}
-use Rattle.gx_gather.proofs.Lists.{all_at, none_some}
+use Rattle.gx_gather.proofs.Lists.{all_at}
 use Rattle.gx_gather.proofs.Orders.{values_total, not_before_itself, ascends}
-use Rattle.gx_stack.specs.Tree.{Tree, leaves_of, tree_form, entries_of, entry_total}
-use Rattle.gx_stack.specs.Internal.{IsSet, IsInternal, IfThere, HasSet, entries_if}
+use Rattle.gx_stack.specs.Tree.{Tree, tree_form, entry_total}
+use Rattle.gx_stack.specs.Internal.{IfThere, entries_if}
 use Rattle.gx_stack.specs.Selected.{IsFound, IsSelection}
 use Rattle.gx_links.specs.Kinds.{kinds_of, first_kind, AreOfKinds}
 use Rattle.gx_links.specs.Links.{is_same}
@@ -27,9 +27,6 @@ one_of k (x ∷ []) fit = (x, refl, fit.0)
 one_of k (x ∷ y ∷ vs) fit = absurd fit.1
 
 module _ {M : Type 0} (rule : M → Rule) (t : Tree M) (one : kinds_of (tree_form rule t).keys ≡ first_kind (tree_form rule t).keys ∷ []) (v : Value) (fits : Fits (first_kind (tree_form rule t).keys) v) (span : Span) (those : (x : Value) → Fits (first_kind (tree_form rule t).keys) x → is_inside span.lo span.hi (key_of (x ∷ [])) ≡ is_same x v) where
-  kind : Kind
-  kind = first_kind (tree_form rule t).keys
-
   value_of : (r : Rec) → IsOf (tree_form rule t) r → (x : Value) × (r.key ≡ x ∷ []) × Fits (first_kind (tree_form rule t).keys) x
   value_of r is = one_of (first_kind (tree_form rule t).keys) r.key (fit_kinds (tree_form rule t).keys (first_kind (tree_form rule t).keys ∷ []) r.key one is.key)
 

@@ -1,23 +1,20 @@
 -- The way along a chain.
-use Rattle.std.proofs.Common.{◌≡◌, ◌≢◌, ◌≤◌, ◌<◌, ◌+◌, ◌*◌, ℕ, suc, zero, List, [], ◌∷◌, ◌++◌, length, Option, Some, None, inl, inr, refl, sym, ap, subst, ◌∙◌, append_assoc, length-append, get_or, arith}
+use Rattle.std.proofs.Common.{◌≡◌, ◌≤◌, ◌+◌, ◌*◌, ℕ, suc, List, [], ◌∷◌, ◌++◌, length, Option, Some, None, inl, inr, refl, sym, ap, subst, ◌∙◌, append_assoc, length-append, arith}
 use Rattle.std.proofs.Math.Nat.{suc-mul}
 use Rattle.std.proofs.lemmas.List.Sums.{sum_by-cons}
-use Rattle.std.specs.FinMap as fin
-use Rattle.gx_values.specs.declared.values.Kind.{Kind}
 use Rattle.gx_values.specs.declared.values.Value.{Value}
 use Rattle.gx_values.specs.declared.records.Rec.{Rec}
 use Rattle.gx_values.specs.Values.{Fits}
 use Rattle.gx_ports.specs.LeafMaps.{LeafMap}
-use Rattle.gx_mapping.specs.Rule.{Rule, In, IsOf}
-use Rattle.gx_gather.proofs.Lists.{in_left, in_right, in_cases, some_same, none_some}
-use Rattle.gx_stack.specs.Tree.{Tree, leaves_of, tree_form, entries_of, entry_total}
-use Rattle.gx_stack.specs.Internal.{IfThere, IsInternal, HasSet, entries_if}
-use Rattle.gx_links.specs.Links.{Link, members_of, most_members, IsLink}
-use Rattle.gx_links.specs.Rows.{IsHeldLink}
+use Rattle.gx_mapping.specs.Rule.{Rule, In}
+use Rattle.gx_gather.proofs.Lists.{in_right, in_cases, some_same, none_some}
+use Rattle.gx_stack.specs.Tree.{Tree, leaves_of, entries_of, entry_total}
+use Rattle.gx_stack.specs.Internal.{IfThere, HasSet}
+use Rattle.gx_links.specs.Links.{members_of, most_members}
 use Rattle.gx_links.proofs.MemberLemmas.{from_members}
 use Rattle.gx_ring.specs.declared.records.Behind.{Behind}
 use Rattle.gx_ring.specs.declared.records.Behind.TheVariants as found
-use Rattle.gx_ring.specs.Ring.{first, chain_rec, chain, ring_rows, two_nodes, owner_kind, member_kind, IsRing}
+use Rattle.gx_ring.specs.Ring.{first, chain_rec, chain, member_kind, IsRing}
 use Rattle.gx_ring.specs.RingLaws.{tells_key}
 use Rattle.gx_ring.specs.Records.{behind_of, FitsBehind, IsBehind}
 use Rattle.gx_ring.specs.Reads.{IsFoundAt, IsRecordAt}

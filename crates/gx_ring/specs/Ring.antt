@@ -1,5 +1,5 @@
 -- Rings: of each owner the first member, and of each member the next one and the owner.
-use Rattle.std.specs.Prelude.{◌≡◌, ℕ, suc, pos, true, max, List, [], ◌∷◌, map, Option, Some, None, get_or}
+use Rattle.std.specs.Prelude.{◌≡◌, suc, pos, true, max, List, [], ◌∷◌, map, Option, Some, None, get_or}
 use Rattle.gx_values.specs.declared.values.Kind.{Kind}
 use Rattle.gx_values.specs.declared.values.Kind.TheVariants as kind
 use Rattle.gx_values.specs.declared.values.Value.{Value}

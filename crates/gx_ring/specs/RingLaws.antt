@@ -1,5 +1,5 @@
 -- The rows of a ring keep the laws of rows.
-use Rattle.std.proofs.Common.{◌≡◌, ◌<◌, ◌≤◌, ℕ, suc, pos, List, [], ◌∷◌, ◌⊎◌, map, inl, inr, length, max, Option, Some, None, refl, sym, ap, subst, ◌∙◌, get_or, true, arith}
+use Rattle.std.proofs.Common.{◌≡◌, ◌<◌, ℕ, suc, pos, List, [], ◌∷◌, ◌⊎◌, inl, inr, Option, Some, None, refl, sym, ap, subst, ◌∙◌, get_or, true, arith}
 use Rattle.std.specs.FinMap as fin
 use Rattle.std.specs.declared.cmp.Ordering.TheVariants.{Less}
 use Rattle.gx_values.specs.declared.values.Kind.{Kind}
@@ -9,7 +9,7 @@ use Rattle.gx_values.specs.declared.values.Value.TheVariants as value
 use Rattle.gx_values.specs.declared.records.Form.{Form}
 use Rattle.gx_values.specs.declared.records.Rec.{Rec}
 use Rattle.gx_values.specs.Values.{value_cmp, Fits}
-use Rattle.gx_values.specs.Keys.{bytes_of, width_of}
+use Rattle.gx_values.specs.Keys.{bytes_of}
 use Rattle.gx_values.proofs.KeyLemmas.{fit_bytes}
 use Rattle.gx_values.proofs.OrderLemmas.{value_cmp_total}
 use Rattle.gx_mapping.specs.declared.parts.Part.{Part}
@@ -20,7 +20,7 @@ use Rattle.gx_gather.proofs.Lists.{in_each, from_each, in_map, from_map, all_at,
 use Rattle.gx_gather.proofs.Orders.{Ascends, not_before_itself}
 use Rattle.gx_stack.specs.Tree.{Tree, tree_form}
 use Rattle.gx_links.specs.Kinds.{kinds_of}
-use Rattle.gx_links.specs.Links.{Link, members_of, owners_of, most_members, IsLink}
+use Rattle.gx_links.specs.Links.{Link, members_of, owners_of}
 use Rattle.gx_links.specs.Linksets.{LinksetLaws}
 use Rattle.gx_links.specs.Rows.{link_parts, two_forms, RowLaws, IsHeldLink}
 use Rattle.gx_links.proofs.KindLemmas.{fit_fields}

@@ -53,8 +53,8 @@ pub fn replace_both<M: Mapping, B: Leaves>(
     requires second_fits { FitsChange (tree_form M.rule (tree_of second.now))
         second_change.now }
     ensures changed { B.whole leaves.old → OnOk result
-        (AreReplaced M.rule (tree_of first.now) (tree_of second.now) first_change.now second_change.now
-        (B.working leaves.old) (B.working leaves.new)) }
+        (AreReplaced M.rule (tree_of first.now) (tree_of second.now) first_change.now
+        second_change.now (B.working leaves.old) (B.working leaves.new)) }
     ensures others { (n : ℕ) → B.whole leaves.old → ¬ IsErrOf result Stop.Fault →
         ¬ In n (leaves_of (tree_of first.now)) → ¬ In n (leaves_of (tree_of second.now)) →
         map_at (B.working leaves.new) n ≡ map_at (B.working leaves.old) n }

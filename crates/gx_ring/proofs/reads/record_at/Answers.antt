@@ -1,10 +1,6 @@
-use Rattle.std.proofs.Common.{◌∷◌, [], ◌∙◌, sym, ap, subst}
-use Rattle.gx_values.specs.Keys.{key_of, is_inside}
+use Rattle.std.proofs.Common.{sym, subst}
 use Rattle.gx_values.specs.Values.{Fits}
-use Rattle.gx_values.specs.declared.values.Value.{Value}
 use Rattle.gx_links.specs.Kinds.{first_kind}
-use Rattle.gx_links.specs.Links.{is_same}
-use Rattle.gx_stack.specs.Tree.{tree_form}
 use Rattle.gx_stack.specs.Seen.{tree_of}
 use Rattle.gx_stack.specs.Selected.{IsFound}
 use Rattle.gx_ring.proofs.ReadLemmas.{record_there}

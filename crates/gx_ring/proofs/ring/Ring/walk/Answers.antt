@@ -1,4 +1,4 @@
-use Rattle.std.proofs.Common.{◌≤◌, ◌<◌, ◌+◌, ◌∙◌, refl, Some, None, sym, subst, length, arith}
+use Rattle.std.proofs.Common.{◌≤◌, ◌<◌, ◌∙◌, refl, sym, subst, length, arith}
 use Rattle.gx_ports.proofs.CallLemmas.{reads_itself, reads_joined}
 use Rattle.gx_links.specs.Links.{most_members}
 use Rattle.gx_stack.specs.Seen.{tree_of}

@@ -1,4 +1,4 @@
-use Rattle.std.proofs.Common.{◌<◌, refl, Some, None, sym, subst, length}
+use Rattle.std.proofs.Common.{◌<◌, refl, sym, subst, length}
 use Rattle.std.proofs.lemmas.Result.{on_ok_weaker}
 use Rattle.gx_values.specs.Values.{Fits}
 use Rattle.gx_stack.specs.Seen.{tree_of}

@@ -1,4 +1,4 @@
-use Rattle.std.proofs.Common.{None, Some, subst}
+use Rattle.std.proofs.Common.{subst}
 use Rattle.gx_stack.specs.Seen.{tree_of}
 use Rattle.gx_ring.specs.Reads.{IsRecordAt}
 use Rattle.gx_ring.proofs.EndLemmas.{ends_handed}
