@@ -1,0 +1,11 @@
+pub mod PlaceLemmas
+pub mod ReadLemmas
+pub mod ReplaceLemmas
+pub mod EndLemmas
+pub mod ChainLemmas
+pub mod ChangeLemmas
+pub mod HeldLemmas
+pub mod WalkLemmas
+pub mod FoundLemmas
+pub mod ComeLemmas
+pub mod AskLemmas

@@ -1,0 +1,11 @@
+//! The ring: a linkset in which each owner leads to its first member, and each member to the next.
+#![tactic(auto)]
+
+mod changes;
+mod places;
+mod reads;
+mod records;
+mod ring;
+mod spans;
+
+pub use ring::Ring;
