@@ -4,6 +4,7 @@ use Rattle.std.specs.Prelude.{◌⊎◌, ◌≢◌, IfErr}
 use Rattle.std.proofs.lemmas.List.{append-nil}
 use Rattle.gx_device.specs.Content.{Content}
 use Rattle.gx_device.specs.Faults.{Rose}
+use Rattle.gx_device.specs.Quiet.{IsPrefix}
 use Rattle.gx_ports.specs.LeafMaps.{Limits}
 use Rattle.gx_commands.specs.declared.command.LineWhy.{LineWhy}
 use Rattle.gx_types.specs.declared.built.Built.{Built}
@@ -29,7 +30,7 @@ use Rattle.gx_top.specs.Tries.{IsDoneText, IsOtherText, CanPlayTo, IsSaid, IsEnd
 use Rattle.gx_requests.specs.Words.{explaining, making}
 use Rattle.gx_top.specs.Explained.{IsToExplain}
 use Rattle.gx_top.proofs.TryLemmas.{refused_says, memory_says, unprepared_front, check_done, check_front}
-use Rattle.gx_top.proofs.RowLemmas.{done_row, stopped_row, short_row, full_row, front_row}
+use Rattle.gx_top.proofs.RowLemmas.{behind, done_row, stopped_row, short_row, full_row, front_row}
 use Rattle.gx_top.proofs.CompleteLemmas.{refused_status, unprepared_memory, unprepared_refuses, ready_not_refused, checkable_not_refused, wrong_not_refused, checked_no_task, checked_not_made, checked_not_wrong, made_no_task, task_not_explained, checked_not_explained, made_not_explained, start_not_wrong, one_task, not_stopped, not_good, said_complete}
 
 done_not_outside : (s : Status) → s ≡ status.Done → s ≢ status.Outside
@@ -429,7 +430,7 @@ pub record IsRun (words : List (List ℕ)) (t : Task) (old mid new : Content) (p
   pub answered : (limit : Option Limits) (start : State) → IsFrom t old limit start → IsPlayedAs t.schema built limit start (IsLeft t new) old.script old.now.said mid.now.said played
   pub heard : (limit : Option Limits) (start : State) → IsFrom t old limit start → played ≡ Ok tt → mid.script ≡ []
   pub play_ending : IfErr played IsPlayEnding
-  pub damaged : (block : ℕ) → played ≡ Err (ending.Device (device_why.Damaged block)) → IsWrong words old (device_why.Damaged block)
+  pub damaged : (block : ℕ) → played ≡ Err (ending.Device (device_why.Damaged block)) → IsWrong words old (device_why.Damaged block) × IsPrefix old.now.said mid.now.said
   pub right : (wrong : DeviceWhy) → IsBefore wrong → IsWrong words old wrong → ⊥
   pub finished : IsFinished played mid new s
 
@@ -511,8 +512,10 @@ module _ (words : List (List ℕ)) (t : Task) (old mid new : Content) (played : 
   run_row limit start from = row t r.built r.trees limit start old mid new played s (r.answered limit start from) r.play_ending r.finished
 
 -- damage that was found
-damage_said : (words : List (List ℕ)) (old mid new : Content) (why : Ending) → IsPlayEnding why → IsEnded why mid new status.Device → ((block : ℕ) → why ≡ ending.Device (device_why.Damaged block) → IsWrong words old (device_why.Damaged block)) → SaysDevice words old new
-damage_said words old mid new (ending.Device (device_why.Damaged block)) ends e damaged = (device_why.Damaged block, damaged block refl, (mid.now.said, e.said (λ f. cc) (λ f. cc)))
+damage_said : (words : List (List ℕ)) (old mid new : Content) (why : Ending) → IsPlayEnding why → IsEnded why mid new status.Device → ((block : ℕ) → why ≡ ending.Device (device_why.Damaged block) → IsWrong words old (device_why.Damaged block) × IsPrefix old.now.said mid.now.said) → SaysDevice words old new
+damage_said words old mid new (ending.Device (device_why.Damaged block)) ends e damaged =
+    let found = damaged block refl in
+    (device_why.Damaged block, found.0, (found.1.0, behind old.now.said mid.now.said new.now.said found.1.0 (device_line (device_why.Damaged block)) found.1.1 (e.said (λ f. cc) (λ f. cc))))
 damage_said words old mid new (ending.Device device_why.Missing) ends e damaged = absurd ends
 damage_said words old mid new (ending.Device device_why.Exists) ends e damaged = absurd ends
 damage_said words old mid new (ending.Device device_why.Size) ends e damaged = absurd ends

@@ -2,6 +2,7 @@
 use Rattle.std.proofs.Common.{◌≡◌, ℕ, List, [], length, Result, Ok, Option, Some, None, refl, sym, ap, subst, ◌∙◌, inl, inr}
 use Rattle.std.specs.Prelude.{IfErr}
 use Rattle.gx_device.specs.Content.{Content, Texts, Shelf, SameContent, device_at}
+use Rattle.gx_device.specs.Quiet.{IsPrefix}
 use Rattle.gx_ports.specs.declared.kinds.LeafSpec.{LeafSpec}
 use Rattle.gx_ports.specs.LeafMaps.{LeafMap, Limits}
 use Rattle.gx_schema.specs.declared.schema.Schema.{Schema}
@@ -90,6 +91,7 @@ pub record IsOnStore (device : List ℕ) (x : Stored) (schema equation : List �
   pub script : opened.script ≡ middle.script
   pub named : opened.now.shelf.name ≡ Some device
   pub shelf : mid.now.shelf ≡ opened.now.shelf
+  pub begins : IsPrefix opened.now.said mid.now.said
   pub had : OfBlocks device middle (AreOpened schema equation specs)
   pub holds : (blocks : List (List ℕ)) (maps : List LeafMap) → device_at middle.now device ≡ Some blocks → Reopens schema equation specs maps blocks → Reaches maps
   pub limit_is : (blocks : List (List ℕ)) → device_at middle.now device ≡ Some blocks → limit ≡ limits_on specs (length blocks)
@@ -186,13 +188,16 @@ module _ (words : List (List ℕ)) (device : List ℕ) (x : Stored) (old middle 
       answered = λ bound start h. held_as x.schema x.built bound start Settled (IsSettledOn Run device new) old.script old.now.said mid.now.said played (left new devices) (from_start bound start h);
       heard = λ bound start h ok. o.heard start h.maps (reached bound start h) (internal bound start h) ok;
       play_ending = ends;
-      damaged = λ block found. inl (record {
-        task = Run;
-        is = run_is_task;
-        device = device;
-        action_is = refl;
-        wrong = λ bound start h. subst (λ (r : Result (Unit {0}) Ending). IsPlayedAs x.schema x.built bound start Settled old.script old.now.said mid.now.said r) found (from_start bound start h);
-      });
+      damaged = λ block found. (
+        inl (record {
+          task = Run;
+          is = run_is_task;
+          device = device;
+          action_is = refl;
+          wrong = λ bound start h. subst (λ (r : Result (Unit {0}) Ending). IsPlayedAs x.schema x.built bound start Settled old.script old.now.said mid.now.said r) found (from_start bound start h);
+        }),
+        subst (λ (n : List ℕ). IsPrefix n mid.now.said) (o.said ∙ ap (λ n. n.said) same.now) o.begins,
+      );
       right = not_wrong;
       finished = finished;
     }

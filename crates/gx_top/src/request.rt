@@ -34,8 +34,8 @@ use std::alloc::Global;
 /// - `Full`: the pages may be too few for the command of a line. Exactly the answers of the lines before
 ///   it were said, and then `stopped: full`.
 /// - `Device`: the device isn't what was asked for. Its line was said, and nothing else; that of damage,
-///   which is found while the script is played, was said last, and it isn't found where the device holds
-///   a state.
+///   which is found while the script is played, was said last, behind what was said before, and it isn't
+///   found where the device holds a state.
 /// - `Memory`: there was no memory. Exactly the answers or plans of the script's first lines were said,
 ///   perhaps of none, and then `stopped: memory`.
 /// - `Outside`: a front was said of what one of the others says.

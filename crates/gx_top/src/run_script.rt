@@ -2,6 +2,7 @@
 ghost use Rattle.std.specs.Prelude.{◌≡◌, ◌≢◌, ◌≤◌, List, ℕ, [], Ok, Some, false, length, IsTrue, IfErr, IsErrOf};
 ghost use Rattle.gx_device.specs.Content.{Content, SameContent};
 ghost use Rattle.gx_device.specs.Faults.{Rose};
+ghost use Rattle.gx_device.specs.Quiet.{IsPrefix};
 ghost use Rattle.gx_ports.specs.LeafMaps.{LeafMap};
 ghost use Rattle.gx_schema.specs.WellFormed.{IsWellFormed};
 ghost use Rattle.gx_leaves.specs.Wholeness.{limits_of};
@@ -133,6 +134,8 @@ fn play_stored<'a, M: Machine + Drop>(
     ensures heard { IsTrue M.tells → (s : State) (maps : List LeafMap) → HoldsMaps maps store →
         AreInternal schema built.files maps s → result.0 ≡ Ok tt →
         (M.content result.1).script ≡ [] }
+    ensures begins { IsTrue M.tells →
+        IsPrefix (M.content (machine_of store)).now.said (M.content result.1).now.said }
     ensures shelf { (M.content result.1).now.shelf ≡ (M.content (machine_of store)).now.shelf }
     ensures ending { IfErr result.0 IsPlayEnding }
     ensures fault { IsErrOf result.0 Ending.Fault →
