@@ -19,7 +19,7 @@ use Rattle.gx_play.specs.Say.{SameDevices}
 use Rattle.gx_requests.specs.Words.{Action, checking, trying, explaining, making, running, request_words}
 use Rattle.gx_top.proofs.CompleteLemmas.{same_words}
 use Rattle.gx_top.proofs.EndLemmas.{IsStopStatus, stop_status}
-use Rattle.gx_top.proofs.MakeLemmas.{devices_same}
+use Rattle.gx_top.proofs.StayLemmas.{devices_same}
 
 -- ---- devices of other names
 

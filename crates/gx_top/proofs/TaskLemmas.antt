@@ -77,7 +77,7 @@ try_run words x old middle mid new played s p same is heard ends finished =
 abbrev pub run_task : (words : List (List ℕ)) (texts : Texts) (device : List ℕ) (x : Stored) → IsStoredFor words texts (running device) x → Task
 run_task words texts device x p = record { action = running device; schema = x.schema; definitions = p.definitions; typing = p.typing }
 
-device_once : (a b : List ℕ) → running a ≡ running b → a ≡ b
+pub device_once : (a b : List ℕ) → running a ≡ running b → a ≡ b
 device_once a b e = ap device_or e
   where
     device_or : Action → List ℕ
@@ -113,7 +113,7 @@ unopened_told device x schema equation specs middle why p q k is =
     (subst (λ (l : List LeafSpec). IsUnopened device schema equation l middle why) k is))
 
 module _ (words : List (List ℕ)) (device : List ℕ) (x : Stored) (old middle : Content) (p : IsStoredFor words old.aside.texts (running device) x) (same : SameContent old middle) where
-  abbrev Run : Task
+  abbrev pub Run : Task
   Run = run_task words old.aside.texts device x p
 
   abbrev pub run_is_task : IsTask words old.aside.texts Run

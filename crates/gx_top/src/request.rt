@@ -44,6 +44,10 @@ use std::alloc::Global;
 /// there; after its `Refused` and `Device` all devices are as they were. Whatever it answers, the devices
 /// of other names are, and what is there under a new name is no database or an empty one.
 ///
+/// After `Done`, `Script`, `Full` and `Memory` of `run` the device is settled with the last state that the
+/// lines kept which were answered; after `Memory` where none was, it may also hold exactly the states that
+/// it held.
+///
 /// What is said of `run` after it has opened its device holds where that held a state. `Outside` comes
 /// only where a call of the machine failed in this one, and with any other status none did: the count of
 /// faults is as before. Both hold on every machine. So where none failed, a request for whose refusal

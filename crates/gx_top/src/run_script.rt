@@ -36,7 +36,8 @@ use std::alloc::Global;
 /// names, from the state that the device holds; or says the reason where the request is refused or
 /// the device is another than was asked for. Where the device held a state, it is settled after
 /// `Done`, `Script` and `Full`, and after `Memory` where the answer of a line was said, with the last
-/// state that was kept. Devices of other names stay, and after `Refused` all.
+/// state that was kept; after `Memory` with no answer so, or it holds what it held. Devices of other
+/// names stay, and after `Refused` all.
 pub fn run_script<M: Machine + Drop>(
     alloc: Global,
     schema: &str,

@@ -23,7 +23,7 @@ pub returns-in-Err-clause-said : goal.returns-in-Err-clause-said
 returns-in-Err-clause-said g c = λ can.
     let words = request_words (running c.args.device.now) c.args.schema.now c.args.equation.now in
     unprepared_end words (g.M.Device.content c.args.machine) (g.M.Device.content c.prepare_stored.new.machine) (g.M.Device.content c.end-status.new.machine) _ _ c.in-Err.ending c.end-status.result
-    (c.in-Err.ensures.unprepared can.told (running c.args.device.now) tt tt) (ap (λ n. n.said) c.in-Err.ensures.content.now) c.in-Err.ensures.content.script
+    (c.in-Err.ensures.unprepared can.told (running c.args.device.now) tt tt) c.in-Err.ensures.content c.end-status.ensures.devices
     (record {
       status_is = c.end-status.ensures.status;
       said = c.end-status.ensures.said can.told;

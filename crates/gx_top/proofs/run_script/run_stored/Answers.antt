@@ -13,6 +13,7 @@ use Rattle.gx_top.proofs.EndLemmas.{IsUnhad, run_end, run_due, unhad_end, unhad_
 use Rattle.gx_top.proofs.StoreLemmas.{limit_on}
 use Rattle.gx_top.proofs.TaskLemmas.{run_task, run_is_task, device_run, on_store_told, unopened_told, unopened_unhad}
 use Rattle.gx_top.proofs.RanLemmas.{played_left, unopened_left}
+use Rattle.gx_top.proofs.UnopenedLemmas.{unopened_starts}
 use Rattle.gx_top.proofs.run_script.run_stored.Goals as goal
 
 pub returns-in-Ok-clause-said : goal.returns-in-Ok-clause-said
@@ -82,6 +83,15 @@ returns-in-Err-clause-said g c = λ can words old same stored.
     (subst (IsUnhad words old) (sym c.unopened_ending.ensures) had)
     ((c.in-Err.ensures.attaches can).said ∙ ap (λ n. n.said) same.now)
     ((c.in-Err.ensures.attaches can).script ∙ same.script)
+    (unopened_starts words c.args.device.now c.args.stored old (content c.args.machine) stored same (content c.in-Err.machine) (content c.end-status.new.machine) c.in-Err.why c.end-status.result
+    (record {
+      attaches = c.in-Err.ensures.attaches can;
+      untouched = c.in-Err.ensures.untouched can;
+      absent = c.in-Err.ensures.absent can;
+      kept = c.in-Err.ensures.kept can;
+      recovered = c.in-Err.ensures.recovered can;
+    })
+    c.end-status.ensures.devices (λ f. c.end-status.ensures.fault (c.unopened_ending.ensures ∙ f)))
     (record {
       status_is = c.end-status.ensures.status;
       said = c.end-status.ensures.said can.told;
