@@ -106,6 +106,12 @@ on_store_told device x schema equation specs middle opened mid limit Reaches pla
     (subst (λ (t : List ℕ). IsOnStore device x schema t x.built.specs middle opened mid limit Reaches played) q
     (subst (λ (l : List LeafSpec). IsOnStore device x schema equation l middle opened mid limit Reaches played) k is))
 
+pub opened_told : (device : List ℕ) (x : Stored) (schema equation : List ℕ) (specs : List LeafSpec) (middle : Content) → schema ≡ x.schema_text → equation ≡ x.equation_text → specs ≡ x.built.specs → OfBlocks device middle (AreOpened schema equation specs) → OfBlocks device middle (AreOpened x.schema_text x.equation_text x.built.specs)
+opened_told device x schema equation specs middle p q k is =
+    subst (λ (t : List ℕ). OfBlocks device middle (AreOpened t x.equation_text x.built.specs)) p
+    (subst (λ (t : List ℕ). OfBlocks device middle (AreOpened schema t x.built.specs)) q
+    (subst (λ (l : List LeafSpec). OfBlocks device middle (AreOpened schema equation l)) k is))
+
 pub unopened_told : (device : List ℕ) (x : Stored) (schema equation : List ℕ) (specs : List LeafSpec) (middle : Content) (why : Unopened) → schema ≡ x.schema_text → equation ≡ x.equation_text → specs ≡ x.built.specs → IsUnopened device schema equation specs middle why → IsUnopened device x.schema_text x.equation_text x.built.specs middle why
 unopened_told device x schema equation specs middle why p q k is =
     subst (λ (t : List ℕ). IsUnopened device t x.equation_text x.built.specs middle why) p
@@ -128,6 +134,21 @@ module _ (words : List (List ℕ)) (device : List ℕ) (x : Stored) (old middle 
       (subst (λ (t : List ℕ). Reopens (schema_text x.schema) t x.built.specs maps blocks) (sym p.equation_text_is)
       (subst (λ (k : List LeafSpec). Reopens (schema_text x.schema) (equation_text p.definitions) k maps blocks) (sym p.specs_are) is))
 
+  had_texts : (blocks : List (List ℕ)) → HasTexts x.schema_text x.equation_text blocks → HasTexts (schema_text x.schema) (equation_text p.definitions) blocks
+  had_texts blocks is =
+      subst (λ (t : List ℕ). HasTexts t (equation_text p.definitions) blocks) p.schema_text_is
+      (subst (λ (t : List ℕ). HasTexts x.schema_text t blocks) p.equation_text_is is)
+
+  -- a device that was opened is wrong in no way that is seen before
+  pub not_wrong : OfBlocks device middle (AreOpened x.schema_text x.equation_text x.built.specs) → (wrong : DeviceWhy) → IsBefore wrong → IsWrong words old wrong → ⊥
+  not_wrong had wrong early (inl run) =
+      let same_task = one_task words old.aside.texts run.task Run run.is run_is_task in
+      let same_device : run.device ≡ device = device_once run.device device (sym run.action_is ∙ ap (λ (u : Task). u.action) same_task) in
+      had_not_wrong device Run old wrong had.0 (subst (λ n. device_at n device ≡ Some had.0) same.now had.1)
+      (subst (λ k. IsSize k (length had.0)) p.specs_are had.2.size) had.2.magic (had_texts had.0 had.2.texts) early
+      (subst (λ d. IsWrongOn d Run old wrong) same_device (subst (λ u. IsWrongOn run.device u old wrong) same_task run.wrong))
+  not_wrong had wrong early (inr make) = made_no_task words old.aside.texts Run make.0 run_is_task make.1
+
   -- where the device that is opened holds a state
   module _ (opened mid : Content) (limit : Limits) (Reaches : List LeafMap → Type 0) (played : Result (Unit {0}) Ending) (o : IsOnStore device x x.schema_text x.equation_text x.built.specs middle opened mid limit Reaches played) where
     reached : (bound : Option Limits) (start : State) → (h : IsHeldOn Run device old bound start) → Reaches h.maps
@@ -149,20 +170,6 @@ module _ (words : List (List ℕ)) (device : List ℕ) (x : Stored) (old middle 
         (subst (λ (n : List ℕ). IsPlayedAs x.schema x.built (Some limit) start Settled old.script n mid.now.said played) (o.said ∙ ap (λ n. n.said) same.now)
         (subst (λ (l : List ℕ). IsPlayedAs x.schema x.built (Some limit) start Settled l opened.now.said mid.now.said played) (o.script ∙ same.script)
         (o.answered start h.maps (reached bound start h) (internal bound start h))))
-
-    had_texts : (blocks : List (List ℕ)) → HasTexts x.schema_text x.equation_text blocks → HasTexts (schema_text x.schema) (equation_text p.definitions) blocks
-    had_texts blocks is =
-        subst (λ (t : List ℕ). HasTexts t (equation_text p.definitions) blocks) p.schema_text_is
-        (subst (λ (t : List ℕ). HasTexts x.schema_text t blocks) p.equation_text_is is)
-
-    not_wrong : (wrong : DeviceWhy) → IsBefore wrong → IsWrong words old wrong → ⊥
-    not_wrong wrong early (inl run) =
-        let same_task = one_task words old.aside.texts run.task Run run.is run_is_task in
-        let same_device : run.device ≡ device = device_once run.device device (sym run.action_is ∙ ap (λ (u : Task). u.action) same_task) in
-        had_not_wrong device Run old wrong o.had.0 (subst (λ n. device_at n device ≡ Some o.had.0) same.now o.had.1)
-        (subst (λ k. IsSize k (length o.had.0)) p.specs_are o.had.2.size) o.had.2.magic (had_texts o.had.0 o.had.2.texts) early
-        (subst (λ d. IsWrongOn d Run old wrong) same_device (subst (λ u. IsWrongOn run.device u old wrong) same_task run.wrong))
-    not_wrong wrong early (inr make) = made_no_task words old.aside.texts Run make.0 run_is_task make.1
 
     settled_texts : (maps : List LeafMap) (blocks : List (List ℕ)) → IsSettled x.schema_text x.equation_text x.built.specs maps blocks → IsSettled (schema_text x.schema) (equation_text p.definitions) p.typing.specs maps blocks
     settled_texts maps blocks is =
@@ -198,13 +205,13 @@ module _ (words : List (List ℕ)) (device : List ℕ) (x : Stored) (old middle 
         }),
         subst (λ (n : List ℕ). IsPrefix n mid.now.said) (o.said ∙ ap (λ n. n.said) same.now) o.begins,
       );
-      right = not_wrong;
+      right = not_wrong o.had;
       finished = finished;
     }
 
   -- ---- a device that isn't opened
 
-  unopened_texts : (why : Unopened) → IsUnopened device x.schema_text x.equation_text x.built.specs middle why → IsUnopened device (schema_text x.schema) (equation_text p.definitions) p.typing.specs middle why
+  pub unopened_texts : (why : Unopened) → IsUnopened device x.schema_text x.equation_text x.built.specs middle why → IsUnopened device (schema_text x.schema) (equation_text p.definitions) p.typing.specs middle why
   unopened_texts why is =
       subst (λ (t : List ℕ). IsUnopened device t (equation_text p.definitions) p.typing.specs middle why) p.schema_text_is
       (subst (λ (t : List ℕ). IsUnopened device x.schema_text t p.typing.specs middle why) p.equation_text_is

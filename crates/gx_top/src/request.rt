@@ -46,7 +46,9 @@ use std::alloc::Global;
 ///
 /// After `Done`, `Script`, `Full` and `Memory` of `run` the device is settled with the last state that the
 /// lines kept which were answered; after `Memory` where none was, it may also hold exactly the states that
-/// it held.
+/// it held. After `Refused` all devices are as they were, and after `Device` so is one of another size or
+/// with no database; one of other texts reads as before, and no block of it was written but by recovery.
+/// Whatever it answers, no device is made, and those of other names are as they were.
 ///
 /// What is said of `run` after it has opened its device holds where that held a state. `Outside` comes
 /// only where a call of the machine failed in this one, and with any other status none did: the count of
@@ -66,7 +68,7 @@ pub fn top<M: Machine + Drop>(alloc: Global, words: &[String], machine: M) -> (S
     // What `make` leaves on the devices.
     ensures made { IsTrue M.tells → LeavesMadeBy (texts_of words.now) (M.content machine)
         (M.content result.1) result.0 }
-    // What `run` leaves on the devices, beside that which it plays on.
+    // What `run` leaves on the devices, beside what a play leaves.
     ensures ran { IsTrue M.tells → LeavesRunBy (texts_of words.now) (M.content machine)
         (M.content result.1) result.0 }
     // No failure is passed over, on any machine.

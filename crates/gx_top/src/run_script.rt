@@ -36,8 +36,9 @@ use std::alloc::Global;
 /// names, from the state that the device holds; or says the reason where the request is refused or
 /// the device is another than was asked for. Where the device held a state, it is settled after
 /// `Done`, `Script` and `Full`, and after `Memory` where the answer of a line was said, with the last
-/// state that was kept; after `Memory` with no answer so, or it holds what it held. Devices of other
-/// names stay, and after `Refused` all.
+/// state that was kept; after `Memory` with no answer so, or it holds what it held. A device that is
+/// wrong stays as it was, but that recovery may have settled one of other texts. None is made, devices
+/// of other names stay, and after `Refused` all.
 pub fn run_script<M: Machine + Drop>(
     alloc: Global,
     schema: &str,
@@ -52,7 +53,8 @@ pub fn run_script<M: Machine + Drop>(
         IsAsDue (request_words (running device.now) schema.now equation.now) (M.content machine)
         result.0 }
     ensures left { CanAttach M.tells (M.content machine) →
-        LeavesRun device.now (M.content machine) (M.content result.1) result.0 }
+        LeavesRun (request_words (running device.now) schema.now equation.now) device.now
+        (M.content machine) (M.content result.1) result.0 }
     ensures outside { result.0 ≡ Status.Outside → Rose (M.faults machine) (M.faults result.1) }
     ensures counted { result.0 ≢ Status.Outside → M.faults result.1 ≡ M.faults machine }
     ensures later { M.faults machine ≤ M.faults result.1 }
@@ -84,7 +86,9 @@ fn run_stored<M: Machine + Drop>(
         IsStoredFor words old.aside.texts (running device.now) stored →
         IsAsDue words old result.0 }
     ensures left { CanAttach M.tells (M.content machine) →
-        LeavesRun device.now (M.content machine) (M.content result.1) result.0 }
+        (words : List (List ℕ)) (old : Content) → SameContent old (M.content machine) →
+        IsStoredFor words old.aside.texts (running device.now) stored →
+        LeavesRun words device.now old (M.content result.1) result.0 }
     ensures outside { result.0 ≡ Status.Outside → Rose (M.faults machine) (M.faults result.1) }
     ensures counted { result.0 ≢ Status.Outside → M.faults result.1 ≡ M.faults machine }
     ensures later { M.faults machine ≤ M.faults result.1 }
