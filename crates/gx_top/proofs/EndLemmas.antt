@@ -2,8 +2,9 @@
 use Rattle.std.proofs.Common.{◌≡◌, ℕ, List, [], ◌++◌, take, Result, Ok, Err, Option, refl, sym, ap, subst, ◌∙◌, inl, inr}
 use Rattle.std.specs.Prelude.{◌⊎◌, ◌≢◌, IfErr}
 use Rattle.std.proofs.lemmas.List.{append-nil}
-use Rattle.gx_device.specs.Content.{Content}
+use Rattle.gx_device.specs.Content.{Content, SameContent, device_at}
 use Rattle.gx_device.specs.Faults.{Rose}
+use Rattle.gx_device.specs.Quiet.{IsPrefix}
 use Rattle.gx_ports.specs.LeafMaps.{Limits}
 use Rattle.gx_commands.specs.declared.command.LineWhy.{LineWhy}
 use Rattle.gx_types.specs.declared.built.Built.{Built}
@@ -20,16 +21,17 @@ use Rattle.gx_play.specs.declared.status.Status.TheVariants as status
 use Rattle.gx_play.specs.declared.summary.Summary.{Summary}
 use Rattle.gx_play.specs.Endings.{status_of, memory_line, device_line, made_line, IsOutside, IsPlayEnding, IsEnded, IsFinished}
 use Rattle.gx_requests.specs.Requests.{IsRefused, IsSummary, IsUnprepared}
-use Rattle.gx_play.specs.Say.{IsCut}
+use Rattle.gx_play.specs.Say.{IsCut, SameDevices}
 use Rattle.gx_play.specs.Played.{Says, SaysFront, SaysKeeping, IsPlayText, IsStoppedText, IsShortText, IsFullText, IsPlayedText}
 use Rattle.gx_play.specs.Plays.{IsPlayedAs}
-use Rattle.gx_top.specs.Tasks.{Task, IsTask, IsFrom, IsLeft}
+use Rattle.gx_top.specs.Tasks.{Task, IsTask, IsFrom, IsLeft, StartsAlike}
 use Rattle.gx_top.specs.Devices.{IsToMake, IsWrong, IsBefore, SaysWrong}
 use Rattle.gx_top.specs.Tries.{IsDoneText, IsOtherText, CanPlayTo, IsSaid, IsEnd, IsDueStatus, IsAsDue}
 use Rattle.gx_requests.specs.Words.{explaining, making}
 use Rattle.gx_top.specs.Explained.{IsToExplain}
+use Rattle.gx_top.proofs.StayLemmas.{devices_same, starts_same}
 use Rattle.gx_top.proofs.TryLemmas.{refused_says, memory_says, unprepared_front, check_done, check_front}
-use Rattle.gx_top.proofs.RowLemmas.{done_row, stopped_row, short_row, full_row, front_row}
+use Rattle.gx_top.proofs.RowLemmas.{behind, done_row, stopped_row, short_row, full_row, front_row}
 use Rattle.gx_top.proofs.CompleteLemmas.{refused_status, unprepared_memory, unprepared_refuses, ready_not_refused, checkable_not_refused, wrong_not_refused, checked_no_task, checked_not_made, checked_not_wrong, made_no_task, task_not_explained, checked_not_explained, made_not_explained, start_not_wrong, one_task, not_stopped, not_good, said_complete}
 
 done_not_outside : (s : Status) → s ≡ status.Done → s ≢ status.Outside
@@ -127,21 +129,21 @@ not_device s (inr (inr is)) e = never (e ∙ is)
     never : status.Device ≡ status.Memory → ⊥
     never f = cc
 
-unprepared_said : (words : List (List ℕ)) (old mid new : Content) (before now : ℕ) (why : Ending) (s : Status) → IsUnprepared words old.aside.texts before now why → mid.now.said ≡ old.now.said → IsEnded why mid new s → IsSaid words old new s
-unprepared_said words old mid new before now why status.Refused is unsaid e = refused_says words old mid new before now why is (sym (e.status_is (λ f. cc) (λ f. cc))) (e.said (λ f. cc) (λ f. cc)) unsaid
-unprepared_said words old mid new before now why status.Memory is unsaid e = inl (memory_says words old mid new (e.memory refl) unsaid)
-unprepared_said words old mid new before now why status.Outside is unsaid e = inl (unprepared_front words old mid new before now why is e.silent (e.cut refl) unsaid)
-unprepared_said words old mid new before now why status.Done is unsaid e = absurd (not_done (status_of why) (unplayed words old before now why is) (e.status_is (λ f. cc) (λ f. cc)))
-unprepared_said words old mid new before now why status.Script is unsaid e = absurd (not_script (status_of why) (unplayed words old before now why is) (e.status_is (λ f. cc) (λ f. cc)))
-unprepared_said words old mid new before now why status.Full is unsaid e = absurd (not_full (status_of why) (unplayed words old before now why is) (e.status_is (λ f. cc) (λ f. cc)))
-unprepared_said words old mid new before now why status.Device is unsaid e = absurd (not_device (status_of why) (unplayed words old before now why is) (e.status_is (λ f. cc) (λ f. cc)))
+unprepared_said : (words : List (List ℕ)) (old mid new : Content) (before now : ℕ) (why : Ending) (s : Status) → IsUnprepared words old.aside.texts before now why → mid.now.said ≡ old.now.said → ((t : Task) → StartsAlike t old new) → IsEnded why mid new s → IsSaid words old new s
+unprepared_said words old mid new before now why status.Refused is unsaid starts e = refused_says words old mid new before now why is (sym (e.status_is (λ f. cc) (λ f. cc))) (e.said (λ f. cc) (λ f. cc)) unsaid
+unprepared_said words old mid new before now why status.Memory is unsaid starts e = inl (memory_says words old mid new (e.memory refl) unsaid (λ t task. starts t))
+unprepared_said words old mid new before now why status.Outside is unsaid starts e = inl (unprepared_front words old mid new before now why is e.silent (e.cut refl) unsaid)
+unprepared_said words old mid new before now why status.Done is unsaid starts e = absurd (not_done (status_of why) (unplayed words old before now why is) (e.status_is (λ f. cc) (λ f. cc)))
+unprepared_said words old mid new before now why status.Script is unsaid starts e = absurd (not_script (status_of why) (unplayed words old before now why is) (e.status_is (λ f. cc) (λ f. cc)))
+unprepared_said words old mid new before now why status.Full is unsaid starts e = absurd (not_full (status_of why) (unplayed words old before now why is) (e.status_is (λ f. cc) (λ f. cc)))
+unprepared_said words old mid new before now why status.Device is unsaid starts e = absurd (not_device (status_of why) (unplayed words old before now why is) (e.status_is (λ f. cc) (λ f. cc)))
 
-pub unprepared_end : (words : List (List ℕ)) (old mid new : Content) (before now : ℕ) (why : Ending) (s : Status) → IsUnprepared words old.aside.texts before now why → mid.now.said ≡ old.now.said → mid.script ≡ old.script → IsEnded why mid new s → IsEnd words old new s
-unprepared_end words old mid new before now why s is unsaid unheard e = record {
-  said = unprepared_said words old mid new before now why s is unsaid e;
+pub unprepared_end : (words : List (List ℕ)) (old mid new : Content) (before now : ℕ) (why : Ending) (s : Status) → IsUnprepared words old.aside.texts before now why → SameContent old mid → SameDevices mid new → IsEnded why mid new s → IsEnd words old new s
+unprepared_end words old mid new before now why s is same devices e = record {
+  said = unprepared_said words old mid new before now why s is (ap (λ n. n.said) same.now) (λ t. starts_same t old new (λ name. devices_same mid new devices name ∙ ap (λ n. device_at n name) same.now)) e;
   heard = λ done t task limit start from. absurd (not_done (status_of why) (unplayed words old before now why is) (sym done ∙ e.status_is (done_not_outside s done) (done_not_memory s done)));
   heard_explained = λ done r. absurd (not_done (status_of why) (unplayed words old before now why is) (sym done ∙ e.status_is (done_not_outside s done) (done_not_memory s done)));
-  unheard = λ none other. e.script ∙ unheard;
+  unheard = λ none other. e.script ∙ same.script;
 }
 
 pub unprepared_due : (words : List (List ℕ)) (old mid new : Content) (before now : ℕ) (why : Ending) (s : Status) → IsUnprepared words old.aside.texts before now why → IsEnded why mid new s → IsAsDue words old s
@@ -168,7 +170,7 @@ unprepared_due words old mid new before now why s is e due can outside = by_due 
 
 check_said : (words : List (List ℕ)) (old mid new : Content) (summary : Summary) (s : Status) → IsSummary words old.aside.texts summary → mid.now.said ≡ old.now.said → IsEnded (ending.Accepted summary) mid new s → IsSaid words old new s
 check_said words old mid new summary status.Done is unsaid e = inl (check_done words old mid new summary is unsaid (e.said (λ f. cc) (λ f. cc)))
-check_said words old mid new summary status.Memory is unsaid e = inl (memory_says words old mid new (e.memory refl) unsaid)
+check_said words old mid new summary status.Memory is unsaid e = inl (memory_says words old mid new (e.memory refl) unsaid (λ t task. absurd (checked_no_task words old t task (is.0, is.1, is.2, is.3))))
 check_said words old mid new summary status.Outside is unsaid e = inl (check_front words old mid new summary is unsaid (e.cut refl))
 check_said words old mid new summary status.Refused is unsaid e = absurd (never (e.status_is (λ f. cc) (λ f. cc)))
   where
@@ -324,14 +326,14 @@ unhad_device words old mid new why is unsaid =
     (λ e. device_memory (e.status_is (λ f. cc) (λ f. cc)))
     (λ e. device_outside (e.status_is (λ f. cc) (λ f. cc)))
 
-unhad_said : (words : List (List ℕ)) (old mid new : Content) (why : Ending) (s : Status) → IsUnhad words old why → mid.now.said ≡ old.now.said → IsEnded why mid new s → IsSaid words old new s
-unhad_said words old mid new why status.Done is unsaid e = inl (unhad_done words old mid new why is unsaid e)
-unhad_said words old mid new why status.Memory is unsaid e = inl (memory_says words old mid new (e.memory refl) unsaid)
-unhad_said words old mid new why status.Outside is unsaid e = inl (unhad_front words old mid new why is unsaid e)
-unhad_said words old mid new why status.Device is unsaid e = unhad_device words old mid new why is unsaid e
-unhad_said words old mid new why status.Script is unsaid e = absurd (subst IsUnhadStatus (sym (e.status_is (λ f. cc) (λ f. cc))) (unhad_status words old why is))
-unhad_said words old mid new why status.Refused is unsaid e = absurd (subst IsUnhadStatus (sym (e.status_is (λ f. cc) (λ f. cc))) (unhad_status words old why is))
-unhad_said words old mid new why status.Full is unsaid e = absurd (subst IsUnhadStatus (sym (e.status_is (λ f. cc) (λ f. cc))) (unhad_status words old why is))
+unhad_said : (words : List (List ℕ)) (old mid new : Content) (why : Ending) (s : Status) → IsUnhad words old why → mid.now.said ≡ old.now.said → (s ≡ status.Memory → (t : Task) → IsTask words old.aside.texts t → StartsAlike t old new) → IsEnded why mid new s → IsSaid words old new s
+unhad_said words old mid new why status.Done is unsaid starts e = inl (unhad_done words old mid new why is unsaid e)
+unhad_said words old mid new why status.Memory is unsaid starts e = inl (memory_says words old mid new (e.memory refl) unsaid (starts refl))
+unhad_said words old mid new why status.Outside is unsaid starts e = inl (unhad_front words old mid new why is unsaid e)
+unhad_said words old mid new why status.Device is unsaid starts e = unhad_device words old mid new why is unsaid e
+unhad_said words old mid new why status.Script is unsaid starts e = absurd (subst IsUnhadStatus (sym (e.status_is (λ f. cc) (λ f. cc))) (unhad_status words old why is))
+unhad_said words old mid new why status.Refused is unsaid starts e = absurd (subst IsUnhadStatus (sym (e.status_is (λ f. cc) (λ f. cc))) (unhad_status words old why is))
+unhad_said words old mid new why status.Full is unsaid starts e = absurd (subst IsUnhadStatus (sym (e.status_is (λ f. cc) (λ f. cc))) (unhad_status words old why is))
 
 -- where the script was to be played, nothing is done
 unhad_undone : (words : List (List ℕ)) (old mid new : Content) (why : Ending) (t : Task) → IsUnhad words old why → IsTask words old.aside.texts t → IsEnded why mid new status.Done → ⊥
@@ -350,9 +352,9 @@ unhad_unexplained words old mid new why is r =
     (λ e. done_memory (e.status_is (λ f. cc) (λ f. cc)))
     (λ e. done_outside (e.status_is (λ f. cc) (λ f. cc)))
 
-pub unhad_end : (words : List (List ℕ)) (old mid new : Content) (why : Ending) (s : Status) → IsUnhad words old why → mid.now.said ≡ old.now.said → mid.script ≡ old.script → IsEnded why mid new s → IsEnd words old new s
-unhad_end words old mid new why s is unsaid unheard e = record {
-  said = unhad_said words old mid new why s is unsaid e;
+pub unhad_end : (words : List (List ℕ)) (old mid new : Content) (why : Ending) (s : Status) → IsUnhad words old why → mid.now.said ≡ old.now.said → mid.script ≡ old.script → (s ≡ status.Memory → (t : Task) → IsTask words old.aside.texts t → StartsAlike t old new) → IsEnded why mid new s → IsEnd words old new s
+unhad_end words old mid new why s is unsaid unheard starts e = record {
+  said = unhad_said words old mid new why s is unsaid starts e;
   heard_explained = λ done r. absurd (unhad_unexplained words old mid new why is r (subst (IsEnded why mid new) done e));
   heard = λ done t task limit start from. absurd (unhad_undone words old mid new why t is task (subst (IsEnded why mid new) done e));
   unheard = λ none other. e.script ∙ unheard;
@@ -429,7 +431,7 @@ pub record IsRun (words : List (List ℕ)) (t : Task) (old mid new : Content) (p
   pub answered : (limit : Option Limits) (start : State) → IsFrom t old limit start → IsPlayedAs t.schema built limit start (IsLeft t new) old.script old.now.said mid.now.said played
   pub heard : (limit : Option Limits) (start : State) → IsFrom t old limit start → played ≡ Ok tt → mid.script ≡ []
   pub play_ending : IfErr played IsPlayEnding
-  pub damaged : (block : ℕ) → played ≡ Err (ending.Device (device_why.Damaged block)) → IsWrong words old (device_why.Damaged block)
+  pub damaged : (block : ℕ) → played ≡ Err (ending.Device (device_why.Damaged block)) → IsWrong words old (device_why.Damaged block) × IsPrefix old.now.said mid.now.said
   pub right : (wrong : DeviceWhy) → IsBefore wrong → IsWrong words old wrong → ⊥
   pub finished : IsFinished played mid new s
 
@@ -511,8 +513,10 @@ module _ (words : List (List ℕ)) (t : Task) (old mid new : Content) (played : 
   run_row limit start from = row t r.built r.trees limit start old mid new played s (r.answered limit start from) r.play_ending r.finished
 
 -- damage that was found
-damage_said : (words : List (List ℕ)) (old mid new : Content) (why : Ending) → IsPlayEnding why → IsEnded why mid new status.Device → ((block : ℕ) → why ≡ ending.Device (device_why.Damaged block) → IsWrong words old (device_why.Damaged block)) → SaysDevice words old new
-damage_said words old mid new (ending.Device (device_why.Damaged block)) ends e damaged = (device_why.Damaged block, damaged block refl, (mid.now.said, e.said (λ f. cc) (λ f. cc)))
+damage_said : (words : List (List ℕ)) (old mid new : Content) (why : Ending) → IsPlayEnding why → IsEnded why mid new status.Device → ((block : ℕ) → why ≡ ending.Device (device_why.Damaged block) → IsWrong words old (device_why.Damaged block) × IsPrefix old.now.said mid.now.said) → SaysDevice words old new
+damage_said words old mid new (ending.Device (device_why.Damaged block)) ends e damaged =
+    let found = damaged block refl in
+    (device_why.Damaged block, found.0, (found.1.0, behind old.now.said mid.now.said new.now.said found.1.0 (device_line (device_why.Damaged block)) found.1.1 (e.said (λ f. cc) (λ f. cc))))
 damage_said words old mid new (ending.Device device_why.Missing) ends e damaged = absurd ends
 damage_said words old mid new (ending.Device device_why.Exists) ends e damaged = absurd ends
 damage_said words old mid new (ending.Device device_why.Size) ends e damaged = absurd ends

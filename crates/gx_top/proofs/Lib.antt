@@ -1,3 +1,4 @@
+mod StayLemmas
 mod TryLemmas
 mod RowLemmas
 mod StoredLemmas
@@ -8,6 +9,7 @@ mod TaskLemmas
 mod StoreLemmas
 mod MakeLemmas
 mod RanLemmas
+mod UnopenedLemmas
 mod IndexedLaws
 mod ExplainLemmas
 mod ExplainOnceLemmas

@@ -1,8 +1,7 @@
 -- A device that is made: what was said of it, that the status is due, and what stands on the devices.
 use Rattle.std.proofs.Common.{◌≡◌, ℕ, List, [], true, false, Result, Ok, Err, Some, None, Option, refl, sym, ap, subst, ◌∙◌, inl, inr, length, get_or}
 use Rattle.std.specs.Prelude.{◌⊎◌, ◌≢◌, OnOk, IfErr, IsSome, is_some}
-use Rattle.std.specs.FinMap.{get}
-use Rattle.gx_device.specs.Content.{Content, Texts, device_at, with_named}
+use Rattle.gx_device.specs.Content.{Content, Texts, device_at}
 use Rattle.gx_tokens.specs.Numbers.{digits_value}
 use Rattle.gx_ports.specs.declared.kinds.LeafSpec.{LeafSpec}
 use Rattle.gx_schema.specs.Printing.{schema_text}
@@ -34,6 +33,7 @@ use Rattle.gx_top.specs.Tasks.{Task, IsTask, IsToPlay}
 use Rattle.gx_top.specs.Tries.{IsAsDue, IsDueStatus}
 use Rattle.gx_requests.specs.Words.{Action, checking, trying, explaining, making, running, request_words, IsCount}
 use Rattle.gx_top.proofs.CompleteLemmas.{same_words, one_acceptance, ready_not_refused, made_not_explained}
+use Rattle.gx_top.proofs.StayLemmas.{devices_same}
 use Rattle.gx_top.proofs.EndLemmas.{IsUnhad, unplayed, not_done, not_device}
 
 -- ---- what making a device did
@@ -69,10 +69,6 @@ left_told x schema equation specs blocks p q k is =
     subst (λ (s : List ℕ). IsNoneOrEmpty s x.equation_text x.built.specs blocks) p
     (subst (λ (e : List ℕ). IsNoneOrEmpty schema e x.built.specs blocks) q
     (subst (λ (ks : List LeafSpec). IsNoneOrEmpty schema equation ks blocks) k is))
-
--- what is said changes no device
-pub devices_same : (old new : Content) → SameDevices old new → (name : List ℕ) → device_at new.now name ≡ device_at old.now name
-devices_same old new same name = λ i. get (with_named (same.shelf i).name (same.blocks i) (same.shelf i).devices) name
 
 -- ---- how it may end
 
@@ -152,7 +148,7 @@ wrong_once words texts count number r q before why h =
     (subst (λ (n : ℕ). IsUnmakable r.typing.specs r.device n before why) same.counts h))
 
 -- the request is to make a device and not to play a script
-not_played : (words : List (List ℕ)) (texts : Texts) (count : ℕ) (t : Task) → IsToMake words texts count → IsTask words texts t → ⊥
+pub not_played : (words : List (List ℕ)) (texts : Texts) (count : ℕ) (t : Task) → IsToMake words texts count → IsTask words texts t → ⊥
 not_played words texts count t r is =
     subst IsToPlay (one_acceptance words texts t.action (making r.device r.digits) t.schema r.schema t.definitions r.definitions t.typing r.typing is.ready.0 r.ready.0).actions is.to_play
 

@@ -1,5 +1,5 @@
 -- What `run` leaves on the devices.
-use Rattle.std.proofs.Common.{◌≡◌, ◌≢◌, ◌∙◌, ℕ, Bool, true, false, List, Some, Result, Ok, Err, cond, refl, sym, ap, subst}
+use Rattle.std.proofs.Common.{◌≡◌, ◌≢◌, ◌∙◌, ℕ, Bool, true, false, List, Option, Some, None, Result, Ok, Err, cond, refl, sym, ap, subst}
 use Rattle.std.specs.Prelude.{IfErr}
 use Rattle.std.specs.FinMap as fin
 use Rattle.std.specs.Ordering.{eq_by_cmp}
@@ -8,18 +8,22 @@ use Rattle.gx_device.specs.Content.{Moment, Content, Shelf, device_at, with_name
 use Rattle.gx_ports.specs.Keyed.{key_cmp}
 use Rattle.gx_ports.proofs.KeyLemmas.{same_key}
 use Rattle.gx_store.specs.Store.{Attaches}
+use Rattle.gx_store.proofs.AlikeLemmas.{alike_itself, recovery_itself}
 use Rattle.gx_store.specs.declared.unopened.Unopened.{Unopened}
 use Rattle.gx_store.specs.declared.unopened.Unopened.TheVariants as unopened
+use Rattle.gx_play.specs.declared.ending.DeviceWhy.{DeviceWhy}
+use Rattle.gx_play.specs.declared.ending.DeviceWhy.TheVariants as device_why
 use Rattle.gx_play.specs.declared.ending.Ending.{Ending}
 use Rattle.gx_play.specs.declared.status.Status.{Status}
 use Rattle.gx_play.specs.declared.status.Status.TheVariants as status
 use Rattle.gx_play.specs.Endings.{unopened_ending, IsPlayEnding, IsEnded, IsFinished}
-use Rattle.gx_top.specs.Ran.{LeavesRun, LeavesRunBy}
+use Rattle.gx_top.specs.Devices.{IsWrong, IsBefore}
+use Rattle.gx_top.specs.Ran.{StaysWrong, LeavesRun, LeavesRunBy}
 use Rattle.gx_play.specs.Say.{SameDevices}
 use Rattle.gx_requests.specs.Words.{Action, checking, trying, explaining, making, running, request_words}
 use Rattle.gx_top.proofs.CompleteLemmas.{same_words}
 use Rattle.gx_top.proofs.EndLemmas.{IsStopStatus, stop_status}
-use Rattle.gx_top.proofs.MakeLemmas.{devices_same}
+use Rattle.gx_top.proofs.StayLemmas.{devices_same}
 
 -- ---- devices of other names
 
@@ -51,7 +55,7 @@ finish_unrefused (Err why) mid new ends e = subst IsStopStatus (sym (e.status_is
 refused_device : status.Refused ≡ status.Device → ⊥
 refused_device f = cc
 
-unopened_unrefused : (why : Unopened) (mid new : Content) → IsEnded (unopened_ending why) mid new status.Refused → ⊥
+pub unopened_unrefused : (why : Unopened) (mid new : Content) → IsEnded (unopened_ending why) mid new status.Refused → ⊥
 unopened_unrefused unopened.Missing mid new e = refused_device (e.status_is (λ f. cc) (λ f. cc))
 unopened_unrefused unopened.Exists mid new e = refused_device (e.status_is (λ f. cc) (λ f. cc))
 unopened_unrefused unopened.Size mid new e = refused_device (e.status_is (λ f. cc) (λ f. cc))
@@ -68,30 +72,45 @@ unopened_unrefused unopened.NoMemory mid new e = never (e.status_is (λ f. cc) (
 
 -- ---- what is left
 
-pub played_left : (device : List ℕ) (old opened mid new : Content) (played : Result (Unit {0}) Ending) (s : Status) → Attaches device old opened → opened.now.shelf.name ≡ Some device → mid.now.shelf ≡ opened.now.shelf → SameDevices mid new → IfErr played IsPlayEnding → IsFinished played mid new s → LeavesRun device old new s
-played_left device old opened mid new played s attaches named shelf same ends finished = record {
+pub played_left : (words : List (List ℕ)) (device : List ℕ) (old middle opened mid new : Content) (played : Result (Unit {0}) Ending) (s : Status) → middle.now ≡ old.now → (blocks : List (List ℕ)) → device_at middle.now device ≡ Some blocks → ((wrong : DeviceWhy) → IsBefore wrong → IsWrong words old wrong → ⊥)
+    → Attaches device middle opened → opened.now.shelf.name ≡ Some device → mid.now.shelf ≡ opened.now.shelf → SameDevices mid new → IfErr played IsPlayEnding → IsFinished played mid new s → LeavesRun words device old new s
+played_left words device old middle opened mid new played s before blocks there right attaches named shelf same ends finished = record {
   refused = λ e. absurd (finish_unrefused played mid new ends (subst (IsFinished played mid new) e finished));
-  others = λ other differ. other_at opened.now new.now device other named (same.shelf ∙ shelf) differ ∙ attaches.others other differ;
+  wrong = λ e wrong is. found_late wrong (λ early. right wrong early is);
+  missing = λ none. absurd (never (sym none ∙ sym (ap (λ n. device_at n device) before) ∙ there));
+  others = λ other differ. other_at opened.now new.now device other named (same.shelf ∙ shelf) differ ∙ attaches.others other differ ∙ ap (λ n. device_at n other) before;
 }
+  where
+    never : ◌≡◌ {A = Option (List (List ℕ))} None (Some blocks) → ⊥
+    never f = cc
 
-pub unopened_left : (device : List ℕ) (old mid new : Content) (why : Unopened) (s : Status) → Attaches device old mid → SameDevices mid new → IsEnded (unopened_ending why) mid new s → LeavesRun device old new s
-unopened_left device old mid new why s attaches same ended = record {
-  refused = λ e. absurd (unopened_unrefused why mid new (subst (IsEnded (unopened_ending why) mid new) e ended));
-  others = λ other differ. devices_same mid new same other ∙ attaches.others other differ;
-}
+    found_late : (wrong : DeviceWhy) → (IsBefore wrong → ⊥) → StaysWrong wrong device old new
+    found_late (device_why.Damaged block) late = tt
+    found_late device_why.Missing late = absurd (late tt)
+    found_late device_why.Exists late = absurd (late tt)
+    found_late device_why.Size late = absurd (late tt)
+    found_late device_why.NoDatabase late = absurd (late tt)
+    found_late (device_why.OtherEquation place) late = absurd (late tt)
 
 -- nothing was attached
-pub unprepared_ran : (device : List ℕ) (old mid new : Content) (s : Status) → mid.now ≡ old.now → SameDevices mid new → LeavesRun device old new s
-unprepared_ran device old mid new s before same = record {
+pub unprepared_ran : (words : List (List ℕ)) (device : List ℕ) (old mid new : Content) (s : Status) → mid.now ≡ old.now → SameDevices mid new → LeavesRun words device old new s
+unprepared_ran words device old mid new s before same = record {
   refused = λ e. record { blocks = same.blocks ∙ ap (λ n. n.blocks) before; shelf = same.shelf ∙ ap (λ n. n.shelf) before };
-  others = λ other differ. devices_same mid new same other ∙ ap (λ n. device_at n other) before;
+  wrong = λ e wrong is. stays wrong;
+  missing = λ none. stays_at device ∙ none;
+  others = λ other differ. stays_at other;
 }
+  where
+    stays_at : (name : List ℕ) → device_at new.now name ≡ device_at old.now name
+    stays_at name = devices_same mid new same name ∙ ap (λ n. device_at n name) before
 
-pub left_since : (device : List ℕ) (old mid new : Content) (s : Status) → mid.now ≡ old.now → LeavesRun device mid new s → LeavesRun device old new s
-left_since device old mid new s before left = record {
-  refused = λ e. let same = left.refused e in record { blocks = same.blocks ∙ ap (λ n. n.blocks) before; shelf = same.shelf ∙ ap (λ n. n.shelf) before };
-  others = λ other differ. left.others other differ ∙ ap (λ n. device_at n other) before;
-}
+    stays : (wrong : DeviceWhy) → StaysWrong wrong device old new
+    stays (device_why.OtherEquation place) = λ blocks there. (blocks, stays_at device ∙ there, (recovery_itself blocks, alike_itself blocks))
+    stays (device_why.Damaged block) = tt
+    stays device_why.Missing = stays_at device
+    stays device_why.Exists = stays_at device
+    stays device_why.Size = stays_at device
+    stays device_why.NoDatabase = stays_at device
 
 -- ---- of the words
 
@@ -102,9 +121,10 @@ device_once a b e = ap device_or e
     device_or (running d) = d
     device_or other = a
 
-pub ran_by_words : (words : List (List ℕ)) (device other schema name equation term : List ℕ) (old new : Content) (s : Status) → words ≡ request_words (running device) schema equation → words ≡ request_words (running other) name term → LeavesRun device old new s → LeavesRun other old new s
+pub ran_by_words : (words : List (List ℕ)) (device other schema name equation term : List ℕ) (old new : Content) (s : Status) → words ≡ request_words (running device) schema equation → words ≡ request_words (running other) name term → LeavesRun (request_words (running device) schema equation) device old new s → LeavesRun words other old new s
 ran_by_words words device other schema name equation term old new s is too left =
-    subst (λ d. LeavesRun d old new s) (device_once device other (same_words words (running device) (running other) schema name equation term is too).actions) left
+    subst (λ d. LeavesRun words d old new s) (device_once device other (same_words words (running device) (running other) schema name equation term is too).actions)
+    (subst (λ (ws : List (List ℕ)). LeavesRun ws device old new s) (sym is) left)
 
 pub not_ran : (words : List (List ℕ)) (a : Action) (schema equation : List ℕ) (old new : Content) (s : Status) → words ≡ request_words a schema equation → ((device : List ℕ) → a ≡ running device → ⊥) → LeavesRunBy words old new s
 not_ran words a schema equation old new s is never = λ device name term too free. absurd (never device (same_words words a (running device) schema name equation term is too).actions)

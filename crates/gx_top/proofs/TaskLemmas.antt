@@ -2,6 +2,7 @@
 use Rattle.std.proofs.Common.{◌≡◌, ℕ, List, [], length, Result, Ok, Option, Some, None, refl, sym, ap, subst, ◌∙◌, inl, inr}
 use Rattle.std.specs.Prelude.{IfErr}
 use Rattle.gx_device.specs.Content.{Content, Texts, Shelf, SameContent, device_at}
+use Rattle.gx_device.specs.Quiet.{IsPrefix}
 use Rattle.gx_ports.specs.declared.kinds.LeafSpec.{LeafSpec}
 use Rattle.gx_ports.specs.LeafMaps.{LeafMap, Limits}
 use Rattle.gx_schema.specs.declared.schema.Schema.{Schema}
@@ -76,7 +77,7 @@ try_run words x old middle mid new played s p same is heard ends finished =
 abbrev pub run_task : (words : List (List ℕ)) (texts : Texts) (device : List ℕ) (x : Stored) → IsStoredFor words texts (running device) x → Task
 run_task words texts device x p = record { action = running device; schema = x.schema; definitions = p.definitions; typing = p.typing }
 
-device_once : (a b : List ℕ) → running a ≡ running b → a ≡ b
+pub device_once : (a b : List ℕ) → running a ≡ running b → a ≡ b
 device_once a b e = ap device_or e
   where
     device_or : Action → List ℕ
@@ -90,6 +91,7 @@ pub record IsOnStore (device : List ℕ) (x : Stored) (schema equation : List �
   pub script : opened.script ≡ middle.script
   pub named : opened.now.shelf.name ≡ Some device
   pub shelf : mid.now.shelf ≡ opened.now.shelf
+  pub begins : IsPrefix opened.now.said mid.now.said
   pub had : OfBlocks device middle (AreOpened schema equation specs)
   pub holds : (blocks : List (List ℕ)) (maps : List LeafMap) → device_at middle.now device ≡ Some blocks → Reopens schema equation specs maps blocks → Reaches maps
   pub limit_is : (blocks : List (List ℕ)) → device_at middle.now device ≡ Some blocks → limit ≡ limits_on specs (length blocks)
@@ -104,6 +106,12 @@ on_store_told device x schema equation specs middle opened mid limit Reaches pla
     (subst (λ (t : List ℕ). IsOnStore device x schema t x.built.specs middle opened mid limit Reaches played) q
     (subst (λ (l : List LeafSpec). IsOnStore device x schema equation l middle opened mid limit Reaches played) k is))
 
+pub opened_told : (device : List ℕ) (x : Stored) (schema equation : List ℕ) (specs : List LeafSpec) (middle : Content) → schema ≡ x.schema_text → equation ≡ x.equation_text → specs ≡ x.built.specs → OfBlocks device middle (AreOpened schema equation specs) → OfBlocks device middle (AreOpened x.schema_text x.equation_text x.built.specs)
+opened_told device x schema equation specs middle p q k is =
+    subst (λ (t : List ℕ). OfBlocks device middle (AreOpened t x.equation_text x.built.specs)) p
+    (subst (λ (t : List ℕ). OfBlocks device middle (AreOpened schema t x.built.specs)) q
+    (subst (λ (l : List LeafSpec). OfBlocks device middle (AreOpened schema equation l)) k is))
+
 pub unopened_told : (device : List ℕ) (x : Stored) (schema equation : List ℕ) (specs : List LeafSpec) (middle : Content) (why : Unopened) → schema ≡ x.schema_text → equation ≡ x.equation_text → specs ≡ x.built.specs → IsUnopened device schema equation specs middle why → IsUnopened device x.schema_text x.equation_text x.built.specs middle why
 unopened_told device x schema equation specs middle why p q k is =
     subst (λ (t : List ℕ). IsUnopened device t x.equation_text x.built.specs middle why) p
@@ -111,7 +119,7 @@ unopened_told device x schema equation specs middle why p q k is =
     (subst (λ (l : List LeafSpec). IsUnopened device schema equation l middle why) k is))
 
 module _ (words : List (List ℕ)) (device : List ℕ) (x : Stored) (old middle : Content) (p : IsStoredFor words old.aside.texts (running device) x) (same : SameContent old middle) where
-  abbrev Run : Task
+  abbrev pub Run : Task
   Run = run_task words old.aside.texts device x p
 
   abbrev pub run_is_task : IsTask words old.aside.texts Run
@@ -125,6 +133,21 @@ module _ (words : List (List ℕ)) (device : List ℕ) (x : Stored) (old middle 
       subst (λ (t : List ℕ). Reopens t x.equation_text x.built.specs maps blocks) (sym p.schema_text_is)
       (subst (λ (t : List ℕ). Reopens (schema_text x.schema) t x.built.specs maps blocks) (sym p.equation_text_is)
       (subst (λ (k : List LeafSpec). Reopens (schema_text x.schema) (equation_text p.definitions) k maps blocks) (sym p.specs_are) is))
+
+  had_texts : (blocks : List (List ℕ)) → HasTexts x.schema_text x.equation_text blocks → HasTexts (schema_text x.schema) (equation_text p.definitions) blocks
+  had_texts blocks is =
+      subst (λ (t : List ℕ). HasTexts t (equation_text p.definitions) blocks) p.schema_text_is
+      (subst (λ (t : List ℕ). HasTexts x.schema_text t blocks) p.equation_text_is is)
+
+  -- a device that was opened is wrong in no way that is seen before
+  pub not_wrong : OfBlocks device middle (AreOpened x.schema_text x.equation_text x.built.specs) → (wrong : DeviceWhy) → IsBefore wrong → IsWrong words old wrong → ⊥
+  not_wrong had wrong early (inl run) =
+      let same_task = one_task words old.aside.texts run.task Run run.is run_is_task in
+      let same_device : run.device ≡ device = device_once run.device device (sym run.action_is ∙ ap (λ (u : Task). u.action) same_task) in
+      had_not_wrong device Run old wrong had.0 (subst (λ n. device_at n device ≡ Some had.0) same.now had.1)
+      (subst (λ k. IsSize k (length had.0)) p.specs_are had.2.size) had.2.magic (had_texts had.0 had.2.texts) early
+      (subst (λ d. IsWrongOn d Run old wrong) same_device (subst (λ u. IsWrongOn run.device u old wrong) same_task run.wrong))
+  not_wrong had wrong early (inr make) = made_no_task words old.aside.texts Run make.0 run_is_task make.1
 
   -- where the device that is opened holds a state
   module _ (opened mid : Content) (limit : Limits) (Reaches : List LeafMap → Type 0) (played : Result (Unit {0}) Ending) (o : IsOnStore device x x.schema_text x.equation_text x.built.specs middle opened mid limit Reaches played) where
@@ -147,20 +170,6 @@ module _ (words : List (List ℕ)) (device : List ℕ) (x : Stored) (old middle 
         (subst (λ (n : List ℕ). IsPlayedAs x.schema x.built (Some limit) start Settled old.script n mid.now.said played) (o.said ∙ ap (λ n. n.said) same.now)
         (subst (λ (l : List ℕ). IsPlayedAs x.schema x.built (Some limit) start Settled l opened.now.said mid.now.said played) (o.script ∙ same.script)
         (o.answered start h.maps (reached bound start h) (internal bound start h))))
-
-    had_texts : (blocks : List (List ℕ)) → HasTexts x.schema_text x.equation_text blocks → HasTexts (schema_text x.schema) (equation_text p.definitions) blocks
-    had_texts blocks is =
-        subst (λ (t : List ℕ). HasTexts t (equation_text p.definitions) blocks) p.schema_text_is
-        (subst (λ (t : List ℕ). HasTexts x.schema_text t blocks) p.equation_text_is is)
-
-    not_wrong : (wrong : DeviceWhy) → IsBefore wrong → IsWrong words old wrong → ⊥
-    not_wrong wrong early (inl run) =
-        let same_task = one_task words old.aside.texts run.task Run run.is run_is_task in
-        let same_device : run.device ≡ device = device_once run.device device (sym run.action_is ∙ ap (λ (u : Task). u.action) same_task) in
-        had_not_wrong device Run old wrong o.had.0 (subst (λ n. device_at n device ≡ Some o.had.0) same.now o.had.1)
-        (subst (λ k. IsSize k (length o.had.0)) p.specs_are o.had.2.size) o.had.2.magic (had_texts o.had.0 o.had.2.texts) early
-        (subst (λ d. IsWrongOn d Run old wrong) same_device (subst (λ u. IsWrongOn run.device u old wrong) same_task run.wrong))
-    not_wrong wrong early (inr make) = made_no_task words old.aside.texts Run make.0 run_is_task make.1
 
     settled_texts : (maps : List LeafMap) (blocks : List (List ℕ)) → IsSettled x.schema_text x.equation_text x.built.specs maps blocks → IsSettled (schema_text x.schema) (equation_text p.definitions) p.typing.specs maps blocks
     settled_texts maps blocks is =
@@ -186,20 +195,23 @@ module _ (words : List (List ℕ)) (device : List ℕ) (x : Stored) (old middle 
       answered = λ bound start h. held_as x.schema x.built bound start Settled (IsSettledOn Run device new) old.script old.now.said mid.now.said played (left new devices) (from_start bound start h);
       heard = λ bound start h ok. o.heard start h.maps (reached bound start h) (internal bound start h) ok;
       play_ending = ends;
-      damaged = λ block found. inl (record {
-        task = Run;
-        is = run_is_task;
-        device = device;
-        action_is = refl;
-        wrong = λ bound start h. subst (λ (r : Result (Unit {0}) Ending). IsPlayedAs x.schema x.built bound start Settled old.script old.now.said mid.now.said r) found (from_start bound start h);
-      });
-      right = not_wrong;
+      damaged = λ block found. (
+        inl (record {
+          task = Run;
+          is = run_is_task;
+          device = device;
+          action_is = refl;
+          wrong = λ bound start h. subst (λ (r : Result (Unit {0}) Ending). IsPlayedAs x.schema x.built bound start Settled old.script old.now.said mid.now.said r) found (from_start bound start h);
+        }),
+        subst (λ (n : List ℕ). IsPrefix n mid.now.said) (o.said ∙ ap (λ n. n.said) same.now) o.begins,
+      );
+      right = not_wrong o.had;
       finished = finished;
     }
 
   -- ---- a device that isn't opened
 
-  unopened_texts : (why : Unopened) → IsUnopened device x.schema_text x.equation_text x.built.specs middle why → IsUnopened device (schema_text x.schema) (equation_text p.definitions) p.typing.specs middle why
+  pub unopened_texts : (why : Unopened) → IsUnopened device x.schema_text x.equation_text x.built.specs middle why → IsUnopened device (schema_text x.schema) (equation_text p.definitions) p.typing.specs middle why
   unopened_texts why is =
       subst (λ (t : List ℕ). IsUnopened device t (equation_text p.definitions) p.typing.specs middle why) p.schema_text_is
       (subst (λ (t : List ℕ). IsUnopened device x.schema_text t p.typing.specs middle why) p.equation_text_is

@@ -13,7 +13,8 @@ use Rattle.gx_play.specs.Played.{Says, SaysFront}
 use Rattle.gx_play.specs.Summaries.{accepted_line}
 use Rattle.gx_requests.specs.Requests.{IsRefused, IsSummary, IsUnprepared}
 use Rattle.gx_play.specs.Say.{IsCut}
-use Rattle.gx_top.specs.Tries.{IsRefusalText, IsAcceptedText, IsDoneText, IsOtherText}
+use Rattle.gx_top.specs.Tasks.{Task, IsTask, StartsAlike}
+use Rattle.gx_top.specs.Tries.{IsRefusalText, IsAcceptedText, IsDoneText, IsOtherText, SaysMemory}
 
 -- ---- texts that are to be checked
 
@@ -69,8 +70,8 @@ pub refused_says : (words : List (List ℕ)) (old mid new : Content) (before now
 refused_says words old mid new before now why (inl is) e said unsaid = (line_of why, record { ending = why; refused = is; status_is = e; text_is = refl }, said ∙ ap (λ t. t ++ line_of why) unsaid)
 refused_says words old mid new before now why (inr is) e said unsaid = absurd (not_outside before now why is e)
 
-pub memory_says : (words : List (List ℕ)) (old mid new : Content) → new.now.said ≡ mid.now.said ++ memory_line → mid.now.said ≡ old.now.said → Says (λ text. text ≡ memory_line) old new
-memory_says words old mid new said unsaid = (memory_line, refl, said ∙ ap (λ t. t ++ memory_line) unsaid)
+pub memory_says : (words : List (List ℕ)) (old mid new : Content) → new.now.said ≡ mid.now.said ++ memory_line → mid.now.said ≡ old.now.said → ((t : Task) → IsTask words old.aside.texts t → StartsAlike t old new) → SaysMemory words old new
+memory_says words old mid new said unsaid starts = record { said = said ∙ ap (λ t. t ++ memory_line) unsaid; starts = starts }
 
 line_says : (words : List (List ℕ)) (old mid new : Content) (n : ℕ) → new.now.said ≡ mid.now.said ++ take n memory_line → mid.now.said ≡ old.now.said → SaysFront (IsOtherText words old) old new
 line_says words old mid new n said unsaid = (memory_line, inr (inl refl), (n, said ∙ ap (λ t. t ++ take n memory_line) unsaid))

@@ -75,9 +75,9 @@ IsWrong words before why =
 abbrev pub IsDeviceText : List (List ℕ) → Content → List ℕ → Type 0
 IsDeviceText words before text = (why : DeviceWhy) × IsWrong words before why × (text ≡ device_line why)
 
--- The line was said, and nothing else; that of damage behind what was said until it was found.
+-- The line was said, and nothing else; that of damage behind what was said of the script until it was found.
 abbrev pub SaysWrong : DeviceWhy → Content → Content → Type 0
-SaysWrong (device_why.Damaged block) old new = (front : List ℕ) × (new.now.said ≡ front ++ device_line (device_why.Damaged block))
+SaysWrong (device_why.Damaged block) old new = (front : List ℕ) × (new.now.said ≡ old.now.said ++ (front ++ device_line (device_why.Damaged block)))
 SaysWrong why old new = new.now.said ≡ old.now.said ++ device_line why
 
 -- ---- when each status is due

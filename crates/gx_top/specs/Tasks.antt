@@ -1,5 +1,5 @@
 -- Which script is to be played, under which texts, and from which state on.
-use Rattle.std.specs.Prelude.{◌≡◌, ℕ, ◌+◌, List, length, Option, Some, None}
+use Rattle.std.specs.Prelude.{◌≡◌, ◌↔◌, ℕ, ◌+◌, List, length, Option, Some, None}
 use Rattle.gx_device.specs.Content.{Content, Texts, device_at}
 use Rattle.gx_ports.specs.declared.kinds.LeafSpec.{LeafSpec}
 use Rattle.gx_ports.specs.LeafMaps.{LeafMap, Limits}
@@ -71,6 +71,10 @@ IsStart (running device) t before limit s = IsHeldOn t device before limit s
 
 abbrev pub IsFrom : Task → Content → Option Limits → State → Type 0
 IsFrom t before limit s = IsStart t.action t before limit s
+
+-- the states from which it is played are the same
+abbrev pub StartsAlike : Task → Content → Content → Type 0
+StartsAlike t old new = (limit : Option Limits) (s : State) → IsFrom t old limit s ↔ IsFrom t new limit s
 
 -- ---- what is left of it
 

@@ -1,6 +1,6 @@
 -- What the program says of a request: the play of the script, what the checker says, what was made, why the request is refused or
 -- its device is wrong, or as much of it as can be said.
-use Rattle.std.specs.Prelude.{◌≡◌, ◌≢◌, ◌⊎◌, ℕ, ◌≤◌, List, [], Option, Some}
+use Rattle.std.specs.Prelude.{◌≡◌, ◌≢◌, ◌⊎◌, ℕ, ◌≤◌, List, [], ◌++◌, Option, Some}
 use Rattle.std.specs.FinMap.{get}
 use Rattle.gx_device.specs.Content.{Content, Texts}
 use Rattle.gx_device.specs.Faults.{Rose}
@@ -18,7 +18,7 @@ use Rattle.gx_play.specs.Endings.{line_of, status_of, memory_line}
 use Rattle.gx_requests.specs.Requests.{IsRefused, IsAccepted}
 use Rattle.gx_play.specs.Summaries.{summary_of, accepted_line}
 use Rattle.gx_play.specs.Played.{Says, SaysFront, SaysKeeping, IsPlay, IsPlayText, IsStoppedText, IsShortText, IsFull, IsFullText, IsPlayedText}
-use Rattle.gx_top.specs.Tasks.{Task, IsTask, IsFrom, IsLeft}
+use Rattle.gx_top.specs.Tasks.{Task, IsTask, IsFrom, IsLeft, StartsAlike}
 use Rattle.gx_top.specs.Explained.{IsToExplain, Explains, IsExplainable}
 use Rattle.gx_play.specs.declared.ending.DeviceWhy.{DeviceWhy}
 use Rattle.gx_top.specs.Devices.{IsMadeText, IsDeviceText, IsWrong, SaysWrong, CanMake, IsWrongDevice}
@@ -60,6 +60,12 @@ PlaysFront words old new =
     (t : Task) × IsTask words old.aside.texts t
     × ((limit : Option Limits) (s : State) → IsFrom t old limit s → SaysFront (IsPlayedText t.schema t.definitions limit s old.script) old new)
 
+-- The line that there was no memory was said, and nothing else. A device on which a script is to be played holds the states that
+-- it held.
+pub record SaysMemory (words : List (List ℕ)) (old new : Content) : Type 0 where
+  pub said : new.now.said ≡ old.now.said ++ memory_line
+  pub starts : (t : Task) → IsTask words old.aside.texts t → StartsAlike t old new
+
 -- ---- how a request ends
 
 -- what was said, by the status
@@ -67,7 +73,7 @@ abbrev pub IsSaid : List (List ℕ) → Content → Content → Status → Type 
 IsSaid words old new status.Done = Says (IsDoneText words old) old new ⊎ Plays (λ t limit s. IsPlayText t.schema s old.script good) words old new ⊎ Explains words old new status.Done
 IsSaid words old new status.Script = Plays (λ t limit s. IsStoppedText t.schema s old.script) words old new ⊎ Explains words old new status.Script
 IsSaid words old new status.Refused = Says (IsRefusalText words old) old new
-IsSaid words old new status.Memory = Says (λ text. text ≡ memory_line) old new ⊎ Plays (λ t limit s. IsShortText t.schema s old.script) words old new ⊎ Explains words old new status.Memory
+IsSaid words old new status.Memory = SaysMemory words old new ⊎ Plays (λ t limit s. IsShortText t.schema s old.script) words old new ⊎ Explains words old new status.Memory
 IsSaid words old new status.Full = Plays (λ t limit s. IsFullText t.schema t.definitions limit s old.script) words old new
 IsSaid words old new status.Device = (why : DeviceWhy) × IsWrong words old why × SaysWrong why old new
 IsSaid words old new status.Outside = SaysFront (IsOtherText words old) old new ⊎ PlaysFront words old new ⊎ Explains words old new status.Outside

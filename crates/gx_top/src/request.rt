@@ -34,8 +34,8 @@ use std::alloc::Global;
 /// - `Full`: the pages may be too few for the command of a line. Exactly the answers of the lines before
 ///   it were said, and then `stopped: full`.
 /// - `Device`: the device isn't what was asked for. Its line was said, and nothing else; that of damage,
-///   which is found while the script is played, was said last, and it isn't found where the device holds
-///   a state.
+///   which is found while the script is played, was said last, behind what was said before, and it isn't
+///   found where the device holds a state.
 /// - `Memory`: there was no memory. Exactly the answers or plans of the script's first lines were said,
 ///   perhaps of none, and then `stopped: memory`.
 /// - `Outside`: a front was said of what one of the others says.
@@ -43,6 +43,12 @@ use std::alloc::Global;
 /// After `Done` of `make` an empty database of the texts is on the device of that name, which wasn't
 /// there; after its `Refused` and `Device` all devices are as they were. Whatever it answers, the devices
 /// of other names are, and what is there under a new name is no database or an empty one.
+///
+/// After `Done`, `Script`, `Full` and `Memory` of `run` the device is settled with the last state that the
+/// lines kept which were answered; after `Memory` where none was, it may also hold exactly the states that
+/// it held. After `Refused` all devices are as they were, and after `Device` so is one of another size or
+/// with no database; one of other texts reads as before, and no block of it was written but by recovery.
+/// Whatever it answers, no device is made, and those of other names are as they were.
 ///
 /// What is said of `run` after it has opened its device holds where that held a state. `Outside` comes
 /// only where a call of the machine failed in this one, and with any other status none did: the count of
@@ -62,7 +68,7 @@ pub fn top<M: Machine + Drop>(alloc: Global, words: &[String], machine: M) -> (S
     // What `make` leaves on the devices.
     ensures made { IsTrue M.tells → LeavesMadeBy (texts_of words.now) (M.content machine)
         (M.content result.1) result.0 }
-    // What `run` leaves on the devices, beside that which it plays on.
+    // What `run` leaves on the devices, beside what a play leaves.
     ensures ran { IsTrue M.tells → LeavesRunBy (texts_of words.now) (M.content machine)
         (M.content result.1) result.0 }
     // No failure is passed over, on any machine.

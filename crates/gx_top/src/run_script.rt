@@ -2,6 +2,7 @@
 ghost use Rattle.std.specs.Prelude.{◌≡◌, ◌≢◌, ◌≤◌, List, ℕ, [], Ok, Some, false, length, IsTrue, IfErr, IsErrOf};
 ghost use Rattle.gx_device.specs.Content.{Content, SameContent};
 ghost use Rattle.gx_device.specs.Faults.{Rose};
+ghost use Rattle.gx_device.specs.Quiet.{IsPrefix};
 ghost use Rattle.gx_ports.specs.LeafMaps.{LeafMap};
 ghost use Rattle.gx_schema.specs.WellFormed.{IsWellFormed};
 ghost use Rattle.gx_leaves.specs.Wholeness.{limits_of};
@@ -35,7 +36,9 @@ use std::alloc::Global;
 /// names, from the state that the device holds; or says the reason where the request is refused or
 /// the device is another than was asked for. Where the device held a state, it is settled after
 /// `Done`, `Script` and `Full`, and after `Memory` where the answer of a line was said, with the last
-/// state that was kept. Devices of other names stay, and after `Refused` all.
+/// state that was kept; after `Memory` with no answer so, or it holds what it held. A device that is
+/// wrong stays as it was, but that recovery may have settled one of other texts. None is made, devices
+/// of other names stay, and after `Refused` all.
 pub fn run_script<M: Machine + Drop>(
     alloc: Global,
     schema: &str,
@@ -50,7 +53,8 @@ pub fn run_script<M: Machine + Drop>(
         IsAsDue (request_words (running device.now) schema.now equation.now) (M.content machine)
         result.0 }
     ensures left { CanAttach M.tells (M.content machine) →
-        LeavesRun device.now (M.content machine) (M.content result.1) result.0 }
+        LeavesRun (request_words (running device.now) schema.now equation.now) device.now
+        (M.content machine) (M.content result.1) result.0 }
     ensures outside { result.0 ≡ Status.Outside → Rose (M.faults machine) (M.faults result.1) }
     ensures counted { result.0 ≢ Status.Outside → M.faults result.1 ≡ M.faults machine }
     ensures later { M.faults machine ≤ M.faults result.1 }
@@ -82,7 +86,9 @@ fn run_stored<M: Machine + Drop>(
         IsStoredFor words old.aside.texts (running device.now) stored →
         IsAsDue words old result.0 }
     ensures left { CanAttach M.tells (M.content machine) →
-        LeavesRun device.now (M.content machine) (M.content result.1) result.0 }
+        (words : List (List ℕ)) (old : Content) → SameContent old (M.content machine) →
+        IsStoredFor words old.aside.texts (running device.now) stored →
+        LeavesRun words device.now old (M.content result.1) result.0 }
     ensures outside { result.0 ≡ Status.Outside → Rose (M.faults machine) (M.faults result.1) }
     ensures counted { result.0 ≢ Status.Outside → M.faults result.1 ≡ M.faults machine }
     ensures later { M.faults machine ≤ M.faults result.1 }
@@ -133,6 +139,8 @@ fn play_stored<'a, M: Machine + Drop>(
     ensures heard { IsTrue M.tells → (s : State) (maps : List LeafMap) → HoldsMaps maps store →
         AreInternal schema built.files maps s → result.0 ≡ Ok tt →
         (M.content result.1).script ≡ [] }
+    ensures begins { IsTrue M.tells →
+        IsPrefix (M.content (machine_of store)).now.said (M.content result.1).now.said }
     ensures shelf { (M.content result.1).now.shelf ≡ (M.content (machine_of store)).now.shelf }
     ensures ending { IfErr result.0 IsPlayEnding }
     ensures fault { IsErrOf result.0 Ending.Fault →

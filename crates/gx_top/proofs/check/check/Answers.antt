@@ -39,7 +39,7 @@ pub returns-in-Err-clause-said : goal.returns-in-Err-clause-said
 returns-in-Err-clause-said g c = λ told.
     let words = request_words checking c.args.schema.now c.args.equation.now in
     unprepared_end words (g.M.Device.content c.args.machine.now) (g.M.Device.content c.read_texts.new.machine) (g.M.Device.content c.end-in-Err.new.machine) _ _ c.in-Err.ending c.end-in-Err.result
-    (c.in-Err.ensures.unaccepted told checking tt) (ap (λ n. n.said) c.in-Err.ensures.content.now) c.in-Err.ensures.content.script
+    (c.in-Err.ensures.unaccepted told checking tt) c.in-Err.ensures.content c.end-in-Err.ensures.devices
     (record {
       status_is = c.end-in-Err.ensures.status;
       said = c.end-in-Err.ensures.said told;

@@ -25,7 +25,7 @@ pub returns-in-Err-clause-said : goal.returns-in-Err-clause-said
 returns-in-Err-clause-said g c = λ told.
     let words = request_words explaining c.args.schema.now c.args.equation.now in
     unprepared_end words (g.M.Device.content c.args.machine.now) (g.M.Device.content c.prepare_nodes.new.machine) (g.M.Device.content c.end.new.machine) _ _ c.in-Err.ending c.end.result
-    (c.in-Err.ensures.unprepared told explaining tt) (ap (λ n. n.said) c.in-Err.ensures.content.now) c.in-Err.ensures.content.script
+    (c.in-Err.ensures.unprepared told explaining tt) c.in-Err.ensures.content c.end.ensures.devices
     (record {
       status_is = c.end.ensures.status;
       said = c.end.ensures.said told;

@@ -2,7 +2,7 @@ use Rattle.std.proofs.Common.{ap, ◌∙◌}
 use Rattle.gx_store.specs.Store.{CanAttach}
 use Rattle.gx_requests.specs.Words.{making, request_words}
 use Rattle.gx_top.proofs.EndLemmas.{unprepared_end, unprepared_due, unhad_end}
-use Rattle.gx_top.proofs.MakeLemmas.{unhad, made_due, made_left, unprepared_left}
+use Rattle.gx_top.proofs.MakeLemmas.{to_make, not_played, unhad, made_due, made_left, unprepared_left}
 use Rattle.gx_top.proofs.make_database.make_database.Goals as goal
 
 pub returns-in-Ok-clause-said : goal.returns-in-Ok-clause-said
@@ -16,6 +16,8 @@ returns-in-Ok-clause-said g c = λ can digits counted.
     (unhad words c.args.device.now digits c.args.blocks c.in-Ok.stored old mid after after (c.in-Ok.ensures.ready can.told (making c.args.device.now digits) (_, counted) tt) counted c.in-Ok.ensures.content.now c.make_stored-machine.result.0 (c.make_stored-machine.ensures.made free))
     ((c.make_stored-machine.ensures.attaches free).said ∙ ap (λ n. n.said) c.in-Ok.ensures.content.now)
     ((c.make_stored-machine.ensures.attaches free).script ∙ c.in-Ok.ensures.content.script)
+    (λ memory t task. absurd (not_played words old.aside.texts c.args.blocks t
+    (to_make words old.aside.texts c.args.device.now digits c.args.blocks c.in-Ok.stored (c.in-Ok.ensures.ready can.told (making c.args.device.now digits) (_, counted) tt) counted) task))
     (record {
       status_is = c.end-status.ensures.status;
       said = c.end-status.ensures.said can.told;
@@ -68,7 +70,7 @@ pub returns-in-Err-clause-said : goal.returns-in-Err-clause-said
 returns-in-Err-clause-said g c = λ can digits counted.
     let words = request_words (making c.args.device.now digits) c.args.schema.now c.args.equation.now in
     unprepared_end words (g.M.Device.content c.args.machine) (g.M.Device.content c.prepare_stored.new.machine) (g.M.Device.content c.end-status-in-Err.new.machine) _ _ c.in-Err.ending c.end-status-in-Err.result
-    (c.in-Err.ensures.unprepared can.told (making c.args.device.now digits) (_, counted) tt) (ap (λ n. n.said) c.in-Err.ensures.content.now) c.in-Err.ensures.content.script
+    (c.in-Err.ensures.unprepared can.told (making c.args.device.now digits) (_, counted) tt) c.in-Err.ensures.content c.end-status-in-Err.ensures.devices
     (record {
       status_is = c.end-status-in-Err.ensures.status;
       said = c.end-status-in-Err.ensures.said can.told;

@@ -58,7 +58,7 @@ returns-in-Some-Run-clause-due g c = λ told free.
 pub returns-in-None-clause-said : goal.returns-in-None-clause-said
 returns-in-None-clause-said g c = λ told free.
     unprepared_end (texts_of c.args.words.now) (g.M.Device.content c.args.machine) (g.M.Device.content c.args.machine) (g.M.Device.content c.end-status.new.machine) 0 0 ending.Words c.end-status.result
-    (inl (c.in-None.ensures.none refl)) refl refl
+    (inl (c.in-None.ensures.none refl)) (record { now = refl; script = refl; aside = refl }) c.end-status.ensures.devices
     (record {
       status_is = c.end-status.ensures.status;
       said = c.end-status.ensures.said told;

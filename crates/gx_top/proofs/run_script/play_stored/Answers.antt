@@ -1,4 +1,5 @@
 use Rattle.std.proofs.Common.{List, Some, sym, ap, subst, ◌∙◌}
+use Rattle.gx_device.specs.Quiet.{IsPrefix}
 use Rattle.gx_ports.specs.LeafMaps.{LeafMap}
 use Rattle.gx_leaves.specs.Paged.{places_in, pages_of, kept_of, head_of, WasWhole}
 use Rattle.gx_leaves.specs.Places.{specs_of}
@@ -42,3 +43,8 @@ returns-clause-heard g c = λ told s maps reaches internal ok.
       whole_is = reaches.whole;
       kept_whole_is = reaches.was_whole;
     }) ok
+
+pub returns-clause-begins : goal.returns-clause-begins
+returns-clause-begins g c = λ told.
+    let content = g.M.Device.content in
+    subst (IsPrefix (content (machine_of c.args.store)).now.said) (ap (λ m. (content m).now.said) (sym c.close.ensures.machine)) (c.play_over-store.ensures.begins told)

@@ -2,7 +2,7 @@ use Rattle.std.proofs.Common.{ap, ◌∙◌}
 use Rattle.gx_store.specs.Store.{CanAttach}
 use Rattle.gx_requests.specs.Words.{running, request_words}
 use Rattle.gx_top.proofs.EndLemmas.{unprepared_end, unprepared_due}
-use Rattle.gx_top.proofs.RanLemmas.{left_since, unprepared_ran}
+use Rattle.gx_top.proofs.RanLemmas.{unprepared_ran}
 use Rattle.gx_top.proofs.run_script.run_script.Goals as goal
 
 pub returns-in-Ok-clause-said : goal.returns-in-Ok-clause-said
@@ -23,7 +23,7 @@ pub returns-in-Err-clause-said : goal.returns-in-Err-clause-said
 returns-in-Err-clause-said g c = λ can.
     let words = request_words (running c.args.device.now) c.args.schema.now c.args.equation.now in
     unprepared_end words (g.M.Device.content c.args.machine) (g.M.Device.content c.prepare_stored.new.machine) (g.M.Device.content c.end-status.new.machine) _ _ c.in-Err.ending c.end-status.result
-    (c.in-Err.ensures.unprepared can.told (running c.args.device.now) tt tt) (ap (λ n. n.said) c.in-Err.ensures.content.now) c.in-Err.ensures.content.script
+    (c.in-Err.ensures.unprepared can.told (running c.args.device.now) tt tt) c.in-Err.ensures.content c.end-status.ensures.devices
     (record {
       status_is = c.end-status.ensures.status;
       said = c.end-status.ensures.said can.told;
@@ -51,10 +51,11 @@ returns-in-Err-clause-due g c = λ can.
 
 pub returns-in-Ok-clause-left : goal.returns-in-Ok-clause-left
 returns-in-Ok-clause-left g c = λ can.
+    let words = request_words (running c.args.device.now) c.args.schema.now c.args.equation.now in
     let mid = g.M.Device.content c.prepare_stored.new.machine in
     let free : CanAttach g.M.Device.tells mid = record { told = can.told; free = ap (λ n. n.shelf.name) c.in-Ok.ensures.content.now ∙ can.free } in
-    left_since c.args.device.now (g.M.Device.content c.args.machine) mid (g.M.Device.content c.run_stored.result.1) c.run_stored.result.0 c.in-Ok.ensures.content.now (c.run_stored.ensures.left free)
+    c.run_stored.ensures.left free words (g.M.Device.content c.args.machine) c.in-Ok.ensures.content (c.in-Ok.ensures.ready can.told (running c.args.device.now) tt tt)
 
 pub returns-in-Err-clause-left : goal.returns-in-Err-clause-left
 returns-in-Err-clause-left g c = λ can.
-    unprepared_ran c.args.device.now (g.M.Device.content c.args.machine) (g.M.Device.content c.prepare_stored.new.machine) (g.M.Device.content c.end-status.new.machine) c.end-status.result c.in-Err.ensures.content.now c.end-status.ensures.devices
+    unprepared_ran (request_words (running c.args.device.now) c.args.schema.now c.args.equation.now) c.args.device.now (g.M.Device.content c.args.machine) (g.M.Device.content c.prepare_stored.new.machine) (g.M.Device.content c.end-status.new.machine) c.end-status.result c.in-Err.ensures.content.now c.end-status.ensures.devices

@@ -11,8 +11,9 @@ use Rattle.gx_play.specs.Plays.{IsPlayedAs}
 use Rattle.gx_top.specs.Tasks.{IsSettledIn}
 use Rattle.gx_top.proofs.EndLemmas.{IsUnhad, run_end, run_due, unhad_end, unhad_due}
 use Rattle.gx_top.proofs.StoreLemmas.{limit_on}
-use Rattle.gx_top.proofs.TaskLemmas.{run_task, run_is_task, device_run, on_store_told, unopened_told, unopened_unhad}
-use Rattle.gx_top.proofs.RanLemmas.{played_left, unopened_left}
+use Rattle.gx_top.proofs.TaskLemmas.{run_task, run_is_task, not_wrong, device_run, on_store_told, opened_told, unopened_told, unopened_unhad}
+use Rattle.gx_top.proofs.RanLemmas.{played_left}
+use Rattle.gx_top.proofs.UnopenedLemmas.{unopened_starts, unopened_left}
 use Rattle.gx_top.proofs.run_script.run_stored.Goals as goal
 
 pub returns-in-Ok-clause-said : goal.returns-in-Ok-clause-said
@@ -34,6 +35,7 @@ returns-in-Ok-clause-said g c = λ can words old same stored.
       script = (c.in-Ok.ensures.attaches can).script;
       named = c.in-Ok.ensures.named can;
       shelf = c.play_stored-machine.ensures.shelf;
+      begins = c.play_stored-machine.ensures.begins can.told;
       had = c.in-Ok.ensures.opened can;
       holds = λ blocks maps there reopens. c.in-Ok.ensures.holds can blocks maps there reopens;
       limit_is = λ blocks there. limit_on c.args.device.now middle blocks (ground_of (journal_of (pages_of store))) (places_in store) specs there (c.in-Ok.ensures.ground can) c.in-Ok.ensures.specs;
@@ -62,6 +64,7 @@ returns-in-Ok-clause-due g c = λ can words old same stored.
       script = (c.in-Ok.ensures.attaches can).script;
       named = c.in-Ok.ensures.named can;
       shelf = c.play_stored-machine.ensures.shelf;
+      begins = c.play_stored-machine.ensures.begins can.told;
       had = c.in-Ok.ensures.opened can;
       holds = λ blocks maps there reopens. c.in-Ok.ensures.holds can blocks maps there reopens;
       limit_is = λ blocks there. limit_on c.args.device.now middle blocks (ground_of (journal_of (pages_of store))) (places_in store) specs there (c.in-Ok.ensures.ground can) c.in-Ok.ensures.specs;
@@ -80,6 +83,15 @@ returns-in-Err-clause-said g c = λ can words old same stored.
     (subst (IsUnhad words old) (sym c.unopened_ending.ensures) had)
     ((c.in-Err.ensures.attaches can).said ∙ ap (λ n. n.said) same.now)
     ((c.in-Err.ensures.attaches can).script ∙ same.script)
+    (unopened_starts words c.args.device.now c.args.stored old (content c.args.machine) stored same (content c.in-Err.machine) (content c.end-status.new.machine) c.in-Err.why c.end-status.result
+    (record {
+      attaches = c.in-Err.ensures.attaches can;
+      untouched = c.in-Err.ensures.untouched can;
+      absent = c.in-Err.ensures.absent can;
+      kept = c.in-Err.ensures.kept can;
+      recovered = c.in-Err.ensures.recovered can;
+    })
+    c.end-status.ensures.devices (λ f. c.end-status.ensures.fault (c.unopened_ending.ensures ∙ f)))
     (record {
       status_is = c.end-status.ensures.status;
       said = c.end-status.ensures.said can.told;
@@ -110,16 +122,30 @@ returns-in-Err-clause-due g c = λ can words old same stored.
     })
 
 pub returns-in-Ok-clause-left : goal.returns-in-Ok-clause-left
-returns-in-Ok-clause-left g c = λ can.
+returns-in-Ok-clause-left g c = λ can words old same stored.
     let content = g.M.Device.content in
-    played_left c.args.device.now (content c.args.machine) (content (machine_of c.in-Ok.store)) (content c.play_stored-machine.result.1) (content c.finish-status.new.machine) c.play_stored-machine.result.0 c.finish-status.result
+    let middle = content c.args.machine in
+    let had = c.in-Ok.ensures.opened can in
+    played_left words c.args.device.now old middle (content (machine_of c.in-Ok.store)) (content c.play_stored-machine.result.1) (content c.finish-status.new.machine) c.play_stored-machine.result.0 c.finish-status.result
+    same.now had.0 had.1
+    (not_wrong words c.args.device.now c.args.stored old middle stored same
+    (opened_told c.args.device.now c.args.stored c.as_slice.result.now c.as_slice-2.result.now c.deref.result.now middle c.as_slice.ensures c.as_slice-2.ensures (search rules) had))
     (c.in-Ok.ensures.attaches can) (c.in-Ok.ensures.named can) c.play_stored-machine.ensures.shelf c.finish-status.ensures.devices c.play_stored-machine.ensures.ending (c.finish-status.ensures.finished can.told)
 
 pub returns-in-Err-clause-left : goal.returns-in-Err-clause-left
-returns-in-Err-clause-left g c = λ can.
+returns-in-Err-clause-left g c = λ can words old same stored.
     let content = g.M.Device.content in
-    unopened_left c.args.device.now (content c.args.machine) (content c.in-Err.machine) (content c.end-status.new.machine) c.in-Err.why c.end-status.result
-    (c.in-Err.ensures.attaches can) c.end-status.ensures.devices
+    unopened_left words c.args.device.now c.args.stored old (content c.args.machine) stored same (content c.in-Err.machine) (content c.end-status.new.machine) c.in-Err.why
+    (record {
+      attaches = c.in-Err.ensures.attaches can;
+      untouched = c.in-Err.ensures.untouched can;
+      absent = c.in-Err.ensures.absent can;
+      kept = c.in-Err.ensures.kept can;
+      recovered = c.in-Err.ensures.recovered can;
+    })
+    c.end-status.ensures.devices
+    (unopened_told c.args.device.now c.args.stored c.as_slice.result.now c.as_slice-2.result.now c.deref.result.now (content c.args.machine) c.in-Err.why c.as_slice.ensures c.as_slice-2.ensures (search rules) (c.in-Err.ensures.unopened can))
+    c.end-status.result
     (subst (λ w. IsEnded w (content c.in-Err.machine) (content c.end-status.new.machine) c.end-status.result) c.unopened_ending.ensures (record {
       status_is = c.end-status.ensures.status;
       said = c.end-status.ensures.said can.told;

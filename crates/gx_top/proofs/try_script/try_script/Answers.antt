@@ -1,4 +1,3 @@
-use Rattle.std.proofs.Common.{ap}
 use Rattle.gx_requests.specs.Words.{trying, request_words}
 use Rattle.gx_top.proofs.EndLemmas.{unprepared_end, unprepared_due, run_end, run_due}
 use Rattle.gx_top.proofs.TaskLemmas.{try_task, try_run}
@@ -28,7 +27,7 @@ pub returns-in-Err-clause-said : goal.returns-in-Err-clause-said
 returns-in-Err-clause-said g c = λ told.
     let words = request_words trying c.args.schema.now c.args.equation.now in
     unprepared_end words (g.M.Device.content c.args.machine) (g.M.Device.content c.prepare_nodes.new.machine) (g.M.Device.content c.end-status.new.machine) _ _ c.in-Err.ending c.end-status.result
-    (c.in-Err.ensures.unprepared told trying tt) (ap (λ n. n.said) c.in-Err.ensures.content.now) c.in-Err.ensures.content.script
+    (c.in-Err.ensures.unprepared told trying tt) c.in-Err.ensures.content c.end-status.ensures.devices
     (record {
       status_is = c.end-status.ensures.status;
       said = c.end-status.ensures.said told;
