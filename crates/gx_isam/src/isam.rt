@@ -142,10 +142,10 @@ pub fn select<P: Pages>(
 }
 
 /// Lays the file out anew: its entries are dealt out evenly to as many buckets as `IsFresh` says,
-/// and the pages of each chain are filled in the order of the keys. The entries are read first, so
-/// that `NoMemory` and `Damaged` leave the pages as they were. `Full`: no page past the table is
-/// free. `Fault`: the pages are to be opened again. After `Full` only a part of the entries may
-/// stand there.
+/// in the order of their keys. They are read first, so that `NoMemory` leaves the pages as they
+/// were. `Full`: no page past the table is free; a part of the entries may be lost. `Damaged`: no
+/// whole file stands there. `Fault`: the pages are to be opened again. After a refusal but
+/// `NoMemory` the pages of this owner may hold anything.
 pub fn reorganize<P: Pages>(alloc: Global, pages: &mut P, place: &Place) -> Result<(), Stop>
     requires kind { place.now.spec.kind ≡ Isam }
     requires place { IsPlace (P.ground pages.old) place.now }
@@ -155,6 +155,8 @@ pub fn reorganize<P: Pages>(alloc: Global, pages: &mut P, place: &Place) -> Resu
     ensures fresh { (map : LeafMap) →
         Holds P.PageView (IsIsam (P.ground pages.old) place.now) pages.old map →
         OnOk result (IsFresh place.now (P.working pages.new) map) }
+    ensures unchanged { IsErrOf result Stop.NoMemory →
+        P.working pages.new ≡ P.working pages.old }
     ensures others { SparesOthers P.PageView (IsIsam (P.ground pages.old) place.now)
         place.now.owner pages.old pages.new result }
     ensures full { IsFull P.PageView (IsIsam (P.ground pages.old) place.now)

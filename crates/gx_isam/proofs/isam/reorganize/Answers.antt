@@ -1,4 +1,4 @@
-use Rattle.std.proofs.Common.{◌<◌, length, refl, sym, ap, subst, ◌∙◌, arith}
+use Rattle.std.proofs.Common.{◌<◌, length, refl, sym, ap, subst, ◌∙◌, arith, Err}
 use Rattle.std.proofs.lemmas.Result.{on_ok_weaker}
 use Rattle.gx_ports.specs.Files.{IsWhole, OthersStay}
 use Rattle.gx_ports.specs.Sheets.{Sheets, Ground, HasNone}
@@ -13,7 +13,7 @@ use Rattle.gx_isam.proofs.LayoutLemmas.{fresh_stays}
 use Rattle.gx_isam.proofs.MakeLemmas.{one_root}
 use Rattle.gx_isam.proofs.RebuildLemmas.{blank_for, blank_others, others_itself, others_joined}
 use Rattle.gx_isam.proofs.SelectedLemmas.{keys_selected}
-use Rattle.gx_isam.proofs.WriteLemmas.{handed_refusal, no_refusal}
+use Rattle.gx_isam.proofs.WriteLemmas.{handed_refusal, no_refusal, same_refusal}
 use Rattle.gx_isam.proofs.isam.reorganize.Goals as goal
 
 pub returns-in_err-entries-clause-others : goal.returns-in_err-entries-clause-others
@@ -43,6 +43,17 @@ returns-in_err-free_chains-clause-ends g c =
     ends_handed_on {T = Unit {0}} g.P.PageView (IsWhole g.P.PageView (IsIsam (g.P.PageView.ground p) place) p) (IsWhole g.P.PageView (IsIsam (g.P.PageView.ground q) place) q) p q c.free_chains.new.pages _ c.from_residual-in_err-free_chains.result
     (c.in_ok-entries.ensures.ends.cause.counted refl) reads.keeps.ground (λ whole. (whole.0, record { told = whole.1.told; file = isam_read g.P.PageView place p q reads whole.0 whole.1.file }))
     c.in_err-free_chains.ensures.ends c.from_residual-in_err-free_chains.ensures.1
+
+pub returns-in_err-entries-clause-unchanged : goal.returns-in_err-entries-clause-unchanged
+returns-in_err-entries-clause-unchanged g c is = c.gather_all.ensures.reads.working
+
+pub returns-in_err-free_chains-clause-unchanged : goal.returns-in_err-free_chains-clause-unchanged
+returns-in_err-free_chains-clause-unchanged g c is =
+    let handed = same_refusal c.from_residual-in_err-free_chains.result c.in_err-free_chains.field-0.0 stop.NoMemory c.from_residual-in_err-free_chains.ensures.1 is in
+    absurd (c.in_err-free_chains.ensures.frugal (ap Err handed))
+
+pub returns-clause-unchanged : goal.returns-clause-unchanged
+returns-clause-unchanged g c is = absurd (c.fill_chains.ensures.frugal is)
 
 pub returns-clause-ok : goal.returns-clause-ok
 returns-clause-ok g c map holds =
