@@ -1,2 +1,6 @@
 mod SpanLemmas
 mod InvertedLemmas
+mod PieceLemmas
+mod ChangeLemmas
+mod ArrayLemmas
+mod ArrayChanges

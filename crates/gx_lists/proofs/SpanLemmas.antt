@@ -1,5 +1,5 @@
 -- The span of the keys that begin with one value.
-use Rattle.std.proofs.Common.{◌≡◌, ◌<◌, ℕ, List, [], ◌∷◌, ◌++◌, length, ◌∙◌, arith, append_assoc}
+use Rattle.std.proofs.Common.{◌≡◌, ◌<◌, ℕ, true, List, [], ◌∷◌, ◌++◌, length, refl, sym, ◌∙◌, arith, append_assoc}
 use Rattle.gx_values.specs.declared.values.Value.{Value}
 use Rattle.gx_values.specs.declared.values.Op.TheVariants as op
 use Rattle.gx_values.specs.declared.records.Field.{Field}
@@ -32,3 +32,18 @@ pub inside_span : (fs : List Field) (v : Value) (span : Span) → 0 < length fs 
 inside_span [] v span some those key fits = absurd (omega arith)
 inside_span (f ∷ fs) v span some those [] fits = absurd fits
 inside_span (f ∷ fs) v span some those (x ∷ key) fits = those x (key_of key) fits.0
+
+-- ---- the span of all keys
+
+pub all_inside : (span : Span) (key : List ℕ) → span.lo ≡ [] → span.hi ≡ [] → is_inside span.lo span.hi key ≡ true
+all_inside span key l h = (λ i. is_inside (l i) (h i) key) ∙ each key
+  where
+    each : (key : List ℕ) → is_inside [] [] key ≡ true
+    each [] = refl
+    each (x ∷ key) = refl
+
+pub ends_empty : (form : Form) (span : Span) → span.lo ≡ [] → span.hi ≡ [] → IsKeySpan form span
+ends_empty form span l h = record {
+  lo_whole = λ key rest fits e. right_empty (key_of key) rest (sym e ∙ l);
+  hi_whole = λ key rest fits e. right_empty (key_of key) rest (sym e ∙ h);
+}

@@ -1,3 +1,6 @@
 pub mod Spans
 pub mod Inverted
 pub mod InvertedLaws
+pub mod Arrays
+pub mod Joined
+pub mod ArrayLaws

@@ -1,8 +1,12 @@
 //! Two linksets: inverted lists, and arrays of pointers.
 #![tactic(auto)]
 
+mod array;
+mod arrays;
 mod inverted;
+mod pieces;
 mod records;
 mod spans;
 
+pub use array::PointerArray;
 pub use inverted::Inverted;

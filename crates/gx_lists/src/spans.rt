@@ -1,5 +1,5 @@
 // The span of the keys that begin with one value.
-ghost use Rattle.std.specs.Prelude.{◌≡◌, ◌<◌, List, length};
+ghost use Rattle.std.specs.Prelude.{◌≡◌, ◌<◌, [], List, length};
 ghost use Rattle.gx_values.specs.declared.values.Value.{Value as FieldValue};
 ghost use Rattle.gx_values.specs.Values.{Fits, AreFit};
 ghost use Rattle.gx_values.specs.Keys.{key_of, is_inside};
@@ -8,7 +8,7 @@ ghost use Rattle.gx_stack.specs.Selected.{IsKeySpan};
 ghost use Rattle.gx_links.specs.Kinds.{first_kind};
 ghost use Rattle.gx_lists.specs.Spans.{begins_with};
 
-use gx_values::{Form, Op, Span, Value, span};
+use gx_values::{Form, KeyBuf, Op, Span, Value, span};
 
 // The span of the keys of a form that begin with a value.
 pub fn value_span(form: &Form, value: &Value) -> Span
@@ -21,4 +21,15 @@ pub fn value_span(form: &Form, value: &Value) -> Span
 {
     let kind = form.keys.0[0].kind;
     span(kind, Op::Equal, value).unwrap()
+}
+
+// The span of all keys.
+pub fn whole_span() -> Span
+    ensures lo { result.lo ≡ [] }
+    ensures hi { result.hi ≡ [] }
+{
+    Span {
+        lo: KeyBuf::from_slice(&[]),
+        hi: KeyBuf::from_slice(&[]),
+    }
 }

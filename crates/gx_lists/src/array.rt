@@ -1,0 +1,103 @@
+// Pointer arrays.
+ghost use Rattle.std.specs.Prelude.{◌≡◌};
+
+use crate::arrays::{array_rec, first_body, owner_among, with_member, without_member};
+use crate::pieces::cut_members;
+use crate::spans::{value_span, whole_span};
+use gx_gather::{NO_BLOCK, Recs};
+use gx_links::{Linkset, MOST_MEMBERS};
+use gx_mapping::Mapping;
+use gx_ports::{Leaves, Stop};
+use gx_stack::Node;
+use gx_values::{Kind, Value, Values};
+use std::alloc::Global;
+
+/// A pointer array: a link in one node, with a record of each owner that has a member. An owner is found
+/// by reading all of it.
+pub struct PointerArray<'a, M: Mapping> {
+    /// a record of each owner, with the key bytes of its members joined
+    pub tree: &'a Node<M>,
+    /// the kind of the members
+    pub member: Kind,
+}
+
+impl<'a, M: Mapping> Linkset for PointerArray<'a, M> {
+    ghost use Rattle.gx_stack.specs.Seen.{tree_of};
+    ghost use Rattle.gx_links.specs.Rows.{IsHeldLink};
+    ghost use Rattle.gx_lists.specs.Arrays.{one_node, array_rows, array_rule, IsArray};
+    ghost use Rattle.gx_lists.specs.ArrayLaws.{array_laws};
+
+    ghost rule = { λ l. array_rule M.rule (tree_of l.tree.now) l.member };
+
+    ghost held = { λ l. IsHeldLink M.rule (one_node (tree_of l.tree.now)) array_rows };
+
+    ghost valid = { λ l. IsArray M.rule (tree_of l.tree.now) l.member };
+
+    ghost laws = { λ l valid. array_laws M.rule M.laws (tree_of l.tree.now) l.member valid };
+
+    fn members<B: Leaves>(
+        &self,
+        alloc: Global,
+        leaves: &mut B,
+        owner: &Value,
+        out: &mut Values,
+    ) -> Result<(), Stop> {
+        let mut found = Recs::new(alloc);
+        let span = value_span(self.tree.form(), owner);
+        self.tree.select(alloc, leaves, &span, &mut found)?;
+        if cut_members(alloc, self.member, first_body(&found.0), out)? {
+            Ok(())
+        } else {
+            Err(Stop::Damaged(NO_BLOCK))
+        }
+    }
+
+    fn owner<B: Leaves>(
+        &self,
+        alloc: Global,
+        leaves: &mut B,
+        member: &Value,
+    ) -> Result<Option<Value>, Stop> {
+        let mut found = Recs::new(alloc);
+        self.tree.select(alloc, leaves, &whole_span(), &mut found)?;
+        owner_among(alloc, self.member, &found, member)
+    }
+
+    fn connect_among<B: Leaves>(
+        &self,
+        alloc: Global,
+        leaves: &mut B,
+        owner: &Value,
+        member: &Value,
+        members: &Values,
+    ) -> Result<(), Stop> {
+        let with = with_member(alloc, member, members)?;
+        let new = array_rec(alloc, owner, &with.0)?;
+        if members.0.is_empty() {
+            return self.tree.replace(alloc, leaves, None, Some(&new));
+        }
+        let old = array_rec(alloc, owner, &members.0)?;
+        self.tree.replace(alloc, leaves, Some(&old), Some(&new))
+    }
+
+    fn disconnect_from<B: Leaves>(
+        &self,
+        alloc: Global,
+        leaves: &mut B,
+        owner: &Value,
+        member: &Value,
+    ) -> Result<(), Stop> {
+        let mut members = Values(Vec::new(alloc));
+        self.members(alloc, leaves, owner, &mut members)?;
+        let rest = without_member(alloc, member, &members)?;
+        if members.0.len() > MOST_MEMBERS {
+            return Err(Stop::Damaged(NO_BLOCK));
+        }
+        let old = array_rec(alloc, owner, &members.0)?;
+        if rest.0.is_empty() {
+            return self.tree.replace(alloc, leaves, Some(&old), None);
+        }
+        let new = array_rec(alloc, owner, &rest.0)?;
+        self.tree.replace(alloc, leaves, Some(&old), Some(&new))
+    }
+}
