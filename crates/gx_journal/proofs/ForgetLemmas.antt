@@ -1,5 +1,5 @@
 -- Changes are forgotten.
-use Rattle.std.proofs.Common.{◌≡◌, inl, inr, ℕ, ◌+◌, ◌≤◌, Bool, true, false, List, [], ◌∷◌, length, get_or, Option, Some, None, refl, sym, ◌∙◌, ap, subst, arith, cond, replicate, zero, suc}
+use Rattle.std.proofs.Common.{◌≡◌, inl, inr, ℕ, ◌+◌, ◌<◌, ◌≤◌, Bool, true, false, List, [], ◌∷◌, length, get_or, Option, Some, None, refl, sym, ◌∙◌, ap, subst, arith, cond, replicate, zero, suc}
 use Rattle.std.specs.Prelude.{not, map}
 use Rattle.std.specs.List.{count_by}
 use Rattle.std.proofs.lemmas.Bool.{true≢false, cases_Bool}
@@ -11,7 +11,7 @@ use Rattle.gx_frames.specs.Order.{IsUnique, IsAbsent}
 use Rattle.gx_frames.specs.Pool.{Resident, find_page, unchanged}
 use Rattle.gx_frames.proofs.PoolLemmas.{find_here}
 use Rattle.gx_layout.specs.Layout.{home}
-use Rattle.gx_journal.specs.Sources.{stored, page_of, IsAmong, IsListed}
+use Rattle.gx_journal.specs.Sources.{stored, page_of, IsCached, IsAmong, IsListed}
 use Rattle.gx_journal.proofs.SourceLemmas.{find_past, page_resident, page_absent}
 
 absent_none : (q : ℕ) (rs : List Resident) → IsAbsent q (map (λ (r : Resident). r.page) rs) → find_page q rs ≡ None
@@ -70,3 +70,14 @@ unset (suc n) (suc p) = unset n p
 
 pub none_set : (n : ℕ) (flags : List Bool) → flags ≡ replicate n false → (p : ℕ) → get_or flags p false ≡ false
 none_set n flags is p = ap (λ (l : List Bool). get_or l p false) is ∙ unset n p
+
+-- once the spilled pages left the frames and none counts as spilled, what stayed is as it is stored
+pub all_stored : (P : ℕ) (blocks : List (List ℕ)) (was is : List Bool) (listed : List ℕ) (rs ss : List Resident) → IsListed was listed → ((p : ℕ) → get_or is p false ≡ false)
+    → ((i : ℕ) → i < length listed → find_page (get_or listed i 0) ss ≡ None) → ((q : ℕ) (r : Resident) → find_page q ss ≡ Some r → (find_page q rs ≡ Some r) × (r.changed ≡ false))
+    → IsCached P blocks was rs → AllStored P blocks is ss
+all_stored P blocks was is listed rs ss names none gone kept cached q r found =
+    let before = kept q r found in
+    cached q r before.0 before.1 ∙ ap (λ (b : Bool). Rattle.std.specs.Prelude.if◌then◌else◌ b (get_or blocks (7 + q) []) (get_or blocks (home P q) [])) (elim (cases_Bool (get_or was q false)) [
+      | inl on ↦ absurd (names.every q on (λ i low lt at. absurd (let e : ◌≡◌ {A = Option Resident} None (Some r) = sym (gone i lt) ∙ ap (λ (k : ℕ). find_page k ss) at ∙ found in cc)))
+      | inr off ↦ off ∙ sym (none q)
+    ])

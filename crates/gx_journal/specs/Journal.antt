@@ -14,11 +14,11 @@ module _ {D : Type 0} {g : device.Ghosts D} where
 
   -- how many pages there are
   abbrev pub size_of : Journal D g → ℕ
-  size_of j = length j.spilled.items
+  size_of j = length j.working.spilled.items
 
   -- the pages as they were written last
   abbrev pub working_of : Journal D g → List (List ℕ)
-  working_of j = pages_told g.tells (size_of j) (content_of j) j.spilled.items j.frames.resident
+  working_of j = pages_told g.tells (size_of j) (content_of j) j.working.spilled.items j.working.frames.resident
 
   -- the pages of the last commit
   abbrev pub kept_of : Journal D g → List (List ℕ)

@@ -1,12 +1,14 @@
 // Reads and writes of pages, by way of the frames.
-ghost use Rattle.std.specs.Prelude.{◌≡◌, ◌≢◌, ◌<◌, ◌≤◌, ◌+◌, ◌*◌, ◌⊎◌, ℕ, true, false, Some, None, [], ◌∷◌, List, length, slice_set, slice_index_or, vec_capacity, IsTrue, OnOk, OnErr, if◌then◌else◌};
+ghost use Rattle.std.specs.Prelude.{◌≡◌, ◌≢◌, ◌<◌, ◌≤◌, ◌+◌, ◌*◌, ◌⊎◌, ℕ, true, Some, [], ◌∷◌, length, slice_index_or, IsTrue, OnOk, OnErr, if◌then◌else◌};
 ghost use Rattle.gx_device.specs.Content.{OnlyTime};
 ghost use Rattle.gx_device.specs.Faults.{IsCounted};
-ghost use Rattle.gx_frames.specs.Pool.{Resident, IsResident, HasFreeFrame, find_page, without, with_residents};
+ghost use Rattle.gx_frames.specs.Pool.{IsResident, HasFreeFrame, without, with_residents};
 ghost use Rattle.gx_layout.specs.Layout.{home};
-ghost use Rattle.gx_journal.specs.Sources.{stored, page_of, IsCached, SamePages, IsListed, OnlySlots};
+ghost use Rattle.gx_journal.specs.Sources.{SamePages, OnlySlots};
+ghost use Rattle.gx_journal.specs.Working.{size_in, page_in, IsCachedIn};
 
 use crate::room::{make_room, reserve};
+use crate::working::WorkingPages;
 use gx_device::{Device, Failed};
 use gx_frames::{Call, Frames};
 
@@ -26,34 +28,25 @@ fn put(frames: &mut Frames, p: u32, from: &[u8])
 /// Writes a page. Nothing is read, and no home is written.
 pub(crate) fn write<D: Device>(
     device: &mut D,
-    frames: &mut Frames,
-    spilled: &mut Vec<bool>,
-    listed: &mut Vec<u32>,
+    working: &mut WorkingPages,
     p: u32,
     from: &[u8],
 ) -> Result<(), Failed>
-    requires below { p < length spilled.old.items }
+    requires below { p < size_in working.old }
     requires bytes { length from.now ≡ 4096 }
-    requires room { 7 + 2 * length spilled.old.items ≤ D.size device.old }
-    requires few { length spilled.old.items ≤ 32768 }
-    requires pages { frames.old.pages ≡ length spilled.old.items }
-    requires listed { IsListed spilled.old.items listed.old.items }
-    requires space { length spilled.old.items ≤ vec_capacity listed.old }
-    requires cached { IsTrue D.tells → IsCached (length spilled.old.items) (D.content device.old).now.blocks spilled.old.items frames.old.resident }
-    ensures page { IsTrue D.tells → OnOk result (page_of (length spilled.old.items) (D.content device.new).now.blocks spilled.new.items frames.new.resident p ≡ from.now) }
-    ensures others { IsTrue D.tells → (q : ℕ) → p ≢ q → page_of (length spilled.old.items) (D.content device.new).now.blocks spilled.new.items frames.new.resident q ≡ page_of (length spilled.old.items) (D.content device.old).now.blocks spilled.old.items frames.old.resident q }
-    ensures failed { IsTrue D.tells → OnErr result (SamePages (page_of (length spilled.old.items) (D.content device.old).now.blocks spilled.old.items frames.old.resident) (page_of (length spilled.old.items) (D.content device.new).now.blocks spilled.new.items frames.new.resident)) }
-    ensures pages { frames.new.pages ≡ frames.old.pages }
-    ensures long { length spilled.new.items ≡ length spilled.old.items }
-    ensures cached { IsTrue D.tells → IsCached (length spilled.old.items) (D.content device.new).now.blocks spilled.new.items frames.new.resident }
-    ensures slots { OnlySlots (length spilled.old.items) (D.content device.old) (D.content device.new) }
-    ensures listed { IsListed spilled.new.items listed.new.items }
-    ensures space { vec_capacity listed.old ≤ vec_capacity listed.new }
+    requires room { 7 + 2 * size_in working.old ≤ D.size device.old }
+    requires cached { IsTrue D.tells → IsCachedIn (size_in working.old) (D.content device.old) working.old }
+    ensures page { IsTrue D.tells → OnOk result (page_in (size_in working.old) (D.content device.new) working.new p ≡ from.now) }
+    ensures others { IsTrue D.tells → (q : ℕ) → p ≢ q → page_in (size_in working.old) (D.content device.new) working.new q ≡ page_in (size_in working.old) (D.content device.old) working.old q }
+    ensures failed { IsTrue D.tells → OnErr result (SamePages (page_in (size_in working.old) (D.content device.old) working.old) (page_in (size_in working.old) (D.content device.new) working.new)) }
+    ensures long { size_in working.new ≡ size_in working.old }
+    ensures cached { IsTrue D.tells → IsCachedIn (size_in working.old) (D.content device.new) working.new }
+    ensures slots { OnlySlots (size_in working.old) (D.content device.old) (D.content device.new) }
     ensures size { D.size device.new ≡ D.size device.old }
     ensures cause { IsCounted (D.faults device.old) (D.faults device.new) result }
 {
-    reserve(device, frames, spilled, listed, p)?;
-    put(frames, p, from);
+    reserve(device, working, p)?;
+    put(&mut working.frames, p, from);
     Ok(())
 }
 
@@ -84,38 +77,29 @@ fn fetch<D: Device>(
 /// Reads a page, which then stands in a frame.
 pub(crate) fn read<D: Device>(
     device: &mut D,
-    frames: &mut Frames,
-    spilled: &mut Vec<bool>,
-    listed: &mut Vec<u32>,
+    working: &mut WorkingPages,
     p: u32,
     into: &mut [u8],
 ) -> Result<(), Failed>
-    requires below { p < length spilled.old.items }
+    requires below { p < size_in working.old }
     requires bytes { length into.old ≡ 4096 }
-    requires room { 7 + 2 * length spilled.old.items ≤ D.size device.old }
-    requires few { length spilled.old.items ≤ 32768 }
-    requires pages { frames.old.pages ≡ length spilled.old.items }
-    requires listed { IsListed spilled.old.items listed.old.items }
-    requires space { length spilled.old.items ≤ vec_capacity listed.old }
-    requires cached { IsTrue D.tells → IsCached (length spilled.old.items) (D.content device.old).now.blocks spilled.old.items frames.old.resident }
-    ensures page { IsTrue D.tells → OnOk result (into.new ≡ page_of (length spilled.old.items) (D.content device.old).now.blocks spilled.old.items frames.old.resident p) }
-    ensures same { IsTrue D.tells → SamePages (page_of (length spilled.old.items) (D.content device.old).now.blocks spilled.old.items frames.old.resident) (page_of (length spilled.old.items) (D.content device.new).now.blocks spilled.new.items frames.new.resident) }
-    ensures pages { frames.new.pages ≡ frames.old.pages }
-    ensures long { length spilled.new.items ≡ length spilled.old.items }
-    ensures cached { IsTrue D.tells → IsCached (length spilled.old.items) (D.content device.new).now.blocks spilled.new.items frames.new.resident }
-    ensures slots { OnlySlots (length spilled.old.items) (D.content device.old) (D.content device.new) }
-    ensures listed { IsListed spilled.new.items listed.new.items }
-    ensures space { vec_capacity listed.old ≤ vec_capacity listed.new }
+    requires room { 7 + 2 * size_in working.old ≤ D.size device.old }
+    requires cached { IsTrue D.tells → IsCachedIn (size_in working.old) (D.content device.old) working.old }
+    ensures page { IsTrue D.tells → OnOk result (into.new ≡ page_in (size_in working.old) (D.content device.old) working.old p) }
+    ensures same { IsTrue D.tells → SamePages (page_in (size_in working.old) (D.content device.old) working.old) (page_in (size_in working.old) (D.content device.new) working.new) }
+    ensures long { size_in working.new ≡ size_in working.old }
+    ensures cached { IsTrue D.tells → IsCachedIn (size_in working.old) (D.content device.new) working.new }
+    ensures slots { OnlySlots (size_in working.old) (D.content device.old) (D.content device.new) }
     ensures size { D.size device.new ≡ D.size device.old }
     ensures cause { IsCounted (D.faults device.old) (D.faults device.new) result }
 {
-    if let Some(bytes) = frames.get(p) {
+    if let Some(bytes) = working.frames.get(p) {
         into.copy_from_slice(bytes);
         return Ok(());
     }
-    make_room(device, frames, spilled, listed)?;
-    let is_spilled = spilled[p as usize];
-    fetch(device, is_spilled, spilled.len() as u32, p, into)?;
-    frames.carry_out(Call::Admit(p, into));
+    make_room(device, working)?;
+    let is_spilled = working.spilled[p as usize];
+    fetch(device, is_spilled, working.count(), p, into)?;
+    working.frames.carry_out(Call::Admit(p, into));
     Ok(())
 }

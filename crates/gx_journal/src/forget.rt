@@ -1,9 +1,12 @@
 // Changes are forgotten.
-ghost use Rattle.std.specs.Prelude.{◌≡◌, ◌≢◌, ◌<◌, ◌≤◌, ◌+◌, ℕ, Bool, true, false, Some, None, [], List, length, get_or, vec_capacity};
-ghost use Rattle.gx_layout.specs.Layout.{home};
+ghost use Rattle.std.specs.Prelude.{◌≡◌, ◌≢◌, ◌<◌, ℕ, false, Some, None};
+ghost use Rattle.gx_device.specs.Content.{Content, block_of};
 ghost use Rattle.gx_frames.specs.Pool.{Resident, find_page};
-ghost use Rattle.gx_journal.specs.Sources.{stored, page_of, IsCached, IsListed};
+ghost use Rattle.gx_layout.specs.Layout.{home};
+ghost use Rattle.gx_journal.specs.Working.{size_in, page_in, IsCachedIn};
 
+use crate::commit::clear;
+use crate::working::WorkingPages;
 use gx_frames::Frames;
 
 // A page leaves the frames, where it stands in one.
@@ -29,21 +32,14 @@ fn forget_changed(frames: &mut Frames)
 }
 
 /// Forgets all changes: each page is as at home. The device isn't called.
-pub(crate) fn forget(frames: &mut Frames, spilled: &mut Vec<bool>, listed: &mut Vec<u32>)
-    requires pages { frames.old.pages ≡ length spilled.old.items }
-    requires listed { IsListed spilled.old.items listed.old.items }
-    ensures same { (P : ℕ) (blocks : List (List ℕ)) → IsCached P blocks spilled.old.items frames.old.resident → (q : ℕ) → page_of P blocks spilled.new.items frames.new.resident q ≡ get_or blocks (home P q) [] }
-    ensures cached { (P : ℕ) (blocks : List (List ℕ)) → IsCached P blocks spilled.old.items frames.old.resident → IsCached P blocks spilled.new.items frames.new.resident }
-    ensures pages { frames.new.pages ≡ frames.old.pages }
-    ensures long { length spilled.new.items ≡ length spilled.old.items }
-    ensures listed { IsListed spilled.new.items listed.new.items }
-    ensures space { vec_capacity listed.old ≤ vec_capacity listed.new }
+pub(crate) fn forget(working: &mut WorkingPages)
+    ensures same { (P : ℕ) (c : Content) → IsCachedIn P c working.old → (q : ℕ) → page_in P c working.new q ≡ block_of c.now (home P q) }
+    ensures cached { (P : ℕ) (c : Content) → IsCachedIn P c working.old → IsCachedIn P c working.new }
+    ensures long { size_in working.new ≡ size_in working.old }
 {
-    forget_changed(frames);
-    for i in 0..listed.len() {
-        let p = listed[i];
-        leave(frames, p);
-        spilled[p as usize] = false;
+    forget_changed(&mut working.frames);
+    for i in 0..working.listed.len() {
+        leave(&mut working.frames, working.listed[i]);
     }
-    listed.clear();
+    clear(&mut working.spilled, &mut working.listed);
 }

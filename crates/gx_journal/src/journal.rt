@@ -1,5 +1,5 @@
 // Pages over a device, with the working ones in a few frames.
-ghost use Rattle.std.specs.Prelude.{◌≡◌, ◌↔◌, ◌<◌, ◌≤◌, ◌+◌, ◌*◌, ◌/◌, ◌-◌, ◌≢◌, ◌∷◌, [], false, length, replicate, drop, slice_set, slice_index_or, vec_capacity, IsTrue, IfOk, IfErr, OnOk, OnErr};
+ghost use Rattle.std.specs.Prelude.{◌≡◌, ◌↔◌, ◌<◌, ◌≤◌, ◌+◌, ◌*◌, ◌/◌, ◌-◌, ◌≢◌, ◌∷◌, [], false, length, replicate, drop, slice_set, slice_index_or, IsTrue, IfOk, IfErr, OnOk, OnErr};
 ghost use Rattle.gx_device.specs.Content.{Content, Silent, Hears, Listens, Says, Speaks, block_of};
 ghost use Rattle.gx_device.specs.Crash.{LeavesOnly};
 ghost use Rattle.gx_device.specs.Quiet.{IsOldOrNew};
@@ -8,14 +8,14 @@ ghost use Rattle.gx_layout.specs.Layout.{OnlyBlocks, Shows, home, pages_of, is_o
 ghost use Rattle.gx_layout.specs.Head.{HasMagic, IsFormatted, DifferFirst, text_at, text_area, text_blocks};
 ghost use Rattle.gx_layout.specs.Besides.{IsImageBesides, IsUnsealed};
 ghost use Rattle.gx_layout.specs.Recovered.{Recovers, IsSettled, replayed_pages, view_now};
-ghost use Rattle.gx_journal.specs.Sources.{IsCached, IsListed};
+ghost use Rattle.gx_journal.specs.Sources.{IsCached};
 
 use crate::access::{read, write};
 use crate::commit::commit;
 use crate::forget::forget;
-use crate::opening::{Room, Unopened};
+use crate::opening::Unopened;
+use crate::working::WorkingPages;
 use gx_device::{Device, Failed};
-use gx_frames::Frames;
 use gx_layout::{format, recover, seal, texts_differ};
 use std::alloc::Global;
 
@@ -26,43 +26,37 @@ use std::alloc::Global;
 #[derive(Drop)]
 pub struct Journal<D: Device> {
     device: D,
-    frames: Frames,
-    spilled: Vec<bool>,
-    listed: Vec<u32>,
+    working: WorkingPages,
     failed: bool,
-    ghost few: { length spilled.items ≤ 32768 },
-    ghost room: { 7 + 2 * length spilled.items ≤ D.size device },
+    ghost room: { 7 + 2 * length working.spilled.items ≤ D.size device },
     ghost limit: { D.size device ≤ 65543 },
-    ghost count: { length spilled.items ≡ pages_of (D.size device) },
+    ghost count: { length working.spilled.items ≡ pages_of (D.size device) },
     ghost closed: { IsTrue D.tells → failed ≡ false → is_open (block_of (D.content device).now 1) ≡ false },
-    ghost pages: { frames.pages ≡ length spilled.items },
-    ghost named: { IsListed spilled.items listed.items },
-    ghost space: { length spilled.items ≤ vec_capacity listed },
-    ghost cached: { IsTrue D.tells → IsCached (length spilled.items) (D.content device).now.blocks spilled.items frames.resident },
+    ghost cached: { IsTrue D.tells → IsCached (length working.spilled.items) (D.content device).now.blocks working.spilled.items working.frames.resident },
 }
 
 impl<D: Device> Journal<D> {
     ghost use Rattle.gx_journal.specs.Journal.{device_of, content_of, size_of, working_of, kept_of, head_blocks, IsSteady, IsCalm, Keeps};
     ghost use Rattle.gx_journal.specs.Opening.{device_left, content_left, has_no_fault};
     ghost use Rattle.gx_journal.specs.State.{homes_told, head_told};
+    ghost use Rattle.gx_journal.specs.Working.{size_in};
 
-    // A journal of which nothing is resident.
-    fn over(device: D, room: Room) -> Journal<D>
-        requires few { length room.spilled.items ≤ 32768 }
-        requires blocks { 7 + 2 * length room.spilled.items ≤ D.size device }
+    // A journal whose working pages are all at home.
+    fn over(device: D, working: WorkingPages) -> Journal<D>
+        requires blocks { 7 + 2 * size_in working ≤ D.size device }
         requires limit { D.size device ≤ 65543 }
-        requires count { length room.spilled.items ≡ pages_of (D.size device) }
+        requires count { size_in working ≡ pages_of (D.size device) }
         requires closed { IsTrue D.tells → is_open (block_of (D.content device).now 1) ≡ false }
-        ensures size { size_of result ≡ length room.spilled.items }
+        requires absent { working.frames.resident ≡ [] }
+        requires unspilled { working.spilled.items ≡ replicate (size_in working) false }
+        ensures size { size_of result ≡ size_in working }
         ensures device { device_of result ≡ device }
         ensures steady { IsSteady result }
         ensures working { working_of result ≡ kept_of result }
     {
         Journal {
             device,
-            frames: room.frames,
-            spilled: room.spilled,
-            listed: room.listed,
+            working,
             failed: false,
         }
     }
@@ -100,11 +94,11 @@ impl<D: Device> Journal<D> {
         ensures blocks { D.size (device_left result) ≡ D.size device }
         ensures faults { Counted (has_no_fault result) (D.faults device) (D.faults (device_left result)) }
     {
-        let Ok(room) = Room::make(alloc, frames, device.blocks()) else {
+        let Ok(working) = WorkingPages::make(alloc, frames, device.blocks()) else {
             return Err((device, Unopened::NoMemory));
         };
-        match recover(&mut device, room.pages()) {
-            Ok(true) => Ok(Journal::over(device, room)),
+        match recover(&mut device, working.count()) {
+            Ok(true) => Ok(Journal::over(device, working)),
             Ok(false) => Err((device, Unopened::NoDatabase)),
             Err(Failed) => Err((device, Unopened::Fault)),
         }
@@ -142,11 +136,11 @@ impl<D: Device> Journal<D> {
         ensures blocks { D.size (device_left result) ≡ D.size device }
         ensures faults { Counted (has_no_fault result) (D.faults device) (D.faults (device_left result)) }
     {
-        let Ok(room) = Room::make(alloc, frames, device.blocks()) else {
+        let Ok(working) = WorkingPages::make(alloc, frames, device.blocks()) else {
             return Err((device, Unopened::NoMemory));
         };
         match format(&mut device, schema, equation) {
-            Ok(()) => Ok(Journal::over(device, room)),
+            Ok(()) => Ok(Journal::over(device, working)),
             Err(Failed) => Err((device, Unopened::Fault)),
         }
     }
@@ -190,7 +184,7 @@ impl<D: Device> Journal<D> {
     pub fn pages(&self) -> u32
         ensures { result ≡ size_of self.now }
     {
-        self.spilled.len() as u32
+        self.working.count()
     }
 
     /// The block in which a page is kept.
@@ -211,14 +205,7 @@ impl<D: Device> Journal<D> {
         ensures silent { Silent (content_of self.old) (content_of self.new) }
         ensures faults { IsCounted (D.faults (device_of self.old)) (D.faults (device_of self.new)) result }
     {
-        read(
-            &mut self.device,
-            &mut self.frames,
-            &mut self.spilled,
-            &mut self.listed,
-            p,
-            into,
-        )
+        read(&mut self.device, &mut self.working, p, into)
     }
 
     /// Writes a page. After `Failed` the working pages are as before.
@@ -231,14 +218,7 @@ impl<D: Device> Journal<D> {
         ensures silent { Silent (content_of self.old) (content_of self.new) }
         ensures faults { IsCounted (D.faults (device_of self.old)) (D.faults (device_of self.new)) result }
     {
-        write(
-            &mut self.device,
-            &mut self.frames,
-            &mut self.spilled,
-            &mut self.listed,
-            p,
-            from,
-        )
+        write(&mut self.device, &mut self.working, p, from)
     }
 
     /// Makes the working pages the kept ones, all at once. Where no page has changed the device isn't
@@ -257,12 +237,7 @@ impl<D: Device> Journal<D> {
         ensures silent { Silent (content_of self.old) (content_of self.new) }
         ensures faults { IsCounted (D.faults (device_of self.old)) (D.faults (device_of self.new)) result }
     {
-        let committed = commit(
-            &mut self.device,
-            &mut self.frames,
-            &mut self.spilled,
-            &mut self.listed,
-        );
+        let committed = commit(&mut self.device, &mut self.working);
         self.failed |= committed.is_err();
         committed
     }
@@ -273,7 +248,7 @@ impl<D: Device> Journal<D> {
         ensures keeps { Keeps self.old self.new }
         ensures device { device_of self.new ≡ device_of self.old }
     {
-        forget(&mut self.frames, &mut self.spilled, &mut self.listed);
+        forget(&mut self.working);
     }
 
     /// Hears the script, as the device does.

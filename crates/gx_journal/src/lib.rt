@@ -8,6 +8,7 @@ mod journal;
 mod opening;
 mod publish;
 mod room;
+mod working;
 
 pub use journal::Journal;
 pub use opening::Unopened;

@@ -1,10 +1,12 @@
 // Room in the frames.
-ghost use Rattle.std.specs.Prelude.{◌≡◌, ◌<◌, ◌≤◌, ◌+◌, ◌*◌, ◌⊎◌, ℕ, true, false, Some, None, [], ◌∷◌, List, length, slice_set, slice_index_or, vec_capacity, IsTrue, OnOk};
+ghost use Rattle.std.specs.Prelude.{◌≡◌, ◌<◌, ◌≤◌, ◌+◌, ◌*◌, ◌⊎◌, ℕ, true, Some, None, length, slice_set, vec_capacity, IsTrue, OnOk};
 ghost use Rattle.gx_device.specs.Content.{Writes, Written};
 ghost use Rattle.gx_device.specs.Faults.{IsCounted};
-ghost use Rattle.gx_frames.specs.Pool.{Resident, IsResident, IsChanged, HasFreeFrame, find_page, to_front, with_residents};
-ghost use Rattle.gx_journal.specs.Sources.{stored, page_of, IsCached, SamePages, IsListed, OnlySlots};
+ghost use Rattle.gx_frames.specs.Pool.{Resident, IsResident, HasFreeFrame, find_page, to_front, with_residents};
+ghost use Rattle.gx_journal.specs.Sources.{stored, SamePages, IsListed, OnlySlots};
+ghost use Rattle.gx_journal.specs.Working.{size_in, page_in, IsCachedIn};
 
+use crate::working::WorkingPages;
 use gx_device::{Device, Failed};
 use gx_frames::Frames;
 
@@ -45,135 +47,98 @@ fn note(spilled: &mut Vec<bool>, listed: &mut Vec<u32>, p: u32)
 // A changed page goes to its slot.
 pub(crate) fn spill<D: Device>(
     device: &mut D,
-    frames: &mut Frames,
-    spilled: &mut Vec<bool>,
-    listed: &mut Vec<u32>,
+    working: &mut WorkingPages,
     p: u32,
 ) -> Result<(), Failed>
-    requires room { 7 + 2 * length spilled.old.items ≤ D.size device.old }
-    requires few { length spilled.old.items ≤ 32768 }
-    requires pages { frames.old.pages ≡ length spilled.old.items }
-    requires below { p < length spilled.old.items }
-    requires resident { IsResident frames.old p }
-    requires changed { (r : Resident) → find_page p frames.old.resident ≡ Some r → r.changed ≡ true }
-    requires listed { IsListed spilled.old.items listed.old.items }
-    requires space { length spilled.old.items ≤ vec_capacity listed.old }
-    requires cached { IsTrue D.tells → IsCached (length spilled.old.items) (D.content device.old).now.blocks spilled.old.items frames.old.resident }
-    ensures frames { frames.new ≡ with_residents frames.old (to_front p frames.old.resident) }
-    ensures stored { IsTrue D.tells → (r : Resident) → find_page p frames.old.resident ≡ Some r → OnOk result (stored (length spilled.old.items) (D.content device.new).now.blocks spilled.new.items p ≡ r.bytes) }
-    ensures same { IsTrue D.tells → SamePages (page_of (length spilled.old.items) (D.content device.old).now.blocks spilled.old.items frames.old.resident) (page_of (length spilled.old.items) (D.content device.new).now.blocks spilled.new.items frames.new.resident) }
-    ensures cached { IsTrue D.tells → IsCached (length spilled.old.items) (D.content device.new).now.blocks spilled.new.items frames.new.resident }
-    ensures slots { OnlySlots (length spilled.old.items) (D.content device.old) (D.content device.new) }
-    ensures long { length spilled.new.items ≡ length spilled.old.items }
-    ensures listed { IsListed spilled.new.items listed.new.items }
-    ensures space { vec_capacity listed.old ≤ vec_capacity listed.new }
+    requires room { 7 + 2 * size_in working.old ≤ D.size device.old }
+    requires below { p < size_in working.old }
+    requires resident { IsResident working.old.frames p }
+    requires changed { (r : Resident) → find_page p working.old.frames.resident ≡ Some r → r.changed ≡ true }
+    requires cached { IsTrue D.tells → IsCachedIn (size_in working.old) (D.content device.old) working.old }
+    ensures frames { working.new.frames ≡ with_residents working.old.frames (to_front p working.old.frames.resident) }
+    ensures stored { IsTrue D.tells → (r : Resident) → find_page p working.old.frames.resident ≡ Some r → OnOk result (stored (size_in working.old) (D.content device.new).now.blocks working.new.spilled.items p ≡ r.bytes) }
+    ensures same { IsTrue D.tells → SamePages (page_in (size_in working.old) (D.content device.old) working.old) (page_in (size_in working.old) (D.content device.new) working.new) }
+    ensures cached { IsTrue D.tells → IsCachedIn (size_in working.old) (D.content device.new) working.new }
+    ensures slots { OnlySlots (size_in working.old) (D.content device.old) (D.content device.new) }
+    ensures long { size_in working.new ≡ size_in working.old }
     ensures size { D.size device.new ≡ D.size device.old }
     ensures cause { IsCounted (D.faults device.old) (D.faults device.new) result }
 {
-    write_slot(device, frames, p)?;
-    note(spilled, listed, p);
+    write_slot(device, &mut working.frames, p)?;
+    note(&mut working.spilled, &mut working.listed, p);
     Ok(())
 }
 
 // What is stored of a page is made what stands in its frame.
 fn settle<D: Device>(
     device: &mut D,
-    frames: &mut Frames,
-    spilled: &mut Vec<bool>,
-    listed: &mut Vec<u32>,
+    working: &mut WorkingPages,
     p: u32,
     changed: bool,
 ) -> Result<(), Failed>
-    requires room { 7 + 2 * length spilled.old.items ≤ D.size device.old }
-    requires few { length spilled.old.items ≤ 32768 }
-    requires pages { frames.old.pages ≡ length spilled.old.items }
-    requires below { p < length spilled.old.items }
-    requires resident { IsResident frames.old p }
-    requires changed { (r : Resident) → find_page p frames.old.resident ≡ Some r → r.changed ≡ changed }
-    requires listed { IsListed spilled.old.items listed.old.items }
-    requires space { length spilled.old.items ≤ vec_capacity listed.old }
-    requires cached { IsTrue D.tells → IsCached (length spilled.old.items) (D.content device.old).now.blocks spilled.old.items frames.old.resident }
-    ensures order { (q : ℕ) → find_page q frames.new.resident ≡ find_page q frames.old.resident }
-    ensures count { length frames.new.resident ≤ length frames.old.resident }
-    ensures frames { frames.new.frames ≡ frames.old.frames }
-    ensures pages { frames.new.pages ≡ frames.old.pages }
-    ensures stored { IsTrue D.tells → (r : Resident) → find_page p frames.old.resident ≡ Some r → OnOk result (stored (length spilled.old.items) (D.content device.new).now.blocks spilled.new.items p ≡ r.bytes) }
-    ensures same { IsTrue D.tells → SamePages (page_of (length spilled.old.items) (D.content device.old).now.blocks spilled.old.items frames.old.resident) (page_of (length spilled.old.items) (D.content device.new).now.blocks spilled.new.items frames.new.resident) }
-    ensures cached { IsTrue D.tells → IsCached (length spilled.old.items) (D.content device.new).now.blocks spilled.new.items frames.new.resident }
-    ensures slots { OnlySlots (length spilled.old.items) (D.content device.old) (D.content device.new) }
-    ensures long { length spilled.new.items ≡ length spilled.old.items }
-    ensures listed { IsListed spilled.new.items listed.new.items }
-    ensures space { vec_capacity listed.old ≤ vec_capacity listed.new }
+    requires room { 7 + 2 * size_in working.old ≤ D.size device.old }
+    requires below { p < size_in working.old }
+    requires resident { IsResident working.old.frames p }
+    requires changed { (r : Resident) → find_page p working.old.frames.resident ≡ Some r → r.changed ≡ changed }
+    requires cached { IsTrue D.tells → IsCachedIn (size_in working.old) (D.content device.old) working.old }
+    ensures order { (q : ℕ) → find_page q working.new.frames.resident ≡ find_page q working.old.frames.resident }
+    ensures count { length working.new.frames.resident ≤ length working.old.frames.resident }
+    ensures frames { working.new.frames.frames ≡ working.old.frames.frames }
+    ensures stored { IsTrue D.tells → (r : Resident) → find_page p working.old.frames.resident ≡ Some r → OnOk result (stored (size_in working.old) (D.content device.new).now.blocks working.new.spilled.items p ≡ r.bytes) }
+    ensures same { IsTrue D.tells → SamePages (page_in (size_in working.old) (D.content device.old) working.old) (page_in (size_in working.old) (D.content device.new) working.new) }
+    ensures cached { IsTrue D.tells → IsCachedIn (size_in working.old) (D.content device.new) working.new }
+    ensures slots { OnlySlots (size_in working.old) (D.content device.old) (D.content device.new) }
+    ensures long { size_in working.new ≡ size_in working.old }
     ensures size { D.size device.new ≡ D.size device.old }
     ensures cause { IsCounted (D.faults device.old) (D.faults device.new) result }
 {
     if !changed {
         return Ok(());
     }
-    spill(device, frames, spilled, listed, p)
+    spill(device, working, p)
 }
 
-/// Makes room for a page in the frames: the page that was used longest ago leaves them, and goes to its slot where it has changed.
-pub(crate) fn make_room<D: Device>(
-    device: &mut D,
-    frames: &mut Frames,
-    spilled: &mut Vec<bool>,
-    listed: &mut Vec<u32>,
-) -> Result<(), Failed>
-    requires room { 7 + 2 * length spilled.old.items ≤ D.size device.old }
-    requires few { length spilled.old.items ≤ 32768 }
-    requires pages { frames.old.pages ≡ length spilled.old.items }
-    requires listed { IsListed spilled.old.items listed.old.items }
-    requires space { length spilled.old.items ≤ vec_capacity listed.old }
-    requires cached { IsTrue D.tells → IsCached (length spilled.old.items) (D.content device.old).now.blocks spilled.old.items frames.old.resident }
-    ensures free { OnOk result (HasFreeFrame frames.new) }
-    ensures pages { frames.new.pages ≡ frames.old.pages }
-    ensures absent { (p : ℕ) → find_page p frames.old.resident ≡ None → find_page p frames.new.resident ≡ None }
-    ensures same { IsTrue D.tells → SamePages (page_of (length spilled.old.items) (D.content device.old).now.blocks spilled.old.items frames.old.resident) (page_of (length spilled.old.items) (D.content device.new).now.blocks spilled.new.items frames.new.resident) }
-    ensures cached { IsTrue D.tells → IsCached (length spilled.old.items) (D.content device.new).now.blocks spilled.new.items frames.new.resident }
-    ensures slots { OnlySlots (length spilled.old.items) (D.content device.old) (D.content device.new) }
-    ensures long { length spilled.new.items ≡ length spilled.old.items }
-    ensures listed { IsListed spilled.new.items listed.new.items }
-    ensures space { vec_capacity listed.old ≤ vec_capacity listed.new }
+/// Makes room for a page in the frames: the page that was used longest ago leaves them, and goes to
+/// its slot where it has changed.
+pub(crate) fn make_room<D: Device>(device: &mut D, working: &mut WorkingPages) -> Result<(), Failed>
+    requires room { 7 + 2 * size_in working.old ≤ D.size device.old }
+    requires cached { IsTrue D.tells → IsCachedIn (size_in working.old) (D.content device.old) working.old }
+    ensures free { OnOk result (HasFreeFrame working.new.frames) }
+    ensures absent { (p : ℕ) → find_page p working.old.frames.resident ≡ None → find_page p working.new.frames.resident ≡ None }
+    ensures same { IsTrue D.tells → SamePages (page_in (size_in working.old) (D.content device.old) working.old) (page_in (size_in working.old) (D.content device.new) working.new) }
+    ensures cached { IsTrue D.tells → IsCachedIn (size_in working.old) (D.content device.new) working.new }
+    ensures slots { OnlySlots (size_in working.old) (D.content device.old) (D.content device.new) }
+    ensures long { size_in working.new ≡ size_in working.old }
     ensures size { D.size device.new ≡ D.size device.old }
     ensures cause { IsCounted (D.faults device.old) (D.faults device.new) result }
 {
-    let Some((page, changed)) = frames.victim() else {
+    let Some((page, changed)) = working.frames.victim() else {
         return Ok(());
     };
-    settle(device, frames, spilled, listed, page, changed)?;
-    frames.evict(page);
+    settle(device, working, page, changed)?;
+    working.frames.evict(page);
     Ok(())
 }
 
 /// Makes sure that there is a frame for the page.
 pub(crate) fn reserve<D: Device>(
     device: &mut D,
-    frames: &mut Frames,
-    spilled: &mut Vec<bool>,
-    listed: &mut Vec<u32>,
+    working: &mut WorkingPages,
     p: u32,
 ) -> Result<(), Failed>
-    requires below { p < length spilled.old.items }
-    requires room { 7 + 2 * length spilled.old.items ≤ D.size device.old }
-    requires few { length spilled.old.items ≤ 32768 }
-    requires pages { frames.old.pages ≡ length spilled.old.items }
-    requires listed { IsListed spilled.old.items listed.old.items }
-    requires space { length spilled.old.items ≤ vec_capacity listed.old }
-    requires cached { IsTrue D.tells → IsCached (length spilled.old.items) (D.content device.old).now.blocks spilled.old.items frames.old.resident }
-    ensures free { OnOk result (IsResident frames.new p ⊎ HasFreeFrame frames.new) }
-    ensures pages { frames.new.pages ≡ frames.old.pages }
-    ensures same { IsTrue D.tells → SamePages (page_of (length spilled.old.items) (D.content device.old).now.blocks spilled.old.items frames.old.resident) (page_of (length spilled.old.items) (D.content device.new).now.blocks spilled.new.items frames.new.resident) }
-    ensures cached { IsTrue D.tells → IsCached (length spilled.old.items) (D.content device.new).now.blocks spilled.new.items frames.new.resident }
-    ensures slots { OnlySlots (length spilled.old.items) (D.content device.old) (D.content device.new) }
-    ensures long { length spilled.new.items ≡ length spilled.old.items }
-    ensures listed { IsListed spilled.new.items listed.new.items }
-    ensures space { vec_capacity listed.old ≤ vec_capacity listed.new }
+    requires below { p < size_in working.old }
+    requires room { 7 + 2 * size_in working.old ≤ D.size device.old }
+    requires cached { IsTrue D.tells → IsCachedIn (size_in working.old) (D.content device.old) working.old }
+    ensures free { OnOk result (IsResident working.new.frames p ⊎ HasFreeFrame working.new.frames) }
+    ensures same { IsTrue D.tells → SamePages (page_in (size_in working.old) (D.content device.old) working.old) (page_in (size_in working.old) (D.content device.new) working.new) }
+    ensures cached { IsTrue D.tells → IsCachedIn (size_in working.old) (D.content device.new) working.new }
+    ensures slots { OnlySlots (size_in working.old) (D.content device.old) (D.content device.new) }
+    ensures long { size_in working.new ≡ size_in working.old }
     ensures size { D.size device.new ≡ D.size device.old }
     ensures cause { IsCounted (D.faults device.old) (D.faults device.new) result }
 {
-    if frames.is_resident(p) {
+    if working.frames.is_resident(p) {
         return Ok(());
     }
-    make_room(device, frames, spilled, listed)
+    make_room(device, working)
 }

@@ -7,16 +7,16 @@ use Rattle.gx_journal.proofs.access.read.Goals as goal
 pub returns-in-Some-clause-same : goal.returns-in-Some-clause-same
 returns-in-Some-clause-same g c told q =
     let blocks = (g.D.Device.content c.args.device.now).now.blocks in
-    let rs = c.args.frames.now.resident in
-    let e : c.get.follows.lender-at-none ≡ with_residents c.args.frames.now (to_front c.args.p rs) = c.get.follows.holds-at-none in
-    page_apart (length c.args.spilled.now.items) blocks blocks c.args.spilled.now.items c.args.spilled.now.items rs _ q (front_found c.args.p rs _ (ap (λ (x : Pool). x.resident) e) q) refl
+    let rs = c.args.working.now.frames.resident in
+    let e : c.get.follows.lender-at-none ≡ with_residents c.args.working.now.frames (to_front c.args.p rs) = c.get.follows.holds-at-none in
+    page_apart (length c.args.working.now.spilled.items) blocks blocks c.args.working.now.spilled.items c.args.working.now.spilled.items rs _ q (front_found c.args.p rs _ (ap (λ (x : Pool). x.resident) e) q) refl
 
 pub returns-in-Some-clause-cached : goal.returns-in-Some-clause-cached
 returns-in-Some-clause-cached g c told =
     let blocks = (g.D.Device.content c.args.device.now).now.blocks in
-    let rs = c.args.frames.now.resident in
-    let e : c.get.follows.lender-at-none ≡ with_residents c.args.frames.now (to_front c.args.p rs) = c.get.follows.holds-at-none in
-    cached_order (length c.args.spilled.now.items) blocks c.args.spilled.now.items rs _ (front_found c.args.p rs _ (ap (λ (x : Pool). x.resident) e)) (c.requires.cached told)
+    let rs = c.args.working.now.frames.resident in
+    let e : c.get.follows.lender-at-none ≡ with_residents c.args.working.now.frames (to_front c.args.p rs) = c.get.follows.holds-at-none in
+    cached_order (length c.args.working.now.spilled.items) blocks c.args.working.now.spilled.items rs _ (front_found c.args.p rs _ (ap (λ (x : Pool). x.resident) e)) (c.requires.cached told)
 
 pub returns-in_err-fetch-clause-slots : goal.returns-in_err-fetch-clause-slots
 returns-in_err-fetch-clause-slots g c =

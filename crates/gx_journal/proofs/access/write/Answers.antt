@@ -9,21 +9,21 @@ use Rattle.gx_journal.proofs.access.write.Goals as goal
 pub returns-clause-others : goal.returns-clause-others
 returns-clause-others g c told q ne =
     let blocks = (g.D.Device.content c.reserve.new.device).now.blocks in
-    let P = length c.args.spilled.now.items in
-    let rs = c.reserve.new.frames.resident in
+    let P = length c.args.working.now.spilled.items in
+    let rs = c.reserve.new.working.frames.resident in
     let p = c.args.p in
     let r : Resident = record { page = p; bytes = c.args.from.now; changed = true } in
-    ap (λ (x : Pool). page_of P blocks c.reserve.new.spilled.items x.resident q) c.put.ensures
-    ∙ placed_other P blocks c.reserve.new.spilled.items rs (r ∷ without p rs) p r (find_here p r (without p rs) refl) (λ k off. find_past k r (without p rs) off ∙ find_without_other p k rs off) q ne
+    ap (λ (x : Pool). page_of P blocks c.reserve.new.working.spilled.items x.resident q) c.put.ensures
+    ∙ placed_other P blocks c.reserve.new.working.spilled.items rs (r ∷ without p rs) p r (find_here p r (without p rs) refl) (λ k off. find_past k r (without p rs) off ∙ find_without_other p k rs off) q ne
     ∙ c.reserve.ensures.same told q
 
 pub returns-clause-cached : goal.returns-clause-cached
 returns-clause-cached g c told =
     let blocks = (g.D.Device.content c.reserve.new.device).now.blocks in
-    let P = length c.args.spilled.now.items in
-    let rs = c.reserve.new.frames.resident in
+    let P = length c.args.working.now.spilled.items in
+    let rs = c.reserve.new.working.frames.resident in
     let p = c.args.p in
     let r : Resident = record { page = p; bytes = c.args.from.now; changed = true } in
-    subst (λ (x : Pool). IsCached P blocks c.reserve.new.spilled.items x.resident) (sym c.put.ensures)
-    (placed_cached P blocks c.reserve.new.spilled.items rs (r ∷ without p rs) p r (find_here p r (without p rs) refl) (λ k off. find_past k r (without p rs) off ∙ find_without_other p k rs off)
+    subst (λ (x : Pool). IsCached P blocks c.reserve.new.working.spilled.items x.resident) (sym c.put.ensures)
+    (placed_cached P blocks c.reserve.new.working.spilled.items rs (r ∷ without p rs) p r (find_here p r (without p rs) refl) (λ k off. find_past k r (without p rs) off ∙ find_without_other p k rs off)
     (λ e. absurd (true≢false e)) (c.reserve.ensures.cached told))

@@ -15,13 +15,13 @@ pub returns-in_err-spill_all-clause-images : goal.returns-in_err-spill_all-claus
 returns-in_err-spill_all-clause-images g c told kept count rest =
     let content = g.D.Device.content in
     let tells = g.D.Device.tells in
-    let flags = c.args.spilled.now.items in
-    let rs = c.args.frames.now.resident in
+    let flags = c.args.working.now.spilled.items in
+    let rs = c.args.working.now.frames.resident in
     let P = length flags in
     let old = content c.args.device.now in
     let mid = content c.spill_all.new.device in
-    let is = c.spill_all.new.spilled.items in
-    let ss = c.spill_all.new.frames.resident in
+    let is = c.spill_all.new.working.spilled.items in
+    let ss = c.spill_all.new.working.frames.resident in
     let e = c.spill_all.ensures in
     let new = with_pages kept (pages_told tells P old flags rs) in
     left kept new old mid (spilled_images P kept old mid count rest e.slots)
@@ -30,13 +30,13 @@ pub returns-then-is_empty-clause-images : goal.returns-then-is_empty-clause-imag
 returns-then-is_empty-clause-images g c told kept count rest =
     let content = g.D.Device.content in
     let tells = g.D.Device.tells in
-    let flags = c.args.spilled.now.items in
-    let rs = c.args.frames.now.resident in
+    let flags = c.args.working.now.spilled.items in
+    let rs = c.args.working.now.frames.resident in
     let P = length flags in
     let old = content c.args.device.now in
     let mid = content c.spill_all.new.device in
-    let is = c.spill_all.new.spilled.items in
-    let ss = c.spill_all.new.frames.resident in
+    let is = c.spill_all.new.working.spilled.items in
+    let ss = c.spill_all.new.working.frames.resident in
     let e = c.spill_all.ensures in
     let new = with_pages kept (pages_told tells P old flags rs) in
     left kept new old mid (spilled_images P kept old mid count rest e.slots)
@@ -45,13 +45,13 @@ pub returns-in_err-publish-clause-images : goal.returns-in_err-publish-clause-im
 returns-in_err-publish-clause-images g c told kept count rest =
     let content = g.D.Device.content in
     let tells = g.D.Device.tells in
-    let flags = c.args.spilled.now.items in
-    let rs = c.args.frames.now.resident in
+    let flags = c.args.working.now.spilled.items in
+    let rs = c.args.working.now.frames.resident in
     let P = length flags in
     let old = content c.args.device.now in
     let mid = content c.spill_all.new.device in
-    let is = c.spill_all.new.spilled.items in
-    let ss = c.spill_all.new.frames.resident in
+    let is = c.spill_all.new.working.spilled.items in
+    let ss = c.spill_all.new.working.frames.resident in
     let e = c.spill_all.ensures in
     let new = with_pages kept (pages_told tells P old flags rs) in
     let room : 7 + 2 * P ≤ length mid.now.blocks = omega (arith, g.met.D.Device.sized c.spill_all.new.device told, e.size, c.requires.room) in
@@ -62,13 +62,13 @@ pub returns-clause-images : goal.returns-clause-images
 returns-clause-images g c told kept count rest =
     let content = g.D.Device.content in
     let tells = g.D.Device.tells in
-    let flags = c.args.spilled.now.items in
-    let rs = c.args.frames.now.resident in
+    let flags = c.args.working.now.spilled.items in
+    let rs = c.args.working.now.frames.resident in
     let P = length flags in
     let old = content c.args.device.now in
     let mid = content c.spill_all.new.device in
-    let is = c.spill_all.new.spilled.items in
-    let ss = c.spill_all.new.frames.resident in
+    let is = c.spill_all.new.working.spilled.items in
+    let ss = c.spill_all.new.working.frames.resident in
     let e = c.spill_all.ensures in
     let new = with_pages kept (pages_told tells P old flags rs) in
     let room : 7 + 2 * P ≤ length mid.now.blocks = omega (arith, g.met.D.Device.sized c.spill_all.new.device told, e.size, c.requires.room) in
@@ -79,31 +79,31 @@ pub returns-then-is_empty-clause-at_rest : goal.returns-then-is_empty-clause-at_
 returns-then-is_empty-clause-at_rest g c told kept count rest =
     let content = g.D.Device.content in
     let tells = g.D.Device.tells in
-    let flags = c.args.spilled.now.items in
-    let rs = c.args.frames.now.resident in
+    let flags = c.args.working.now.spilled.items in
+    let rs = c.args.working.now.frames.resident in
     let P = length flags in
     let old = content c.args.device.now in
     let mid = content c.spill_all.new.device in
-    let is = c.spill_all.new.spilled.items in
-    let ss = c.spill_all.new.frames.resident in
+    let is = c.spill_all.new.working.spilled.items in
+    let ss = c.spill_all.new.working.frames.resident in
     let e = c.spill_all.ensures in
     let new = with_pages kept (pages_told tells P old flags rs) in
     let room : 7 + 2 * P ≤ length mid.now.blocks = omega (arith, g.met.D.Device.sized c.spill_all.new.device told, e.size, c.requires.room) in
     let at_slot = c.in_ok-spill_all.ensures.stored told in
-    let none : length c.spill_all.new.listed.items ≡ 0 = search rules in
-    none_spilled P kept old mid count rest e.slots tells told room flags is rs ss e.long (e.same told) at_slot c.spill_all.new.listed.items none e.listed
+    let none : length c.spill_all.new.working.listed.items ≡ 0 = search rules in
+    none_spilled P kept old mid count rest e.slots tells told room flags is rs ss e.long (e.same told) at_slot c.spill_all.new.working.listed.items none c.spill_all.new.working.named
 
 pub returns-clause-at_rest : goal.returns-clause-at_rest
 returns-clause-at_rest g c told kept count rest =
     let content = g.D.Device.content in
     let tells = g.D.Device.tells in
-    let flags = c.args.spilled.now.items in
-    let rs = c.args.frames.now.resident in
+    let flags = c.args.working.now.spilled.items in
+    let rs = c.args.working.now.frames.resident in
     let P = length flags in
     let old = content c.args.device.now in
     let mid = content c.spill_all.new.device in
-    let is = c.spill_all.new.spilled.items in
-    let ss = c.spill_all.new.frames.resident in
+    let is = c.spill_all.new.working.spilled.items in
+    let ss = c.spill_all.new.working.frames.resident in
     let e = c.spill_all.ensures in
     let new = with_pages kept (pages_told tells P old flags rs) in
     let room : 7 + 2 * P ≤ length mid.now.blocks = omega (arith, g.met.D.Device.sized c.spill_all.new.device told, e.size, c.requires.room) in
@@ -111,67 +111,67 @@ returns-clause-at_rest g c told kept count rest =
     c.in_ok-publish.ensures.at_rest told kept (pages_told tells P old flags rs) (spilled_count P kept old mid count rest e.slots tells told room flags is rs ss e.long (e.same told) at_slot) (spilled_long P kept old mid count rest e.slots tells told room flags is rs ss e.long (e.same told) at_slot) (spilled_rest P kept old mid count rest e.slots) (spilled_same P kept old mid count rest e.slots tells told room flags is rs ss e.long (e.same told) at_slot) (spilled_held P kept old mid count rest e.slots tells told room flags is rs ss e.long (e.same told) at_slot)
 
 pub returns-then-is_empty-clause-closed : goal.returns-then-is_empty-clause-closed
-returns-then-is_empty-clause-closed g c told closed = slots_gate (length c.args.spilled.now.items) _ _ c.spill_all.ensures.slots closed
+returns-then-is_empty-clause-closed g c told closed = slots_gate (length c.args.working.now.spilled.items) _ _ c.spill_all.ensures.slots closed
 
 pub returns-in_err-publish-clause-cached : goal.returns-in_err-publish-clause-cached
 returns-in_err-publish-clause-cached g c told =
     let content = g.D.Device.content in
-    let P = length c.args.spilled.now.items in
+    let P = length c.args.working.now.spilled.items in
     let e = c.spill_all.ensures in
-    let is = c.spill_all.new.spilled.items in
-    let rs = c.spill_all.new.frames.resident in
-    let listed = c.spill_all.new.listed.items in
+    let is = c.spill_all.new.working.spilled.items in
+    let rs = c.spill_all.new.working.frames.resident in
+    let listed = c.spill_all.new.working.listed.items in
     let mid = content c.spill_all.new.device in
     let new = content c.publish.new.device in
     let rest = subst (λ (k : ℕ). OnlyBlocks (IsCommitted k listed) mid new) e.long c.publish.ensures.rest in
     moved_cached P mid.now.blocks new.now.blocks is is rs c.publish.new.frames.resident c.publish.ensures.order
-    (failed_stored P is listed e.listed e.long mid new rest) (e.cached told)
+    (failed_stored P is listed c.spill_all.new.working.named e.long mid new rest) (e.cached told)
 
 pub returns-clause-cached : goal.returns-clause-cached
 returns-clause-cached g c told =
     let content = g.D.Device.content in
-    let P = length c.args.spilled.now.items in
+    let P = length c.args.working.now.spilled.items in
     let e = c.spill_all.ensures in
-    let is = c.spill_all.new.spilled.items in
-    let rs = c.spill_all.new.frames.resident in
-    let listed = c.spill_all.new.listed.items in
+    let is = c.spill_all.new.working.spilled.items in
+    let rs = c.spill_all.new.working.frames.resident in
+    let listed = c.spill_all.new.working.listed.items in
     let mid = content c.spill_all.new.device in
     let new = content c.publish.new.device in
     let rest = subst (λ (k : ℕ). OnlyBlocks (IsCommitted k listed) mid new) e.long c.publish.ensures.rest in
     let flags = c.clear.new.spilled.items in
     let homes = subst (λ (k : ℕ). (p : ℕ) → get_or is p false ≡ true → block_of new.now (home k p) ≡ block_of mid.now (7 + p)) e.long (c.in_ok-publish.ensures.homes told) in
-    let stored = done_stored P is listed e.listed e.long mid new rest flags c.clear.ensures.none homes in
+    let stored = done_stored P is listed c.spill_all.new.working.named e.long mid new rest flags c.clear.ensures.none homes in
     moved_cached P mid.now.blocks new.now.blocks is flags rs c.publish.new.frames.resident c.publish.ensures.order stored (e.cached told)
 
 pub returns-clause-same : goal.returns-clause-same
 returns-clause-same g c told q =
     let content = g.D.Device.content in
-    let P = length c.args.spilled.now.items in
+    let P = length c.args.working.now.spilled.items in
     let e = c.spill_all.ensures in
-    let is = c.spill_all.new.spilled.items in
-    let rs = c.spill_all.new.frames.resident in
-    let listed = c.spill_all.new.listed.items in
+    let is = c.spill_all.new.working.spilled.items in
+    let rs = c.spill_all.new.working.frames.resident in
+    let listed = c.spill_all.new.working.listed.items in
     let mid = content c.spill_all.new.device in
     let new = content c.publish.new.device in
     let rest = subst (λ (k : ℕ). OnlyBlocks (IsCommitted k listed) mid new) e.long c.publish.ensures.rest in
     let flags = c.clear.new.spilled.items in
     let homes = subst (λ (k : ℕ). (p : ℕ) → get_or is p false ≡ true → block_of new.now (home k p) ≡ block_of mid.now (7 + p)) e.long (c.in_ok-publish.ensures.homes told) in
-    let stored = done_stored P is listed e.listed e.long mid new rest flags c.clear.ensures.none homes in
+    let stored = done_stored P is listed c.spill_all.new.working.named e.long mid new rest flags c.clear.ensures.none homes in
     moved_pages P mid.now.blocks new.now.blocks is flags rs c.publish.new.frames.resident c.publish.ensures.order stored q ∙ e.same told q
 
 pub returns-clause-home : goal.returns-clause-home
 returns-clause-home g c told q =
     let content = g.D.Device.content in
-    let P = length c.args.spilled.now.items in
+    let P = length c.args.working.now.spilled.items in
     let e = c.spill_all.ensures in
-    let is = c.spill_all.new.spilled.items in
-    let rs = c.spill_all.new.frames.resident in
-    let listed = c.spill_all.new.listed.items in
+    let is = c.spill_all.new.working.spilled.items in
+    let rs = c.spill_all.new.working.frames.resident in
+    let listed = c.spill_all.new.working.listed.items in
     let mid = content c.spill_all.new.device in
     let new = content c.publish.new.device in
     let rest = subst (λ (k : ℕ). OnlyBlocks (IsCommitted k listed) mid new) e.long c.publish.ensures.rest in
     let flags = c.clear.new.spilled.items in
     let homes = subst (λ (k : ℕ). (p : ℕ) → get_or is p false ≡ true → block_of new.now (home k p) ≡ block_of mid.now (7 + p)) e.long (c.in_ok-publish.ensures.homes told) in
-    let stored = done_stored P is listed e.listed e.long mid new rest flags c.clear.ensures.none homes in
+    let stored = done_stored P is listed c.spill_all.new.working.named e.long mid new rest flags c.clear.ensures.none homes in
     moved_pages P mid.now.blocks new.now.blocks is flags rs c.publish.new.frames.resident c.publish.ensures.order stored q
     ∙ c.in_ok-spill_all.ensures.stored told q ∙ sym (stored q) ∙ stored_home P new.now.blocks flags c.clear.ensures.none q

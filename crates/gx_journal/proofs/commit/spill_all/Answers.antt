@@ -19,36 +19,40 @@ none_before pool from page next below q lt ch = elim (leb_tells from q) [
 ]
 
 pub spill_one-requires-clause-below : goal.spill_one-requires-clause-below
-spill_one-requires-clause-below g c = omega (arith, next_below c.loop-p.frames c.loop-p.from c.in-Some.p c.next_changed.ensures.pool c.in-Some.ensures.next, c.loop-p.invariant.pages, c.requires.pages, c.loop-p.invariant.long)
+spill_one-requires-clause-below g c = omega (arith, next_below c.loop-p.working.frames c.loop-p.from c.in-Some.p c.next_changed.ensures.pool c.in-Some.ensures.next, c.loop-p.working.pages)
 
 pub overflow_add-from : goal.overflow_add-from
-overflow_add-from g c = omega (arith, next_below c.loop-p.frames c.loop-p.from c.in-Some.p c.next_changed.ensures.pool c.in-Some.ensures.next, c.loop-p.invariant.pages, c.requires.pages, c.requires.few)
+overflow_add-from g c = omega (arith, next_below c.loop-p.working.frames c.loop-p.from c.in-Some.p c.next_changed.ensures.pool c.in-Some.ensures.next, c.loop-p.working.pages, c.loop-p.working.few)
 
 pub loop-p-smaller : goal.loop-p-smaller
-loop-p-smaller g c = omega (arith, next_below c.loop-p.frames c.loop-p.from c.in-Some.p c.next_changed.ensures.pool c.in-Some.ensures.next, c.in-Some.ensures.next.above, c.loop-p.invariant.pages, c.requires.pages, c.loop-p.invariant.long, c.spill_one.ensures.long)
+loop-p-smaller g c = omega (arith, next_below c.loop-p.working.frames c.loop-p.from c.in-Some.p c.next_changed.ensures.pool c.in-Some.ensures.next, c.in-Some.ensures.next.above, c.loop-p.working.pages, c.spill_one.ensures.long)
 
 pub loop-p-preserved : goal.loop-p-preserved
 loop-p-preserved g c =
     let inv = c.loop-p.invariant in
     let e = c.spill_one.ensures in
-    let P = length c.args.spilled.now.items in
+    let P = length c.args.working.now.spilled.items in
     let before = g.D.Device.content c.args.device.now in
     let mid = g.D.Device.content c.loop-p.device in
     let after = g.D.Device.content c.spill_one.new.device in
-    let spilled = c.spill_one.new.spilled.items in
-    let ss = c.spill_one.new.frames.resident in
+    let spilled = c.spill_one.new.working.spilled.items in
+    let ss = c.spill_one.new.working.frames.resident in
     record {
       size = e.size ∙ inv.size;
       faults = c.in_ok-spill_one.ensures.cause.same ∙ inv.faults;
-      pages = e.pages ∙ inv.pages;
       long = e.long ∙ inv.long;
-      space = omega (arith, inv.space, e.space);
-      listed = e.listed;
-      same = λ told q. subst (λ (n : ℕ). page_of n after.now.blocks spilled ss q ≡ page_of n mid.now.blocks c.loop-p.spilled.items c.loop-p.frames.resident q) inv.long (e.same told q) ∙ inv.same told q;
+      same = λ told q. subst (λ (n : ℕ). page_of n after.now.blocks spilled ss q ≡ page_of n mid.now.blocks c.loop-p.working.spilled.items c.loop-p.working.frames.resident q) inv.long (e.same told q) ∙ inv.same told q;
       cached = λ told. subst (λ (n : ℕ). IsCached n after.now.blocks spilled ss) inv.long (e.cached told);
       slots = slots_twice P before mid after inv.slots (subst (λ (n : ℕ). OnlySlots n mid after) inv.long e.slots);
       below = λ q lt h. elim (eqb_tells q c.in-Some.p) [
-        | inl same ↦ c.in_ok-spill_one.ensures.clean (subst (λ (k : ℕ). IsChanged c.spill_one.new.frames k) same.1 h)
-        | inr other ↦ (let ne = other.1 in c.in_ok-spill_one.ensures.still q (none_before c.loop-p.frames c.loop-p.from c.in-Some.p c.in-Some.ensures.next inv.below q (omega (arith, lt, ne))) h)
+        | inl same ↦ c.in_ok-spill_one.ensures.clean (subst (λ (k : ℕ). IsChanged c.spill_one.new.working.frames k) same.1 h)
+        | inr other ↦ (let ne = other.1 in c.in_ok-spill_one.ensures.still q (none_before c.loop-p.working.frames c.loop-p.from c.in-Some.p c.in-Some.ensures.next inv.below q (omega (arith, lt, ne))) h)
       ];
     }
+
+pub returns-in_err-spill_one-clause-slots : goal.returns-in_err-spill_one-clause-slots
+returns-in_err-spill_one-clause-slots g c =
+    let before = g.D.Device.content c.args.device.now in
+    let mid = g.D.Device.content c.loop-p.device in
+    let after = g.D.Device.content c.spill_one.new.device in
+    slots_twice (length c.args.working.now.spilled.items) before mid after c.loop-p.invariant.slots (subst (λ (n : ℕ). OnlySlots n mid after) c.loop-p.invariant.long c.spill_one.ensures.slots)

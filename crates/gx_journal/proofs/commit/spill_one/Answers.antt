@@ -10,15 +10,15 @@ use Rattle.gx_journal.proofs.commit.spill_one.Goals as goal
 
 pub clean-requires-clause-resident : goal.clean-requires-clause-resident
 clean-requires-clause-resident g c =
-    let rs = c.args.frames.now.resident in
+    let rs = c.args.working.now.frames.resident in
     let r = changed_at (find_page c.args.p rs) c.requires.changed in
-    some_found c.args.p c.spill.new.frames.resident r.0 (front_found c.args.p rs _ (ap (λ (x : Pool). x.resident) c.spill.ensures.frames) c.args.p ∙ r.1)
+    some_found c.args.p c.spill.new.working.frames.resident r.0 (front_found c.args.p rs _ (ap (λ (x : Pool). x.resident) c.spill.ensures.frames) c.args.p ∙ r.1)
 
 pub returns-clause-clean : goal.returns-clause-clean
 returns-clause-clean g c h =
     let p = c.args.p in
-    let rs = c.args.frames.now.resident in
-    let ss = c.spill.new.frames.resident in
+    let rs = c.args.working.now.frames.resident in
+    let ss = c.spill.new.working.frames.resident in
     let r = changed_at (find_page p rs) c.requires.changed in
     let order = front_found p rs ss (ap (λ (x : Pool). x.resident) c.spill.ensures.frames) in
     let x = find_cleaned p ss r.0 (order p ∙ r.1) in
@@ -27,8 +27,8 @@ returns-clause-clean g c h =
 pub returns-clause-still : goal.returns-clause-still
 returns-clause-still g c q not h =
     let p = c.args.p in
-    let rs = c.args.frames.now.resident in
-    let ss = c.spill.new.frames.resident in
+    let rs = c.args.working.now.frames.resident in
+    let ss = c.spill.new.working.frames.resident in
     let r = changed_at (find_page p rs) c.requires.changed in
     let order = front_found p rs ss (ap (λ (x : Pool). x.resident) c.spill.ensures.frames) in
     let x = find_cleaned p ss r.0 (order p ∙ r.1) in
@@ -40,14 +40,14 @@ returns-clause-still g c q not h =
 pub returns-clause-same : goal.returns-clause-same
 returns-clause-same g c told q =
     let p = c.args.p in
-    let rs = c.args.frames.now.resident in
-    let ss = c.spill.new.frames.resident in
+    let rs = c.args.working.now.frames.resident in
+    let ss = c.spill.new.working.frames.resident in
     let r = changed_at (find_page p rs) c.requires.changed in
     let order = front_found p rs ss (ap (λ (x : Pool). x.resident) c.spill.ensures.frames) in
     let x = find_cleaned p ss r.0 (order p ∙ r.1) in
     let blocks = (g.D.Device.content c.spill.new.device).now.blocks in
-    let P = length c.args.spilled.now.items in
-    let spilled = c.spill.new.spilled.items in
+    let P = length c.args.working.now.spilled.items in
+    let spilled = c.spill.new.working.spilled.items in
     ap (λ (y : Pool). page_of P blocks spilled y.resident q) c.clean.ensures ∙ elim (eqb_tells p q) [
       | inl same ↦ page_resident P blocks spilled (cleaned p ss) q x.0 (ap (λ (k : ℕ). find_page k (cleaned p ss)) (sym same.1) ∙ x.1) ∙ x.2
           ∙ sym (page_resident P blocks spilled ss q r.0 (ap (λ (k : ℕ). find_page k ss) (sym same.1) ∙ order p ∙ r.1))
@@ -57,13 +57,13 @@ returns-clause-same g c told q =
 pub returns-clause-cached : goal.returns-clause-cached
 returns-clause-cached g c told =
     let p = c.args.p in
-    let rs = c.args.frames.now.resident in
-    let ss = c.spill.new.frames.resident in
+    let rs = c.args.working.now.frames.resident in
+    let ss = c.spill.new.working.frames.resident in
     let r = changed_at (find_page p rs) c.requires.changed in
     let order = front_found p rs ss (ap (λ (x : Pool). x.resident) c.spill.ensures.frames) in
     let x = find_cleaned p ss r.0 (order p ∙ r.1) in
     let blocks = (g.D.Device.content c.spill.new.device).now.blocks in
-    let P = length c.args.spilled.now.items in
-    let spilled = c.spill.new.spilled.items in
+    let P = length c.args.working.now.spilled.items in
+    let spilled = c.spill.new.working.spilled.items in
     subst (λ (y : Pool). IsCached P blocks spilled y.resident) (sym c.clean.ensures)
     (placed_cached P blocks spilled ss (cleaned p ss) p x.0 x.1 (λ k off. find_cleaned_other p k ss off) (λ e. x.2 ∙ sym (c.in_ok-spill.ensures.stored told r.0 r.1)) (c.spill.ensures.cached told))

@@ -1,12 +1,11 @@
-use Rattle.std.proofs.Common.{◌≡◌, ℕ, List, length}
-use Rattle.gx_journal.specs.Sources.{IsCached}
-use Rattle.gx_journal.proofs.ForgetLemmas.{AllStored, AreLeft}
+use Rattle.std.proofs.Common.{◌≡◌, ◌<◌, ℕ, Some, None, false, get_or}
+use Rattle.gx_frames.specs.Pool.{Resident, find_page}
 use Rattle.gx_journal.proofs.forget.forget.Given as goal
 
 abbrev pub invariant-loop-i : goal.invariant-loop-i
 invariant-loop-i l = record {
-  pages : l.frames.pages ≡ l.fn.frames.pages;
-  size : length l.spilled.items ≡ length l.fn.spilled.items;
-  stored : (P : ℕ) (blocks : List (List ℕ)) → IsCached P blocks l.fn.spilled.items l.fn.frames.resident → AllStored P blocks l.spilled.items l.frames.resident;
-  left : AreLeft l.i l.listed.items l.spilled.items;
+  spilled : l.working.spilled.items ≡ l.fn.working.spilled.items;
+  listed : l.working.listed.items ≡ l.fn.working.listed.items;
+  kept : (q : ℕ) (r : Resident) → find_page q l.working.frames.resident ≡ Some r → (find_page q l.fn.working.frames.resident ≡ Some r) × (r.changed ≡ false);
+  gone : (k : ℕ) → k < l.i → find_page (get_or l.fn.working.listed.items k 0) l.working.frames.resident ≡ None;
 }

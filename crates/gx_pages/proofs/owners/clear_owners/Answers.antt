@@ -28,4 +28,4 @@ returns-clause-free g c told =
     let j = c.loop-table.journal in
     let inv = c.loop-table.invariant in
     all_free (ground_of c.args.journal.now) (working_of j) c.loop-table.table refl (count_pages j ∙ inv.keeps.size)
-    (λ page below. omega (arith, below, count_pages j, j.few, inv.keeps.size, c.loop-table-test.false, c.min-table-end.ensures, c.pages.ensures)) (inv.clear told)
+    (λ page below. omega (arith, below, count_pages j, j.working.few, inv.keeps.size, c.loop-table-test.false, c.min-table-end.ensures, c.pages.ensures)) (inv.clear told)

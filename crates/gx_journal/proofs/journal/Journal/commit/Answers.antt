@@ -15,36 +15,36 @@ pub returns-clause-kept : goal.returns-clause-kept
 returns-clause-kept g c =
     let old = c.args.self.now in
     let new = c.commit-committed.new in
-    committed c.commit-committed.result g.D.Device.tells (length old.spilled.items) (length new.spilled.items) (g.D.Device.content old.device) (g.D.Device.content new.device) old.spilled.items new.spilled.items old.frames.resident new.frames.resident c.commit-committed.ensures.long
+    committed c.commit-committed.result g.D.Device.tells (length old.working.spilled.items) (length new.working.spilled.items) (g.D.Device.content old.device) (g.D.Device.content new.device) old.working.spilled.items new.working.spilled.items old.working.frames.resident new.working.frames.resident c.commit-committed.ensures.long
     (λ told. omega (arith, old.room, g.met.D.Device.sized old.device told, c.commit-committed.ensures.body.count)) c.commit-committed.ensures.home c.commit-committed.ensures.same
 
 pub returns-clause-working : goal.returns-clause-working
 returns-clause-working g c =
     let old = c.args.self.now in
     let new = c.commit-committed.new in
-    committed_pages c.commit-committed.result g.D.Device.tells (length old.spilled.items) (length new.spilled.items) (g.D.Device.content old.device) (g.D.Device.content new.device) old.spilled.items new.spilled.items old.frames.resident new.frames.resident c.commit-committed.ensures.long c.commit-committed.ensures.same
+    committed_pages c.commit-committed.result g.D.Device.tells (length old.working.spilled.items) (length new.working.spilled.items) (g.D.Device.content old.device) (g.D.Device.content new.device) old.working.spilled.items new.working.spilled.items old.working.frames.resident new.working.frames.resident c.commit-committed.ensures.long c.commit-committed.ensures.same
 
 pub returns-clause-images : goal.returns-clause-images
 returns-clause-images g c start is =
     let old = c.args.self.now in
     let tells = g.D.Device.tells in
-    let P = length old.spilled.items in
+    let P = length old.working.spilled.items in
     let before = g.D.Device.content old.device in
     let kept = homes_told tells P before in
-    either_images tells is.told kept (pages_told tells P before old.spilled.items old.frames.resident) before _
+    either_images tells is.told kept (pages_told tells P before old.working.spilled.items old.working.frames.resident) before _
     (c.commit-committed.ensures.images is.told (view_now kept before) (calm_count tells old.failed P start before is) (calm_rest tells old.failed P start before is))
 
 pub returns-clause-calm : goal.returns-clause-calm
 returns-clause-calm g c start is =
     let old = c.args.self.now in
     let tells = g.D.Device.tells in
-    let P = length old.spilled.items in
-    let Q = length c.commit-committed.new.spilled.items in
+    let P = length old.working.spilled.items in
+    let Q = length c.commit-committed.new.working.spilled.items in
     let before = g.D.Device.content old.device in
     let after = g.D.Device.content c.commit-committed.new.device in
     let e = c.commit-committed.ensures in
-    let pages = pages_told tells P before old.spilled.items old.frames.resident in
-    let count : length pages ≡ Q = omega (arith, pages_many tells is.told P before old.spilled.items old.frames.resident, e.long) in
+    let pages = pages_told tells P before old.working.spilled.items old.working.frames.resident in
+    let count : length pages ≡ Q = omega (arith, pages_many tells is.told P before old.working.spilled.items old.working.frames.resident, e.long) in
     let room : 7 + 2 * Q ≤ length after.now.blocks = omega (arith, old.room, e.size, e.long, g.met.D.Device.sized c.commit-committed.new.device is.told) in
     calm_committed c.commit-committed.result tells old.failed c.is_err.result Q after is.steady c.is_err.ensures.value
     (on_ok_weaker c.commit-committed.result (λ rest. opened_calm tells is.told Q after (view_now pages before) count room rest false refl)
@@ -58,4 +58,4 @@ invariant_of-self-clause-closed g c told steady =
 pub invariant_of-self-clause-cached : goal.invariant_of-self-clause-cached
 invariant_of-self-clause-cached g c told =
     let new = c.commit-committed.new in
-    subst (λ (P : ℕ). IsCached P (g.D.Device.content new.device).now.blocks new.spilled.items new.frames.resident) (sym c.commit-committed.ensures.long) (c.commit-committed.ensures.cached told)
+    subst (λ (P : ℕ). IsCached P (g.D.Device.content new.device).now.blocks new.working.spilled.items new.working.frames.resident) (sym c.commit-committed.ensures.long) (c.commit-committed.ensures.cached told)

@@ -13,7 +13,7 @@ pub returns-in-Ok-format-clause-kept : goal.returns-in-Ok-format-clause-kept
 returns-in-Ok-format-clause-kept g c =
     let content = g.D.Device.content in
     let j = c.over.result in
-    formatted_kept g.D.Device.tells (length j.spilled.items) (content c.args.device) (content j.device)
+    formatted_kept g.D.Device.tells (length j.working.spilled.items) (content c.args.device) (content j.device)
     (subst (λ (x : Content). OnlyBlocks IsFormatted (content c.args.device) x) (sym (ap content c.over.ensures.device)) c.format.ensures.rest)
 
 pub returns-in-Ok-format-clause-calm : goal.returns-in-Ok-format-clause-calm
@@ -23,8 +23,8 @@ returns-in-Ok-format-clause-calm g c told =
     let same = sym (ap content c.over.ensures.device) in
     let sized = g.met.D.Device.sized j.device told in
     let size = ap (λ (d : _). g.D.Device.size d) c.over.ensures.device in
-    closed_since g.D.Device.tells (length j.spilled.items) (content j.device) told
-    (omega (arith, sized, size, c.over.ensures.size, c.in-Ok.ensures, c.blocks-2.ensures, c.format.ensures.size))
+    closed_since g.D.Device.tells (length j.working.spilled.items) (content j.device) told
+    (omega (arith, sized, size, c.over.ensures.size, c.in-Ok.ensures.count, c.blocks-2.ensures, c.format.ensures.size))
     (omega (arith, sized, size, c.requires.blocks, c.format.ensures.size))
     (subst (λ (x : Content). NonePending x) same (c.in-Ok-format.ensures.none_pending told))
     (subst (λ (x : Content). is_open (block_of x.now 1) ≡ false) same (c.in-Ok-format.ensures.closed told))
@@ -54,7 +54,7 @@ returns-in-Err-clause-faults g c = record {
 }
 
 pub over-requires-clause-count : goal.over-requires-clause-count
-over-requires-clause-count g c = omega (arith, c.blocks-2.ensures, c.in-Ok.ensures, c.format.ensures.size)
+over-requires-clause-count g c = omega (arith, c.blocks-2.ensures, c.in-Ok.ensures.count, c.format.ensures.size)
 
 pub over-requires-clause-closed : goal.over-requires-clause-closed
 over-requires-clause-closed g c told = c.in-Ok-format.ensures.closed told

@@ -6,12 +6,12 @@ use Rattle.gx_journal.proofs.journal.Journal.over.Goals as goal
 
 pub returns-clause-working : goal.returns-clause-working
 returns-clause-working g c =
-    let room = c.args.room in
-    let P = length room.spilled.items in
+    let working = c.args.working in
+    let P = length working.spilled.items in
     let content = g.D.Device.content c.args.device in
-    let rs = room.frames.resident in
-    pages_home g.D.Device.tells P P content room.spilled.items rs refl
+    let rs = working.frames.resident in
+    pages_home g.D.Device.tells P P content working.spilled.items rs refl
     (λ told. omega (arith, c.requires.blocks, g.met.D.Device.sized c.args.device told))
-    (λ told. all_home P content.now.blocks room.spilled.items rs
-    (none_set P room.spilled.items room.unspilled)
-    (λ q r is. absurd (let e : ◌≡◌ {A = Option Resident} None (Some r) = sym (ap (λ (l : List Resident). find_page q l) room.free) ∙ is in cc)))
+    (λ told. all_home P content.now.blocks working.spilled.items rs
+    (none_set P working.spilled.items c.requires.unspilled)
+    (λ q r is. absurd (let e : ◌≡◌ {A = Option Resident} None (Some r) = sym (ap (λ (l : List Resident). find_page q l) c.requires.absent) ∙ is in cc)))

@@ -9,8 +9,8 @@ pub returns-clause-keeps : goal.returns-clause-keeps
 returns-clause-keeps g c =
     let old = c.args.self.now in
     let tells = g.D.Device.tells in
-    let P = length old.spilled.items in
-    let Q = length c.read.new.spilled.items in
+    let P = length old.working.spilled.items in
+    let Q = length c.read.new.working.spilled.items in
     let before = g.D.Device.content old.device in
     let after = g.D.Device.content c.read.new.device in
     record {
@@ -22,23 +22,23 @@ returns-clause-keeps g c =
     }
 
 pub returns-clause-silent : goal.returns-clause-silent
-returns-clause-silent g c = slots_silent (length c.args.self.now.spilled.items) _ _ c.read.ensures.slots
+returns-clause-silent g c = slots_silent (length c.args.self.now.working.spilled.items) _ _ c.read.ensures.slots
 
 pub returns-clause-working : goal.returns-clause-working
 returns-clause-working g c =
     let old = c.args.self.now in
-    pages_same g.D.Device.tells (length old.spilled.items) (length c.read.new.spilled.items) (g.D.Device.content old.device) (g.D.Device.content c.read.new.device) old.spilled.items c.read.new.spilled.items old.frames.resident c.read.new.frames.resident c.read.ensures.long c.read.ensures.same
+    pages_same g.D.Device.tells (length old.working.spilled.items) (length c.read.new.working.spilled.items) (g.D.Device.content old.device) (g.D.Device.content c.read.new.device) old.working.spilled.items c.read.new.working.spilled.items old.working.frames.resident c.read.new.working.frames.resident c.read.ensures.long c.read.ensures.same
 
 pub returns-clause-page : goal.returns-clause-page
 returns-clause-page g c told =
     let old = c.args.self.now in
-    on_ok_weaker c.read.result (λ is. is ∙ sym (pages_at g.D.Device.tells (length old.spilled.items) (g.D.Device.content old.device) old.spilled.items old.frames.resident told c.args.p c.requires.below)) (c.read.ensures.page told)
+    on_ok_weaker c.read.result (λ is. is ∙ sym (pages_at g.D.Device.tells (length old.working.spilled.items) (g.D.Device.content old.device) old.working.spilled.items old.working.frames.resident told c.args.p c.requires.below)) (c.read.ensures.page told)
 
 pub invariant_of-self-clause-closed : goal.invariant_of-self-clause-closed
 invariant_of-self-clause-closed g c told steady =
-    slots_gate (length c.args.self.now.spilled.items) _ _ c.read.ensures.slots (c.args.self.now.closed told steady)
+    slots_gate (length c.args.self.now.working.spilled.items) _ _ c.read.ensures.slots (c.args.self.now.closed told steady)
 
 pub invariant_of-self-clause-cached : goal.invariant_of-self-clause-cached
 invariant_of-self-clause-cached g c told =
     let new = c.read.new in
-    subst (λ (P : ℕ). IsCached P (g.D.Device.content new.device).now.blocks new.spilled.items new.frames.resident) (sym c.read.ensures.long) (c.read.ensures.cached told)
+    subst (λ (P : ℕ). IsCached P (g.D.Device.content new.device).now.blocks new.working.spilled.items new.working.frames.resident) (sym c.read.ensures.long) (c.read.ensures.cached told)

@@ -8,21 +8,17 @@ pub invariant_of-self : goal.invariant_of-self
 invariant_of-self g c =
     let old = c.args.self.now in
     record {
-      few = old.few;
       room = omega (arith, old.room, c.say.ensures.size);
       limit = omega (arith, old.limit, c.say.ensures.size);
       count = old.count ∙ ap pages_of (sym c.say.ensures.size);
       closed = λ told steady. ap (λ (l : List (List ℕ)). is_open (get_or l 1 [])) c.say.ensures.rest.blocks ∙ old.closed told steady;
-      pages = old.pages;
-      named = old.named;
-      space = old.space;
-      cached = λ told. still_cached (g.D.Device.content old.device) (g.D.Device.content c.say.new.self) c.say.ensures.rest.blocks (length old.spilled.items) old.spilled.items old.frames.resident (old.cached told);
+      cached = λ told. still_cached (g.D.Device.content old.device) (g.D.Device.content c.say.new.self) c.say.ensures.rest.blocks (length old.working.spilled.items) old.working.spilled.items old.working.frames.resident (old.cached told);
     }
 
 pub returns-clause-working : goal.returns-clause-working
 returns-clause-working g c =
     let old = c.args.self.now in
-    still_pages (g.D.Device.content old.device) (g.D.Device.content c.say.new.self) c.say.ensures.rest.blocks g.D.Device.tells (length old.spilled.items) old.spilled.items old.frames.resident
+    still_pages (g.D.Device.content old.device) (g.D.Device.content c.say.new.self) c.say.ensures.rest.blocks g.D.Device.tells (length old.working.spilled.items) old.working.spilled.items old.working.frames.resident
 
 pub returns-clause-keeps : goal.returns-clause-keeps
 returns-clause-keeps g c =
@@ -30,7 +26,7 @@ returns-clause-keeps g c =
     let before = g.D.Device.content old.device in
     let after = g.D.Device.content c.say.new.self in
     let blocks = c.say.ensures.rest.blocks in
-    let P = length old.spilled.items in
+    let P = length old.working.spilled.items in
     record {
       kept = still_homes before after blocks g.D.Device.tells P;
       head = still_head before after blocks g.D.Device.tells;

@@ -11,21 +11,17 @@ pub invariant_of-self : goal.invariant_of-self
 invariant_of-self g c =
     let old = c.args.self.now in
     record {
-      few = old.few;
       room = omega (arith, old.room, c.texts_differ.ensures.size);
       limit = omega (arith, old.limit, c.texts_differ.ensures.size);
       count = old.count ∙ ap pages_of (sym c.texts_differ.ensures.size);
       closed = λ told steady. ap (λ (m : Moment). is_open (block_of m 1)) c.texts_differ.ensures.reads.now ∙ old.closed told steady;
-      pages = old.pages;
-      named = old.named;
-      space = old.space;
-      cached = λ told. still_cached (g.D.Device.content old.device) (g.D.Device.content c.texts_differ.new.device) (ap (λ (m : Moment). m.blocks) c.texts_differ.ensures.reads.now) (length old.spilled.items) old.spilled.items old.frames.resident (old.cached told);
+      cached = λ told. still_cached (g.D.Device.content old.device) (g.D.Device.content c.texts_differ.new.device) (ap (λ (m : Moment). m.blocks) c.texts_differ.ensures.reads.now) (length old.working.spilled.items) old.working.spilled.items old.working.frames.resident (old.cached told);
     }
 
 pub returns-clause-working : goal.returns-clause-working
 returns-clause-working g c =
     let old = c.args.self.now in
-    still_pages (g.D.Device.content old.device) (g.D.Device.content c.texts_differ.new.device) (ap (λ (m : Moment). m.blocks) c.texts_differ.ensures.reads.now) g.D.Device.tells (length old.spilled.items) old.spilled.items old.frames.resident
+    still_pages (g.D.Device.content old.device) (g.D.Device.content c.texts_differ.new.device) (ap (λ (m : Moment). m.blocks) c.texts_differ.ensures.reads.now) g.D.Device.tells (length old.working.spilled.items) old.working.spilled.items old.working.frames.resident
 
 pub returns-clause-keeps : goal.returns-clause-keeps
 returns-clause-keeps g c =
@@ -33,7 +29,7 @@ returns-clause-keeps g c =
     let before = g.D.Device.content old.device in
     let after = g.D.Device.content c.texts_differ.new.device in
     let blocks = (ap (λ (m : Moment). m.blocks) c.texts_differ.ensures.reads.now) in
-    let P = length old.spilled.items in
+    let P = length old.working.spilled.items in
     record {
       kept = still_homes before after blocks g.D.Device.tells P;
       head = still_head before after blocks g.D.Device.tells;

@@ -9,8 +9,8 @@ pub returns-clause-keeps : goal.returns-clause-keeps
 returns-clause-keeps g c =
     let old = c.args.self.now in
     let tells = g.D.Device.tells in
-    let P = length old.spilled.items in
-    let Q = length c.write.new.spilled.items in
+    let P = length old.working.spilled.items in
+    let Q = length c.write.new.working.spilled.items in
     let before = g.D.Device.content old.device in
     let after = g.D.Device.content c.write.new.device in
     record {
@@ -22,23 +22,23 @@ returns-clause-keeps g c =
     }
 
 pub returns-clause-silent : goal.returns-clause-silent
-returns-clause-silent g c = slots_silent (length c.args.self.now.spilled.items) _ _ c.write.ensures.slots
+returns-clause-silent g c = slots_silent (length c.args.self.now.working.spilled.items) _ _ c.write.ensures.slots
 
 pub returns-clause-page : goal.returns-clause-page
 returns-clause-page g c told =
     let old = c.args.self.now in
-    on_ok_weaker c.write.result (λ is. pages_set g.D.Device.tells (length old.spilled.items) (length c.write.new.spilled.items) (g.D.Device.content old.device) (g.D.Device.content c.write.new.device) old.spilled.items c.write.new.spilled.items old.frames.resident c.write.new.frames.resident c.args.p c.args.from.now c.write.ensures.long told c.requires.below is (c.write.ensures.others told)) (c.write.ensures.page told)
+    on_ok_weaker c.write.result (λ is. pages_set g.D.Device.tells (length old.working.spilled.items) (length c.write.new.working.spilled.items) (g.D.Device.content old.device) (g.D.Device.content c.write.new.device) old.working.spilled.items c.write.new.working.spilled.items old.working.frames.resident c.write.new.working.frames.resident c.args.p c.args.from.now c.write.ensures.long told c.requires.below is (c.write.ensures.others told)) (c.write.ensures.page told)
 
 pub returns-clause-failed : goal.returns-clause-failed
 returns-clause-failed g c =
     let old = c.args.self.now in
-    err_under c.write.result c.write.ensures.failed (λ same. pages_same g.D.Device.tells (length old.spilled.items) (length c.write.new.spilled.items) (g.D.Device.content old.device) (g.D.Device.content c.write.new.device) old.spilled.items c.write.new.spilled.items old.frames.resident c.write.new.frames.resident c.write.ensures.long same)
+    err_under c.write.result c.write.ensures.failed (λ same. pages_same g.D.Device.tells (length old.working.spilled.items) (length c.write.new.working.spilled.items) (g.D.Device.content old.device) (g.D.Device.content c.write.new.device) old.working.spilled.items c.write.new.working.spilled.items old.working.frames.resident c.write.new.working.frames.resident c.write.ensures.long same)
 
 pub invariant_of-self-clause-closed : goal.invariant_of-self-clause-closed
 invariant_of-self-clause-closed g c told steady =
-    slots_gate (length c.args.self.now.spilled.items) _ _ c.write.ensures.slots (c.args.self.now.closed told steady)
+    slots_gate (length c.args.self.now.working.spilled.items) _ _ c.write.ensures.slots (c.args.self.now.closed told steady)
 
 pub invariant_of-self-clause-cached : goal.invariant_of-self-clause-cached
 invariant_of-self-clause-cached g c told =
     let new = c.write.new in
-    subst (λ (P : ℕ). IsCached P (g.D.Device.content new.device).now.blocks new.spilled.items new.frames.resident) (sym c.write.ensures.long) (c.write.ensures.cached told)
+    subst (λ (P : ℕ). IsCached P (g.D.Device.content new.device).now.blocks new.working.spilled.items new.working.frames.resident) (sym c.write.ensures.long) (c.write.ensures.cached told)

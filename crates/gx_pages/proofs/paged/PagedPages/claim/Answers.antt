@@ -9,7 +9,7 @@ use Rattle.gx_pages.proofs.paged.PagedPages.claim.Goals as goal
 pub returns-in_default-clause-full : goal.returns-in_default-clause-full
 returns-in_default-clause-full g c told full =
     let j = c.args.self.now.journal in
-    none_free (ground_of j) (working_of j) c.in_ok-page.field-0 (count_pages j) (omega (arith, count_pages j, j.few)) c.in_default.is (c.in_ok-page.ensures.free told)
+    none_free (ground_of j) (working_of j) c.in_ok-page.field-0 (count_pages j) (omega (arith, count_pages j, j.working.few)) c.in_default.is (c.in_ok-page.ensures.free told)
 
 pub returns-clause-claimed : goal.returns-clause-claimed
 returns-clause-claimed g c told =

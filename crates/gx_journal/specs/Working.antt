@@ -1,0 +1,22 @@
+-- What is in memory of the working pages, as contracts see it.
+use Rattle.std.specs.Prelude.{ℕ, Bool, List, length}
+use Rattle.gx_device.specs.Content.{Content}
+use Rattle.gx_journal.specs.Sources.{page_of, IsCached}
+use Rattle.gx_journal.specs.State.{pages_told}
+use Rattle.gx_journal.specs.declared.working.WorkingPages.{WorkingPages}
+
+-- how many pages there are
+abbrev pub size_in : WorkingPages → ℕ
+size_in w = length w.spilled.items
+
+-- a working page, over what the device holds
+abbrev pub page_in : ℕ → Content → WorkingPages → ℕ → List ℕ
+page_in P c w = page_of P c.now.blocks w.spilled.items w.frames.resident
+
+-- the working pages
+abbrev pub pages_in : Bool → ℕ → Content → WorkingPages → List (List ℕ)
+pages_in tells P c w = pages_told tells P c w.spilled.items w.frames.resident
+
+-- a page in a frame that hasn't changed has the bytes that the device holds of it
+abbrev pub IsCachedIn : ℕ → Content → WorkingPages → Type 0
+IsCachedIn P c w = IsCached P c.now.blocks w.spilled.items w.frames.resident
