@@ -42,5 +42,6 @@ module _ {D : Type 0} {g : device.Ghosts D} where
     pub kept : kept_of new ≡ kept_of old
     pub head : head_blocks new ≡ head_blocks old
     pub size : size_of new ≡ size_of old
+    pub blocks : g.size (device_of new) ≡ g.size (device_of old)
     pub steady : new.failed ≡ old.failed
     pub calm : (start : Content) → IsCalm old start → IsCalm new start

@@ -153,6 +153,7 @@ impl<D: Device> Journal<D> {
         ensures working { working_of self.new ≡ working_of self.old }
         ensures kept { kept_of self.new ≡ kept_of self.old }
         ensures size { size_of self.new ≡ size_of self.old }
+        ensures blocks { D.size (device_of self.new) ≡ D.size (device_of self.old) }
         ensures steady { IsSteady self.old ↔ IsSteady self.new }
         ensures calm { (start : Content) → IsCalm self.old start → OnOk result (IsCalm self.new (content_of self.new)) }
         ensures images { (start : Content) → IsCalm self.old start → LeavesOnly
@@ -228,6 +229,7 @@ impl<D: Device> Journal<D> {
         ensures working { OnOk result (working_of self.new ≡ working_of self.old) }
         ensures head { head_blocks self.new ≡ head_blocks self.old }
         ensures size { size_of self.new ≡ size_of self.old }
+        ensures blocks { D.size (device_of self.new) ≡ D.size (device_of self.old) }
         ensures steady { OnOk result (IsSteady self.old ↔ IsSteady self.new) }
         ensures images { (start : Content) → IsCalm self.old start → LeavesOnly
             (IsOldOrNew (Shows (head_blocks self.old) (kept_of self.old)) (Shows (head_blocks self.old) (working_of self.old))

@@ -1,5 +1,5 @@
 -- Pages with owners, as functions of the journal below.
-use Rattle.std.specs.Prelude.{◌≡◌, ℕ, ◌+◌, ◌*◌, List, Result}
+use Rattle.std.specs.Prelude.{◌≡◌, ℕ, List, Result}
 use Rattle.gx_device.specs.declared.device.Device as device
 use Rattle.gx_device.specs.Content.{Silent}
 use Rattle.gx_device.specs.Faults.{IsCounted}
@@ -21,9 +21,9 @@ module _ {D : Type 0} {g : device.Ghosts D} where
   abbrev pub kept_sheets : Journal D g → Sheets
   kept_sheets j = sheets_of (kept_of j)
 
-  -- the blocks are those up to the last home
+  -- the blocks are all of the device
   abbrev pub ground_of : Journal D g → Ground
-  ground_of j = record { size = size_of j; tables = 16; blocks = 7 + 2 * size_of j; head = head_blocks j }
+  ground_of j = record { size = size_of j; tables = 16; blocks = g.size (device_of j); head = head_blocks j }
 
   -- what a call keeps of the journal, and how it counts faults
   pub record KeepsJournal {T E : Type 0} (old new : Journal D g) (result : Result T E) : Type 0 where

@@ -1,5 +1,5 @@
 -- What the blocks of a device hold: a database under two texts.
-use Rattle.std.specs.Prelude.{◌≡◌, ◌+◌, ◌*◌, ◌≤◌, ◌<◌, ℕ, false, List, [], length, replicate, take, drop, get_or, slice_index_or}
+use Rattle.std.specs.Prelude.{◌≡◌, ◌+◌, ◌≤◌, ◌<◌, ℕ, false, List, [], length, replicate, take, drop, get_or, slice_index_or}
 use Rattle.std.specs.FinMap.{empty}
 use Rattle.gx_ports.specs.declared.kinds.LeafSpec.{LeafSpec}
 use Rattle.gx_ports.specs.LeafMaps.{LeafMap}
@@ -22,9 +22,9 @@ pub record IsSize (specs : List LeafSpec) (blocks : ℕ) : Type 0 where
   pub least : smallest_device specs ≤ blocks
   pub most : blocks ≤ most_blocks
 
--- how many pages there are, and of which database
+-- how many pages and blocks there are, and of which database
 abbrev pub ground_on : List (List ℕ) → Ground
-ground_on blocks = record { size = pages_of (length blocks); tables = 16; blocks = 7 + 2 * pages_of (length blocks); head = head_of blocks }
+ground_on blocks = record { size = pages_of (length blocks); tables = 16; blocks = length blocks; head = head_of blocks }
 
 -- the bytes of the text blocks of a head are the lengths of these two texts, the texts, and zeros
 abbrev pub AreTexts : List ℕ → List ℕ → List (List ℕ) → Type 0
@@ -77,7 +77,7 @@ abbrev pub IsNoneOrEmpty : List ℕ → List ℕ → List LeafSpec → List (Lis
 IsNoneOrEmpty schema equation specs blocks = HasMagic (get_or blocks 0 []) → Reopens schema equation specs (replicate (length specs) empty) blocks
 
 -- An empty database was made on a device of so many blocks.
-pub record IsMadeOn (count : ℕ) (schema equation : List ℕ) (specs : List LeafSpec) (blocks : List (List ℕ)) : Type 0 where
-  pub pages : pages_of (length blocks) ≡ pages_of count
+pub record IsMadeOn (size : ℕ) (schema equation : List ℕ) (specs : List LeafSpec) (blocks : List (List ℕ)) : Type 0 where
+  pub count : length blocks ≡ size
   pub settled : IsSettled schema equation specs (replicate (length specs) empty) blocks
   pub reopens : Reopens schema equation specs (replicate (length specs) empty) blocks

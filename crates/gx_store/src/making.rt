@@ -3,11 +3,10 @@ ghost use Rattle.std.specs.Prelude.{◌≡◌, ◌↔◌, ◌+◌, ◌≤◌, �
 ghost use Rattle.std.specs.FinMap.{empty};
 ghost use Rattle.gx_device.specs.Content.{device_at, block_of, Silent};
 ghost use Rattle.gx_device.specs.Faults.{Counted};
-ghost use Rattle.gx_layout.specs.Layout.{pages_of};
 ghost use Rattle.gx_layout.specs.Head.{HasMagic, text_blocks};
 ghost use Rattle.gx_leaves.specs.Kinds.{are_built};
 ghost use Rattle.gx_leaves.specs.Places.{IsRoomFor};
-ghost use Rattle.gx_journal.specs.Journal.{IsSteady, device_of, content_of, size_of, working_of, kept_of, head_blocks};
+ghost use Rattle.gx_journal.specs.Journal.{IsSteady, device_of, content_of, working_of, kept_of, head_blocks};
 ghost use Rattle.gx_journal.specs.State.{head_told};
 ghost use Rattle.gx_pages.specs.Owners.{IsAllFree};
 ghost use Rattle.gx_pages.specs.Paged.{ground_of, working_sheets};
@@ -119,8 +118,8 @@ fn make_over<M: Machine + Drop>(
         ¬ HasMagic (slice_index_or (head_blocks journal) 0 []) → (schema equation : List ℕ) →
         drop 1 (head_blocks journal) ≡ text_blocks schema equation →
         IsNoneOrEmpty schema equation specs.now (M.content result.1).now.blocks }
-    ensures pages { IsTrue M.tells →
-        OnOk result.0 (pages_of (length (M.content result.1).now.blocks) ≡ size_of journal) }
+    ensures blocks { IsTrue M.tells →
+        OnOk result.0 (length (M.content result.1).now.blocks ≡ M.size (device_of journal)) }
     ensures unmade { IfErr result.0 (λ why. IsUnlaid why) }
     ensures silent { Silent (content_of journal) (M.content result.1) }
     ensures faults { Counted (has_no_fault result.0) (M.faults (device_of journal))
@@ -201,8 +200,8 @@ fn publish<M: Machine + Drop>(mut journal: Journal<M>) -> (Result<(), Unopened>,
         ¬ HasMagic (slice_index_or (head_blocks journal) 0 []) →
         HasMagic (block_of (M.content result.1).now 0) →
         Publishes journal (working_of journal) (M.content result.1).now.blocks }
-    ensures pages { IsTrue M.tells →
-        pages_of (length (M.content result.1).now.blocks) ≡ size_of journal }
+    ensures blocks { IsTrue M.tells →
+        length (M.content result.1).now.blocks ≡ M.size (device_of journal) }
     ensures unmade { IfErr result.0 (λ why. IsUnlaid why) }
     ensures silent { Silent (content_of journal) (M.content result.1) }
     ensures faults { Counted (has_no_fault result.0) (M.faults (device_of journal))
@@ -221,8 +220,8 @@ fn seal<M: Machine + Drop>(mut journal: Journal<M>) -> (Result<(), Unopened>, M)
     ensures settled { IsTrue M.tells → IsSteady journal →
         HasMagic (block_of (M.content result.1).now 0) →
         Publishes journal (kept_of journal) (M.content result.1).now.blocks }
-    ensures pages { IsTrue M.tells →
-        pages_of (length (M.content result.1).now.blocks) ≡ size_of journal }
+    ensures blocks { IsTrue M.tells →
+        length (M.content result.1).now.blocks ≡ M.size (device_of journal) }
     ensures unmade { IfErr result.0 (λ why. IsUnlaid why) }
     ensures silent { Silent (content_of journal) (M.content result.1) }
     ensures faults { Counted (has_no_fault result.0) (M.faults (device_of journal))

@@ -13,8 +13,8 @@ use Rattle.gx_store.proofs.making.make_attached.Goals as goal
 pub returns-in-Ok-clause-made : goal.returns-in-Ok-clause-made
 returns-in-Ok-clause-made g c = λ told.
     on_ok_both c.make_over.result.0
-    (λ pages settled. record { pages = pages ∙ c.in-Ok.ensures.size; settled = settled; reopens = settled_reopens _ _ _ _ _ settled })
-    (c.make_over.ensures.pages told)
+    (λ blocks settled. record { count = blocks ∙ c.in-Ok.ensures.blocks; settled = settled; reopens = settled_reopens _ _ _ _ _ settled })
+    (c.make_over.ensures.blocks told)
     (c.make_over.ensures.settled told c.in-Ok.ensures.steady c.args.schema.now c.args.equation.now (ap (λ (h : List (List ℕ)). drop 1 h) (c.in-Ok.ensures.head told)))
 
 pub returns-in-Ok-clause-left : goal.returns-in-Ok-clause-left

@@ -31,9 +31,9 @@ returns-in-Ok-clause-left g c = λ told steady none schema equation texts magic.
     (λ has. none (subst (λ (h : List (List ℕ)). HasMagic (get_or h 0 [])) heads has)) magic)
     schema equation c.args.specs.now _ texts c.requires.room (c.in-Ok.ensures.made told steady))
 
-pub returns-in-Ok-clause-pages : goal.returns-in-Ok-clause-pages
-returns-in-Ok-clause-pages g c = λ told.
-    on_ok_always c.publish.result.0 (c.publish.ensures.pages told ∙ ap (λ (b : Ground). b.size) c.in-Ok.ensures.ground)
+pub returns-in-Ok-clause-blocks : goal.returns-in-Ok-clause-blocks
+returns-in-Ok-clause-blocks g c = λ told.
+    on_ok_always c.publish.result.0 (c.publish.ensures.blocks told ∙ ap (λ (b : Ground). b.blocks) c.in-Ok.ensures.ground)
 
 pub returns-in-Ok-clause-silent : goal.returns-in-Ok-clause-silent
 returns-in-Ok-clause-silent g c = silent_after _ (content_of c.in-Ok.journal) _ c.in-Ok.ensures.silent c.publish.ensures.silent

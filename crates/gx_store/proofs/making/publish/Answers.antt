@@ -1,7 +1,6 @@
 use Rattle.std.proofs.Common.{◌∙◌, ℕ, Bool, List, [], get_or, length, sym, ap, subst}
 use Rattle.std.proofs.lemmas.Result.{on_ok_weaker}
 use Rattle.gx_device.specs.Content.{block_of}
-use Rattle.gx_layout.specs.Layout.{pages_of}
 use Rattle.gx_layout.specs.Head.{HasMagic}
 use Rattle.gx_journal.specs.State.{head_told}
 use Rattle.gx_journal.specs.Journal.{content_of}
@@ -24,8 +23,8 @@ returns-in-Ok-clause-left g c = λ told steady none magic.
     published c.args.journal c.commit.new.self (g.M.Device.content c.seal.result.1).now.blocks c.commit.ensures.head c.commit.ensures.size c.in-Ok.ensures.kept
     (c.seal.ensures.settled told (c.in-Ok.ensures.steady.0 steady) magic)
 
-pub returns-in-Ok-clause-pages : goal.returns-in-Ok-clause-pages
-returns-in-Ok-clause-pages g c = λ told. c.seal.ensures.pages told ∙ c.commit.ensures.size
+pub returns-in-Ok-clause-blocks : goal.returns-in-Ok-clause-blocks
+returns-in-Ok-clause-blocks g c = λ told. c.seal.ensures.blocks told ∙ c.commit.ensures.blocks
 
 pub returns-in-Ok-clause-silent : goal.returns-in-Ok-clause-silent
 returns-in-Ok-clause-silent g c = silent_after _ (content_of c.commit.new.self) _ c.commit.ensures.silent c.seal.ensures.silent
@@ -39,8 +38,7 @@ returns-in-Err-clause-left g c = λ told steady none magic.
     (subst (λ (b : Bool). HasMagic (get_or (head_told b (content_of c.commit.new.self)) 0 [])) (sym told)
     (subst (λ d. HasMagic (block_of (g.M.Device.content d).now 0)) c.into_device.ensures magic))))
 
-pub returns-in-Err-clause-pages : goal.returns-in-Err-clause-pages
-returns-in-Err-clause-pages g c = λ told.
-    let new = c.commit.new.self in
-    ap (λ d. pages_of (length (g.M.Device.content d).now.blocks)) c.into_device.ensures
-    ∙ sym (ap pages_of (g.met.M.Device.sized new.device told)) ∙ sym new.count ∙ c.commit.ensures.size
+pub returns-in-Err-clause-blocks : goal.returns-in-Err-clause-blocks
+returns-in-Err-clause-blocks g c = λ told.
+    ap (λ d. length (g.M.Device.content d).now.blocks) c.into_device.ensures
+    ∙ sym (g.met.M.Device.sized c.commit.new.self.device told) ∙ c.commit.ensures.blocks

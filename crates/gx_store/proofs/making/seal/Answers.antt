@@ -1,6 +1,5 @@
 use Rattle.std.proofs.Common.{◌∙◌, Bool, [], get_or, length, sym, ap, subst}
 use Rattle.gx_device.specs.Content.{block_of}
-use Rattle.gx_layout.specs.Layout.{pages_of}
 use Rattle.gx_layout.specs.Head.{HasMagic}
 use Rattle.gx_journal.specs.State.{head_told}
 use Rattle.gx_journal.specs.Journal.{content_of, kept_of}
@@ -21,11 +20,10 @@ returns-in-Ok-clause-settled g c = λ told steady magic.
     (sealed_settled old new told (g.met.M.Device.sized new.device told) (c.seal.ensures.steady.0 steady) c.seal.ensures.size c.seal.ensures.kept c.seal.ensures.texts
     (subst (λ d. HasMagic (block_of (g.M.Device.content d).now 0)) c.into_device.ensures magic))
 
-pub returns-in-Ok-clause-pages : goal.returns-in-Ok-clause-pages
-returns-in-Ok-clause-pages g c = λ told.
-    let new = c.seal.new.self in
-    ap (λ d. pages_of (length (g.M.Device.content d).now.blocks)) c.into_device.ensures
-    ∙ sym (ap pages_of (g.met.M.Device.sized new.device told)) ∙ sym new.count ∙ c.seal.ensures.size
+pub returns-in-Ok-clause-blocks : goal.returns-in-Ok-clause-blocks
+returns-in-Ok-clause-blocks g c = λ told.
+    ap (λ d. length (g.M.Device.content d).now.blocks) c.into_device.ensures
+    ∙ sym (g.met.M.Device.sized c.seal.new.self.device told) ∙ c.seal.ensures.blocks
 
 pub returns-in-Err-clause-settled : goal.returns-in-Err-clause-settled
 returns-in-Err-clause-settled g c = λ told steady magic.

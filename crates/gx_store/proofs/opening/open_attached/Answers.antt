@@ -16,8 +16,9 @@ returns-in-Ok-clause-holds g c = λ told maps is.
     let blocks = (g.M.Device.content c.args.machine).now.blocks in
     let j = c.in-Ok.journal in
     c.open_journal.ensures.holds told c.in-Ok.ensures.working c.in-Ok.ensures.steady maps
-    (maps_opened blocks c.args.specs.now maps (size_of j) (head_blocks j) (kept_of j)
+    (maps_opened blocks c.args.specs.now maps (size_of j) (g.M.Device.size j.device) (head_blocks j) (kept_of j)
     (c.in-Ok.ensures.size ∙ ap pages_of (g.met.M.Device.sized c.args.machine told))
+    (c.in-Ok.ensures.blocks ∙ g.met.M.Device.sized c.args.machine told)
     (c.in-Ok.ensures.head ∙ ap (λ (b : Bool). head_told b (g.M.Device.content c.args.machine)) told)
     (c.in-Ok.ensures.kept told) is.leaves)
 
@@ -38,8 +39,9 @@ returns-in-Ok-clause-ground g c = λ told.
     let old = g.M.Device.content c.args.machine in
     let j = c.in-Ok.journal in
     IfOk-weaker c.open_journal.result _ _
-    (λ s is. is ∙ sym (ground_same old.now.blocks (size_of j) (head_blocks j)
+    (λ s is. is ∙ sym (ground_same old.now.blocks (size_of j) (g.M.Device.size j.device) (head_blocks j)
     (c.in-Ok.ensures.size ∙ ap pages_of (g.met.M.Device.sized c.args.machine told))
+    (c.in-Ok.ensures.blocks ∙ g.met.M.Device.sized c.args.machine told)
     (c.in-Ok.ensures.head ∙ ap (λ (b : Bool). head_told b old) told)))
     c.open_journal.ensures.ground
 

@@ -32,6 +32,7 @@ returns-clause-keeps g c =
       kept = still_homes before after blocks g.D.Device.tells P;
       head = still_head before after blocks g.D.Device.tells;
       size = refl;
+      blocks = c.hear.ensures.size;
       steady = refl;
       calm = λ start. still_calm before after blocks g.D.Device.tells old.failed P start (ap (λ (m : Moment). m.shelf) c.hear.ensures.rest.now) (λ v. calm_listens start v before after c.hear.ensures.time c.hear.ensures.rest);
     }

@@ -17,6 +17,7 @@ returns-clause-keeps g c =
       kept = homes_same tells P Q before after c.read.ensures.long (λ told. c.read.ensures.slots);
       head = head_same tells P before after (λ told. c.read.ensures.slots);
       size = c.read.ensures.long;
+      blocks = c.read.ensures.size;
       steady = refl;
       calm = λ start calm. calm_same tells old.failed old.failed P Q start before after c.read.ensures.long refl (λ told. c.read.ensures.slots) calm;
     }

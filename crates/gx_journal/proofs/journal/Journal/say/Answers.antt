@@ -31,6 +31,7 @@ returns-clause-keeps g c =
       kept = still_homes before after blocks g.D.Device.tells P;
       head = still_head before after blocks g.D.Device.tells;
       size = refl;
+      blocks = c.say.ensures.size;
       steady = refl;
       calm = λ start. still_calm before after blocks g.D.Device.tells old.failed P start c.say.ensures.rest.shelf (λ v. calm_speaks start v before after c.say.ensures.time c.say.ensures.rest);
     }

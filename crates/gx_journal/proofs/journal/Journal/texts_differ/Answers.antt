@@ -34,6 +34,7 @@ returns-clause-keeps g c =
       kept = still_homes before after blocks g.D.Device.tells P;
       head = still_head before after blocks g.D.Device.tells;
       size = refl;
+      blocks = c.texts_differ.ensures.size;
       steady = refl;
       calm = λ start. still_calm before after blocks g.D.Device.tells old.failed P start (ap (λ (m : Moment). m.shelf) c.texts_differ.ensures.reads.now) (c.texts_differ.ensures.reads.calm start);
     }

@@ -17,6 +17,7 @@ returns-clause-keeps g c =
       kept = homes_same tells P Q before after c.write.ensures.long (λ told. c.write.ensures.slots);
       head = head_same tells P before after (λ told. c.write.ensures.slots);
       size = c.write.ensures.long;
+      blocks = c.write.ensures.size;
       steady = refl;
       calm = λ start calm. calm_same tells old.failed old.failed P Q start before after c.write.ensures.long refl (λ told. c.write.ensures.slots) calm;
     }
