@@ -1,5 +1,5 @@
 -- What follows from the laws of rows: each node's rows are a set, and the maps that stand for a link are a union that tells it.
-use Rattle.std.proofs.Common.{◌≡◌, ◌<◌, ℕ, Bool, zero, suc, List, [], ◌∷◌, inl, Some, refl, sym, ap, subst, ◌∙◌, arith}
+use Rattle.std.proofs.Common.{◌≡◌, ◌<◌, ◌≤◌, ℕ, Bool, false, zero, suc, List, [], ◌∷◌, inl, Some, refl, sym, ap, subst, ◌∙◌, arith}
 use Rattle.std.specs.List.{flat_map}
 use Rattle.std.specs.FinMap as fin
 use Rattle.gx_values.specs.declared.values.Kind.{Kind}
@@ -111,13 +111,16 @@ module _ {owner member : Kind} {forms : ℕ → Form} {nodes : ℕ} {rows : Valu
         only = λ e l found. from_entries link e (is.only e l found);
       })
 
-      pub linkset_laws : LinksetLaws (link_rule rule ks rows owner member rounds finds) (IsHeldLink rule ks rows)
-      linkset_laws = record {
+      pub linkset_laws : ((n : ℕ) → rounds n ≤ suc n) → (finds ≡ false → (n : ℕ) → rounds n ≤ 1) → LinksetLaws (link_rule rule ks rows owner member rounds finds) (IsHeldLink rule ks rows)
+      linkset_laws few one = record {
         inside = inside;
         union = λ link maps is. (held_union link maps, union_held link maps);
         told = λ link other maps is is' held held'. laws.told link other is is'
             (λ p h. across link other maps is is' held held' p h)
             (λ p h. across other link maps is' is held' held p h);
+        none = λ o. ap (flat_map (λ p. kid_entries rule ks p.child p.rec)) (laws.none o);
+        few_rounds = few;
+        one_round = one;
       }
         where
           across : (a b : Link) (maps : List LeafMap) → IsLink owner member a → IsLink owner member b → IsHeldLink rule ks rows a maps → IsHeldLink rule ks rows b maps → (p : Part) → In p (link_parts rows a) → In p (link_parts rows b)

@@ -1,5 +1,5 @@
 -- What contracts see of a linkset, what is true of each, and what its calls find.
-use Rattle.std.specs.Prelude.{◌≡◌, ◌↔◌, ℕ, ◌+◌, ◌*◌, ◌≤◌, Bool, true, List, [], ◌++◌, length, Option, Some, None, IfSome}
+use Rattle.std.specs.Prelude.{◌≡◌, ◌↔◌, ℕ, suc, ◌+◌, ◌*◌, ◌≤◌, Bool, true, false, List, [], ◌++◌, length, Option, Some, None, IfSome}
 use Rattle.std.specs.List.{flat_map}
 use Rattle.std.specs.FinMap as fin
 use Rattle.gx_values.specs.declared.values.Kind.{Kind}
@@ -42,6 +42,12 @@ pub record LinksetLaws (rule : LinkRule) (held : Link → List LeafMap → Type 
   pub union : (link : Link) (maps : List LeafMap) → IsLink rule.owner rule.member link → held link maps ↔ IsLinkUnion rule link maps
   -- and they tell the link
   pub told : (link other : Link) (maps : List LeafMap) → IsLink rule.owner rule.member link → IsLink rule.owner rule.member other → held link maps → held other maps → link ≡ other
+  -- an owner without members has no entry
+  pub none : (o : Value) → rule.entries o [] ≡ []
+  -- for so many members the leaves are gone through once for each, and once more, at most
+  pub few_rounds : (n : ℕ) → rule.rounds n ≤ suc n
+  -- and once alone where an owner isn't found without reading all
+  pub one_round : rule.finds ≡ false → (n : ℕ) → rule.rounds n ≤ 1
 
 -- the maps stand for some link
 abbrev pub HasLink : LinkRule → (Link → List LeafMap → Type 0) → List LeafMap → Type 0

@@ -33,6 +33,10 @@ pub trait Linkset {
     /// The nodes are valid, have the forms that the linkset needs, and share no leaf.
     ghost valid: { Self → Type 0 };
 
+    /// Whether an owner is found without reading all of the link.
+    fn finds(&self) -> bool
+        ensures { result ≡ (rule self.now).finds };
+
     /// Appends the members of an owner, in ascending order. After a refusal `out` may have more at its
     /// end.
     fn members<B: Leaves>(

@@ -101,4 +101,4 @@ module _ (owner member : Kind) (form : Form) (most : ℕ) (key : IsKeyKind membe
           from_members b row.owner m (subst (In m) lists (in_members a o m e)) ∙ ap Some (sym owners)
 
 pub array_laws : {M : Type 0} (rule : M → Rule) → ((m : M) → MappingLaws (rule m)) → (tree : Tree M) (member : Kind) → IsArray rule tree member → LinksetLaws (array_rule rule tree member) (IsHeldLink rule (one_node tree) array_rows)
-array_laws rule laws tree member valid = linkset_laws (array_row_laws (owner_kind rule tree) member (tree_form rule tree) valid.most (key_kind member valid.member_kind) valid.keys valid.fields valid.room) rule laws (one_node tree) valid.nodes refl (λ _. 1) false
+array_laws rule laws tree member valid = linkset_laws (array_row_laws (owner_kind rule tree) member (tree_form rule tree) valid.most (key_kind member valid.member_kind) valid.keys valid.fields valid.room) rule laws (one_node tree) valid.nodes refl (λ _. 1) false (λ n. omega arith) (λ _ n. omega arith)

@@ -108,4 +108,4 @@ module _ (owner member : Kind) (down up : Form) (down_keys : kinds_of down.keys 
       fits o m p fit_o fit_m (inr (inr k)) = absurd k
 
 pub inverted_laws : {M : Type 0} (rule : M → Rule) → ((m : M) → MappingLaws (rule m)) → (down up : Tree M) → IsInverted rule down up → LinksetLaws (inverted_rule rule down up) (IsHeldLink rule (two_nodes down up) inverted_rows)
-inverted_laws rule laws down up valid = linkset_laws (inverted_row_laws (owner_kind rule down) (member_kind rule up) (tree_form rule down) (tree_form rule up) valid.down_keys valid.down_fields valid.up_keys valid.up_fields) rule laws (two_nodes down up) valid.nodes refl (λ _. 1) true
+inverted_laws rule laws down up valid = linkset_laws (inverted_row_laws (owner_kind rule down) (member_kind rule up) (tree_form rule down) (tree_form rule up) valid.down_keys valid.down_fields valid.up_keys valid.up_fields) rule laws (two_nodes down up) valid.nodes refl (λ _. 1) true (λ n. omega arith) (λ _ n. omega arith)

@@ -14,6 +14,7 @@ use std::alloc::Global;
 
 /// A pointer array: a link in one node, with a record of each owner that has a member. An owner is found
 /// by reading all of it.
+#[derive(Drop)]
 pub struct PointerArray<'a, M: Mapping> {
     /// a record of each owner, with the key bytes of its members joined
     pub tree: &'a Node<M>,
@@ -34,6 +35,10 @@ impl<'a, M: Mapping> Linkset for PointerArray<'a, M> {
     ghost valid = { λ l. IsArray M.rule (tree_of l.tree.now) l.member };
 
     ghost laws = { λ l valid. array_laws M.rule M.laws (tree_of l.tree.now) l.member valid };
+
+    fn finds(&self) -> bool {
+        false
+    }
 
     fn members<B: Leaves>(
         &self,

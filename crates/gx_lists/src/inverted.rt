@@ -12,6 +12,7 @@ use gx_values::{Value, Values};
 use std::alloc::Global;
 
 /// An inverted list: a link in two nodes, each pair once under its owner and once under its member.
+#[derive(Drop)]
 pub struct Inverted<'a, M: Mapping> {
     /// a record of each pair under its owner and then its member, without data
     pub down: &'a Node<M>,
@@ -34,6 +35,10 @@ impl<'a, M: Mapping> Linkset for Inverted<'a, M> {
 
     ghost laws = { λ l valid. inverted_laws M.rule M.laws (tree_of l.down.now) (tree_of l.up.now)
         valid };
+
+    fn finds(&self) -> bool {
+        true
+    }
 
     fn members<B: Leaves>(
         &self,

@@ -198,4 +198,4 @@ module _ (owner member : Kind) (heads nexts : Form) (head_keys : kinds_of heads.
   }
 
 pub ring_laws : {M : Type 0} (rule : M → Rule) → ((m : M) → MappingLaws (rule m)) → (heads nexts : Tree M) → IsRing rule heads nexts → LinksetLaws (ring_rule rule heads nexts) (IsHeldLink rule (two_nodes heads nexts) ring_rows)
-ring_laws rule laws heads nexts valid = linkset_laws (ring_row_laws (owner_kind rule heads) (member_kind rule nexts) (tree_form rule heads) (tree_form rule nexts) valid.head_keys valid.head_fields valid.chain_keys valid.chain_fields) rule laws (two_nodes heads nexts) valid.nodes refl suc true
+ring_laws rule laws heads nexts valid = linkset_laws (ring_row_laws (owner_kind rule heads) (member_kind rule nexts) (tree_form rule heads) (tree_form rule nexts) valid.head_keys valid.head_fields valid.chain_keys valid.chain_fields) rule laws (two_nodes heads nexts) valid.nodes refl suc true (λ n. omega arith) (λ never n. absurd cc)

@@ -27,6 +27,7 @@ use gx_values::{Kind, NoMemory, Value, Values};
 use std::alloc::Global;
 
 /// A ring: a link in two nodes. An owner leads to its first member, and each member to the next.
+#[derive(Drop)]
 pub struct Ring<'a, M: Mapping> {
     /// a record of each owner that has a member, with the first of them
     pub heads: &'a Node<M>,
@@ -49,6 +50,10 @@ impl<'a, M: Mapping> Linkset for Ring<'a, M> {
 
     ghost laws = { λ l valid. ring_laws M.rule M.laws (tree_of l.heads.now) (tree_of l.chain.now)
         valid };
+
+    fn finds(&self) -> bool {
+        true
+    }
 
     fn members<B: Leaves>(
         &self,
