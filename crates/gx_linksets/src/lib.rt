@@ -1,0 +1,8 @@
+//! The linkset of any link of a schema.
+#![tactic(auto)]
+
+mod any;
+mod stored;
+
+pub use any::AnyLinkset;
+pub use stored::linkset_at;
