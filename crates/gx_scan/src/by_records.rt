@@ -81,8 +81,8 @@ fn add_met(
     Ok(())
 }
 
-// A record of the file as a row.
-pub(crate) fn into_row(file: &FileDef, rec: Rec) -> Row
+/// A record of the file as a row.
+pub fn into_row(file: &FileDef, rec: Rec) -> Row
     requires keyed { 0 < length file.now.fields }
     requires fits { IsOf (file_form file.now) rec }
     ensures { result ≡ row_of rec }
@@ -96,7 +96,8 @@ pub(crate) fn into_row(file: &FileDef, rec: Rec) -> Row
     }
 }
 
-pub(crate) fn meets_all(conds: &[Cond], row: &Row) -> bool
+/// Whether a row meets each of the conditions.
+pub fn meets_all(conds: &[Cond], row: &Row) -> bool
     ensures { result ≡ meets_conds conds.now row.now }
 {
     conds.iter().all(|cond| meets_one(cond, row))

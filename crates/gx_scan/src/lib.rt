@@ -11,5 +11,6 @@ mod scan;
 mod within;
 
 pub use by_index::rows_where;
+pub use by_records::{into_row, meets_all};
 pub use records::find_record;
 pub use within::{rows_within, whole_span};

@@ -1,0 +1,85 @@
+use Rattle.std.proofs.Common.{rules, ◌≡◌, ◌∙◌, ◌+◌, Err, List, length, refl, sym, ap, subst, arith}
+use Rattle.std.proofs.lemmas.Result.{err_from_is_err_and}
+use Rattle.gx_ports.specs.declared.stop.Stop.TheVariants as stop
+use Rattle.gx_ports.specs.LeafMaps.{LeafMap}
+use Rattle.gx_ports.proofs.CallLemmas.{reads_itself, reads_joined}
+use Rattle.gx_stack.specs.Tree.{leaves_of}
+use Rattle.gx_gather.proofs.Lists.{in_read}
+use Rattle.gx_model.specs.Found.{meets_conds}
+use Rattle.gx_scan.specs.Files.{IsInternal}
+use Rattle.gx_scan.proofs.StepLemmas.{taken_more, taken_all}
+use Rattle.gx_pairs.specs.Stored.{file_of, node_tree, IsStoredFile}
+use Rattle.gx_pairs.proofs.MemberLemmas.{next_row, last_row, one_there}
+use Rattle.gx_pairs.proofs.members.add_records.Goals as goal
+
+pub loop-key-init : goal.loop-key-init
+loop-key-init g c = record {
+  rows = λ f whole is. refl;
+  steps = λ f most whole is few. omega arith;
+  reads = reads_itself g.B.View c.args.leaves.now;
+  whole = λ h. h;
+  counted = refl;
+}
+
+pub add_record-requires-clause-fit : goal.add_record-requires-clause-fit
+add_record-requires-clause-fit g c =
+    let keys = c.args.keys.now in
+    let i = c.loop-key.key-index in
+    let key = c.key-item.result in
+    c.requires.fit key (in_read keys i key c.key-item.is c.loop-key-test.true)
+
+pub add_record-requires-clause-stored : goal.add_record-requires-clause-stored
+add_record-requires-clause-stored g c = subst (λ (maps : List LeafMap). IsStoredFile c.args.stored.now (length maps)) (sym c.loop-key.invariant.reads.working) c.requires.stored
+
+pub loop-key-preserved : goal.loop-key-preserved
+loop-key-preserved g c =
+    let s = c.args.stored.now in
+    let keys = c.args.keys.now in
+    let i = c.loop-key.key-index in
+    let key = c.key-item.result in
+    let inv = c.loop-key.invariant in
+    let e = c.in_ok-add_record.ensures in record {
+      rows = λ f whole is.
+          let now = e.rows f (inv.whole whole) (subst (λ (maps : List LeafMap). IsInternal (file_of s) (node_tree s) maps f) (sym inv.reads.working) is) in
+          next_row f (meets_conds c.args.conds.now) keys i key _ _ _ c.key-item.is c.loop-key-test.true now (inv.rows f whole is);
+      steps = λ f most whole is few.
+          let now = e.steps f most (inv.whole whole) (subst (λ (maps : List LeafMap). IsInternal (file_of s) (node_tree s) maps f) (sym inv.reads.working) is) few in
+          taken_more keys i (length (leaves_of (node_tree s)) + most) _ _ _ c.loop-key-test.true (inv.steps f most whole is few) now;
+      reads = reads_joined g.B.View inv.reads e.reads;
+      whole = λ h. e.ends.whole (inv.whole h);
+      counted = e.ends.counted refl ∙ inv.counted;
+    }
+
+pub returns-in_err-add_record-clause-ends : goal.returns-in_err-add_record-clause-ends
+returns-in_err-add_record-clause-ends g c = record {
+  whole = search rules;
+  later = search rules;
+  fault = search rules;
+  counted = search rules;
+  damaged = λ block e sound.
+      let s = c.args.stored.now in
+      let keys = c.args.keys.now in
+      let i = c.loop-key.key-index in
+      let key = c.key-item.result in
+      let inv = c.loop-key.invariant in
+      let p = err_from_is_err_and c.from_residual.result c.from_residual.ensures.1 in
+      let both = sym p.1 ∙ e in
+      let why : p.0 ≡ stop.Damaged block = cc in
+      let f = sound.1.0 in
+      c.in_err-add_record.ensures.ends.damaged block (ap Err (sym p.2 ∙ why)) (
+        inv.whole sound.0,
+        (
+          f,
+          subst (λ (maps : List LeafMap). IsInternal (file_of s) (node_tree s) maps f) (sym inv.reads.working) sound.1.1,
+          one_there f keys key (in_read keys i key c.key-item.is c.loop-key-test.true) sound.1.2,
+        ),
+      );
+}
+
+pub returns-clause-rows : goal.returns-clause-rows
+returns-clause-rows g c = λ f whole is.
+    last_row f (meets_conds c.args.conds.now) c.args.keys.now c.loop-key.key-index _ _ (omega (arith, c.loop-key-test.false)) (c.loop-key.invariant.rows f whole is)
+
+pub returns-clause-steps : goal.returns-clause-steps
+returns-clause-steps g c = λ f most whole is few.
+    taken_all c.args.keys.now c.loop-key.key-index (length (leaves_of (node_tree c.args.stored.now)) + most) _ _ (c.loop-key.invariant.steps f most whole is few)

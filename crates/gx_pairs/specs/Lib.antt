@@ -1,0 +1,4 @@
+pub mod Stored
+pub mod Changes
+pub mod Owners
+pub mod Members
