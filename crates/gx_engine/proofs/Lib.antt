@@ -1,8 +1,11 @@
 mod ChangeLemmas
 mod RecordLemmas
-mod PlannedLemmas
-mod SpanLemmas
+pub mod LinkLemmas
+mod LinkStateLemmas
+mod LinkWorkLemmas
+mod EditLemmas
 mod WorkLemmas
 mod StepLemmas
+mod AnswerLemmas
 mod ToldLemmas
 pub mod StartLemmas

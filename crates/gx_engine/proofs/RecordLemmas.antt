@@ -1,5 +1,5 @@
 -- Records of a file: what is found of them, and what edits do.
-use Rattle.std.proofs.Common.{[], ◌≡◌, ℕ, zero, suc, ◌+◌, ◌-◌, ◌<◌, ◌≤◌, List, ◌∷◌, length, take, drop, get_or, set, cond, Bool, true, false, Option, Some, None, refl, sym, ap, subst, ◌∙◌, arith}
+use Rattle.std.proofs.Common.{[], ◌≡◌, ℕ, zero, suc, ◌+◌, ◌-◌, ◌<◌, ◌≤◌, List, ◌∷◌, length, take, drop, get_or, set, Bool, true, false, Option, Some, None, refl, sym, ap, subst, ◌∙◌, arith}
 use Rattle.std.specs.Prelude.{is_some, unwrap_or, slice_set}
 use Rattle.std.specs.List.{AllByRecursion}
 use Rattle.std.specs.Option.{option_map}
@@ -26,7 +26,9 @@ use Rattle.gx_stack.specs.declared.node.Node.{Node}
 use Rattle.gx_stack.specs.Seen.{tree_of}
 use Rattle.gx_types.specs.Nodes.{tree_at, AreNodes}
 use Rattle.gx_model.specs.States.{File, Row}
-use Rattle.gx_model.specs.Commands.{changed, updated}
+use Rattle.gx_model.specs.Commands.{Refusal, changed, updated, first_refusal}
+use Rattle.gx_pairs.specs.declared.refused.Refused.{Refused}
+use Rattle.gx_pairs.specs.Changes.{refusal_for}
 use Rattle.gx_scan.specs.Files.{rec_of, records_of, IsInternal, IsTreeFor}
 use Rattle.gx_engine.specs.Internal.{IsEdited, IsEditedWhere}
 use Rattle.gx_scan.specs.Records.{record_at}
@@ -69,18 +71,20 @@ unedited file t old new f same is = record {
   others = λ n out. ap (λ (maps : List LeafMap). map_at maps n) same;
 }
 
--- nothing was done where nothing may be
-pub not_done : (file : FileDef) (t : Tree AnyMapping) (old new : List LeafMap) (f after : File) (may : Bool) → may ≡ false → new ≡ old → IsInternal file t old f → IsEditedWhere file t old new f may after false
-not_done file t old new f after may none same is = record {
-  done_is = sym none;
-  edited = subst (λ b. IsEdited file t old new (cond b after f)) (sym none) (unedited file t old new f same is);
+-- what is refused wasn't done
+pub not_done : (file : FileDef) (t : Tree AnyMapping) (old new : List LeafMap) (f after : File) (refusal : Refusal) (test : Bool) (why : Refused) → refusal_for why ≡ refusal → test ≡ true → new ≡ old → IsInternal file t old f → IsEditedWhere file t old new f (first_refusal ((test, refusal) ∷ [])) after (Some why)
+not_done file t old new f after refusal false why says holds same is = absurd (let e : false ≡ true = holds in cc)
+not_done file t old new f after refusal true why says holds same is = record {
+  why_is = ap Some says;
+  edited = unedited file t old new f same is;
 }
 
--- what may be done was done
-pub is_done : (file : FileDef) (t : Tree AnyMapping) (old new : List LeafMap) (f after : File) (may : Bool) → may ≡ true → IsEdited file t old new after → IsEditedWhere file t old new f may after true
-is_done file t old new f after may yes_ is = record {
-  done_is = sym yes_;
-  edited = subst (λ b. IsEdited file t old new (cond b after f)) (sym yes_) is;
+-- what isn't refused was done
+pub is_done : (file : FileDef) (t : Tree AnyMapping) (old new : List LeafMap) (f after : File) (refusal : Refusal) (test : Bool) → test ≡ false → IsEdited file t old new after → IsEditedWhere file t old new f (first_refusal ((test, refusal) ∷ [])) after None
+is_done file t old new f after refusal true fails is = absurd (let e : true ≡ false = fails in cc)
+is_done file t old new f after refusal false fails is = record {
+  why_is = refl;
+  edited = is;
 }
 
 pub insert_edit : (file : FileDef) (t : Tree AnyMapping) (old new : List LeafMap) (f : File) (k : Value) (vs : List Value) (r : Rec) → IsValid any_rule t → Fits (key_kind file) k → AreFit (data_fields file) vs → IsInternal file t old f → fin.get f k ≡ None → r ≡ rec_of (k, vs)

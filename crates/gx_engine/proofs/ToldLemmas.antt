@@ -9,17 +9,19 @@ use Rattle.gx_schema.specs.declared.schema.Schema.{Schema}
 use Rattle.gx_schema.specs.Lookups.{file_at}
 use Rattle.gx_ports.specs.LeafMaps.{LeafMap}
 use Rattle.gx_mapping.specs.Rule.{In}
-use Rattle.gx_stack.specs.declared.node.Node.{Node}
 use Rattle.gx_stack.specs.Tree.{Tree, tree_form, IsValid}
 use Rattle.gx_stack.specs.Internal.{IsSet}
 use Rattle.gx_stack.proofs.Told.{internal_told}
 use Rattle.gx_types.specs.declared.any.AnyMapping.{AnyMapping}
 use Rattle.gx_types.specs.Any.{any_rule, any_laws}
 use Rattle.gx_typing.specs.Dues.{file_form}
-use Rattle.gx_types.specs.Nodes.{tree_at, AreNodes}
-use Rattle.gx_model.specs.States.{File, State, file_in}
+use Rattle.gx_types.specs.declared.built.Built.{Built}
+use Rattle.gx_types.specs.Nodes.{tree_at}
+use Rattle.gx_model.specs.States.{File, State, file_in, link_in}
 use Rattle.gx_scan.specs.Files.{rec_of, records_of, IsInternal}
-use Rattle.gx_engine.specs.Internal.{AreInternal, AreStorable}
+use Rattle.gx_engine.specs.Internal.{AreInternal}
+use Rattle.gx_engine.specs.Steps.{AreFor}
+use Rattle.gx_engine.proofs.LinkLemmas.{file_is, link_fits, linkset_laws_at}
 use Rattle.gx_scan.proofs.FileLemmas.{in_there, there_in, one_key, set_of}
 
 -- what one file has at a key the other has
@@ -45,16 +47,19 @@ same_file file t maps f g keyed valid form is_f is_g =
     (internal_told any_rule any_laws maps t (records_of f) (records_of g) valid (set f is_f) (set g is_g) is_f.held is_g.held)
     (internal_told any_rule any_laws maps t (records_of g) (records_of f) valid (set g is_g) (set f is_f) is_g.held is_f.held))
 
-same_files : (fs gs : List File) → length fs ≡ length gs → ((i : ℕ) → i < length fs → get_or fs i fin.empty ≡ get_or gs i fin.empty) → fs ≡ gs
-same_files [] [] many each = refl
-same_files [] (g ∷ gs) many each = absurd (omega arith)
-same_files (f ∷ fs) [] many each = absurd (omega arith)
-same_files (f ∷ fs) (g ∷ gs) many each = λ i. each 0 (omega arith) i ∷ same_files fs gs (omega arith) (λ n lt. each (suc n) (omega arith)) i
+same_items : {A : Type 0} (none : A) (xs ys : List A) → length xs ≡ length ys → ((i : ℕ) → i < length xs → get_or xs i none ≡ get_or ys i none) → xs ≡ ys
+same_items none [] [] many each = refl
+same_items none [] (y ∷ ys) many each = absurd (omega arith)
+same_items none (x ∷ xs) [] many each = absurd (omega arith)
+same_items none (x ∷ xs) (y ∷ ys) many each = λ i. each 0 (omega arith) i ∷ same_items none xs ys (omega arith) (λ n lt. each (suc n) (omega arith)) i
 
-pub state_told : (schema : Schema) (nodes : List (Node AnyMapping)) (leaves : ℕ) (maps : List LeafMap) (s t : State) → AreStorable schema → AreNodes schema nodes leaves → AreInternal schema nodes maps s → AreInternal schema nodes maps t → s ≡ t
-state_told schema nodes leaves maps s t storable of is_s is_t =
-    let files : s.files ≡ t.files = same_files s.files t.files (is_s.files_many ∙ sym is_t.files_many) (λ i lt.
-    let there : i < length schema.files = omega (arith, is_s.files_many) in
-    same_file (file_at schema i) (tree_at nodes i) maps (file_in s i) (file_in t i) (storable.files i there).keyed (of.valid i there) (of.form i there) (is_s.each i there) (is_t.each i there)) in
-    let links : s.links ≡ t.links = is_s.links_none ∙ sym is_t.links_none in
+pub state_told : (schema : Schema) (built : Built) (leaves : ℕ) (maps : List LeafMap) (s t : State) → AreFor schema built leaves → AreInternal schema built maps s → AreInternal schema built maps t → s ≡ t
+state_told schema built leaves maps s t of is_s is_t =
+    let files : s.files ≡ t.files = same_items fin.empty s.files t.files (is_s.valid.files_many ∙ sym is_t.valid.files_many) (λ i lt.
+    let there : i < length schema.files = omega (arith, is_s.valid.files_many) in
+    same_file (file_at schema i) (tree_at built.files i) maps (file_in s i) (file_in t i) (of.storable.files i there).keyed (of.nodes.valid i there) (of.nodes.form i there) (file_is schema built maps s i is_s there) (file_is schema built maps t i is_t there)) in
+    let links : s.links ≡ t.links = same_items fin.empty s.links t.links (is_s.valid.links_many ∙ sym is_t.valid.links_many) (λ i lt.
+    let there : i < length schema.links = omega (arith, is_s.valid.links_many) in
+    let storable = of.storable.links i there in
+    (linkset_laws_at schema built.files built.links leaves i of.link_nodes storable there).told (link_in s i) (link_in t i) maps (link_fits schema s i there storable is_s.valid) (link_fits schema t i there storable is_t.valid) (is_s.links i there) (is_t.links i there)) in
     λ i. record { files = files i; links = links i }

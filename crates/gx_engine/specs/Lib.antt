@@ -1,5 +1,5 @@
 pub mod Internal
+pub mod Edits
 pub mod Steps
-pub mod Planned
 pub mod Work
-pub mod Spans
+pub mod Queries

@@ -12,28 +12,23 @@ use Rattle.gx_ports.specs.declared.stop.Stop.TheVariants as stop
 use Rattle.gx_ports.specs.declared.view.View.{Ghosts}
 use Rattle.gx_ports.specs.LeafMaps.{entry_count, IsCrowdedBy}
 use Rattle.gx_ports.specs.Calls.{Keeps, Talks}
-use Rattle.gx_stack.specs.declared.node.Node.{Node}
-use Rattle.gx_types.specs.declared.any.AnyMapping.{AnyMapping}
 use Rattle.gx_types.specs.declared.built.Built.{Built}
-use Rattle.gx_types.specs.Nodes.{AreNodes}
+use Rattle.gx_types.specs.Nodes.{AreNodes, AreLinkNodes}
 use Rattle.gx_model.specs.Play.{Playing, seen_state, next_of}
 use Rattle.gx_engine.specs.declared.engine.Engine.{Engine}
 use Rattle.gx_engine.specs.declared.engine.StepStop.{StepStop}
 use Rattle.gx_engine.specs.declared.engine.StepStop.TheVariants.{Now, Stopped}
 use Rattle.gx_engine.specs.Work.{IsBounded}
-use Rattle.gx_engine.specs.Internal.{AreStorable, Stands, IsCarried, entries_from}
+use Rattle.gx_engine.specs.Internal.{AreStorable, Stands, IsCarried, state_entries}
 
 -- ---- what contracts see of an engine
 
 abbrev pub schema_of : {S : Type 0} → Engine S → Schema
 schema_of e = e.schema
 
--- how its files are stored
+-- how its files and its links are stored
 abbrev pub built_of : {S : Type 0} → Engine S → Built
 built_of e = e.built
-
-abbrev pub nodes_of : {S : Type 0} → Engine S → List (Node AnyMapping)
-nodes_of e = e.built.files
 
 abbrev pub leaves_of : {S : Type 0} → Engine S → S
 leaves_of e = e.leaves
@@ -50,14 +45,15 @@ commits_of e = e.commits
 abbrev pub stop_of : {S : Type 0} → Engine S → Option Stop
 stop_of e = e.stopped
 
--- there is a node for each file of the schema over so many leaves, and each leaf is of one of the files
+-- there are nodes for each file and each link of the schema over so many leaves, and each leaf is of one of them
 pub record AreFor (schema : Schema) (built : Built) (leaves : ℕ) : Type 0 where
   pub storable : AreStorable schema
   pub nodes : AreNodes schema built.files leaves
+  pub link_nodes : AreLinkNodes schema built.files built.links leaves
   pub owned : length built.owners ≡ leaves
   pub few : leaves ≤ 255
 
--- its schema's files can be stored as they are built
+-- its schema can be stored as it is built
 abbrev pub IsReady : {S : Type 0} → Ghosts S → Engine S → Type 0
 IsReady g e = AreFor (schema_of e) (built_of e) (length (g.working (leaves_of e)))
 
@@ -69,7 +65,7 @@ pub record IsDue {S : Type 0} (e : Engine S) (c : Command) : Type 0 where
 
 -- the engine's leaves stand for a moment of the play
 abbrev pub StandsFor : {S : Type 0} → Ghosts S → Engine S → Playing → Type 0
-StandsFor g e p = Stands (schema_of e) (nodes_of e) (is_open e) (commits_of e) (g.working (leaves_of e)) (g.kept (leaves_of e)) p
+StandsFor g e p = Stands (schema_of e) (built_of e) (is_open e) (commits_of e) (g.working (leaves_of e)) (g.kept (leaves_of e)) p
 
 -- so they do, and they are whole
 pub record IsAt {S : Type 0} (g : Ghosts S) (p : Playing) (e : Engine S) : Type 0 where
@@ -83,17 +79,22 @@ IsSound g e = (p : Playing) × IsAt g p e
 
 -- the pages may not be enough for the entries that there are and those of what comes after the command
 abbrev pub IsShortFor : {S : Type 0} → Ghosts S → Engine S → Playing → Command → Type 0
-IsShortFor g e p c = IsCrowdedBy (g.limit (leaves_of e)) (entry_count (g.working (leaves_of e)) + entries_from (nodes_of e) (seen_state (next_of (schema_of e) p c)).files)
+IsShortFor g e p c = IsCrowdedBy (g.limit (leaves_of e)) (entry_count (g.working (leaves_of e)) + state_entries (built_of e) (seen_state (next_of (schema_of e) p c)))
 
 -- ---- one command
 
 -- the command was carried out: its answer was appended, and the engine stands for what comes after it
 abbrev pub CarriesOut : {S : Type 0} → Ghosts S → Playing → Command → Engine S → Engine S → List ℕ → List ℕ → Type 0
-CarriesOut g p c old new out now = IsCarried (schema_of old) (nodes_of old) p c out now (is_open new) (commits_of new) (g.working (leaves_of new)) (g.kept (leaves_of new))
+CarriesOut g p c old new out now = IsCarried (schema_of old) (built_of old) p c out now (is_open new) (commits_of new) (g.working (leaves_of new)) (g.kept (leaves_of new))
 
--- after a file was reorganized, each of its leaves is fresh
+-- each leaf of the definition with this number is fresh: the files are defined first, and then the links
+abbrev pub IsFresh : {S : Type 0} → Ghosts S → Engine S → ℕ → Type 0
+IsFresh g e definition = (leaf : ℕ) → slice_get (built_of e).owners leaf ≡ Some definition → g.fresh (leaves_of e) leaf
+
+-- after a file or a link was reorganized, each of its leaves is fresh
 abbrev pub AreFresh : {S : Type 0} → Ghosts S → Command → Engine S → Type 0
-AreFresh g (command.ReorganizeFile file) e = (leaf : ℕ) → slice_get (built_of e).owners leaf ≡ Some file → g.fresh (leaves_of e) leaf
+AreFresh g (command.ReorganizeFile file) e = IsFresh g e file
+AreFresh g (command.ReorganizeLink link) e = IsFresh g e (length (schema_of e).files + link)
 AreFresh g _ e = Unit {0}
 
 abbrev pub is_commit : Command → Bool
@@ -126,7 +127,7 @@ pub record KeepsEngine {S E : Type 0} (g : Ghosts S) (old new : Engine S) (c : C
 
 -- the steps that the command took are bounded by what the state has that it sees
 abbrev pub TakesFewSteps : {S : Type 0} → Ghosts S → Playing → Command → Engine S → Engine S → Type 0
-TakesFewSteps g p c old new = IsBounded (schema_of old) (nodes_of old) (length (g.working (leaves_of old))) (seen_state p) c (g.work (leaves_of old)) (g.work (leaves_of new))
+TakesFewSteps g p c old new = IsBounded (schema_of old) (built_of old) (length (g.working (leaves_of old))) (seen_state p) c (g.work (leaves_of old)) (g.work (leaves_of new))
 
 pub record IsStep {S : Type 0} (g : Ghosts S) (old new : Engine S) (c : Command) (out now : List ℕ) (result : Result (Unit {0}) Stop) : Type 0 where
   pub carried : (p : Playing) → IsAt g p old → OnOk result (CarriesOut g p c old new out now)

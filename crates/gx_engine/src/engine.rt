@@ -1,27 +1,23 @@
 // The engine: one command after the other on leaves.
-ghost use Rattle.std.specs.Prelude.{◌≡◌, ◌∷◌, ◌<◌, ◌++◌, ◌+◌, List, ℕ, Some, None, Ok, Err, false, length, OnOk, OnErr, IsSome, codes, if◌then◌else◌};
-ghost use Rattle.gx_values.specs.Values.{Fits, AreFit};
-ghost use Rattle.gx_schema.specs.Lookups.{file_at, key_kind, data_fields};
+ghost use Rattle.std.specs.Prelude.{◌≡◌, ◌<◌, ◌++◌, List, Some, None, Ok, Err, true, false, length, OnOk, OnErr, IsSome};
 ghost use Rattle.gx_model.specs.States.{State};
 ghost use Rattle.gx_model.specs.Play.{Playing, start_at};
-ghost use Rattle.gx_schema.specs.declared.schema.Schema.{Schema as TheSchema};
 ghost use Rattle.gx_ports.specs.LeafMaps.{LeafMap};
 ghost use Rattle.gx_ports.specs.Calls.{Keeps, Hearing, Saying};
-ghost use Rattle.gx_stack.specs.Seen.{tree_of};
-ghost use Rattle.gx_types.specs.Nodes.{tree_at, AreNodes};
-ghost use Rattle.gx_scan.specs.Files.{IsTreeFor};
 
-use crate::listing::found_text;
-use crate::records::{delete_record, insert_record, reorganize_file, update_record};
-use gx_commands::{Changes, Command, Find};
+use crate::edits::{edit, edit_answer};
+use crate::files::{file_def, file_node};
+use crate::members::answer;
+use crate::records::reorganize;
+use gx_commands::{Command, Find};
 use gx_device::Failed;
+use gx_finds::found_text;
 use gx_ports::{Leaves, Stop};
 use gx_rows::{commit_line, record_line};
 use gx_scan::find_record;
-use gx_schema::{FileDef, Schema};
-use gx_stack::Node;
-use gx_types::{AnyMapping, Built};
-use gx_values::{Octets, Value, Values};
+use gx_schema::Schema;
+use gx_types::Built;
+use gx_values::{Octets, Value};
 use std::alloc::{AllocError, Global};
 
 /// Why a step was given up.
@@ -47,10 +43,12 @@ pub struct Engine<B: Leaves + Drop> {
 impl<B: Leaves + Drop> Engine<B> {
     ghost use Rattle.gx_commands.specs.declared.command.Command.TheVariants as command;
     ghost use Rattle.gx_engine.specs.Internal.{AreInternal};
-    ghost use Rattle.gx_engine.specs.Steps.{schema_of, built_of, nodes_of, leaves_of, is_open, commits_of, stop_of, is_fault_now, AreFor, IsReady, IsDue, StandsFor, IsAt, IsShortFor, CarriesOut, AreFresh, KeepsEngine, HasStepCause, IsStep, TakesFewSteps, IsServed, IsSame};
+    ghost use Rattle.gx_engine.specs.Queries.{follows_link};
+    ghost use Rattle.gx_engine.specs.Edits.{is_edit};
+    ghost use Rattle.gx_engine.specs.Steps.{schema_of, built_of, leaves_of, is_open, commits_of, stop_of, is_fault_now, AreFor, IsReady, IsDue, StandsFor, IsAt, IsShortFor, CarriesOut, AreFresh, KeepsEngine, HasStepCause, IsStep, TakesFewSteps, IsServed, IsSame};
     ghost use Rattle.gx_engine.specs.declared.engine.StepStop.TheVariants.{Now, Stopped};
 
-    /// An engine over leaves, which hold the records of each file of the schema as it is built. No
+    /// An engine over leaves, which hold the files and the links of the schema as they are built. No
     /// transaction is open, and no stop is kept.
     pub fn start(schema: Schema, built: Built, leaves: B) -> Engine<B>
         requires { AreFor schema built (length (B.working leaves)) }
@@ -61,7 +59,7 @@ impl<B: Leaves + Drop> Engine<B> {
         ensures inside { is_open result ≡ false }
         ensures commits { commits_of result ≡ 0 }
         ensures stop { stop_of result ≡ None }
-        ensures stands { (s : State) → AreInternal schema built.files (B.working leaves) s →
+        ensures stands { (s : State) → AreInternal schema built (B.working leaves) s →
             B.kept leaves ≡ B.working leaves → StandsFor B.View result (start_at s) }
     {
         Engine {
@@ -97,9 +95,10 @@ impl<B: Leaves + Drop> Engine<B> {
     /// entries of the states before and after. `Now(Damaged)`: the leaves stood for no state, which is said
     /// of block 0 where the stored form of each is whole. `Now(NoMemory)`: there was no memory.
     ///
-    /// After `ReorganizeFile` each leaf of the file is fresh. `Begin`, `Commit`, `Abort` and a line without a
-    /// command take no step. `Get` and `Find` take at most `2 * (c + 1) * (w + l)`, where c is the number of
-    /// records that meet the one condition of the plan, w the greatest number of leaf entries of a record,
+    /// After `ReorganizeFile` or `ReorganizeLink` each leaf of the file or the link is fresh. `Begin`,
+    /// `Commit`, `Abort` and a line without a command take no step. `Get`, `Members` and `Find` take at most
+    /// `2 * (c + 1) * (w + l)`, where c is the number of records that meet the one condition of the plan, w
+    /// the greatest number of leaf entries of a record, and of an owner where the command asks for members,
     /// and l the number of leaves. Each command but `Commit` leaves what was last committed as it is.
     pub fn step(
         &mut self,
@@ -142,8 +141,8 @@ impl<B: Leaves + Drop> Engine<B> {
     pub fn leaves_tell_the_state(&self)
         requires { IsReady B.View self.now }
         ensures { (maps : List LeafMap) (s t : State) →
-            AreInternal (schema_of self.now) (nodes_of self.now) maps s →
-            AreInternal (schema_of self.now) (nodes_of self.now) maps t → s ≡ t }
+            AreInternal (schema_of self.now) (built_of self.now) maps s →
+            AreInternal (schema_of self.now) (built_of self.now) maps t → s ≡ t }
     {}
 
     #[tactic(auto, using(crate::proofs::WorkLemmas::nothing_counted))]
@@ -158,18 +157,20 @@ impl<B: Leaves + Drop> Engine<B> {
             Command::Begin => self.begin(out),
             Command::Commit => self.commit(alloc, out),
             Command::Abort => self.abort(out),
-            Command::Insert(file, values) => self.insert(alloc, *file, values, out),
+            Command::Insert(..)
+            | Command::Update(..)
+            | Command::Delete(..)
+            | Command::Connect(..)
+            | Command::Disconnect(..) => self.edit(alloc, command, out),
             Command::Get(file, key) => self.get(alloc, *file, key, out),
-            Command::Update(file, key, changes) => self.update(alloc, *file, key, changes, out),
-            Command::Delete(file, key) => self.delete(alloc, *file, key, out),
-            Command::Find(find) => self.find(alloc, find, out),
-            Command::ReorganizeFile(file) => self.reorganize(alloc, *file, out),
+            Command::Find(find) => match find.of {
+                None => self.find(alloc, find, out),
+                Some(_) => self.answer(alloc, command, out),
+            },
+            Command::ReorganizeFile(file) => self.reorganize_file(alloc, *file, out),
+            Command::ReorganizeLink(link) => self.reorganize_link(alloc, *link, out),
             Command::Nothing => self.pass(out),
-            Command::Connect(..)
-            | Command::Disconnect(..)
-            | Command::Members(..)
-            | Command::Owner(..)
-            | Command::ReorganizeLink(_) => unreachable!(),
+            Command::Members(..) | Command::Owner(..) => self.answer(alloc, command, out),
         }
     }
 
@@ -228,62 +229,15 @@ impl<B: Leaves + Drop> Engine<B> {
         Ok(())
     }
 
-    fn insert(
-        &mut self,
-        alloc: Global,
-        file: u16,
-        values: &Values,
-        out: &mut Octets,
-    ) -> Result<(), Stop>
+    // A command that changes records or links.
+    fn edit(&mut self, alloc: Global, command: &Command, out: &mut Octets) -> Result<(), Stop>
         requires ready { IsReady B.View self.old }
-        requires due { IsDue self.old (command.Insert file values.now) }
-        ensures { IsStep B.View self.old self.new (command.Insert file values.now) out.old out.new
-            result }
+        requires due { IsDue self.old command.now }
+        requires edit { is_edit command.now ≡ true }
+        ensures { IsStep B.View self.old self.new command.now out.old out.new result }
     {
-        let def = file_def(&self.schema, file);
-        let node = file_node(&self.built, file);
-        let (key, values) = key_and_values(def, values);
-        let done = insert_record(alloc, def, node, key, values, &mut self.leaves)?;
-        append(out, insert_answer(done))?;
-        Ok(())
-    }
-
-    fn update(
-        &mut self,
-        alloc: Global,
-        file: u16,
-        key: &Value,
-        changes: &Changes,
-        out: &mut Octets,
-    ) -> Result<(), Stop>
-        requires ready { IsReady B.View self.old }
-        requires due { IsDue self.old (command.Update file key.now changes.now) }
-        ensures { IsStep B.View self.old self.new (command.Update file key.now changes.now) out.old
-            out.new result }
-    {
-        let def = file_def(&self.schema, file);
-        let node = file_node(&self.built, file);
-        let done = update_record(alloc, def, node, key, &changes.0, &mut self.leaves)?;
-        append(out, edit_answer(done))?;
-        Ok(())
-    }
-
-    fn delete(
-        &mut self,
-        alloc: Global,
-        file: u16,
-        key: &Value,
-        out: &mut Octets,
-    ) -> Result<(), Stop>
-        requires ready { IsReady B.View self.old }
-        requires due { IsDue self.old (command.Delete file key.now) }
-        ensures { IsStep B.View self.old self.new (command.Delete file key.now) out.old out.new
-            result }
-    {
-        let def = file_def(&self.schema, file);
-        let node = file_node(&self.built, file);
-        let done = delete_record(alloc, def, node, key, &mut self.leaves)?;
-        append(out, edit_answer(done))?;
+        let refused = edit(alloc, &self.schema, &self.built, command, &mut self.leaves)?;
+        append(out, edit_answer(refused))?;
         Ok(())
     }
 
@@ -306,9 +260,11 @@ impl<B: Leaves + Drop> Engine<B> {
         Ok(())
     }
 
+    // A `find` without `of`.
     fn find(&mut self, alloc: Global, find: &Find, out: &mut Octets) -> Result<(), Stop>
         requires ready { IsReady B.View self.old }
         requires due { IsDue self.old (command.Find find.now) }
+        requires alone { find.now.of ≡ None }
         ensures step { IsStep B.View self.old self.new (command.Find find.now) out.old out.new
             result }
         ensures few_steps { (p : Playing) → IsAt B.View p self.old →
@@ -321,13 +277,45 @@ impl<B: Leaves + Drop> Engine<B> {
         Ok(())
     }
 
-    fn reorganize(&mut self, alloc: Global, file: u16, out: &mut Octets) -> Result<(), Stop>
+    // A command that follows a link.
+    fn answer(&mut self, alloc: Global, command: &Command, out: &mut Octets) -> Result<(), Stop>
+        requires ready { IsReady B.View self.old }
+        requires due { IsDue self.old command.now }
+        requires follows { follows_link command.now ≡ true }
+        ensures step { IsStep B.View self.old self.new command.now out.old out.new result }
+        ensures few_steps { (p : Playing) → IsAt B.View p self.old →
+            OnOk result (TakesFewSteps B.View p command.now self.old self.new) }
+    {
+        let text = answer(alloc, &self.schema, &self.built, command, &mut self.leaves)?;
+        append(out, text.as_slice())?;
+        Ok(())
+    }
+
+    fn reorganize_file(&mut self, alloc: Global, file: u16, out: &mut Octets) -> Result<(), Stop>
         requires ready { IsReady B.View self.old }
         requires due { IsDue self.old (command.ReorganizeFile file) }
         ensures { IsStep B.View self.old self.new (command.ReorganizeFile file) out.old out.new
             result }
     {
-        reorganize_file(alloc, &self.built.owners, file, &mut self.leaves)?;
+        reorganize(
+            alloc,
+            &self.built.owners,
+            usize::from(file),
+            &mut self.leaves,
+        )?;
+        append(out, b"ok\n")?;
+        Ok(())
+    }
+
+    // The files are defined first, and then the links.
+    fn reorganize_link(&mut self, alloc: Global, link: u16, out: &mut Octets) -> Result<(), Stop>
+        requires ready { IsReady B.View self.old }
+        requires due { IsDue self.old (command.ReorganizeLink link) }
+        ensures { IsStep B.View self.old self.new (command.ReorganizeLink link) out.old out.new
+            result }
+    {
+        let definition = self.schema.files.0.len() + usize::from(link);
+        reorganize(alloc, &self.built.owners, definition, &mut self.leaves)?;
         append(out, b"ok\n")?;
         Ok(())
     }
@@ -371,56 +359,4 @@ fn append(out: &mut Octets, bytes: &[u8]) -> Result<(), AllocError>
     ensures err { OnErr result (out.new ≡ out.old) }
 {
     out.0.extend_from_slice(bytes)
-}
-
-fn file_def(schema: &Schema, file: u16) -> &FileDef
-    requires { file < length schema.now.files }
-    ensures { result.now ≡ file_at schema.now file }
-{
-    &schema.files.0[usize::from(file)]
-}
-
-fn file_node(built: &Built, file: u16) -> &Node<AnyMapping>
-    requires { file < length built.now.files }
-    ensures tree { tree_of result.now ≡ tree_at built.now.files file }
-    ensures fit { (schema : TheSchema) (leaves : ℕ) → AreNodes schema built.now.files leaves →
-        IsTreeFor (file_at schema file) (tree_of result.now) leaves }
-{
-    &built.files.0[usize::from(file)]
-}
-
-fn insert_answer(done: bool) -> &'static [u8]
-    ensures { result.now ≡ (if done then codes "ok\n" else codes "refused: key exists\n") }
-{
-    if done {
-        b"ok\n"
-    } else {
-        b"refused: key exists\n"
-    }
-}
-
-// The answer of an update or a delete.
-fn edit_answer(done: bool) -> &'static [u8]
-    ensures { result.now ≡ (if done then codes "ok\n" else codes "refused: no record\n") }
-{
-    if done {
-        b"ok\n"
-    } else {
-        b"refused: no record\n"
-    }
-}
-
-// The key of a new record, and its other values.
-fn key_and_values<'a>(file: &FileDef, values: &'a Values) -> (&'a Value, &'a [Value])
-    requires storable { 0 < length file.now.fields }
-    requires fit { AreFit file.now.fields values.now }
-    ensures parts { values.now ≡ result.0.now ∷ result.1.now }
-    ensures key { Fits (key_kind file.now) result.0.now }
-    ensures others { AreFit (data_fields file.now) result.1.now }
-{
-    let _file = file;
-    let [key, others @ ..] = values.0.as_slice() else {
-        unreachable!()
-    };
-    (key, others)
 }

@@ -1,12 +1,11 @@
 //! The engine: the commands of a script on leaves.
 #![tactic(auto)]
 
-mod by_index;
-mod by_key;
+mod edits;
 mod engine;
-mod listing;
+mod files;
+mod links;
+mod members;
 mod records;
-mod spans;
 
-pub use by_index::indexed_fields;
 pub use engine::{Engine, StepStop};

@@ -1,5 +1,5 @@
 // Edits of records: each is looked up and changed in the file's node.
-ghost use Rattle.std.specs.Prelude.{◌≡◌, ◌<◌, ◌≤◌, ◌∷◌, ◌+◌, ℕ, List, length, slice_get, IfOk, OnOk, IsErrOf, Option, Some, not, is_some};
+ghost use Rattle.std.specs.Prelude.{[], ◌≡◌, ◌<◌, ◌≤◌, ◌∷◌, ◌+◌, ℕ, List, length, slice_get, IfOk, OnOk, IsErrOf, Option, Some, not, is_some};
 ghost use Rattle.std.specs.FinMap as fin;
 ghost use Rattle.std.specs.List.{AllByRecursion};
 ghost use Rattle.gx_values.specs.Values.{Fits, AreFit, AreSized};
@@ -14,11 +14,12 @@ ghost use Rattle.gx_stack.specs.Seen.{tree_of};
 ghost use Rattle.gx_types.specs.Any.{any_rule};
 ghost use Rattle.gx_typing.specs.Dues.{file_form};
 ghost use Rattle.gx_model.specs.States.{File as FileMap};
-ghost use Rattle.gx_model.specs.Commands.{changed, updated};
+ghost use Rattle.gx_model.specs.Commands.{changed, updated, first_refusal, key_exists, no_record};
 ghost use Rattle.gx_scan.specs.Files.{rec_of, IsInternal, HasFile, IsStorable, IsTreeFor};
 ghost use Rattle.gx_engine.specs.Internal.{IsEditedWhere};
 
 use gx_commands::Change;
+use gx_pairs::Refused;
 use gx_ports::{Leaves, Stop};
 use gx_scan::find_record;
 use gx_schema::FileDef;
@@ -45,7 +46,7 @@ fn new_record(alloc: Global, key: &Value, values: &[Value]) -> Result<Rec, NoMem
     })
 }
 
-/// Puts a new record into the file's node, and answers whether it did: not where one has its key.
+/// Puts a new record into the file's node, or answers why it doesn't.
 pub(crate) fn insert_record<B: Leaves>(
     alloc: Global,
     file: &FileDef,
@@ -53,16 +54,17 @@ pub(crate) fn insert_record<B: Leaves>(
     key: &Value,
     values: &[Value],
     leaves: &mut B,
-) -> Result<bool, Stop>
+) -> Result<Option<Refused>, Stop>
     requires tree { IsTreeFor file.now (tree_of node.now) (length (B.working leaves.old)) }
     requires storable { IsStorable file.now }
     requires key { Fits (key_kind file.now) key.now }
     requires values { AreFit (data_fields file.now) values.now }
     ensures inserted { (f : FileMap) → B.whole leaves.old →
         IsInternal file.now (tree_of node.now) (B.working leaves.old) f → IfOk result
-        (λ done. IsEditedWhere file.now (tree_of node.now)
-        (B.working leaves.old) (B.working leaves.new) f (not (is_some (fin.get f key.now)))
-        (fin.insert f key.now values.now) done) }
+        (λ why. IsEditedWhere file.now (tree_of node.now)
+        (B.working leaves.old) (B.working leaves.new) f
+        (first_refusal ((is_some (fin.get f key.now), key_exists) ∷ []))
+        (fin.insert f key.now values.now) why) }
     ensures keeps { Keeps B.View leaves.old leaves.new }
     ensures ends { Ends B.View
         (B.whole leaves.old × HasFile file.now (tree_of node.now) (B.working leaves.old))
@@ -76,28 +78,30 @@ pub(crate) fn insert_record<B: Leaves>(
         + length (entries_of any_rule (tree_of node.now) (rec_of (key.now, values.now)))) }
 {
     if find_record(alloc, file, node, key, leaves)?.is_some() {
-        return Ok(false);
+        return Ok(Some(Refused::KeyExists));
     }
     let new = new_record(alloc, key, values)?;
     node.replace(alloc, leaves, None, Some(&new))?;
-    Ok(true)
+    Ok(None)
 }
 
-/// Takes the record with this key away, and answers whether there was one.
+/// Takes the record with this key away, or answers why it doesn't.
 pub(crate) fn delete_record<B: Leaves>(
     alloc: Global,
     file: &FileDef,
     node: &Node<AnyMapping>,
     key: &Value,
     leaves: &mut B,
-) -> Result<bool, Stop>
+) -> Result<Option<Refused>, Stop>
     requires tree { IsTreeFor file.now (tree_of node.now) (length (B.working leaves.old)) }
     requires storable { IsStorable file.now }
     requires key { Fits (key_kind file.now) key.now }
     ensures deleted { (f : FileMap) → B.whole leaves.old →
         IsInternal file.now (tree_of node.now) (B.working leaves.old) f → IfOk result
-        (λ done. IsEditedWhere file.now (tree_of node.now)
-        (B.working leaves.old) (B.working leaves.new) f (is_some (fin.get f key.now)) (fin.remove f key.now) done) }
+        (λ why. IsEditedWhere file.now (tree_of node.now)
+        (B.working leaves.old) (B.working leaves.new) f
+        (first_refusal ((not (is_some (fin.get f key.now)), no_record) ∷ []))
+        (fin.remove f key.now) why) }
     ensures keeps { Keeps B.View leaves.old leaves.new }
     ensures ends { Ends B.View
         (B.whole leaves.old × HasFile file.now (tree_of node.now) (B.working leaves.old))
@@ -107,13 +111,13 @@ pub(crate) fn delete_record<B: Leaves>(
         IsCrowded (B.limit leaves.old) (B.working leaves.old) }
 {
     let Some(old) = find_record(alloc, file, node, key, leaves)? else {
-        return Ok(false);
+        return Ok(Some(Refused::NoRecord));
     };
     node.replace(alloc, leaves, Some(&old), None)?;
-    Ok(true)
+    Ok(None)
 }
 
-/// Changes the record with this key, and answers whether there was one.
+/// Changes the record with this key, or answers why it doesn't.
 pub(crate) fn update_record<B: Leaves>(
     alloc: Global,
     file: &FileDef,
@@ -121,16 +125,17 @@ pub(crate) fn update_record<B: Leaves>(
     key: &Value,
     changes: &[Change],
     leaves: &mut B,
-) -> Result<bool, Stop>
+) -> Result<Option<Refused>, Stop>
     requires tree { IsTreeFor file.now (tree_of node.now) (length (B.working leaves.old)) }
     requires storable { IsStorable file.now }
     requires key { Fits (key_kind file.now) key.now }
     requires changes { AllByRecursion (IsChangeOf file.now) changes.now }
     ensures updated { (f : FileMap) → B.whole leaves.old →
         IsInternal file.now (tree_of node.now) (B.working leaves.old) f → IfOk result
-        (λ done. IsEditedWhere file.now (tree_of node.now)
-        (B.working leaves.old) (B.working leaves.new) f (is_some (fin.get f key.now)) (updated f key.now changes.now)
-        done) }
+        (λ why. IsEditedWhere file.now (tree_of node.now)
+        (B.working leaves.old) (B.working leaves.new) f
+        (first_refusal ((not (is_some (fin.get f key.now)), no_record) ∷ []))
+        (updated f key.now changes.now) why) }
     ensures keeps { Keeps B.View leaves.old leaves.new }
     ensures ends { Ends B.View
         (B.whole leaves.old × HasFile file.now (tree_of node.now) (B.working leaves.old))
@@ -144,11 +149,11 @@ pub(crate) fn update_record<B: Leaves>(
         + length (entries_of any_rule (tree_of node.now) (rec_of (key.now, changed values changes.now)))) }
 {
     let Some(old) = find_record(alloc, file, node, key, leaves)? else {
-        return Ok(false);
+        return Ok(Some(Refused::NoRecord));
     };
     let new = changed_record(alloc, file, &old, changes)?;
     node.replace(alloc, leaves, Some(&old), Some(&new))?;
-    Ok(true)
+    Ok(None)
 }
 
 // The record after the changes.
@@ -191,11 +196,12 @@ fn changed_values(
     Ok(Values(values))
 }
 
-/// Lays the entries of each leaf of the file out anew. The records stay.
-pub(crate) fn reorganize_file<B: Leaves>(
+/// Lays the entries of each leaf of a file or a link out anew. What they hold stays. The definitions are
+/// numbered as the owners of the leaves are: the files first, and then the links.
+pub(crate) fn reorganize<B: Leaves>(
     alloc: Global,
     owners: &Owners,
-    file: u16,
+    definition: usize,
     leaves: &mut B,
 ) -> Result<(), Stop>
     requires owned { length owners.now ≡ length (B.working leaves.old) }
@@ -203,14 +209,14 @@ pub(crate) fn reorganize_file<B: Leaves>(
     ensures working { B.whole leaves.old →
         OnOk result (B.working leaves.new ≡ B.working leaves.old) }
     ensures fresh { B.whole leaves.old → OnOk result
-        ((leaf : ℕ) → slice_get owners.now leaf ≡ Some file → B.fresh leaves.new leaf) }
+        ((leaf : ℕ) → slice_get owners.now leaf ≡ Some definition → B.fresh leaves.new leaf) }
     ensures keeps { Keeps B.View leaves.old leaves.new }
     ensures ends { Ends B.View (B.whole leaves.old) leaves.old leaves.new result }
     ensures full { B.whole leaves.old → IsErrOf result Stop.Full →
         IsCrowded (B.limit leaves.old) (B.working leaves.old) }
 {
     for leaf in 0..owners.0.len() {
-        if owners.0[leaf] == file {
+        if usize::from(owners.0[leaf]) == definition {
             leaves.reorganize(alloc, leaf as u32)?;
         }
     }

@@ -1,5 +1,5 @@
 use Rattle.std.proofs.Common.{◌<◌, ◌∙◌, List, length, sym, ap, subst}
-use Rattle.std.specs.Prelude.{is_some}
+use Rattle.std.specs.Prelude.{not, is_some}
 use Rattle.gx_values.specs.declared.records.Rec.{Rec}
 use Rattle.gx_mapping.specs.Rule.{In}
 use Rattle.gx_ports.specs.LeafMaps.{LeafMap, map_at}
@@ -9,6 +9,7 @@ use Rattle.gx_types.specs.Any.{any_rule}
 use Rattle.gx_scan.specs.Files.{records_of}
 use Rattle.gx_scan.proofs.FileLemmas.{set_of, there_in}
 use Rattle.gx_engine.proofs.RecordLemmas.{found_values, is_done, delete_edit}
+use Rattle.gx_model.specs.Commands.{no_record}
 use Rattle.gx_engine.proofs.records.delete_record.Goals as goal
 
 pub replace-requires-clause-below : goal.replace-requires-clause-below
@@ -23,5 +24,5 @@ returns-clause-deleted g c = λ f whole is.
     let set = subst (λ form. IsSet form (records_of f)) (sym c.requires.tree.form) (set_of c.args.file.now f c.requires.storable.keyed is.fit) in
     let held = subst (λ (maps : List LeafMap). IsHeld any_rule t (records_of f) maps) (sym same) is.held in
     let done = c.in_ok-replace.ensures.internal (records_of f) after set (subst (λ (r : Rec). In r (records_of f)) (sym there.2) (there_in f c.args.key.now there.0 there.1)) held in
-    is_done c.args.file.now t _ _ f _ _ (ap is_some there.1)
+    is_done c.args.file.now t _ _ f _ no_record _ (ap (λ o. not (is_some o)) there.1)
     (delete_edit c.args.file.now t _ _ f c.args.key.now there.0 c.in-Some.old c.requires.tree.valid is there.2 done (λ n out. c.in_ok-replace.ensures.others n after (λ e. cc) out ∙ ap (λ (maps : List LeafMap). map_at maps n) same))

@@ -1,5 +1,5 @@
 use Rattle.std.proofs.Common.{rules, ◌<◌, ◌∙◌, List, length, sym, ap, subst}
-use Rattle.std.specs.Prelude.{not, ◌≢◌}
+use Rattle.std.specs.Prelude.{◌≢◌}
 use Rattle.gx_values.specs.declared.records.Rec.{Rec}
 use Rattle.gx_mapping.specs.Rule.{In, IsOf}
 use Rattle.gx_ports.specs.LeafMaps.{LeafMap, map_at}
@@ -10,6 +10,7 @@ use Rattle.gx_scan.specs.Files.{records_of}
 use Rattle.gx_scan.proofs.FileLemmas.{set_of, row_fits}
 use Rattle.gx_engine.proofs.ChangeLemmas.{is_insert}
 use Rattle.gx_engine.proofs.RecordLemmas.{is_there, none_there, is_done, insert_edit, new_sized, crowded_same}
+use Rattle.gx_model.specs.Commands.{key_exists}
 use Rattle.gx_engine.proofs.records.insert_record.Goals as goal
 
 pub replace-requires-clause-below : goal.replace-requires-clause-below
@@ -40,5 +41,5 @@ returns-clause-inserted g c = λ f whole is.
     let held = subst (λ (maps : List LeafMap). IsHeld any_rule t (records_of f) maps) (sym same) is.held in
     let change = subst (λ (r : Rec). (q : Rec) → In q (records_of f) → q.key ≢ r.key) (sym new) (is_insert f c.args.key.now c.args.values.now none) in
     let done = c.in_ok-replace.ensures.internal (records_of f) after set change held in
-    is_done c.args.file.now t _ _ f _ _ (ap not absent)
+    is_done c.args.file.now t _ _ f _ key_exists _ absent
     (insert_edit c.args.file.now t _ _ f c.args.key.now c.args.values.now c.in_ok-new.new c.requires.tree.valid c.requires.key c.requires.values is none new done (λ n out. c.in_ok-replace.ensures.others n after (λ e. cc) out ∙ ap (λ (maps : List LeafMap). map_at maps n) same))

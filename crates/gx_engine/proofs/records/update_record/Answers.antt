@@ -1,5 +1,5 @@
 use Rattle.std.proofs.Common.{◌<◌, ◌∙◌, List, length, sym, ap, subst, refl}
-use Rattle.std.specs.Prelude.{is_some}
+use Rattle.std.specs.Prelude.{not, is_some}
 use Rattle.gx_values.specs.declared.records.Rec.{Rec}
 use Rattle.gx_mapping.specs.Rule.{In}
 use Rattle.gx_ports.specs.LeafMaps.{LeafMap, map_at}
@@ -13,6 +13,7 @@ use Rattle.gx_scan.specs.Files.{records_of}
 use Rattle.gx_engine.specs.Internal.{IsEdited}
 use Rattle.gx_scan.proofs.FileLemmas.{set_of, there_in}
 use Rattle.gx_engine.proofs.RecordLemmas.{found_values, is_done, update_edit, updated_is, rec_made}
+use Rattle.gx_model.specs.Commands.{no_record}
 use Rattle.gx_engine.proofs.records.update_record.Goals as goal
 
 pub replace-requires-clause-below : goal.replace-requires-clause-below
@@ -29,7 +30,7 @@ returns-clause-updated g c = λ f whole is.
     let set = subst (λ form. IsSet form (records_of f)) (sym c.requires.tree.form) (set_of c.args.file.now f c.requires.storable.keyed is.fit) in
     let held = subst (λ (maps : List LeafMap). IsHeld any_rule t (records_of f) maps) (sym same) is.held in
     let done = c.in_ok-replace.ensures.internal (records_of f) after set (subst (λ (r : Rec). In r (records_of f)) (sym there.2) (there_in f k there.0 there.1), sym c.in_ok-new.ensures.key) held in
-    is_done c.args.file.now t _ _ f _ _ (ap is_some there.1)
+    is_done c.args.file.now t _ _ f _ no_record _ (ap (λ o. not (is_some o)) there.1)
     (subst (IsEdited c.args.file.now t _ _) (updated_is f k c.args.changes.now there.0 (changed there.0 c.args.changes.now) (sym there.1) refl)
     (update_edit c.args.file.now t _ _ f k there.0 (changed there.0 c.args.changes.now) c.in-Some.old c.in_ok-new.new c.requires.tree.valid c.requires.key (subst (λ (r : Rec). AreFit (data_fields c.args.file.now) r.fields) new c.in_ok-new.ensures.fits.fields) is there.2 new done
     (λ n out. c.in_ok-replace.ensures.others n after (λ e. cc) out ∙ ap (λ (maps : List LeafMap). map_at maps n) same)))

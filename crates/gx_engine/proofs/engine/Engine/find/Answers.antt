@@ -8,7 +8,8 @@ use Rattle.gx_scan.specs.Where.{AreNamed}
 use Rattle.gx_model.specs.Play.{seen_state}
 use Rattle.gx_scan.proofs.StepLemmas.{leaves_few}
 use Rattle.gx_engine.specs.Work.{most_with}
-use Rattle.gx_engine.proofs.StepLemmas.{internal_at, file_cause, find_carried, no_of}
+use Rattle.gx_engine.proofs.EditLemmas.{internal_at}
+use Rattle.gx_engine.proofs.StepLemmas.{file_cause, find_carried}
 use Rattle.gx_engine.proofs.WorkLemmas.{have_most, find_within}
 use Rattle.gx_engine.proofs.engine.Engine.find.Goals as goal
 
@@ -28,9 +29,9 @@ returns-clause-step g c =
     let e = c.args.self.now in
     record {
       carried = λ p at.
-          find_carried e.schema e.built.files e.inside e.commits _ _ _ _ p c.args.find.now c.file_def-def.result.now c.args.out.now _ c.in_ok-text.text
-          c.requires.ready.storable.links c.requires.due.of_schema.of at.stands c.found_text.ensures.reads.working c.found_text.ensures.reads.kept c.file_def-def.ensures
-          (c.in_ok-text.ensures.listed _ at.whole_is (internal_at e.schema e.built.files c.args.find.now.file c.file_def-def.result.now (tree_of c.file_node-node.result.now) (g.B.View.working e.leaves) _ c.file_def-def.ensures c.file_node-node.ensures.tree (at.stands.working_is.each c.args.find.now.file c.requires.due.of_schema.file)))
+          find_carried e.schema e.built e.inside e.commits _ _ _ _ p c.args.find.now c.file_def-def.result.now c.args.out.now _ c.in_ok-text.text
+          c.requires.alone at.stands c.found_text.ensures.reads.working c.found_text.ensures.reads.kept c.file_def-def.ensures
+          (c.in_ok-text.ensures.listed _ at.whole_is (internal_at e.schema e.built c.args.find.now.file c.file_def-def.result.now (tree_of c.file_node-node.result.now) (g.B.View.working e.leaves) (seen_state p) c.file_def-def.ensures c.file_node-node.ensures.tree c.requires.due.of_schema.file at.stands.working_is))
           (c.in_ok-append.ensures.ok ∙ ap (λ (text : List ℕ). c.args.out.now ++ text) c.as_slice.ensures);
       full = search rules;
       fresh = search rules;
@@ -65,7 +66,7 @@ returns-clause-few_steps g c = λ p at.
     let t = tree_of c.file_node-node.result.now in
     let maps = g.B.View.working e.leaves in
     let fit = c.file_node-node.ensures.fit e.schema _ c.requires.ready.nodes in
-    let is = internal_at e.schema e.built.files q.file c.file_def-def.result.now t maps _ c.file_def-def.ensures c.file_node-node.ensures.tree (at.stands.working_is.each q.file c.requires.due.of_schema.file) in
-    let few = have_most e.schema e.built.files _ s q.file t q.of c.requires.ready.nodes at.stands.working_is.files_many c.requires.due.of_schema.file c.file_node-node.ensures.tree in
-    find_within e.schema e.built.files (length maps) s q c.file_def-def.result.now t _ _ _ c.file_def-def.ensures c.file_node-node.ensures.tree (no_of e.schema q.file q.of c.requires.ready.storable.links c.requires.due.of_schema.of)
-    (leaves_few t (length maps) fit.valid fit.below) (c.in_ok-text.ensures.steps _ (most_with e.built.files s q.of) at.whole_is is few)
+    let is = internal_at e.schema e.built q.file c.file_def-def.result.now t maps s c.file_def-def.ensures c.file_node-node.ensures.tree c.requires.due.of_schema.file at.stands.working_is in
+    let few = have_most e.schema e.built _ s q.file t q.of c.requires.ready.nodes at.stands.working_is.valid.files_many c.requires.due.of_schema.file c.file_node-node.ensures.tree in
+    find_within e.schema e.built (length maps) s q c.file_def-def.result.now t _ _ _ c.file_def-def.ensures c.file_node-node.ensures.tree c.requires.alone
+    (leaves_few t (length maps) fit.valid fit.below) (c.in_ok-text.ensures.steps _ (most_with e.built s q.of) at.whole_is is few)

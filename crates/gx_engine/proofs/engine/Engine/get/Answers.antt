@@ -5,7 +5,8 @@ use Rattle.gx_scan.specs.Files.{IsTreeFor}
 use Rattle.gx_model.specs.Play.{seen_state}
 use Rattle.gx_scan.proofs.StepLemmas.{leaves_few}
 use Rattle.gx_engine.specs.Work.{most_entries}
-use Rattle.gx_engine.proofs.StepLemmas.{internal_at, file_cause}
+use Rattle.gx_engine.proofs.EditLemmas.{internal_at}
+use Rattle.gx_engine.proofs.StepLemmas.{file_cause}
 use Rattle.gx_engine.proofs.WorkLemmas.{have_most, record_within}
 use Rattle.gx_engine.proofs.engine.Engine.get.Goals as goal
 
@@ -36,8 +37,8 @@ returns-clause-few_steps g c = λ p at.
     let t = tree_of c.file_node-node.result.now in
     let maps = g.B.View.working e.leaves in
     let fit = c.file_node-node.ensures.fit e.schema _ c.requires.ready.nodes in
-    let is = internal_at e.schema e.built.files i c.file_def-def.result.now t maps _ c.file_def-def.ensures c.file_node-node.ensures.tree (at.stands.working_is.each i c.requires.due.of_schema.0) in
-    let few = have_most e.schema e.built.files _ s i t None c.requires.ready.nodes at.stands.working_is.files_many c.requires.due.of_schema.0 c.file_node-node.ensures.tree in
+    let is = internal_at e.schema e.built i c.file_def-def.result.now t maps s c.file_def-def.ensures c.file_node-node.ensures.tree c.requires.due.of_schema.0 at.stands.working_is in
+    let few = have_most e.schema e.built _ s i t None c.requires.ready.nodes at.stands.working_is.valid.files_many c.requires.due.of_schema.0 c.file_node-node.ensures.tree in
     record_within _ (most_entries e.built.files s.files) _ (length maps) _ _ (leaves_few t (length maps) fit.valid fit.below) (c.in_ok-found.ensures.steps _ (most_entries e.built.files s.files) at.whole_is is few)
 
 pub returns-in_default-clause-few_steps : goal.returns-in_default-clause-few_steps
@@ -48,6 +49,6 @@ returns-in_default-clause-few_steps g c = λ p at.
     let t = tree_of c.file_node-node.result.now in
     let maps = g.B.View.working e.leaves in
     let fit = c.file_node-node.ensures.fit e.schema _ c.requires.ready.nodes in
-    let is = internal_at e.schema e.built.files i c.file_def-def.result.now t maps _ c.file_def-def.ensures c.file_node-node.ensures.tree (at.stands.working_is.each i c.requires.due.of_schema.0) in
-    let few = have_most e.schema e.built.files _ s i t None c.requires.ready.nodes at.stands.working_is.files_many c.requires.due.of_schema.0 c.file_node-node.ensures.tree in
+    let is = internal_at e.schema e.built i c.file_def-def.result.now t maps s c.file_def-def.ensures c.file_node-node.ensures.tree c.requires.due.of_schema.0 at.stands.working_is in
+    let few = have_most e.schema e.built _ s i t None c.requires.ready.nodes at.stands.working_is.valid.files_many c.requires.due.of_schema.0 c.file_node-node.ensures.tree in
     record_within _ (most_entries e.built.files s.files) _ (length maps) _ _ (leaves_few t (length maps) fit.valid fit.below) (c.in_ok-found.ensures.steps _ (most_entries e.built.files s.files) at.whole_is is few)

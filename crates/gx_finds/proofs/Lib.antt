@@ -1,0 +1,3 @@
+pub mod PlannedLemmas
+mod SpanLemmas
+mod StepLemmas

@@ -1,0 +1,93 @@
+// Finding by an indexed field.
+ghost use Rattle.std.specs.Prelude.{◌≡◌, ◌≢◌, ◌<◌, ◌≤◌, ◌+◌, ◌*◌, [], ℕ, true, Some, length, filter, IfOk, OnOk, IsErrOf};
+ghost use Rattle.std.specs.FinMap as fin;
+ghost use Rattle.std.specs.List.{AllByRecursion};
+ghost use Rattle.std.specs.List.Sorted.{IsPermutation};
+ghost use Rattle.gx_values.specs.declared.values.Op.TheVariants as op;
+ghost use Rattle.gx_schema.specs.Lookups.{field_at};
+ghost use Rattle.gx_commands.specs.Commands.{IsCondOf};
+ghost use Rattle.gx_ports.specs.Calls.{Reads, Ends};
+ghost use Rattle.gx_mapping.specs.Rule.{In};
+ghost use Rattle.gx_stack.specs.Tree.{IsValid, leaves_of};
+ghost use Rattle.gx_stack.specs.Seen.{tree_of};
+ghost use Rattle.gx_stack.specs.Indexed.{is_indexed};
+ghost use Rattle.gx_types.specs.Any.{any_rule};
+ghost use Rattle.gx_model.specs.States.{File as FileMap};
+ghost use Rattle.gx_model.specs.Found.{meets_conds};
+ghost use Rattle.gx_scan.specs.Files.{IsInternal, HasFile, IsStorable, IsTreeFor};
+ghost use Rattle.gx_scan.specs.Where.{AreNamed};
+ghost use Rattle.gx_scan.specs.Steps.{HaveAtMost};
+ghost use Rattle.gx_finds.specs.Planned.{fields_indexed};
+ghost use Rattle.gx_finds.specs.Looked.{rows_meeting};
+
+use crate::spans::span_of_conditions;
+use gx_commands::Cond;
+use gx_ports::{Leaves, Stop};
+use gx_rows::Row;
+use gx_scan::rows_where;
+use gx_schema::FileDef;
+use gx_stack::Node;
+use gx_types::AnyMapping;
+use gx_values::NoMemory;
+use std::alloc::Global;
+
+/// Whether each field of a file is indexed in its node, by the number of the field. `NoMemory`: there was
+/// none for it.
+pub fn indexed_fields(
+    alloc: Global,
+    file: &FileDef,
+    node: &Node<AnyMapping>,
+) -> Result<Vec<bool>, NoMemory>
+    requires { IsValid any_rule (tree_of node.now) }
+    ensures { IfOk result
+        (λ indexed. indexed.items ≡ fields_indexed (tree_of node.now) file.now) }
+{
+    let mut indexed = Vec::new(alloc);
+    for field in &file.fields.0 {
+        indexed.push(node.indexed(&field.name))?;
+    }
+    Ok(indexed)
+}
+
+/// Appends the records that meet the conditions to none, in any order. One of the conditions is on an
+/// indexed field: the index says whose value is inside the span of all conditions on it, and each of these
+/// records is tested for all conditions.
+pub(crate) fn add_by_index<B: Leaves>(
+    alloc: Global,
+    file: &FileDef,
+    node: &Node<AnyMapping>,
+    cond: &Cond,
+    conds: &[Cond],
+    leaves: &mut B,
+    rows: &mut Vec<Row>,
+) -> Result<(), Stop>
+    requires tree { IsTreeFor file.now (tree_of node.now) (length (B.working leaves.old)) }
+    requires storable { IsStorable file.now }
+    requires named { AreNamed file.now }
+    requires fit { AllByRecursion (IsCondOf file.now) conds.now }
+    requires there { In cond.now conds.now }
+    requires past_key { 0 < cond.now.field }
+    requires op { cond.now.op ≢ op.Unequal }
+    requires indexed { is_indexed any_rule (tree_of node.now) (field_at file.now cond.now.field).name ≡ true }
+    requires none { rows.old.items ≡ [] }
+    ensures those { (f : FileMap) → B.whole leaves.old →
+        IsInternal file.now (tree_of node.now) (B.working leaves.old) f → OnOk result
+        (IsPermutation (filter (meets_conds conds.now) (fin.entries f)) rows.new.items) }
+    ensures steps { (f : FileMap) (most : ℕ) → B.whole leaves.old →
+        IsInternal file.now (tree_of node.now) (B.working leaves.old) f →
+        HaveAtMost most (tree_of node.now) f → OnOk result
+        (B.work leaves.new
+        ≤ B.work leaves.old + ((length (rows_meeting (Some cond.now) f) + 1) * length (leaves_of (tree_of node.now))
+        + 2 * (length (rows_meeting (Some cond.now) f) * most))) }
+    ensures reads { Reads B.View leaves.old leaves.new }
+    ensures ends { Ends B.View
+        (B.whole leaves.old × HasFile file.now (tree_of node.now) (B.working leaves.old))
+        leaves.old leaves.new result }
+    ensures block { (n : ℕ) → IsErrOf result (Stop.Damaged n) → B.whole leaves.old → n ≡ 0 }
+    ensures not_full { ¬ IsErrOf result Stop.Full }
+{
+    match span_of_conditions(file, cond.field, conds) {
+        Some(span) => rows_where(alloc, file, node, cond.field, &span, conds, leaves, rows),
+        None => Ok(()),
+    }
+}

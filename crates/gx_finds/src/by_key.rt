@@ -1,0 +1,75 @@
+// Finding by the key.
+ghost use Rattle.std.specs.Prelude.{◌≡◌, ◌≢◌, ◌<◌, ◌≤◌, ◌+◌, ◌*◌, [], ℕ, length, filter, Some, slice_get, OnOk, IsErrOf};
+ghost use Rattle.std.specs.FinMap as fin;
+ghost use Rattle.std.specs.List.{AllByRecursion};
+ghost use Rattle.std.specs.List.Sorted.{IsPermutation};
+ghost use Rattle.gx_values.specs.declared.values.Op.TheVariants as op;
+ghost use Rattle.gx_commands.specs.Commands.{IsCondOf};
+ghost use Rattle.gx_ports.specs.Calls.{Reads, Ends};
+ghost use Rattle.gx_mapping.specs.Rule.{In};
+ghost use Rattle.gx_stack.specs.Tree.{leaves_of};
+ghost use Rattle.gx_stack.specs.Seen.{tree_of};
+ghost use Rattle.gx_model.specs.States.{File as FileMap};
+ghost use Rattle.gx_model.specs.Found.{meets_conds};
+ghost use Rattle.gx_scan.specs.Files.{IsInternal, HasFile, IsStorable, IsTreeFor};
+ghost use Rattle.gx_scan.specs.Steps.{HaveAtMost};
+ghost use Rattle.gx_finds.specs.Looked.{rows_meeting};
+
+use crate::spans::span_of_conditions;
+use gx_commands::{Cond, Find};
+use gx_ports::{Leaves, Stop};
+use gx_rows::Row;
+use gx_scan::rows_within;
+use gx_schema::FileDef;
+use gx_stack::Node;
+use gx_types::AnyMapping;
+use std::alloc::Global;
+
+/// The condition of this number.
+pub fn condition_at(find: &Find, number: u16) -> &Cond
+    requires { number < length find.now.conds }
+    ensures { slice_get find.now.conds number ≡ Some result.now }
+{
+    &find.conds.0[usize::from(number)]
+}
+
+/// Appends the records that meet the conditions to none, in any order. One of the conditions is on the
+/// key: the records whose key is inside the span of all conditions on it are looked at, and each of them is
+/// tested for all conditions.
+pub(crate) fn add_by_key<B: Leaves>(
+    alloc: Global,
+    file: &FileDef,
+    node: &Node<AnyMapping>,
+    cond: &Cond,
+    conds: &[Cond],
+    leaves: &mut B,
+    rows: &mut Vec<Row>,
+) -> Result<(), Stop>
+    requires tree { IsTreeFor file.now (tree_of node.now) (length (B.working leaves.old)) }
+    requires storable { IsStorable file.now }
+    requires fit { AllByRecursion (IsCondOf file.now) conds.now }
+    requires there { In cond.now conds.now }
+    requires key { cond.now.field ≡ 0 }
+    requires op { cond.now.op ≢ op.Unequal }
+    requires none { rows.old.items ≡ [] }
+    ensures those { (f : FileMap) → B.whole leaves.old →
+        IsInternal file.now (tree_of node.now) (B.working leaves.old) f → OnOk result
+        (IsPermutation (filter (meets_conds conds.now) (fin.entries f)) rows.new.items) }
+    ensures steps { (f : FileMap) (most : ℕ) → B.whole leaves.old →
+        IsInternal file.now (tree_of node.now) (B.working leaves.old) f →
+        HaveAtMost most (tree_of node.now) f → OnOk result
+        (B.work leaves.new
+        ≤ B.work leaves.old + (length (leaves_of (tree_of node.now))
+        + length (rows_meeting (Some cond.now) f) * most)) }
+    ensures reads { Reads B.View leaves.old leaves.new }
+    ensures ends { Ends B.View
+        (B.whole leaves.old × HasFile file.now (tree_of node.now) (B.working leaves.old))
+        leaves.old leaves.new result }
+    ensures block { (n : ℕ) → IsErrOf result (Stop.Damaged n) → B.whole leaves.old → n ≡ 0 }
+    ensures not_full { ¬ IsErrOf result Stop.Full }
+{
+    match span_of_conditions(file, cond.field, conds) {
+        Some(span) => rows_within(alloc, file, node, &span, conds, leaves, rows),
+        None => Ok(()),
+    }
+}
