@@ -1,4 +1,4 @@
--- Which kinds of files there are calls for, and what the pages of each hold.
+-- What the pages of each kind of file hold.
 use Rattle.std.specs.Prelude.{Bool, true, List, nat_lt}
 use Rattle.std.specs.List.{list_all}
 use Rattle.gx_ports.specs.declared.kinds.LeafKind.{LeafKind}
@@ -17,7 +17,7 @@ use Rattle.gx_isam.specs.Map.{isam_map}
 use Rattle.gx_chain.specs.Map.{owned_map}
 use Rattle.gx_heap.specs.Map.{heap_map}
 
--- a hashed file has at least one chain
+-- a file can be made of this kind: a hashed one has at least one chain
 abbrev pub is_built : LeafKind → Bool
 is_built kinds.Heap = true
 is_built (kinds.Hash buckets) = nat_lt 0 buckets

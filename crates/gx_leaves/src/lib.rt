@@ -2,9 +2,7 @@
 #![tactic(auto)]
 
 mod files;
-mod kinds;
 mod making;
 mod paged;
 
-pub use kinds::kinds_built;
 pub use paged::PagedLeaves;

@@ -14,7 +14,7 @@ use Rattle.gx_play.specs.Plays.{IsHolding, KeepsState}
 -- to hear changes nothing of them
 pub holding_after : {S : Type 0} (g : Ghosts S) (schema : Schema) (built : Built) (s : State) (a b : S) → Talks g a b → IsHolding g schema built s a → IsHolding g schema built s b
 holding_after g schema built s a b talks h = record {
-  working_is = subst (λ maps. AreInternal schema built.files maps s) (sym talks.working) h.working_is;
+  working_is = subst (λ maps. AreInternal schema built maps s) (sym talks.working) h.working_is;
   kept_same = talks.kept ∙ h.kept_same ∙ sym talks.working;
   whole_is = talks.whole h.whole_is;
   kept_whole_is = talks.kept_whole.0 h.kept_whole_is;
@@ -23,7 +23,7 @@ holding_after g schema built s a b talks h = record {
 -- nor of what they keep
 pub kept_in : {S : Type 0} (g : Ghosts S) (schema : Schema) (built : Built) (s : State) (a b : S) → Talks g a b → IsHolding g schema built s a → KeepsState g schema built b s
 kept_in g schema built s a b talks h = (
-  subst (λ maps. AreInternal schema built.files maps s) (sym (talks.kept ∙ h.kept_same)) h.working_is,
+  subst (λ maps. AreInternal schema built maps s) (sym (talks.kept ∙ h.kept_same)) h.working_is,
   talks.kept_whole.0 h.kept_whole_is,
 )
 

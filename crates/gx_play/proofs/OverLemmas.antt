@@ -139,7 +139,6 @@ held_as schema built limit start Holds Other script before now (Err (ending.Sche
 held_as schema built limit start Holds Other script before now (Err (ending.Equation line why)) other is = is
 held_as schema built limit start Holds Other script before now (Err (ending.Type line why)) other is = is
 held_as schema built limit start Holds Other script before now (Err ending.TextsTooLong) other is = is
-held_as schema built limit start Holds Other script before now (Err ending.NotBuilt) other is = is
 held_as schema built limit start Holds Other script before now (Err (ending.Accepted summary)) other is = is
 held_as schema built limit start Holds Other script before now (Err (ending.Device wrong)) other is = is
 held_as schema built limit start Holds Other script before now (Err (ending.Made blocks pages)) other is = is
@@ -158,7 +157,6 @@ unheard schema built limit start Holds script before said low high (ending.Schem
 unheard schema built limit start Holds script before said low high (ending.Equation line why) unsaid is holds = is
 unheard schema built limit start Holds script before said low high (ending.Type line why) unsaid is holds = is
 unheard schema built limit start Holds script before said low high ending.TextsTooLong unsaid is holds = is
-unheard schema built limit start Holds script before said low high ending.NotBuilt unsaid is holds = is
 unheard schema built limit start Holds script before said low high (ending.Accepted summary) unsaid is holds = is
 unheard schema built limit start Holds script before said low high ending.Full unsaid is holds = absurd is
 unheard schema built limit start Holds script before said low high (ending.Device wrong) unsaid is holds = is
@@ -237,7 +235,6 @@ outside_ending before now (ending.Schema line why) is = is
 outside_ending before now (ending.Equation line why) is = is
 outside_ending before now (ending.Type line why) is = is
 outside_ending before now ending.TextsTooLong is = is
-outside_ending before now ending.NotBuilt is = is
 outside_ending before now (ending.Accepted summary) is = is
 outside_ending before now ending.Full is = absurd is
 outside_ending before now (ending.Device wrong) is = absurd is

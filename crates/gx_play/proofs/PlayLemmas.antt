@@ -111,17 +111,17 @@ at_bad_line g start all before left number line reason old e schema_is before_is
 -- what was last committed stays the last kept state
 kept_after : {S : Type 0} (g : Ghosts S) (p : Playing) (old e new : Engine S) → schema_of e ≡ schema_of old → built_of e ≡ built_of old → IsAt g p e → Keeps g (leaves_of e) (leaves_of new) → KeepsState g (schema_of old) (built_of old) (leaves_of new) p.kept
 kept_after g p old e new schema_is built_is at keeps = (
-  subst (λ (b : Built). AreInternal (schema_of old) b.files (g.kept (leaves_of new)) p.kept) built_is
-      (subst (λ (s : Schema). AreInternal s (built_of e).files (g.kept (leaves_of new)) p.kept) schema_is
-      (subst (λ maps. AreInternal (schema_of e) (built_of e).files maps p.kept) (sym keeps.kept) at.stands.kept_is)),
+  subst (λ (b : Built). AreInternal (schema_of old) b (g.kept (leaves_of new)) p.kept) built_is
+      (subst (λ (s : Schema). AreInternal s (built_of e) (g.kept (leaves_of new)) p.kept) schema_is
+      (subst (λ maps. AreInternal (schema_of e) (built_of e) maps p.kept) (sym keeps.kept) at.stands.kept_is)),
   keeps.kept_whole.0 at.kept_whole_is,
 )
 
 -- the same where the play ends
 pub kept_at : {S : Type 0} (g : Ghosts S) (p : Playing) (old e : Engine S) → schema_of e ≡ schema_of old → built_of e ≡ built_of old → IsAt g p e → KeepsState g (schema_of old) (built_of old) (leaves_of e) p.kept
 kept_at g p old e schema_is built_is at = (
-  subst (λ (b : Built). AreInternal (schema_of old) b.files (g.kept (leaves_of e)) p.kept) built_is
-      (subst (λ (s : Schema). AreInternal s (built_of e).files (g.kept (leaves_of e)) p.kept) schema_is at.stands.kept_is),
+  subst (λ (b : Built). AreInternal (schema_of old) b (g.kept (leaves_of e)) p.kept) built_is
+      (subst (λ (s : Schema). AreInternal s (built_of e) (g.kept (leaves_of e)) p.kept) schema_is at.stands.kept_is),
   at.kept_whole_is,
 )
 

@@ -48,7 +48,6 @@ line_of (ending.Schema line why) = codes "refused: schema line " ++ decimal line
 line_of (ending.Equation line why) = codes "refused: equation line " ++ decimal line ++ codes ": " ++ why_word why ++ codes "\n"
 line_of (ending.Type line why) = codes "refused: type line " ++ decimal line ++ codes ": " ++ type_words why ++ codes "\n"
 line_of ending.TextsTooLong = codes "refused: texts too long\n"
-line_of ending.NotBuilt = codes "refused: not built\n"
 line_of (ending.Accepted summary) = accepted_line summary
 line_of (ending.Line number why) = codes "stopped at line " ++ decimal number ++ codes ": " ++ line_word why ++ codes "\n"
 line_of ending.Full = full_line

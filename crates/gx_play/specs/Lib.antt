@@ -1,3 +1,4 @@
+pub mod Built
 pub mod Summaries
 pub mod Say
 pub mod Endings

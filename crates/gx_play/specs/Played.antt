@@ -10,11 +10,11 @@ use Rattle.gx_script.specs.Grammar.{IsLineOf}
 use Rattle.gx_commands.specs.Lines.{script_lines}
 use Rattle.gx_equation.specs.Trees.{DefinitionTree}
 use Rattle.gx_types.specs.declared.built.Built.{Built}
-use Rattle.gx_types.specs.Build.{AreTreesOfFiles}
 use Rattle.gx_model.specs.States.{State}
 use Rattle.gx_model.specs.Play.{Playing, End, stopped, start_at, end_text, seen_state, is_inside, next_of}
 use Rattle.gx_model.specs.Runs.{Runs, IsPlayFrom, AreFirstAnswersFrom}
-use Rattle.gx_engine.specs.Internal.{AreInternal, entries_from}
+use Rattle.gx_engine.specs.Internal.{AreInternal, state_entries}
+use Rattle.gx_play.specs.Built.{IsBuiltOf}
 use Rattle.gx_play.specs.Endings.{memory_line, full_line}
 
 -- such a text was said
@@ -70,8 +70,8 @@ pub record IsShortAt (schema : Schema) (built : Built) (limit : Option Limits) (
   pub means : IsLineOf schema line command
   pub placed : place_reason (is_inside p) command ≡ None
   pub maps : List LeafMap
-  pub before : AreInternal schema built.files maps (seen_state p)
-  pub short : IsCrowdedBy limit (entry_count maps + entries_from built.files (seen_state (next_of schema p command)).files)
+  pub before : AreInternal schema built maps (seen_state p)
+  pub short : IsCrowdedBy limit (entry_count maps + state_entries built (seen_state (next_of schema p command)))
 
 -- The script's first lines run from a state, with these answers, and the pages may be too few for the command of the next one.
 pub record IsFullAt (schema : Schema) (built : Built) (limit : Option Limits) (start : State) (script answers : List ℕ) (final : Playing) : Type 0 where
@@ -84,7 +84,7 @@ pub record IsFullAt (schema : Schema) (built : Built) (limit : Option Limits) (s
 -- such a moment of the play over nodes that the definitions mean
 pub record IsFull (schema : Schema) (ds : List DefinitionTree) (limit : Option Limits) (start : State) (script answers : List ℕ) (final : Playing) : Type 0 where
   pub built : Built
-  pub trees : AreTreesOfFiles 0 schema.files ds built.files
+  pub trees : IsBuiltOf schema ds built
   pub full : IsFullAt schema built limit start script answers final
 
 -- those answers, then the line of a full device, and the state that these lines kept

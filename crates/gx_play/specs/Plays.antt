@@ -90,7 +90,7 @@ pub record IsGivenUp {S : Type 0} (g : Ghosts S) (p : Playing) (line : List ℕ)
 
 -- the kept leaves are whole, and hold this state
 abbrev pub KeepsState : {S : Type 0} → Ghosts S → Schema → Built → S → State → Type 0
-KeepsState g schema built leaves s = AreInternal schema built.files (g.kept leaves) s × g.kept_whole leaves
+KeepsState g schema built leaves s = AreInternal schema built (g.kept leaves) s × g.kept_whole leaves
 
 -- the lines were played from a moment on, up to this end, their answers were said, and the engine stands there
 pub record IsPlayedUp {S : Type 0} (g : Ghosts S) (p : Playing) (lines : Lines) (old new : Engine S) (end : End) : Type 0 where
@@ -141,7 +141,7 @@ IsLineEnd lines number (play_end.Stop stop) = ⊥
 
 -- the leaves are whole, hold this state, and nothing of it is still to be committed
 pub record IsHolding {S : Type 0} (g : Ghosts S) (schema : Schema) (built : Built) (s : State) (leaves : S) : Type 0 where
-  pub working_is : AreInternal schema built.files (g.working leaves) s
+  pub working_is : AreInternal schema built (g.working leaves) s
   pub kept_same : g.kept leaves ≡ g.working leaves
   pub whole_is : g.whole leaves
   pub kept_whole_is : g.kept_whole leaves

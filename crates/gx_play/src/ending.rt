@@ -54,8 +54,6 @@ pub enum Ending<'a> {
     Type(u32, TypeWhy),
     /// The canonical texts of the schema and the equation are too long together.
     TextsTooLong,
-    /// The schema has a link, or a head of the equation is one that no node is built of.
-    NotBuilt,
     /// The texts are accepted, and that is all that was asked.
     Accepted(Summary),
     /// The line of this number, counted from 1, ends the script.
@@ -159,8 +157,7 @@ fn status(ending: Ending<'_>) -> Status
         | Ending::Schema(..)
         | Ending::Equation(..)
         | Ending::Type(..)
-        | Ending::TextsTooLong
-        | Ending::NotBuilt => Status::Refused,
+        | Ending::TextsTooLong => Status::Refused,
         Ending::Accepted(_) | Ending::Made(..) => Status::Done,
         Ending::Line(..) => Status::Script,
         Ending::Full => Status::Full,
@@ -193,7 +190,6 @@ fn line(alloc: Global, ending: Ending<'_>) -> Result<Vec<u8>, NoMemory>
         ),
         Ending::Type(line, why) => numbered_line(alloc, b"refused: type line ", line, why.words()),
         Ending::TextsTooLong => Ok(b"refused: texts too long\n".to_vec(alloc)?),
-        Ending::NotBuilt => Ok(b"refused: not built\n".to_vec(alloc)?),
         Ending::Accepted(summary) => summary_line(alloc, summary),
         Ending::Line(number, why) => numbered_line(alloc, b"stopped at line ", number, why.word()),
         Ending::Full => Ok(b"stopped: full\n".to_vec(alloc)?),

@@ -1,2 +1,3 @@
+mod LeafLemmas
 mod WordLemmas
 pub mod RequestLemmas

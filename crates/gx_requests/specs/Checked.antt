@@ -1,5 +1,5 @@
 -- The steps from the texts of a request to what is played.
-use Rattle.std.specs.Prelude.{◌≡◌, ℕ, ◌+◌, ◌≤◌, List, length, Bool, true, false, Err}
+use Rattle.std.specs.Prelude.{◌≡◌, ℕ, ◌+◌, ◌≤◌, List, length, true, Err}
 use Rattle.gx_tokens.specs.declared.why.Unread.TheVariants as unread
 use Rattle.gx_device.specs.Content.{Texts}
 use Rattle.gx_schema.specs.declared.schema.Schema.{Schema}
@@ -12,17 +12,17 @@ use Rattle.gx_equation.specs.Seen.{definitions_of}
 use Rattle.gx_equation.specs.Trees.{DefinitionTree}
 use Rattle.gx_engine.specs.Steps.{AreFor}
 use Rattle.gx_leaves.specs.Kinds.{are_built}
-use Rattle.gx_types.specs.Build.{AreTreesOfFiles}
 use Rattle.gx_types.specs.declared.built.Built.{Built}
 use Rattle.gx_typing.specs.declared.typing.Typing.{Typing}
 use Rattle.gx_typing.specs.Typed.{IsTyped, leaves, typing_with}
 use Rattle.gx_typing.specs.Whole.{typing_of}
+use Rattle.gx_play.specs.Built.{IsBuiltOf}
 use Rattle.gx_play.specs.declared.ending.Ending.{Ending}
 use Rattle.gx_play.specs.declared.ending.Ending.TheVariants as ending
 use Rattle.gx_requests.specs.declared.opened.Stored.{Stored}
 use Rattle.gx_requests.specs.declared.reading.Checked.{Checked}
-use Rattle.gx_requests.specs.Built.{is_built, is_built_on_device, text_length}
-use Rattle.gx_requests.specs.Requests.{AreAccepted, IsAccepted, IsReady, equation_of, text_limit}
+use Rattle.gx_requests.specs.Lengths.{text_length}
+use Rattle.gx_requests.specs.Requests.{AreAccepted, IsAccepted, equation_of, text_limit}
 use Rattle.gx_requests.specs.Words.{Action}
 
 -- why a schema isn't read
@@ -63,17 +63,7 @@ IsAcceptedAs words texts a c = IsAccepted words texts a c.schema (definitions_of
 
 -- the nodes that a script is played over, and their schema
 abbrev pub IsBuiltFor : Checked → Schema × Built → Type 0
-IsBuiltFor c x = (x.0 ≡ c.schema) × (is_built c.schema (definitions_of c.equation.definitions) ≡ true) × AreTreesOfFiles 0 c.schema.files (definitions_of c.equation.definitions) x.1.files
-
--- why nothing is built, where this tells whether it can be
-abbrev pub IsUnbuiltBy : Bool → Ending → Type 0
-IsUnbuiltBy can ending.NotBuilt = can ≡ false
-IsUnbuiltBy can ending.NoMemory = Unit {0}
-IsUnbuiltBy can why = ⊥
-
--- or why there are none
-abbrev pub IsUnbuilt : Checked → Ending → Type 0
-IsUnbuilt c = IsUnbuiltBy (is_built c.schema (definitions_of c.equation.definitions))
+IsBuiltFor c x = (x.0 ≡ c.schema) × IsBuiltOf c.schema (definitions_of c.equation.definitions) x.1
 
 -- a script can be played on the schema as it is built
 abbrev pub CanPlay : Schema × Built → Type 0
@@ -83,31 +73,26 @@ CanPlay x = AreFor x.0 x.1 (length x.1.specs) × IsWellFormed x.0
 pub record IsPrepared (words : List (List ℕ)) (texts : Texts) (a : Action) (x : Schema × Built) : Type 0 where
   pub definitions : List DefinitionTree
   pub typing : Typing
-  pub ready : IsReady words texts a x.0 definitions typing
-  pub trees : AreTreesOfFiles 0 x.0.files definitions x.1.files
+  pub accepted : IsAccepted words texts a x.0 definitions typing
+  pub trees : IsBuiltOf x.0 definitions x.1
 
 -- ---- on a device
 
 -- what is stored is of the accepted texts: the schema, its nodes, and the canonical texts
 pub record IsStoredOf (c : Checked) (x : Stored) : Type 0 where
   pub schema_is : x.schema ≡ c.schema
-  pub built : is_built_on_device c.schema (definitions_of c.equation.definitions) c.typing ≡ true
   pub specs_are : x.built.specs ≡ c.typing.specs
-  pub trees : AreTreesOfFiles 0 c.schema.files (definitions_of c.equation.definitions) x.built.files
+  pub trees : IsBuiltOf c.schema (definitions_of c.equation.definitions) x.built
   pub schema_text_is : x.schema_text ≡ schema_text c.schema
   pub equation_text_is : x.equation_text ≡ equation_text (definitions_of c.equation.definitions)
 
--- or why nothing is
-abbrev pub IsUnstored : Checked → Ending → Type 0
-IsUnstored c = IsUnbuiltBy (is_built_on_device c.schema (definitions_of c.equation.definitions) c.typing)
-
--- the same for a request that is ready
+-- the same of a request that is accepted
 pub record IsStoredFor (words : List (List ℕ)) (texts : Texts) (a : Action) (x : Stored) : Type 0 where
   pub definitions : List DefinitionTree
   pub typing : Typing
-  pub ready : IsReady words texts a x.schema definitions typing
+  pub accepted : IsAccepted words texts a x.schema definitions typing
   pub specs_are : x.built.specs ≡ typing.specs
-  pub trees : AreTreesOfFiles 0 x.schema.files definitions x.built.files
+  pub trees : IsBuiltOf x.schema definitions x.built
   pub schema_text_is : x.schema_text ≡ schema_text x.schema
   pub equation_text_is : x.equation_text ≡ equation_text definitions
 

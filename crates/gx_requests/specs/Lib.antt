@@ -1,4 +1,4 @@
 pub mod Words
-pub mod Built
+pub mod Lengths
 pub mod Requests
 pub mod Checked

@@ -1,5 +1,5 @@
--- When a request is refused, by the first reason, and when it is ready to be carried out.
-use Rattle.std.specs.Prelude.{◌≡◌, ◌≢◌, ◌⊎◌, ℕ, ◌<◌, ◌≤◌, List, [], ◌++◌, length, Bool, true, false, IsTrue, Some, None, Result, Err, IsSomeAnd}
+-- When a request is refused, by the first reason, and when its texts are accepted.
+use Rattle.std.specs.Prelude.{◌≡◌, ◌≢◌, ◌⊎◌, ℕ, ◌<◌, ◌≤◌, List, length, Bool, IsTrue, Some, None, Result, Err, IsSomeAnd}
 use Rattle.std.specs.FinMap.{get}
 use Rattle.gx_device.specs.Content.{Content, Texts}
 use Rattle.gx_tokens.specs.declared.why.Unread.{Unread}
@@ -17,8 +17,8 @@ use Rattle.gx_typing.specs.Whole.{typing_of}
 use Rattle.gx_play.specs.declared.ending.Ending.{Ending}
 use Rattle.gx_play.specs.declared.ending.Ending.TheVariants as ending
 use Rattle.gx_play.specs.declared.summary.Summary.{Summary}
-use Rattle.gx_requests.specs.Words.{Action, checking, trying, explaining, making, running, request_words, IsCounted, IsOnDevice}
-use Rattle.gx_requests.specs.Built.{is_built, is_built_on_device, text_length}
+use Rattle.gx_requests.specs.Lengths.{text_length}
+use Rattle.gx_requests.specs.Words.{Action, checking, request_words, IsCounted, IsOnDevice}
 use Rattle.gx_play.specs.Endings.{IsOutside}
 use Rattle.gx_play.specs.Summaries.{summary_of}
 
@@ -95,18 +95,6 @@ AreUnchecked schema_text equation_text why = AreUnaccepted schema_text equation_
 abbrev pub IsAccepted : List (List ℕ) → Texts → Action → Schema → List DefinitionTree → Typing → Type 0
 IsAccepted words texts a schema ds typing = (s : List ℕ) × (e : List ℕ) × IsAsked words texts a s e × AreAccepted s e schema ds typing
 
--- whether what is asked for can be carried out on what is built
-abbrev pub is_carried : Action → Schema → List DefinitionTree → Typing → Bool
-is_carried checking schema ds typing = true
-is_carried trying schema ds typing = is_built schema ds
-is_carried explaining schema ds typing = is_built schema ds
-is_carried (making device blocks) schema ds typing = is_built_on_device schema ds typing
-is_carried (running device) schema ds typing = is_built_on_device schema ds typing
-
--- a request that isn't refused
-abbrev pub IsReady : List (List ℕ) → Texts → Action → Schema → List DefinitionTree → Typing → Type 0
-IsReady words texts a schema ds typing = IsAccepted words texts a schema ds typing × (is_carried a schema ds typing ≡ true)
-
 -- no device is attached where the words name one
 abbrev pub IsFree : List (List ℕ) → Content → Type 0
 IsFree words c = (a : Action) (schema equation : List ℕ) → IsOnDevice a → words ≡ request_words a schema equation → c.now.shelf.name ≡ None
@@ -115,12 +103,11 @@ IsFree words c = (a : Action) (schema equation : List ℕ) → IsOnDevice a → 
 abbrev pub IsSummary : List (List ℕ) → Texts → Summary → Type 0
 IsSummary words texts summary = (schema : Schema) × (ds : List DefinitionTree) × (typing : Typing) × IsAccepted words texts checking schema ds typing × (summary ≡ summary_of typing.specs)
 
--- why a request is refused: the first reason in the order of words, texts, schema, equation, types, lengths, and what is built
+-- why a request is refused: the first reason in the order of words, texts, schema, equation, types and lengths
 abbrev pub IsRefused : List (List ℕ) → Texts → Ending → Type 0
 IsRefused words texts ending.Words = (a : Action) (schema equation : List ℕ) → IsCounted a → words ≢ request_words a schema equation
 IsRefused words texts (ending.Missing name) = IsNamed words texts name.now × (get texts name.now ≡ None)
 IsRefused words texts (ending.TooLong name) = IsNamed words texts name.now × IsTooLong texts name.now
-IsRefused words texts ending.NotBuilt = (a : Action) × (schema : Schema) × (ds : List DefinitionTree) × (typing : Typing) × IsAccepted words texts a schema ds typing × (is_carried a schema ds typing ≡ false)
 IsRefused words texts why = (a : Action) × (s : List ℕ) × (e : List ℕ) × IsAsked words texts a s e × AreUnaccepted s e why
 
 -- why nothing is to be done: the request is refused, or its texts can't be had for the machine or for want of memory

@@ -70,11 +70,3 @@ IsOnDevice trying = ⊥
 IsOnDevice explaining = ⊥
 IsOnDevice (making device blocks) = Unit {0}
 IsOnDevice (running device) = Unit {0}
-
--- what is asked for is of a script, and needs no device
-abbrev pub IsInMemory : Action → Type 0
-IsInMemory checking = ⊥
-IsInMemory trying = Unit {0}
-IsInMemory explaining = Unit {0}
-IsInMemory (making device blocks) = ⊥
-IsInMemory (running device) = ⊥

@@ -1,7 +1,6 @@
 //! What a request asks: its words, its texts as they are read and checked, and what is built of them.
 #![tactic(auto)]
 
-mod built;
 mod nodes;
 mod opened;
 mod reading;

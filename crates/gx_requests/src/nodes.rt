@@ -2,33 +2,33 @@
 ghost use Rattle.std.specs.Prelude.{◌≡◌, ◌≤◌, false, IsTrue, IfOk, IfErr, IsErrOf};
 ghost use Rattle.gx_device.specs.Content.{SameContent};
 ghost use Rattle.gx_device.specs.Faults.{Rose};
-ghost use Rattle.gx_requests.specs.Words.{Action, request_words, IsInMemory};
-ghost use Rattle.gx_requests.specs.Checked.{IsChecked, IsBuiltFor, IsUnbuilt, IsPrepared, CanPlay};
+ghost use Rattle.gx_requests.specs.Words.{Action, request_words, IsCounted};
+ghost use Rattle.gx_requests.specs.Checked.{IsChecked, IsBuiltFor, IsPrepared, CanPlay};
 ghost use Rattle.gx_play.specs.Endings.{is_fault};
 ghost use Rattle.gx_requests.specs.Requests.{IsUnprepared};
 
-use crate::built::is_built;
 use crate::reading::{Checked, read_texts};
 use gx_device::Machine;
 use gx_play::Ending;
 use gx_schema::Schema;
 use gx_types::{Built, build};
+use gx_values::NoMemory;
 use std::alloc::Global;
 
 /// The schema and the nodes of the texts of these names. A refusal is the first reason in the order of
-/// the texts, the schema, the equation, its types, the length of the canonical texts, and what is
-/// built. `Fault` comes only where a call of the machine failed.
+/// the texts, the schema, the equation, its types, and the length of the canonical texts. `Fault`
+/// comes only where a call of the machine failed.
 pub fn prepare_nodes<'a, M: Machine>(
     alloc: Global,
     schema: &'a str,
     equation: &'a str,
     machine: &mut M,
 ) -> Result<(Schema, Built), Ending<'a>>
-    ensures prepared { IsTrue M.tells → (a : Action) → IsInMemory a → IfOk result
+    ensures prepared { IsTrue M.tells → (a : Action) → IsCounted a → IfOk result
         (IsPrepared (request_words a schema.now equation.now)
         (M.content machine.old).aside.texts a) }
     ensures can_play { IfOk result CanPlay }
-    ensures unprepared { IsTrue M.tells → (a : Action) → IsInMemory a → IfErr result
+    ensures unprepared { IsTrue M.tells → (a : Action) → IsCounted a → IfErr result
         (IsUnprepared (request_words a schema.now equation.now)
         (M.content machine.old).aside.texts (M.faults machine.old) (M.faults machine.new)) }
     ensures fault { IsErrOf result Ending.Fault → Rose (M.faults machine.old) (M.faults machine.new) }
@@ -37,24 +37,20 @@ pub fn prepare_nodes<'a, M: Machine>(
     ensures content { SameContent (M.content machine.old) (M.content machine.new) }
 {
     let checked = read_texts(alloc, schema, equation, machine)?;
-    build_nodes(alloc, checked)
+    Ok(build_nodes(alloc, checked)?)
 }
 
 // The same of accepted texts.
-fn build_nodes<'a>(alloc: Global, checked: Checked) -> Result<(Schema, Built), Ending<'a>>
+fn build_nodes(alloc: Global, checked: Checked) -> Result<(Schema, Built), NoMemory>
     requires { IsChecked checked }
     ensures built { IfOk result (IsBuiltFor checked) }
     ensures can_play { IfOk result CanPlay }
-    ensures unbuilt { IfErr result (IsUnbuilt checked) }
 {
     let Checked {
         schema,
         equation,
         typing,
     } = checked;
-    if !is_built(&schema, &equation) {
-        return Err(Ending::NotBuilt);
-    }
     let built = build(alloc, &schema, &equation, typing)?;
     Ok((schema, built))
 }

@@ -2,12 +2,11 @@
 ghost use Rattle.std.specs.Prelude.{◌≡◌, ◌≤◌, List, ℕ, false, IsTrue, IfOk, IfErr, IsErrOf};
 ghost use Rattle.gx_device.specs.Content.{SameContent};
 ghost use Rattle.gx_device.specs.Faults.{Rose};
-ghost use Rattle.gx_requests.specs.Words.{Action, request_words, IsCounted, IsOnDevice};
-ghost use Rattle.gx_requests.specs.Checked.{IsChecked, IsStoredOf, IsUnstored, IsStoredFor, IsStored};
+ghost use Rattle.gx_requests.specs.Words.{Action, request_words, IsCounted};
+ghost use Rattle.gx_requests.specs.Checked.{IsChecked, IsStoredOf, IsStoredFor, IsStored};
 ghost use Rattle.gx_play.specs.Endings.{is_fault, unopened_ending};
 ghost use Rattle.gx_requests.specs.Requests.{IsUnprepared};
 
-use crate::built::is_built_on_device;
 use crate::reading::{Checked, read_texts};
 use gx_device::Machine;
 use gx_play::{DeviceWhy, Ending};
@@ -15,15 +14,15 @@ use gx_printing::print_equation;
 use gx_schema::{Schema, print_schema};
 use gx_store::Unopened;
 use gx_types::{Built, build};
-use gx_values::Octets;
+use gx_values::{NoMemory, Octets};
 use std::alloc::Global;
 
-/// Accepted texts whose heads and kinds of leaves are built, as a device keeps them.
+/// Accepted texts, as a device keeps them.
 #[derive(Drop)]
 pub struct Stored {
     /// The schema.
     pub schema: Schema,
-    /// The nodes of its files, and the kinds of their leaves.
+    /// The nodes of its files and of its links, and the kinds of their leaves.
     pub built: Built,
     /// The canonical text of the schema.
     pub schema_text: Octets,
@@ -32,19 +31,19 @@ pub struct Stored {
 }
 
 /// What the texts of these names give for a device. A refusal is the first reason in the order of the
-/// texts, the schema, the equation, its types, the length of the canonical texts, and what is built;
-/// it comes before anything of the device. `Fault` comes only where a call of the machine failed.
+/// texts, the schema, the equation, its types, and the length of the canonical texts; it comes before
+/// anything of the device. `Fault` comes only where a call of the machine failed.
 pub fn prepare_stored<'a, M: Machine>(
     alloc: Global,
     schema: &'a str,
     equation: &'a str,
     machine: &mut M,
 ) -> Result<Stored, Ending<'a>>
-    ensures ready { IsTrue M.tells → (a : Action) → IsCounted a → IsOnDevice a → IfOk result
+    ensures ready { IsTrue M.tells → (a : Action) → IsCounted a → IfOk result
         (IsStoredFor (request_words a schema.now equation.now)
         (M.content machine.old).aside.texts a) }
     ensures stored { IfOk result IsStored }
-    ensures unprepared { IsTrue M.tells → (a : Action) → IsCounted a → IsOnDevice a → IfErr result
+    ensures unprepared { IsTrue M.tells → (a : Action) → IsCounted a → IfErr result
         (IsUnprepared (request_words a schema.now equation.now)
         (M.content machine.old).aside.texts (M.faults machine.old) (M.faults machine.new)) }
     ensures fault { IsErrOf result Ending.Fault → Rose (M.faults machine.old) (M.faults machine.new) }
@@ -53,24 +52,20 @@ pub fn prepare_stored<'a, M: Machine>(
     ensures content { SameContent (M.content machine.old) (M.content machine.new) }
 {
     let checked = read_texts(alloc, schema, equation, machine)?;
-    build_stored(alloc, checked)
+    Ok(build_stored(alloc, checked)?)
 }
 
 // The same of accepted texts.
-fn build_stored<'a>(alloc: Global, checked: Checked) -> Result<Stored, Ending<'a>>
+fn build_stored(alloc: Global, checked: Checked) -> Result<Stored, NoMemory>
     requires { IsChecked checked }
     ensures built { IfOk result (IsStoredOf checked) }
     ensures stored { IfOk result IsStored }
-    ensures unbuilt { IfErr result (IsUnstored checked) }
 {
     let Checked {
         schema,
         equation,
         typing,
     } = checked;
-    if !is_built_on_device(&schema, &equation, &typing) {
-        return Err(Ending::NotBuilt);
-    }
     let schema_text = print_schema(alloc, &schema)?;
     let equation_text = print_equation(alloc, &equation)?;
     let built = build(alloc, &schema, &equation, typing)?;

@@ -10,17 +10,19 @@ ghost use Rattle.gx_equation.specs.Printing.{AreWritten};
 ghost use Rattle.gx_equation.specs.Seen.{definitions_of};
 ghost use Rattle.gx_typing.specs.Typed.{IsTyped, leaves, typing_with};
 ghost use Rattle.gx_requests.specs.Words.{Action, request_words, IsCounted};
+ghost use Rattle.gx_requests.specs.Lengths.{text_length};
 ghost use Rattle.gx_requests.specs.Checked.{IsUnread, IsUnreadEquation, IsUntyped, IsChecked, IsAcceptedAs, AreChecked};
 ghost use Rattle.gx_play.specs.Endings.{is_fault};
 ghost use Rattle.gx_requests.specs.Requests.{AreUnchecked, IsUnprepared, equation_of, text_limit};
 
-use crate::built::canonical_length;
 use crate::texts::{TEXT_LIMIT, fetch_text};
 use gx_device::Machine;
 use gx_equation::{Equation, read_equation};
 use gx_play::Ending;
-use gx_schema::{Schema, Unread, read_schema};
+use gx_printing::print_equation;
+use gx_schema::{Schema, Unread, print_schema, read_schema};
 use gx_typing::{Typing, Untyped, typed};
+use gx_values::NoMemory;
 use std::alloc::Global;
 
 /// What two accepted texts give.
@@ -124,4 +126,14 @@ fn typing_from<'a>(
         Err(Untyped::Mistyped(line, why)) => Err(Ending::Type(line, why)),
         Err(Untyped::NoMemory) => Err(Ending::NoMemory),
     }
+}
+
+// How many bytes the canonical texts of the schema and of the equation have.
+fn canonical_length(alloc: Global, schema: &Schema, equation: &Equation) -> Result<usize, NoMemory>
+    requires { IsSchema schema.now }
+    ensures { IfOk result (λ length. length ≡ text_length schema.now (definitions_of equation.now.definitions)) }
+{
+    let schema_text = print_schema(alloc, schema)?;
+    let equation_text = print_equation(alloc, equation)?;
+    Ok(schema_text.as_slice().len() + equation_text.as_slice().len())
 }

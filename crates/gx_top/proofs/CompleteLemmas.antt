@@ -1,5 +1,5 @@
--- A request that can be carried out isn't refused, its device isn't wrong, and its schema is one.
-use Rattle.std.proofs.Common.{◌≡◌, ℕ, ◌<◌, List, [], length, get_or, Bool, true, false, Result, Ok, Err, Option, Some, None, refl, sym, ap, subst, ◌∙◌, arith, inl, inr}
+-- A request that is accepted isn't refused, one that can be carried out has no wrong device, and its schema is one.
+use Rattle.std.proofs.Common.{◌≡◌, ℕ, ◌<◌, List, [], length, get_or, Result, Ok, Err, Option, Some, None, refl, sym, ap, subst, ◌∙◌, arith, inl, inr}
 use Rattle.std.specs.Prelude.{◌⊎◌, ◌≢◌, IsSomeAnd, codes}
 use Rattle.std.specs.FinMap.{get}
 use Rattle.gx_device.specs.Content.{Content, Texts, device_at}
@@ -31,9 +31,9 @@ use Rattle.gx_play.specs.declared.ending.Ending.{Ending}
 use Rattle.gx_play.specs.declared.ending.Ending.TheVariants as ending
 use Rattle.gx_play.specs.declared.status.Status.{Status}
 use Rattle.gx_play.specs.declared.status.Status.TheVariants as status
-use Rattle.gx_requests.specs.Built.{text_length}
+use Rattle.gx_requests.specs.Lengths.{text_length}
 use Rattle.gx_play.specs.Endings.{status_of, IsOutside}
-use Rattle.gx_requests.specs.Requests.{IsText, IsThere, IsTooLong, IsNamed, IsAsked, AreRead, AreAccepted, AreUnaccepted, IsAccepted, is_carried, IsReady, IsRefused, IsUnprepared, equation_of, text_limit}
+use Rattle.gx_requests.specs.Requests.{IsText, IsThere, IsTooLong, IsNamed, IsAsked, AreRead, AreAccepted, AreUnaccepted, IsAccepted, IsRefused, IsUnprepared, equation_of, text_limit}
 use Rattle.gx_play.specs.Played.{IsPlay, IsPlayText, IsStoppedText}
 use Rattle.gx_top.specs.Tasks.{Task, IsTask, IsToPlay, IsHeldOn, IsStart, IsFrom}
 use Rattle.gx_top.specs.Devices.{IsToMake, IsWrongOn, IsWrong, IsBefore}
@@ -145,12 +145,6 @@ not_missing texts name is none = some_not_none is.0 (sym is.1.0 ∙ none)
 pub not_long : (texts : Texts) (name : List ℕ) → IsThere texts name → IsTooLong texts name → ⊥
 not_long texts name is long = omega (arith, is.1.1, subst (λ (o : Option (List ℕ)). IsSomeAnd o (λ text. text_limit < length text)) is.1.0 long)
 
-not_both : (b : Bool) → b ≡ true → b ≡ false → ⊥
-not_both b t f = absurd (never (sym t ∙ f))
-  where
-    never : true ≡ false → ⊥
-    never e = cc
-
 -- ---- two meanings of the same texts
 
 record SameTexts (schema other : Schema) (ds fs : List DefinitionTree) (lines more : List ℕ) : Type 0 where
@@ -189,7 +183,6 @@ not_unaccepted s e schema ds typing ending.TextsTooLong a r =
 not_unaccepted s e schema ds typing ending.Words a r = r
 not_unaccepted s e schema ds typing (ending.Missing name) a r = r
 not_unaccepted s e schema ds typing (ending.TooLong name) a r = r
-not_unaccepted s e schema ds typing ending.NotBuilt a r = r
 not_unaccepted s e schema ds typing (ending.Accepted summary) a r = r
 not_unaccepted s e schema ds typing ending.Full a r = r
 not_unaccepted s e schema ds typing (ending.Device wrong) a r = r
@@ -204,27 +197,22 @@ not_refused_by_texts words texts a s e schema ds typing why asked is r =
     let same = one_request words texts a r.0 s r.1 e r.2 asked r.3 in
     not_unaccepted s e schema ds typing why is (subst (λ t. AreUnaccepted t e why) (sym same.schemas) (subst (λ f. AreUnaccepted r.1 f why) (sym same.equations) r.4))
 
--- a request whose texts are accepted is refused for no reason but that it isn't built
-abbrev OnlyUnbuilt : Ending → Type 0
-OnlyUnbuilt ending.NotBuilt = Unit {0}
-OnlyUnbuilt other = ⊥
-
-not_refused : (words : List (List ℕ)) (texts : Texts) (a : Action) (schema : Schema) (ds : List DefinitionTree) (typing : Typing) (why : Ending) → IsAccepted words texts a schema ds typing → IsRefused words texts why → OnlyUnbuilt why
-not_refused words texts a schema ds typing ending.Words is r = r a is.2.schema_name is.2.equation_name is.2.counted is.2.words_are
-not_refused words texts a schema ds typing (ending.Missing name) is r = not_missing texts name.now (named words texts name.now a is.0 is.1 is.2 r.0) r.1
-not_refused words texts a schema ds typing (ending.TooLong name) is r = not_long texts name.now (named words texts name.now a is.0 is.1 is.2 r.0) r.1
-not_refused words texts a schema ds typing (ending.Schema line why) is r = not_refused_by_texts words texts a is.0 is.1 schema ds typing (ending.Schema line why) is.2 is.3 r
-not_refused words texts a schema ds typing (ending.Equation line why) is r = not_refused_by_texts words texts a is.0 is.1 schema ds typing (ending.Equation line why) is.2 is.3 r
-not_refused words texts a schema ds typing (ending.Type line why) is r = not_refused_by_texts words texts a is.0 is.1 schema ds typing (ending.Type line why) is.2 is.3 r
-not_refused words texts a schema ds typing ending.TextsTooLong is r = not_refused_by_texts words texts a is.0 is.1 schema ds typing ending.TextsTooLong is.2 is.3 r
-not_refused words texts a schema ds typing ending.NotBuilt is r = tt
-not_refused words texts a schema ds typing (ending.Accepted summary) is r = r.4
-not_refused words texts a schema ds typing ending.Full is r = r.4
-not_refused words texts a schema ds typing (ending.Device wrong) is r = r.4
-not_refused words texts a schema ds typing (ending.Made blocks pages) is r = r.4
-not_refused words texts a schema ds typing ending.NoMemory is r = r.4
-not_refused words texts a schema ds typing ending.Fault is r = r.4
-not_refused words texts a schema ds typing (ending.Line number why) is r = r.4
+-- a request whose texts are accepted is refused for no reason
+pub accepted_not_refused : (words : List (List ℕ)) (texts : Texts) (a : Action) (schema : Schema) (ds : List DefinitionTree) (typing : Typing) (why : Ending) → IsAccepted words texts a schema ds typing → IsRefused words texts why → ⊥
+accepted_not_refused words texts a schema ds typing ending.Words is r = r a is.2.schema_name is.2.equation_name is.2.counted is.2.words_are
+accepted_not_refused words texts a schema ds typing (ending.Missing name) is r = not_missing texts name.now (named words texts name.now a is.0 is.1 is.2 r.0) r.1
+accepted_not_refused words texts a schema ds typing (ending.TooLong name) is r = not_long texts name.now (named words texts name.now a is.0 is.1 is.2 r.0) r.1
+accepted_not_refused words texts a schema ds typing (ending.Schema line why) is r = not_refused_by_texts words texts a is.0 is.1 schema ds typing (ending.Schema line why) is.2 is.3 r
+accepted_not_refused words texts a schema ds typing (ending.Equation line why) is r = not_refused_by_texts words texts a is.0 is.1 schema ds typing (ending.Equation line why) is.2 is.3 r
+accepted_not_refused words texts a schema ds typing (ending.Type line why) is r = not_refused_by_texts words texts a is.0 is.1 schema ds typing (ending.Type line why) is.2 is.3 r
+accepted_not_refused words texts a schema ds typing ending.TextsTooLong is r = not_refused_by_texts words texts a is.0 is.1 schema ds typing ending.TextsTooLong is.2 is.3 r
+accepted_not_refused words texts a schema ds typing (ending.Accepted summary) is r = r.4
+accepted_not_refused words texts a schema ds typing ending.Full is r = r.4
+accepted_not_refused words texts a schema ds typing (ending.Device wrong) is r = r.4
+accepted_not_refused words texts a schema ds typing (ending.Made blocks pages) is r = r.4
+accepted_not_refused words texts a schema ds typing ending.NoMemory is r = r.4
+accepted_not_refused words texts a schema ds typing ending.Fault is r = r.4
+accepted_not_refused words texts a schema ds typing (ending.Line number why) is r = r.4
 
 -- ---- two acceptances of the same words
 
@@ -245,62 +233,35 @@ one_acceptance words texts a b schema other ds fs typing more x y =
       typings = x.3.leaves_are ∙ (λ i. typing_with (leaves (read.schemas i) (read.definitions i))) ∙ sym y.3.leaves_are;
     }
 
--- what can be carried out can be in each reading of the words
-carried_once : (words : List (List ℕ)) (texts : Texts) (a b : Action) (schema other : Schema) (ds fs : List DefinitionTree) (typing more : Typing) → IsAccepted words texts a schema ds typing → IsAccepted words texts b other fs more → is_carried a schema ds typing ≡ true → is_carried b other fs more ≡ true
-carried_once words texts a b schema other ds fs typing more x y is =
-    let same = one_acceptance words texts a b schema other ds fs typing more x y in
-    (λ i. is_carried (sym same.actions i) (sym same.schemas i) (sym same.definitions i) (sym same.typings i)) ∙ is
-
--- what can be carried out is refused for no reason
-pub ready_not_refused : (words : List (List ℕ)) (texts : Texts) (a : Action) (schema : Schema) (ds : List DefinitionTree) (typing : Typing) (why : Ending) → IsReady words texts a schema ds typing → IsRefused words texts why → ⊥
-ready_not_refused words texts a schema ds typing why x r = by_reason why r (not_refused words texts a schema ds typing why x.0 r)
-  where
-    by_reason : (why : Ending) → IsRefused words texts why → OnlyUnbuilt why → ⊥
-    by_reason ending.NotBuilt r only = not_both (is_carried r.0 r.1 r.2 r.3) (carried_once words texts a r.0 schema r.1 ds r.2 typing r.3 x.0 r.4 x.1) r.5
-    by_reason ending.Words r only = only
-    by_reason (ending.Missing name) r only = only
-    by_reason (ending.TooLong name) r only = only
-    by_reason (ending.Schema line reason) r only = only
-    by_reason (ending.Equation line reason) r only = only
-    by_reason (ending.Type line reason) r only = only
-    by_reason ending.TextsTooLong r only = only
-    by_reason (ending.Accepted summary) r only = only
-    by_reason ending.Full r only = only
-    by_reason (ending.Device wrong) r only = only
-    by_reason (ending.Made blocks pages) r only = only
-    by_reason ending.NoMemory r only = only
-    by_reason ending.Fault r only = only
-    by_reason (ending.Line number reason) r only = only
-
 pub checkable_not_refused : (words : List (List ℕ)) (before : Content) (why : Ending) → IsCheckable words before → IsRefused words before.aside.texts why → ⊥
-checkable_not_refused words before why x r = ready_not_refused words before.aside.texts checking x.0 x.1 x.2 why (x.3, refl) r
+checkable_not_refused words before why x r = accepted_not_refused words before.aside.texts checking x.0 x.1 x.2 why x.3 r
 
 -- the words ask for one script to be played
 pub one_task : (words : List (List ℕ)) (texts : Texts) (t u : Task) → IsTask words texts t → IsTask words texts u → t ≡ u
 one_task words texts t u x y =
-    let same = one_acceptance words texts t.action u.action t.schema u.schema t.definitions u.definitions t.typing u.typing x.ready.0 y.ready.0 in
+    let same = one_acceptance words texts t.action u.action t.schema u.schema t.definitions u.definitions t.typing u.typing x.accepted y.accepted in
     λ i. record { action = same.actions i; schema = same.schemas i; definitions = same.definitions i; typing = same.typings i }
 
 -- where they ask for another thing, for none
 pub to_play : (words : List (List ℕ)) (texts : Texts) (t : Task) (a : Action) (schema : Schema) (ds : List DefinitionTree) (typing : Typing) → IsTask words texts t → IsAccepted words texts a schema ds typing → IsToPlay a
-to_play words texts t a schema ds typing x y = subst IsToPlay (one_acceptance words texts t.action a t.schema schema t.definitions ds t.typing typing x.ready.0 y).actions x.to_play
+to_play words texts t a schema ds typing x y = subst IsToPlay (one_acceptance words texts t.action a t.schema schema t.definitions ds t.typing typing x.accepted y).actions x.to_play
 
 pub checked_no_task : (words : List (List ℕ)) (before : Content) (t : Task) → IsTask words before.aside.texts t → IsCheckable words before → ⊥
 checked_no_task words before t x y = to_play words before.aside.texts t checking y.0 y.1 y.2 x y.3
 
 pub made_no_task : (words : List (List ℕ)) (texts : Texts) (t : Task) (blocks : ℕ) → IsTask words texts t → IsToMake words texts blocks → ⊥
-made_no_task words texts t blocks x y = to_play words texts t (making y.device y.digits) y.schema y.definitions y.typing x y.ready.0
+made_no_task words texts t blocks x y = to_play words texts t (making y.device y.digits) y.schema y.definitions y.typing x y.accepted
 
 checking_not_making : (device digits : List ℕ) → checking ≡ making device digits → ⊥
 checking_not_making device digits e = cc
 
 pub checked_not_made : (words : List (List ℕ)) (before : Content) (blocks : ℕ) → IsCheckable words before → IsToMake words before.aside.texts blocks → ⊥
-checked_not_made words before blocks x y = checking_not_making y.device y.digits (one_acceptance words before.aside.texts checking (making y.device y.digits) x.0 y.schema x.1 y.definitions x.2 y.typing x.3 y.ready.0).actions
+checked_not_made words before blocks x y = checking_not_making y.device y.digits (one_acceptance words before.aside.texts checking (making y.device y.digits) x.0 y.schema x.1 y.definitions x.2 y.typing x.3 y.accepted).actions
 
 -- a request whose device is wrong isn't refused
 pub wrong_not_refused : (words : List (List ℕ)) (before : Content) (wrong : DeviceWhy) (why : Ending) → IsWrong words before wrong → IsRefused words before.aside.texts why → ⊥
-wrong_not_refused words before wrong why (inl run) r = ready_not_refused words before.aside.texts run.task.action run.task.schema run.task.definitions run.task.typing why run.is.ready r
-wrong_not_refused words before wrong why (inr make) r = ready_not_refused words before.aside.texts (making make.1.device make.1.digits) make.1.schema make.1.definitions make.1.typing why make.1.ready r
+wrong_not_refused words before wrong why (inl run) r = accepted_not_refused words before.aside.texts run.task.action run.task.schema run.task.definitions run.task.typing why run.is.accepted r
+wrong_not_refused words before wrong why (inr make) r = accepted_not_refused words before.aside.texts (making make.1.device make.1.digits) make.1.schema make.1.definitions make.1.typing why make.1.accepted r
 
 -- texts that are to be checked name no device
 pub checked_not_wrong : (words : List (List ℕ)) (before : Content) (wrong : DeviceWhy) → IsCheckable words before → IsWrong words before wrong → ⊥
@@ -310,19 +271,19 @@ checked_not_wrong words before wrong x (inr make) = checked_not_made words befor
 -- ---- a request to explain is no other
 
 pub task_not_explained : (words : List (List ℕ)) (texts : Texts) (t : Task) → IsTask words texts t → IsToExplain words texts → ⊥
-task_not_explained words texts t x y = to_play words texts t explaining y.schema y.definitions y.typing x y.ready.0
+task_not_explained words texts t x y = to_play words texts t explaining y.schema y.definitions y.typing x y.accepted
 
 checking_not_explaining : checking ≡ explaining → ⊥
 checking_not_explaining e = cc
 
 pub checked_not_explained : (words : List (List ℕ)) (before : Content) → IsCheckable words before → IsToExplain words before.aside.texts → ⊥
-checked_not_explained words before x y = checking_not_explaining (one_acceptance words before.aside.texts checking explaining x.0 y.schema x.1 y.definitions x.2 y.typing x.3 y.ready.0).actions
+checked_not_explained words before x y = checking_not_explaining (one_acceptance words before.aside.texts checking explaining x.0 y.schema x.1 y.definitions x.2 y.typing x.3 y.accepted).actions
 
 making_not_explaining : (device digits : List ℕ) → making device digits ≡ explaining → ⊥
 making_not_explaining device digits e = cc
 
 pub made_not_explained : (words : List (List ℕ)) (texts : Texts) (blocks : ℕ) → IsToMake words texts blocks → IsToExplain words texts → ⊥
-made_not_explained words texts blocks x y = making_not_explaining x.device x.digits (one_acceptance words texts (making x.device x.digits) explaining x.schema y.schema x.definitions y.definitions x.typing y.typing x.ready.0 y.ready.0).actions
+made_not_explained words texts blocks x y = making_not_explaining x.device x.digits (one_acceptance words texts (making x.device x.digits) explaining x.schema y.schema x.definitions y.definitions x.typing y.typing x.accepted y.accepted).actions
 
 pub wrong_not_explained : (words : List (List ℕ)) (before : Content) (wrong : DeviceWhy) → IsWrong words before wrong → IsToExplain words before.aside.texts → ⊥
 wrong_not_explained words before wrong (inl run) y = task_not_explained words before.aside.texts run.task run.is y
@@ -398,7 +359,6 @@ unprepared_memory words texts before now why s (inr out) never is fault outside 
     by_ending (ending.Missing name) s out is fault outside = absurd out
     by_ending (ending.TooLong name) s out is fault outside = absurd out
     by_ending (ending.Schema line why) s out is fault outside = absurd out
-    by_ending ending.NotBuilt s out is fault outside = absurd out
     by_ending (ending.Equation line why) s out is fault outside = absurd out
     by_ending (ending.Type line why) s out is fault outside = absurd out
     by_ending (ending.Accepted summary) s out is fault outside = absurd out
@@ -428,7 +388,6 @@ refused_status words texts (ending.Schema line why) r = refl
 refused_status words texts (ending.Equation line why) r = refl
 refused_status words texts (ending.Type line why) r = refl
 refused_status words texts ending.TextsTooLong r = refl
-refused_status words texts ending.NotBuilt r = refl
 refused_status words texts (ending.Accepted summary) r = absurd r.4
 refused_status words texts ending.Full r = absurd r.4
 refused_status words texts (ending.Device wrong) r = absurd r.4
@@ -464,7 +423,6 @@ unprepared_refuses words texts before now (ending.Schema line why) s (inr out) i
 unprepared_refuses words texts before now (ending.Equation line why) s (inr out) is fault outside = absurd out
 unprepared_refuses words texts before now (ending.Type line why) s (inr out) is fault outside = absurd out
 unprepared_refuses words texts before now ending.TextsTooLong s (inr out) is fault outside = absurd out
-unprepared_refuses words texts before now ending.NotBuilt s (inr out) is fault outside = absurd out
 unprepared_refuses words texts before now (ending.Accepted summary) s (inr out) is fault outside = absurd out
 unprepared_refuses words texts before now ending.Full s (inr out) is fault outside = absurd out
 unprepared_refuses words texts before now (ending.Device wrong) s (inr out) is fault outside = absurd out

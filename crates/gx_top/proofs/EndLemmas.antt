@@ -8,7 +8,7 @@ use Rattle.gx_device.specs.Quiet.{IsPrefix}
 use Rattle.gx_ports.specs.LeafMaps.{Limits}
 use Rattle.gx_commands.specs.declared.command.LineWhy.{LineWhy}
 use Rattle.gx_types.specs.declared.built.Built.{Built}
-use Rattle.gx_types.specs.Build.{AreTreesOfFiles}
+use Rattle.gx_play.specs.Built.{IsBuiltOf}
 use Rattle.gx_layout.specs.Layout.{pages_of}
 use Rattle.gx_model.specs.States.{State}
 use Rattle.gx_model.specs.Play.{good, stopped}
@@ -32,7 +32,7 @@ use Rattle.gx_top.specs.Explained.{IsToExplain}
 use Rattle.gx_top.proofs.StayLemmas.{devices_same, starts_same}
 use Rattle.gx_top.proofs.TryLemmas.{refused_says, memory_says, unprepared_front, check_done, check_front}
 use Rattle.gx_top.proofs.RowLemmas.{behind, done_row, stopped_row, short_row, full_row, front_row}
-use Rattle.gx_top.proofs.CompleteLemmas.{refused_status, unprepared_memory, unprepared_refuses, ready_not_refused, checkable_not_refused, wrong_not_refused, checked_no_task, checked_not_made, checked_not_wrong, made_no_task, task_not_explained, checked_not_explained, made_not_explained, start_not_wrong, one_task, not_stopped, not_good, said_complete}
+use Rattle.gx_top.proofs.CompleteLemmas.{refused_status, unprepared_memory, unprepared_refuses, accepted_not_refused, checkable_not_refused, wrong_not_refused, checked_no_task, checked_not_made, checked_not_wrong, made_no_task, task_not_explained, checked_not_explained, made_not_explained, start_not_wrong, one_task, not_stopped, not_good, said_complete}
 
 done_not_outside : (s : Status) → s ≡ status.Done → s ≢ status.Outside
 done_not_outside s is e = never (sym is ∙ e)
@@ -58,7 +58,6 @@ outside_status before now (ending.Schema line reason) is = absurd is
 outside_status before now (ending.Equation line reason) is = absurd is
 outside_status before now (ending.Type line reason) is = absurd is
 outside_status before now ending.TextsTooLong is = absurd is
-outside_status before now ending.NotBuilt is = absurd is
 outside_status before now (ending.Accepted summary) is = absurd is
 outside_status before now ending.Full is = absurd is
 outside_status before now (ending.Device wrong) is = absurd is
@@ -154,12 +153,12 @@ unprepared_due words old mid new before now why s is e due can outside = by_due 
     memory never = unprepared_memory words old.aside.texts before now why s is never e.status_is e.fault outside
 
     by_due : (due : Status) → IsDueStatus words old due → (s ≡ due) ⊎ (s ≡ status.Memory)
-    by_due status.Done (inl (t, task, play)) = inr (memory (ready_not_refused words old.aside.texts t.action t.schema t.definitions t.typing why task.ready))
+    by_due status.Done (inl (t, task, play)) = inr (memory (accepted_not_refused words old.aside.texts t.action t.schema t.definitions t.typing why task.accepted))
     by_due status.Done (inr (inl checkable)) = inr (memory (checkable_not_refused words old why checkable))
-    by_due status.Done (inr (inr (inr (r, text, ends)))) = inr (memory (ready_not_refused words old.aside.texts explaining r.schema r.definitions r.typing why r.ready))
-    by_due status.Done (inr (inr (inl can))) = inr (memory (ready_not_refused words old.aside.texts (making can.request.device can.request.digits) can.request.schema can.request.definitions can.request.typing why can.request.ready))
-    by_due status.Script (number, reason, inr (r, text, ends)) = inr (memory (ready_not_refused words old.aside.texts explaining r.schema r.definitions r.typing why r.ready))
-    by_due status.Script (number, reason, inl (t, task, play)) = inr (memory (ready_not_refused words old.aside.texts t.action t.schema t.definitions t.typing why task.ready))
+    by_due status.Done (inr (inr (inr (r, text, ends)))) = inr (memory (accepted_not_refused words old.aside.texts explaining r.schema r.definitions r.typing why r.accepted))
+    by_due status.Done (inr (inr (inl can))) = inr (memory (accepted_not_refused words old.aside.texts (making can.request.device can.request.digits) can.request.schema can.request.definitions can.request.typing why can.request.accepted))
+    by_due status.Script (number, reason, inr (r, text, ends)) = inr (memory (accepted_not_refused words old.aside.texts explaining r.schema r.definitions r.typing why r.accepted))
+    by_due status.Script (number, reason, inl (t, task, play)) = inr (memory (accepted_not_refused words old.aside.texts t.action t.schema t.definitions t.typing why task.accepted))
     by_due status.Device wrong = inr (memory (wrong_not_refused words old wrong.why why wrong.wrong))
     by_due status.Refused refused = unprepared_refuses words old.aside.texts before now why s is e.status_is e.fault outside
     by_due status.Memory due = absurd due
@@ -239,7 +238,6 @@ by_unhad words old P (ending.Schema line why) is made device memory fault = absu
 by_unhad words old P (ending.Equation line why) is made device memory fault = absurd is
 by_unhad words old P (ending.Type line why) is made device memory fault = absurd is
 by_unhad words old P ending.TextsTooLong is made device memory fault = absurd is
-by_unhad words old P ending.NotBuilt is made device memory fault = absurd is
 by_unhad words old P (ending.Accepted summary) is made device memory fault = absurd is
 by_unhad words old P (ending.Line number why) is made device memory fault = absurd is
 
@@ -406,7 +404,7 @@ unhad_due words old mid new why s t is task e due can outside = by_due due can (
     by_due status.Script (number, reason, inr (r, text, ends)) had = absurd (task_not_explained words old.aside.texts t task r)
     by_due status.Script (number, reason, inl (u, other, play)) had = inr (playable u play.limit play.start other play.from had)
     by_due status.Device wrong had = as_device had
-    by_due status.Refused refused had = absurd (ready_not_refused words old.aside.texts t.action t.schema t.definitions t.typing refused.0 task.ready refused.1)
+    by_due status.Refused refused had = absurd (accepted_not_refused words old.aside.texts t.action t.schema t.definitions t.typing refused.0 task.accepted refused.1)
     by_due status.Memory due had = absurd due
     by_due status.Full due had = absurd due
     by_due status.Outside due had = absurd due
@@ -427,7 +425,7 @@ Row t limit start old new status.Device = ⊥
 pub record IsRun (words : List (List ℕ)) (t : Task) (old mid new : Content) (played : Result (Unit {0}) Ending) (s : Status) : Type 0 where
   pub task : IsTask words old.aside.texts t
   pub built : Built
-  pub trees : AreTreesOfFiles 0 t.schema.files t.definitions built.files
+  pub trees : IsBuiltOf t.schema t.definitions built
   pub answered : (limit : Option Limits) (start : State) → IsFrom t old limit start → IsPlayedAs t.schema built limit start (IsLeft t new) old.script old.now.said mid.now.said played
   pub heard : (limit : Option Limits) (start : State) → IsFrom t old limit start → played ≡ Ok tt → mid.script ≡ []
   pub play_ending : IfErr played IsPlayEnding
@@ -454,7 +452,6 @@ stop_status (ending.Schema line why) is = absurd is
 stop_status (ending.Equation line why) is = absurd is
 stop_status (ending.Type line why) is = absurd is
 stop_status ending.TextsTooLong is = absurd is
-stop_status ending.NotBuilt is = absurd is
 stop_status (ending.Accepted summary) is = absurd is
 stop_status (ending.Made blocks pages) is = absurd is
 
@@ -484,11 +481,10 @@ device_unplayed (ending.Schema line why) t Holds built limit start script before
 device_unplayed (ending.Equation line why) t Holds built limit start script before now is e = absurd is
 device_unplayed (ending.Type line why) t Holds built limit start script before now is e = absurd is
 device_unplayed ending.TextsTooLong t Holds built limit start script before now is e = absurd is
-device_unplayed ending.NotBuilt t Holds built limit start script before now is e = absurd is
 device_unplayed (ending.Accepted summary) t Holds built limit start script before now is e = absurd is
 device_unplayed (ending.Made blocks pages) t Holds built limit start script before now is e = absurd is
 
-module _ (t : Task) (built : Built) (trees : AreTreesOfFiles 0 t.schema.files t.definitions built.files) (limit : Option Limits) (start : State) (old mid new : Content) where
+module _ (t : Task) (built : Built) (trees : IsBuiltOf t.schema t.definitions built) (limit : Option Limits) (start : State) (old mid new : Content) where
   abbrev As : Result (Unit {0}) Ending → Type 0
   As = IsPlayedAs t.schema built limit start (IsLeft t new) old.script old.now.said mid.now.said
 
@@ -539,7 +535,6 @@ damage_said words old mid new (ending.Schema line why) ends e damaged = absurd e
 damage_said words old mid new (ending.Equation line why) ends e damaged = absurd ends
 damage_said words old mid new (ending.Type line why) ends e damaged = absurd ends
 damage_said words old mid new ending.TextsTooLong ends e damaged = absurd ends
-damage_said words old mid new ending.NotBuilt ends e damaged = absurd ends
 damage_said words old mid new (ending.Accepted summary) ends e damaged = absurd ends
 damage_said words old mid new (ending.Made blocks pages) ends e damaged = absurd ends
 
@@ -610,7 +605,7 @@ run_due words t old mid new played s r due can outside = by_due due can
         let here = subst (λ (v : Task). CanPlayTo v old (stopped number reason)) (one_task words old.aside.texts u t other r.task) play in
         line_status t old new number reason s here (run_row words t old mid new played s r here.limit here.start here.from) outside
     by_due status.Device wrong = absurd (r.right wrong.why wrong.is_before wrong.wrong)
-    by_due status.Refused refused = absurd (ready_not_refused words old.aside.texts t.action t.schema t.definitions t.typing refused.0 r.task.ready refused.1)
+    by_due status.Refused refused = absurd (accepted_not_refused words old.aside.texts t.action t.schema t.definitions t.typing refused.0 r.task.accepted refused.1)
     by_due status.Memory due = absurd due
     by_due status.Full due = absurd due
     by_due status.Outside due = absurd due

@@ -13,14 +13,14 @@ use Rattle.gx_top.specs.Explaining.{fields_in}
 use Rattle.gx_requests.specs.Checked.{IsPrepared}
 use Rattle.gx_top.specs.Tries.{IsSaid, IsEnd, IsDueStatus, IsAsDue}
 use Rattle.gx_requests.specs.Words.{explaining}
-use Rattle.gx_top.proofs.CompleteLemmas.{one_acceptance, ready_not_refused, task_not_explained, checked_not_explained, made_not_explained, wrong_not_explained}
+use Rattle.gx_top.proofs.CompleteLemmas.{one_acceptance, accepted_not_refused, task_not_explained, checked_not_explained, made_not_explained, wrong_not_explained}
 use Rattle.gx_top.proofs.ExplainEndLemmas.{same_fields}
 use Rattle.gx_top.proofs.ExplainOnceLemmas.{text_once}
 
 -- ---- what is explained
 
 abbrev pub to_explain : (words : List (List ℕ)) (texts : Texts) (x : Schema × Built) → IsPrepared words texts explaining x → IsToExplain words texts
-to_explain words texts x is = record { schema = x.0; definitions = is.definitions; typing = is.typing; ready = is.ready }
+to_explain words texts x is = record { schema = x.0; definitions = is.definitions; typing = is.typing; accepted = is.accepted }
 
 -- ---- the status that is due
 
@@ -42,7 +42,7 @@ due_at schema indexed old new status.Device end text is due other = absurd is
 -- the words ask for one script to be explained
 explained_of : (words : List (List ℕ)) (texts : Texts) (r q : IsToExplain words texts) (script : List ℕ) (end : End) (text : List ℕ) → IsExplainText q.schema (indexed_fields q.schema q.definitions) script end text → IsExplainText r.schema (indexed_fields r.schema r.definitions) script end text
 explained_of words texts r q script end text is =
-    let same = one_acceptance words texts explaining explaining q.schema r.schema q.definitions r.definitions q.typing r.typing q.ready.0 r.ready.0 in
+    let same = one_acceptance words texts explaining explaining q.schema r.schema q.definitions r.definitions q.typing r.typing q.accepted r.accepted in
     subst (λ (x : Schema × List DefinitionTree). IsExplainText x.0 (indexed_fields x.0 x.1) script end text) (λ i. (same.schemas i, same.definitions i)) is
 
 ends_so : (words : List (List ℕ)) (old new : Content) (s : Status) (end : End) → (r : IsToExplain words old.aside.texts) → IsScriptExplained r.schema (indexed_fields r.schema r.definitions) old new s → IsExplainable words old end → s ≢ status.Outside → (s ≡ status_at end) ⊎ (s ≡ status.Memory)
@@ -68,7 +68,7 @@ explained_by words old mid new s x schema built p q is script said row =
     = subst (λ (y : Schema × Built). IsScriptExplained y.0 (fields_in y.0 y.1.files) mid new s) (λ i. (sym p i, sym q i)) row in (
       to_explain words old.aside.texts x is,
       explained_from x.0 (indexed_fields x.0 is.definitions) old mid new s script said
-          (subst (λ (f : ℕ → List Bool). IsScriptExplained x.0 f mid new s) (same_fields x.0 is.definitions x.1.files is.trees) here),
+          (subst (λ (f : ℕ → List Bool). IsScriptExplained x.0 f mid new s) (same_fields x.0 is.definitions x.1.files is.trees.files) here),
     )
 
 explain_said : (words : List (List ℕ)) (old new : Content) (s : Status) → Explains words old new s → IsSaid words old new s
@@ -99,7 +99,7 @@ explain_due words old new s is due can outside = by_due due can
     by_due status.Script (number, why, inl (t, task, play)) = absurd (task_not_explained words old.aside.texts t task is.0)
     by_due status.Script (number, why, inr explainable) = ends_so words old new s (stopped number why) is.0 is.1 explainable outside
     by_due status.Device wrong = absurd (wrong_not_explained words old wrong.why wrong.wrong is.0)
-    by_due status.Refused refused = absurd (ready_not_refused words old.aside.texts explaining is.0.schema is.0.definitions is.0.typing refused.0 is.0.ready refused.1)
+    by_due status.Refused refused = absurd (accepted_not_refused words old.aside.texts explaining is.0.schema is.0.definitions is.0.typing refused.0 is.0.accepted refused.1)
     by_due status.Memory due = absurd due
     by_due status.Full due = absurd due
     by_due status.Outside due = absurd due

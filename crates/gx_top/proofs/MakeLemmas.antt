@@ -32,7 +32,7 @@ use Rattle.gx_play.specs.Say.{SameDevices}
 use Rattle.gx_top.specs.Tasks.{Task, IsTask, IsToPlay}
 use Rattle.gx_top.specs.Tries.{IsAsDue, IsDueStatus}
 use Rattle.gx_requests.specs.Words.{Action, checking, trying, explaining, making, running, request_words, IsCount}
-use Rattle.gx_top.proofs.CompleteLemmas.{same_words, one_acceptance, ready_not_refused, made_not_explained}
+use Rattle.gx_top.proofs.CompleteLemmas.{same_words, one_acceptance, accepted_not_refused, made_not_explained}
 use Rattle.gx_top.proofs.StayLemmas.{devices_same}
 use Rattle.gx_top.proofs.EndLemmas.{IsUnhad, unplayed, not_done, not_device}
 
@@ -102,7 +102,6 @@ ways schema equation specs device count old new (ending.Schema line why) m = abs
 ways schema equation specs device count old new (ending.Equation line why) m = absurd m
 ways schema equation specs device count old new (ending.Type line why) m = absurd m
 ways schema equation specs device count old new ending.TextsTooLong m = absurd m
-ways schema equation specs device count old new ending.NotBuilt m = absurd m
 ways schema equation specs device count old new (ending.Accepted summary) m = absurd m
 ways schema equation specs device count old new (ending.Line number why) m = absurd m
 ways schema equation specs device count old new ending.Full m = absurd m
@@ -110,9 +109,9 @@ ways schema equation specs device count old new ending.Full m = absurd m
 -- ---- the request
 
 abbrev pub to_make : (words : List (List ℕ)) (texts : Texts) (device digits : List ℕ) (count : ℕ) (x : Stored) → IsStoredFor words texts (making device digits) x → IsCount digits count → IsToMake words texts count
-to_make words texts device digits count x st counted = record { device = device; digits = digits; counted = counted; schema = x.schema; definitions = st.definitions; typing = st.typing; ready = st.ready }
+to_make words texts device digits count x st counted = record { device = device; digits = digits; counted = counted; schema = x.schema; definitions = st.definitions; typing = st.typing; accepted = st.accepted }
 
--- a request that is ready, in two readings of its words
+-- an accepted request, in two readings of its words
 record SameMake {words : List (List ℕ)} {texts : Texts} {count number : ℕ} (r : IsToMake words texts count) (q : IsToMake words texts number) : Type 0 where
   pub devices : r.device ≡ q.device
   pub counts : count ≡ number
@@ -122,13 +121,13 @@ record SameMake {words : List (List ℕ)} {texts : Texts} {count number : ℕ} (
 
 one_make : (words : List (List ℕ)) (texts : Texts) (count number : ℕ) (r : IsToMake words texts count) (q : IsToMake words texts number) → SameMake r q
 one_make words texts count number r q =
-    let same = one_acceptance words texts (making r.device r.digits) (making q.device q.digits) r.schema q.schema r.definitions q.definitions r.typing q.typing r.ready.0 q.ready.0 in
+    let same = one_acceptance words texts (making r.device r.digits) (making q.device q.digits) r.schema q.schema r.definitions q.definitions r.typing q.typing r.accepted q.accepted in
     record {
       devices = ap device_in same.actions;
       counts = sym r.counted.value_is ∙ ap (λ a. digits_value (digits_in a)) same.actions ∙ q.counted.value_is;
       schemas = same.schemas;
       definitions = same.definitions;
-      typings = r.ready.0.3.leaves_are ∙ (λ i. typing_with (leaves (same.schemas i) (same.definitions i))) ∙ sym q.ready.0.3.leaves_are;
+      typings = r.accepted.3.leaves_are ∙ (λ i. typing_with (leaves (same.schemas i) (same.definitions i))) ∙ sym q.accepted.3.leaves_are;
     }
   where
     device_in : Action → List ℕ
@@ -150,7 +149,7 @@ wrong_once words texts count number r q before why h =
 -- the request is to make a device and not to play a script
 pub not_played : (words : List (List ℕ)) (texts : Texts) (count : ℕ) (t : Task) → IsToMake words texts count → IsTask words texts t → ⊥
 not_played words texts count t r is =
-    subst IsToPlay (one_acceptance words texts t.action (making r.device r.digits) t.schema r.schema t.definitions r.definitions t.typing r.typing is.ready.0 r.ready.0).actions is.to_play
+    subst IsToPlay (one_acceptance words texts t.action (making r.device r.digits) t.schema r.schema t.definitions r.definitions t.typing r.typing is.accepted r.accepted).actions is.to_play
 
 pub not_checking : (device digits : List ℕ) → checking ≡ making device digits → ⊥
 not_checking device digits e = cc
@@ -220,7 +219,6 @@ module _ (words : List (List ℕ)) (device digits : List ℕ) (count : ℕ) (x :
   unhad (ending.Equation line why) m = absurd m
   unhad (ending.Type line why) m = absurd m
   unhad ending.TextsTooLong m = absurd m
-  unhad ending.NotBuilt m = absurd m
   unhad (ending.Accepted summary) m = absurd m
   unhad (ending.Line number why) m = absurd m
   unhad ending.Full m = absurd m
@@ -251,13 +249,13 @@ module _ (words : List (List ℕ)) (device digits : List ℕ) (count : ℕ) (x :
   due_by : (why : Ending) (s : Status) → Ways x.schema_text x.equation_text x.built.specs device count mid end why → IsEnded why end new s → (t : Status) → IsDueStatus words old t → s ≢ status.Outside → (s ≡ t) ⊎ (s ≡ status.Memory)
   due_by why s w e status.Done (inl playable) outside = absurd (not_played words old.aside.texts count playable.0 request playable.1)
   due_by why s w e status.Done (inr (inl check)) outside =
-      absurd (not_checking device digits (one_acceptance words old.aside.texts checking (making device digits) check.0 x.schema check.1 st.definitions check.2 st.typing check.3 st.ready.0).actions)
+      absurd (not_checking device digits (one_acceptance words old.aside.texts checking (making device digits) check.0 x.schema check.1 st.definitions check.2 st.typing check.3 st.accepted).actions)
   due_by why s w e status.Done (inr (inr (inl can))) outside = can_due why s w e can outside
   due_by why s w e status.Done (inr (inr (inr (r, text, ends)))) outside = absurd (made_not_explained words old.aside.texts count request r)
   due_by why s w e status.Script (number, reason, inl (t, task, play)) outside = absurd (not_played words old.aside.texts count t request task)
   due_by why s w e status.Script (number, reason, inr (r, text, ends)) outside = absurd (made_not_explained words old.aside.texts count request r)
   due_by why s w e status.Device wrong outside = wrong_due why s wrong.why w e (wrong_here wrong.why wrong.wrong) outside
-  due_by why s w e status.Refused refused outside = absurd (ready_not_refused words old.aside.texts (making device digits) x.schema st.definitions st.typing refused.0 st.ready refused.1)
+  due_by why s w e status.Refused refused outside = absurd (accepted_not_refused words old.aside.texts (making device digits) x.schema st.definitions st.typing refused.0 st.accepted refused.1)
   due_by why s w e status.Memory due outside = absurd due
   due_by why s w e status.Full due outside = absurd due
   due_by why s w e status.Outside due outside = absurd due

@@ -1,5 +1,5 @@
 -- A request is refused for one reason, and a script is played by one text.
-use Rattle.std.proofs.Common.{◌≡◌, ℕ, ◌<◌, ◌≤◌, List, [], length, ◌++◌, Bool, true, false, Result, Ok, Err, Option, Some, None, refl, sym, ap, subst, ◌∙◌, arith, inl, inr}
+use Rattle.std.proofs.Common.{◌≡◌, ℕ, ◌<◌, List, [], length, ◌++◌, Bool, true, false, Result, Ok, Err, Option, Some, None, refl, sym, ap, subst, ◌∙◌, arith, inl, inr}
 use Rattle.std.specs.Prelude.{◌⊎◌, ◌≢◌, IsSomeAnd, codes, nat_lt}
 use Rattle.std.specs.FinMap.{get}
 use Rattle.std.proofs.lemmas.Bool.Decides.{nat_tests}
@@ -22,9 +22,9 @@ use Rattle.gx_typing.specs.Whole.{typing_of}
 use Rattle.gx_typing.proofs.TypedLaws.{again as typed_again}
 use Rattle.gx_play.specs.declared.ending.Ending.{Ending}
 use Rattle.gx_play.specs.declared.ending.Ending.TheVariants as ending
-use Rattle.gx_requests.specs.Built.{text_length}
+use Rattle.gx_requests.specs.Lengths.{text_length}
 use Rattle.gx_play.specs.Endings.{line_of}
-use Rattle.gx_requests.specs.Requests.{IsThere, IsNamed, IsAsked, AreRead, AreAccepted, AreUnaccepted, IsRefused, equation_of, text_limit}
+use Rattle.gx_requests.specs.Requests.{IsThere, IsNamed, IsAsked, AreRead, AreUnaccepted, IsRefused, equation_of, text_limit}
 use Rattle.gx_play.specs.Played.{IsPlayText}
 use Rattle.gx_top.specs.Tasks.{Task, IsTask}
 use Rattle.gx_top.specs.Tries.{IsWholeText, IsUnder, PlayOneScript}
@@ -40,7 +40,7 @@ fetch_line (Some text) name = codes "refused: too long " ++ name ++ codes "\n"
 abbrev checked_line : Result Typing Mistake → Bool → List ℕ
 checked_line (Err mistake) long = line_of (ending.Type mistake.0 mistake.1)
 checked_line (Ok typing) true = line_of ending.TextsTooLong
-checked_line (Ok typing) false = line_of ending.NotBuilt
+checked_line (Ok typing) false = []
 
 abbrev read_line : Schema → Result (List DefinitionTree × List ℕ) Unread → List ℕ
 read_line schema (Ok meaning) = checked_line (typing_of schema meaning.0 meaning.1) (nat_lt text_limit (text_length schema meaning.0))
@@ -61,9 +61,6 @@ read_at s e schema ds lines typing long is p q = (λ i. checked_line (sym p i) (
 is_longer : (a b : ℕ) → a < b → nat_lt a b ≡ true
 is_longer a b lt = grind (arith, nat_tests)
 
-is_not_longer : (a b : ℕ) → b ≤ a → nat_lt a b ≡ false
-is_not_longer a b le = grind (arith, nat_tests)
-
 unaccepted_line : (s e : List ℕ) (why : Ending) → AreUnaccepted s e why → line_of why ≡ texts_line (schema_of s) (equation_of e)
 unaccepted_line s e (ending.Schema line why) r = texts_at s e (Err (unread.Bad line why)) (equation_of e) r refl
 unaccepted_line s e (ending.Equation line why) r = texts_at s e (Ok r.0) (Err (unread.Bad line why)) (schema_again s r.0 r.1) r.2
@@ -72,7 +69,6 @@ unaccepted_line s e ending.TextsTooLong r = read_at s e r.0 r.1 r.2 (Ok (typing_
 unaccepted_line s e ending.Words r = absurd r
 unaccepted_line s e (ending.Missing name) r = absurd r
 unaccepted_line s e (ending.TooLong name) r = absurd r
-unaccepted_line s e ending.NotBuilt r = absurd r
 unaccepted_line s e (ending.Accepted summary) r = absurd r
 unaccepted_line s e ending.Full r = absurd r
 unaccepted_line s e (ending.Device wrong) r = absurd r
@@ -80,9 +76,6 @@ unaccepted_line s e (ending.Made blocks pages) r = absurd r
 unaccepted_line s e ending.NoMemory r = absurd r
 unaccepted_line s e ending.Fault r = absurd r
 unaccepted_line s e (ending.Line number why) r = absurd r
-
-accepted_line : (s e : List ℕ) (schema : Schema) (ds : List DefinitionTree) (typing : Typing) → AreAccepted s e schema ds typing → line_of ending.NotBuilt ≡ texts_line (schema_of s) (equation_of e)
-accepted_line s e schema ds typing is = read_at s e schema ds is.lines (Ok (typing_with (leaves schema ds))) false is.read (typed_again schema ds is.lines is.typed) (is_not_longer text_limit (text_length schema ds) is.short)
 
 -- ---- why a request is refused: its words, a text that isn't had, or what stands in the texts
 
@@ -119,7 +112,6 @@ reason : (words : List (List ℕ)) (texts : Texts) (why : Ending) → IsRefused 
 reason words texts ending.Words r = inl (r, refl)
 reason words texts (ending.Missing name) r = inr (inl (record { name = name.now; is_named = r.0; not_there = λ there. not_missing texts name.now there r.1; line_is = missing_line name.now (get texts name.now) r.1 }))
 reason words texts (ending.TooLong name) r = inr (inl (record { name = name.now; is_named = r.0; not_there = λ there. not_long texts name.now there r.1; line_is = long_line name.now (get texts name.now) r.1 }))
-reason words texts ending.NotBuilt r = inr (inr (record { asked = r.0; schema = r.4.0; equation = r.4.1; is_asked = r.4.2; line_is = accepted_line r.4.0 r.4.1 r.1 r.2 r.3 r.4.3 }))
 reason words texts (ending.Schema line why) r = judged words texts (ending.Schema line why) r
 reason words texts (ending.Equation line why) r = judged words texts (ending.Equation line why) r
 reason words texts (ending.Type line why) r = judged words texts (ending.Type line why) r
@@ -166,9 +158,9 @@ refused_once words texts why other x y = line_once words texts (line_of why) (li
 -- the schema that is played on is that of the schema text
 schema_under : (words : List (List ℕ)) (texts : Texts) (under : List ℕ) (t : Task) → IsUnder words texts under → IsTask words texts t → IsSchemaText under t.schema
 schema_under words texts under t is task =
-    let asked = task.ready.0.2 in
+    let asked = task.accepted.2 in
     let same = same_words words t.action is.0 asked.schema_name is.1 asked.equation_name is.2 asked.words_are is.3 in
-    subst (λ s. IsSchemaText s t.schema) (text_once texts asked.schema_name is.1 task.ready.0.0 under same.schemas asked.schema_there.0 is.4) task.ready.0.3.read.schema_means
+    subst (λ s. IsSchemaText s t.schema) (text_once texts asked.schema_name is.1 task.accepted.0 under same.schemas asked.schema_there.0 is.4) task.accepted.3.read.schema_means
 
 text_of_play : (schema : Schema) (start : State) (script : List ℕ) (end close : End) (a b : List ℕ) (kept left : State) → IsPlayText schema start script end a kept → IsPlayText schema start script close b left → a ≡ b
 text_of_play schema start script end close a b kept left x y =

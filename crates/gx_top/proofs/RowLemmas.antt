@@ -10,7 +10,7 @@ use Rattle.gx_commands.specs.declared.command.LineWhy.{LineWhy}
 use Rattle.gx_commands.specs.Lines.{Lines, script_lines}
 use Rattle.gx_equation.specs.Trees.{DefinitionTree}
 use Rattle.gx_types.specs.declared.built.Built.{Built}
-use Rattle.gx_types.specs.Build.{AreTreesOfFiles}
+use Rattle.gx_play.specs.Built.{IsBuiltOf}
 use Rattle.gx_model.specs.States.{State}
 use Rattle.gx_model.specs.Play.{Playing, End, good, stopped}
 use Rattle.gx_model.specs.Runs.{AreFirstLines}
@@ -51,7 +51,7 @@ all_first schema start script answers final end play = record {
   runs = play.runs;
 }
 
-module _ (schema : Schema) (ds : List DefinitionTree) (built : Built) (limit : Option Limits) (start : State) (Holds : State → Type 0) (trees : AreTreesOfFiles 0 schema.files ds built.files) (old mid new : Content) where
+module _ (schema : Schema) (ds : List DefinitionTree) (built : Built) (limit : Option Limits) (start : State) (Holds : State → Type 0) (trees : IsBuiltOf schema ds built) (old mid new : Content) where
   abbrev As : Result (Unit {0}) Ending → Type 0
   As = IsPlayedAs schema built limit start Holds old.script old.now.said mid.now.said
 
@@ -72,7 +72,6 @@ module _ (schema : Schema) (ds : List DefinitionTree) (built : Built) (limit : O
   by_end P (ending.Equation number why) is line memory full fault = absurd is
   by_end P (ending.Type number why) is line memory full fault = absurd is
   by_end P ending.TextsTooLong is line memory full fault = absurd is
-  by_end P ending.NotBuilt is line memory full fault = absurd is
   by_end P (ending.Accepted summary) is line memory full fault = absurd is
   by_end P (ending.Device wrong) is line memory full fault = absurd is
   by_end P (ending.Made blocks pages) is line memory full fault = absurd is

@@ -22,7 +22,7 @@ head_kept : (schema_text equation_text : List ℕ) (old new : Head) → new ≡ 
 head_kept schema_text equation_text old new same is = subst (λ (h : Head). IsHeadOf schema_text equation_text h.leaves h) (sym same) is
 
 pub settled_from : (schema : Schema) (built : Built) (schema_text equation_text : List ℕ) (old new : Head) (kept : List LeafMap) (blocks : List (List ℕ)) (s : State) → new ≡ old → IsHeadOf schema_text equation_text old.leaves old
-    → (IsHeadOf schema_text equation_text new.leaves new → IsSettled schema_text equation_text new.leaves kept blocks) → AreInternal schema built.files kept s
+    → (IsHeadOf schema_text equation_text new.leaves new → IsSettled schema_text equation_text new.leaves kept blocks) → AreInternal schema built kept s
     → IsSettledIn schema built schema_text equation_text old.leaves blocks s
 settled_from schema built schema_text equation_text old new kept blocks s same is settled internal = (
   kept,

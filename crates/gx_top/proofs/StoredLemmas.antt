@@ -1,27 +1,38 @@
 -- All nodes that the definitions mean hold the same state in the same maps.
 use Rattle.std.proofs.Common.{◌≡◌, ℕ, zero, suc, ◌+◌, ◌<◌, List, [], ◌∷◌, length, sym, subst, ◌∙◌, arith}
+use Rattle.gx_values.specs.declared.values.Kind.{Kind}
 use Rattle.gx_values.specs.declared.records.Form.{Form}
 use Rattle.gx_values.specs.declared.records.Rec.{Rec}
 use Rattle.gx_schema.specs.declared.schema.FileDef.{FileDef}
+use Rattle.gx_schema.specs.declared.schema.LinkDef.{LinkDef}
 use Rattle.gx_schema.specs.declared.schema.Schema.{Schema}
 use Rattle.gx_equation.specs.declared.heads.Head.{Head}
 use Rattle.gx_equation.specs.declared.heads.Head.TheVariants as heads
-use Rattle.gx_equation.specs.Trees.{Tree, Trees, node, none, kid, SideTree, file_side, link_side, DefinitionTree}
+use Rattle.gx_equation.specs.declared.heads.Linkset.{Linkset}
+use Rattle.gx_equation.specs.Trees.{Tree, Trees, node, none, kid, kids_from, SideTree, file_side, link_side, DefinitionTree}
 use Rattle.gx_ports.specs.LeafMaps.{LeafMap, map_at}
 use Rattle.gx_mapping.specs.Rule.{Rule}
 use Rattle.gx_stack.specs.declared.node.Node.{Node}
 use Rattle.gx_stack.specs.Tree.{Tree as NodeTree, Kids as NodeKids, leaf, layer, no_kids, kid as node_kid}
 use Rattle.gx_stack.specs.Seen.{tree_of}
 use Rattle.gx_stack.specs.Internal.{IsLeafMap, IsInternal as IsHeld, AreInternal as AreHeld, child_records}
-use Rattle.gx_forms.specs.Forms.{kid_form}
+use Rattle.gx_links.specs.Links.{Link}
+use Rattle.gx_links.specs.Rows.{IsHeldLink, node_rows}
+use Rattle.gx_forms.specs.Forms.{kid_form, link_form}
+use Rattle.gx_typing.specs.Dues.{owner_kind, member_kind}
 use Rattle.gx_types.specs.declared.any.AnyMapping.{AnyMapping}
+use Rattle.gx_types.specs.declared.built.Built.{Built}
+use Rattle.gx_types.specs.declared.built.LinkTree.{LinkTree}
 use Rattle.gx_types.specs.Any.{any_rule}
-use Rattle.gx_types.specs.Build.{IsLeafOf, IsTreeOf, AreTreesOf, IsTreeOfSide, AreTreesOfFiles, leaf_count, side_leaf_count}
+use Rattle.gx_types.specs.Build.{IsLeafOf, IsTreeOf, AreTreesOf, IsTreeOfSide, AreTreesOfFiles, IsLinkTreeOf, IsLinkTreeOfSide, AreTreesOfLinks, leaf_count, side_leaf_count, file_leaf_count, link_definitions}
 use Rattle.gx_types.specs.HeadRules.{IsLayer}
+use Rattle.gx_types.specs.Links.{linkset_of, link_kids}
 use Rattle.gx_types.specs.Nodes.{tree_at}
-use Rattle.gx_model.specs.States.{State, file_in}
+use Rattle.gx_linksets.specs.Stored.{rows_of, IsHeldAt}
+use Rattle.gx_model.specs.States.{State, file_in, link_in}
 use Rattle.gx_scan.specs.Files.{records_of}
 use Rattle.gx_engine.specs.Internal.{AreInternal}
+use Rattle.gx_play.specs.Built.{IsBuiltOf}
 
 -- the number of a leaf
 leaf_number : (n : ℕ) (form : Form) (top : Head) (kids : Trees) (m : ℕ) (f : Form) → IsLeafOf n form top kids m f → m ≡ n
@@ -78,12 +89,30 @@ same_file n (file ∷ files) (d ∷ ds) (a ∷ xs) [] i R maps lt x y held = abs
 same_file n (file ∷ files) (d ∷ ds) (a ∷ xs) (b ∷ ys) zero R maps lt x y held = same_side n _ d.side (tree_of a) (tree_of b) R maps x.0 y.0 held
 same_file n (file ∷ files) (d ∷ ds) (a ∷ xs) (b ∷ ys) (suc i) R maps lt x y held = same_file (n + side_leaf_count d.side) files ds xs ys i R maps (omega (arith, lt)) x.1 y.1 held
 
-pub same_internal : (schema : Schema) (ds : List DefinitionTree) (xs ys : List (Node AnyMapping)) (maps : List LeafMap) (s : State) → AreTreesOfFiles 0 schema.files ds xs → AreTreesOfFiles 0 schema.files ds ys → AreInternal schema xs maps s → AreInternal schema ys maps s
-same_internal schema ds xs ys maps s x y is = record {
-  files_many = is.files_many;
-  links_none = is.links_none;
-  each = λ i lt. record {
-    fit = (is.each i lt).fit;
-    held = same_file 0 schema.files ds xs ys i (records_of (file_in s i)) maps lt x y (is.each i lt).held;
-  };
+-- ---- links
+
+same_link : (n : ℕ) (o m : Kind) (linkset : Linkset) (ts : List Tree) (x y : LinkTree) (link : Link) (maps : List LeafMap) → IsLinkTreeOf n o m linkset ts x → IsLinkTreeOf n o m linkset ts y → IsHeldLink any_rule (link_kids x) (rows_of (linkset_of x)) link maps → IsHeldLink any_rule (link_kids y) (rows_of (linkset_of y)) link maps
+same_link n o m linkset ts x y link maps a b held =
+    subst (λ (l : Linkset). IsHeldLink any_rule (link_kids y) (rows_of l) link maps) (a.head ∙ sym b.head)
+    (same_trees n (link_form linkset o m) 0 (kids_from ts) (link_kids x) (link_kids y) (node_rows (rows_of (linkset_of x)) link) maps a.trees b.trees held)
+
+same_link_side : (n : ℕ) (o m : Kind) (side : SideTree) (x y : LinkTree) (link : Link) (maps : List LeafMap) → IsLinkTreeOfSide n o m side x → IsLinkTreeOfSide n o m side y → IsHeldLink any_rule (link_kids x) (rows_of (linkset_of x)) link maps → IsHeldLink any_rule (link_kids y) (rows_of (linkset_of y)) link maps
+same_link_side n o m (file_side t) x y link maps a b held = absurd a
+same_link_side n o m (link_side linkset ts) x y link maps a b held = same_link n o m linkset ts x y link maps a b held
+
+same_link_at : (files : List FileDef) (n : ℕ) (links : List LinkDef) (ds : List DefinitionTree) (xs ys : List LinkTree) (i : ℕ) (link : Link) (maps : List LeafMap) → i < length links → AreTreesOfLinks files n links ds xs → AreTreesOfLinks files n links ds ys → IsHeldAt xs i link maps → IsHeldAt ys i link maps
+same_link_at files n [] ds xs ys i link maps lt a b held = absurd (omega (arith, lt))
+same_link_at files n (def ∷ links) [] xs ys i link maps lt a b held = absurd a
+same_link_at files n (def ∷ links) (d ∷ ds) [] ys i link maps lt a b held = absurd a
+same_link_at files n (def ∷ links) (d ∷ ds) (x ∷ xs) [] i link maps lt a b held = absurd b
+same_link_at files n (def ∷ links) (d ∷ ds) (x ∷ xs) (y ∷ ys) zero link maps lt a b held = same_link_side n (owner_kind files def) (member_kind files def) d.side x y link maps a.0 b.0 held
+same_link_at files n (def ∷ links) (d ∷ ds) (x ∷ xs) (y ∷ ys) (suc i) link maps lt a b held = same_link_at files (n + side_leaf_count d.side) links ds xs ys i link maps (omega (arith, lt)) a.1 b.1 held
+
+-- ---- all of them
+
+pub same_internal : (schema : Schema) (ds : List DefinitionTree) (x y : Built) (maps : List LeafMap) (s : State) → IsBuiltOf schema ds x → IsBuiltOf schema ds y → AreInternal schema x maps s → AreInternal schema y maps s
+same_internal schema ds x y maps s a b is = record {
+  valid = is.valid;
+  files = λ i lt. same_file 0 schema.files ds x.files y.files i (records_of (file_in s i)) maps lt a.files b.files (is.files i lt);
+  links = λ i lt. same_link_at schema.files (file_leaf_count schema.files ds) schema.links (link_definitions schema.files ds) x.links y.links i (link_in s i) maps lt a.links b.links (is.links i lt);
 }

@@ -54,7 +54,7 @@ pub try_run : (words : List (List ℕ)) (x : Schema × Built) (old middle mid ne
     → IsRun words (try_task words old.aside.texts x p) old mid new played s
 try_run words x old middle mid new played s p same is heard ends finished =
     let t = try_task words old.aside.texts x p in
-    let task : IsTask words old.aside.texts t = record { to_play = tt; ready = p.ready } in
+    let task : IsTask words old.aside.texts t = record { to_play = tt; accepted = p.accepted } in
     let here : IsPlayedAs x.0 x.1 None (empty_state x.0) (λ kept. Unit {0}) old.script old.now.said mid.now.said played =
     subst (λ (n : List ℕ). IsPlayedAs x.0 x.1 None (empty_state x.0) (λ kept. Unit {0}) old.script n mid.now.said played) (ap (λ n. n.said) same.now)
     (subst (λ (l : List ℕ). IsPlayedAs x.0 x.1 None (empty_state x.0) (λ kept. Unit {0}) l middle.now.said mid.now.said played) same.script is) in
@@ -95,8 +95,8 @@ pub record IsOnStore (device : List ℕ) (x : Stored) (schema equation : List �
   pub had : OfBlocks device middle (AreOpened schema equation specs)
   pub holds : (blocks : List (List ℕ)) (maps : List LeafMap) → device_at middle.now device ≡ Some blocks → Reopens schema equation specs maps blocks → Reaches maps
   pub limit_is : (blocks : List (List ℕ)) → device_at middle.now device ≡ Some blocks → limit ≡ limits_on specs (length blocks)
-  pub answered : (s : State) (maps : List LeafMap) → Reaches maps → AreInternal x.schema x.built.files maps s → IsPlayedAs x.schema x.built (Some limit) s (IsSettledIn x.schema x.built schema equation specs mid.now.blocks) opened.script opened.now.said mid.now.said played
-  pub heard : (s : State) (maps : List LeafMap) → Reaches maps → AreInternal x.schema x.built.files maps s → played ≡ Ok tt → mid.script ≡ []
+  pub answered : (s : State) (maps : List LeafMap) → Reaches maps → AreInternal x.schema x.built maps s → IsPlayedAs x.schema x.built (Some limit) s (IsSettledIn x.schema x.built schema equation specs mid.now.blocks) opened.script opened.now.said mid.now.said played
+  pub heard : (s : State) (maps : List LeafMap) → Reaches maps → AreInternal x.schema x.built maps s → played ≡ Ok tt → mid.script ≡ []
 
 -- the same of the texts and kinds that are read out of what is stored
 pub on_store_told : (device : List ℕ) (x : Stored) (schema equation : List ℕ) (specs : List LeafSpec) (middle opened mid : Content) (limit : Limits) (Reaches : List LeafMap → Type 0) (played : Result (Unit {0}) Ending) → schema ≡ x.schema_text → equation ≡ x.equation_text → specs ≡ x.built.specs → IsOnStore device x schema equation specs middle opened mid limit Reaches played
@@ -123,7 +123,7 @@ module _ (words : List (List ℕ)) (device : List ℕ) (x : Stored) (old middle 
   Run = run_task words old.aside.texts device x p
 
   abbrev pub run_is_task : IsTask words old.aside.texts Run
-  run_is_task = record { to_play = tt; ready = p.ready }
+  run_is_task = record { to_play = tt; accepted = p.accepted }
 
   there : (blocks : List (List ℕ)) → device_at old.now device ≡ Some blocks → device_at middle.now device ≡ Some blocks
   there blocks is = subst (λ n. device_at n device ≡ Some blocks) (sym same.now) is
@@ -154,8 +154,8 @@ module _ (words : List (List ℕ)) (device : List ℕ) (x : Stored) (old middle 
     reached : (bound : Option Limits) (start : State) → (h : IsHeldOn Run device old bound start) → Reaches h.maps
     reached bound start h = o.holds h.blocks h.maps (there h.blocks h.there) (reopens h.maps h.blocks h.reopens)
 
-    internal : (bound : Option Limits) (start : State) → (h : IsHeldOn Run device old bound start) → AreInternal x.schema x.built.files h.maps start
-    internal bound start h = same_internal x.schema p.definitions h.internal.built.files x.built.files h.maps start h.internal.trees p.trees h.internal.is
+    internal : (bound : Option Limits) (start : State) → (h : IsHeldOn Run device old bound start) → AreInternal x.schema x.built h.maps start
+    internal bound start h = same_internal x.schema p.definitions h.internal.built x.built h.maps start h.internal.trees p.trees h.internal.is
 
     limit_from : (bound : Option Limits) (start : State) → IsHeldOn Run device old bound start → Some limit ≡ bound
     limit_from bound start h =

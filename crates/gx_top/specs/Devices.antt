@@ -17,7 +17,7 @@ use Rattle.gx_play.specs.declared.ending.DeviceWhy.{DeviceWhy}
 use Rattle.gx_play.specs.declared.ending.DeviceWhy.TheVariants as device_why
 use Rattle.gx_play.specs.Endings.{device_line, made_line}
 use Rattle.gx_requests.specs.Words.{making, running, IsCount}
-use Rattle.gx_requests.specs.Requests.{IsReady}
+use Rattle.gx_requests.specs.Requests.{IsAccepted}
 use Rattle.gx_top.specs.Tasks.{Task, IsTask, IsHeldOn}
 
 -- ---- what `make` says
@@ -30,7 +30,7 @@ pub record IsToMake (words : List (List ℕ)) (texts : Texts) (blocks : ℕ) : T
   pub schema : Schema
   pub definitions : List DefinitionTree
   pub typing : Typing
-  pub ready : IsReady words texts (making device digits) schema definitions typing
+  pub accepted : IsAccepted words texts (making device digits) schema definitions typing
 
 -- the line of what was made
 abbrev pub IsMadeText : List (List ℕ) → Content → List ℕ → Type 0

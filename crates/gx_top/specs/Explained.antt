@@ -20,7 +20,7 @@ use Rattle.gx_play.specs.declared.status.Status.{Status}
 use Rattle.gx_play.specs.declared.status.Status.TheVariants as status
 use Rattle.gx_play.specs.Endings.{memory_line}
 use Rattle.gx_requests.specs.Words.{explaining}
-use Rattle.gx_requests.specs.Requests.{IsReady}
+use Rattle.gx_requests.specs.Requests.{IsAccepted}
 use Rattle.gx_play.specs.Played.{Says, SaysFront}
 
 -- for each field of the file of this number whether it is indexed in the file's term
@@ -106,7 +106,7 @@ pub record IsToExplain (words : List (List ℕ)) (texts : Texts) : Type 0 where
   pub schema : Schema
   pub definitions : List DefinitionTree
   pub typing : Typing
-  pub ready : IsReady words texts explaining schema definitions typing
+  pub accepted : IsAccepted words texts explaining schema definitions typing
 
 -- what was said of such a request, by the status
 abbrev pub Explains : List (List ℕ) → Content → Content → Status → Type 0

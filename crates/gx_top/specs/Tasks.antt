@@ -10,13 +10,13 @@ use Rattle.gx_equation.specs.Trees.{DefinitionTree}
 use Rattle.gx_equation.specs.Printing.{equation_text}
 use Rattle.gx_typing.specs.declared.typing.Typing.{Typing}
 use Rattle.gx_types.specs.declared.built.Built.{Built}
-use Rattle.gx_types.specs.Build.{AreTreesOfFiles}
+use Rattle.gx_play.specs.Built.{IsBuiltOf}
 use Rattle.gx_model.specs.States.{State, empty_state}
 use Rattle.gx_engine.specs.Internal.{AreInternal}
 use Rattle.gx_layout.specs.Layout.{pages_of}
 use Rattle.gx_store.specs.Device.{Reopens, IsSettled}
 use Rattle.gx_requests.specs.Words.{Action, checking, trying, explaining, making, running}
-use Rattle.gx_requests.specs.Requests.{IsReady}
+use Rattle.gx_requests.specs.Requests.{IsAccepted}
 
 -- a script that is to be played, and what the texts mean under which it is
 pub record Task : Type 0 where
@@ -36,15 +36,15 @@ IsToPlay (running device) = Unit {0}
 -- the words ask for it, and the request isn't refused
 pub record IsTask (words : List (List ℕ)) (texts : Texts) (t : Task) : Type 0 where
   pub to_play : IsToPlay t.action
-  pub ready : IsReady words texts t.action t.schema t.definitions t.typing
+  pub accepted : IsAccepted words texts t.action t.schema t.definitions t.typing
 
 -- ---- the state that a device holds
 
 -- the maps are the internal form of the state: nodes that the definitions mean hold it in them
 pub record IsInternalOf (schema : Schema) (ds : List DefinitionTree) (maps : List LeafMap) (s : State) : Type 0 where
   pub built : Built
-  pub trees : AreTreesOfFiles 0 schema.files ds built.files
-  pub is : AreInternal schema built.files maps s
+  pub trees : IsBuiltOf schema ds built
+  pub is : AreInternal schema built maps s
 
 -- the pages of a device of so many blocks, and those that the leaves take from the start on
 abbrev pub limits_on : List LeafSpec → ℕ → Limits
@@ -81,7 +81,7 @@ StartsAlike t old new = (limit : Option Limits) (s : State) → IsFrom t old lim
 -- the blocks are settled with maps in which these nodes hold the state
 abbrev pub IsSettledIn : Schema → Built → List ℕ → List ℕ → List LeafSpec → List (List ℕ) → State → Type 0
 IsSettledIn schema built schema_text equation_text specs blocks s =
-    (maps : List LeafMap) × IsSettled schema_text equation_text specs maps blocks × AreInternal schema built.files maps s
+    (maps : List LeafMap) × IsSettled schema_text equation_text specs maps blocks × AreInternal schema built maps s
 
 -- the device of that name is settled with the internal form of the state
 pub record IsSettledOn (t : Task) (device : List ℕ) (after : Content) (s : State) : Type 0 where

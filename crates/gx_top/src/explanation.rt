@@ -1,13 +1,10 @@
 // What is said of a script that is explained: how each `find` looks for its records.
-ghost use Rattle.std.specs.Prelude.{◌≡◌, ◌≤◌, ◌<◌, ◌^◌, ℕ, Err, length, map, false, IsTrue, IfOk, IfErr};
+ghost use Rattle.std.specs.Prelude.{◌≡◌, ◌≤◌, ◌<◌, ◌^◌, ℕ, Err, length, false, IsTrue, IfOk, IfErr};
 ghost use Rattle.gx_schema.specs.Lookups.{file_at};
 ghost use Rattle.gx_schema.specs.WellFormed.{IsWellFormed};
 ghost use Rattle.gx_commands.specs.Commands.{IsOfSchema, IsFindOf, conds_of, inside_after};
 ghost use Rattle.gx_commands.specs.Lines.{longest_line, script_lines};
-ghost use Rattle.gx_stack.specs.Tree.{IsValid};
 ghost use Rattle.gx_stack.specs.Seen.{tree_of};
-ghost use Rattle.gx_stack.specs.Indexed.{is_indexed};
-ghost use Rattle.gx_types.specs.Any.{any_rule};
 ghost use Rattle.gx_types.specs.Nodes.{AreNodes, tree_at};
 ghost use Rattle.gx_planner.specs.Plans.{least_plan};
 ghost use Rattle.gx_planner.specs.Texts.{plan_text};
@@ -19,6 +16,7 @@ ghost use Rattle.gx_top.specs.Explaining.{fields_in, IsLineExplained, HasEndCaus
 
 use gx_commands::{Command, Find, ScriptLines};
 use gx_device::Device;
+use gx_finds::indexed_fields;
 use gx_planner::{plan, plan_line};
 use gx_play::{PlayEnd, next_line, placed_command, say_all};
 use gx_ports::Stop;
@@ -151,23 +149,6 @@ fn file_node(built: &Built, file: u16) -> &Node<AnyMapping>
     ensures { tree_of result.now ≡ tree_at built.now.files file }
 {
     &built.files.0[usize::from(file)]
-}
-
-// For each field of a file whether it is indexed in its node.
-fn indexed_fields(
-    alloc: Global,
-    file: &FileDef,
-    node: &Node<AnyMapping>,
-) -> Result<Vec<bool>, NoMemory>
-    requires { IsValid any_rule (tree_of node.now) }
-    ensures { IfOk result (λ indexed. indexed.items
-        ≡ map (λ f. is_indexed any_rule (tree_of node.now) f.name) file.now.fields) }
-{
-    let mut indexed = Vec::new(alloc);
-    for field in &file.fields.0 {
-        indexed.push(node.indexed(&field.name))?;
-    }
-    Ok(indexed)
 }
 
 // Whether a transaction is open behind the command.

@@ -29,8 +29,8 @@ use std::alloc::Global;
 /// - `Script`: a line ends the play, or the plans. Exactly the answers or plans up to it were said, and
 ///   then the line that says where and why.
 /// - `Refused`: the request is refused for the first reason in the order of the words, the texts, the
-///   schema, the equation, its types, the length of the texts, and what is carried out so far. The line
-///   of that reason was said, and nothing else.
+///   schema, the equation, its types, and the length of the texts. The line of that reason was said, and
+///   nothing else.
 /// - `Full`: the pages may be too few for the command of a line. Exactly the answers of the lines before
 ///   it were said, and then `stopped: full`.
 /// - `Device`: the device isn't what was asked for. Its line was said, and nothing else; that of damage,

@@ -129,7 +129,7 @@ fn play_stored<'a, M: Machine + Drop>(
     requires built { AreFor schema built (length (working_of store)) }
     requires well_formed { IsWellFormed schema }
     ensures answered { IsTrue M.tells → (s : State) (maps : List LeafMap) →
-        HoldsMaps maps store → AreInternal schema built.files maps s → (texts : List ℕ × List ℕ) →
+        HoldsMaps maps store → AreInternal schema built maps s → (texts : List ℕ × List ℕ) →
         IsHeadOf texts.0 texts.1 (specs_of (places_in store)) (head_of store) →
         IsPlayedAs schema built
         (Some (limits_of (ground_of (journal_of (pages_of store))) (places_in store))) s
@@ -137,7 +137,7 @@ fn play_stored<'a, M: Machine + Drop>(
         (M.content result.1).now.blocks) (M.content (machine_of store)).script
         (M.content (machine_of store)).now.said (M.content result.1).now.said result.0 }
     ensures heard { IsTrue M.tells → (s : State) (maps : List LeafMap) → HoldsMaps maps store →
-        AreInternal schema built.files maps s → result.0 ≡ Ok tt →
+        AreInternal schema built maps s → result.0 ≡ Ok tt →
         (M.content result.1).script ≡ [] }
     ensures begins { IsTrue M.tells →
         IsPrefix (M.content (machine_of store)).now.said (M.content result.1).now.said }

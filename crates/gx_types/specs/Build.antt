@@ -1,5 +1,5 @@
--- The nodes that equations mean, and the equations that have no link.
-use Rattle.std.specs.Prelude.{◌≡◌, ◌≢◌, ℕ, zero, suc, ◌+◌, ◌<◌, ◌≤◌, Bool, true, false, ◌&&◌, ◌==◌, List, [], ◌∷◌, length, take, drop, None}
+-- The nodes that equations mean.
+use Rattle.std.specs.Prelude.{◌≡◌, ◌≢◌, ℕ, zero, suc, ◌+◌, ◌<◌, ◌≤◌, List, [], ◌∷◌, length, take, drop, None}
 use Rattle.std.specs.List.{AllByRecursion}
 use Rattle.gx_values.specs.Keys.{width_of}
 use Rattle.gx_values.specs.declared.values.Kind.{Kind}
@@ -29,36 +29,6 @@ use Rattle.gx_types.specs.HeadRules.{head_rule, IsLayer}
 use Rattle.gx_typing.specs.Places.{leaves_at}
 use Rattle.gx_typing.specs.Typed.{IsTypedTerm, AreTypedTerms}
 use Rattle.gx_typing.specs.Typing.{count}
-
--- ---- equations of files alone
-
--- a head with so many children as it has
-abbrev pub is_built_head : Head → ℕ → Bool
-is_built_head (heads.Leaf kind) kids = kids == 0
-is_built_head heads.Actual kids = kids == 1
-is_built_head (heads.Encode name code) kids = kids == 1
-is_built_head (heads.Segment names) kids = kids == 2
-is_built_head heads.Transpose kids = true
-is_built_head (heads.Partition name bounds) kids = true
-is_built_head (heads.Divide size) kids = kids == 1
-is_built_head (heads.Index name) kids = kids == 2
-
-abbrev mutual
-  pub is_built_term : Tree → Bool
-  is_built_term (node top kids) = is_built_head top (count kids) && are_built_terms kids
-
-  pub are_built_terms : Trees → Bool
-  are_built_terms none = true
-  are_built_terms (kid t ts) = is_built_term t && are_built_terms ts
-
--- the side of a file
-abbrev pub is_built_side : SideTree → Bool
-is_built_side (file_side t) = is_built_term t
-is_built_side (link_side linkset ts) = false
-
-abbrev pub heads_built : List DefinitionTree → Bool
-heads_built [] = true
-heads_built (d ∷ ds) = is_built_side d.side && heads_built ds
 
 -- ---- how many leaves there are
 

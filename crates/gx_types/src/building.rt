@@ -1,10 +1,8 @@
 // What an equation gives: its leaves, and the nodes of files and links.
-ghost use Rattle.std.specs.Prelude.{◌≡◌, ◌≤◌, length, true, IfOk};
+ghost use Rattle.std.specs.Prelude.{◌≡◌, ◌≤◌, length, IfOk};
 ghost use Rattle.gx_schema.specs.Rules.{IsSchema};
 ghost use Rattle.gx_equation.specs.Printing.{AreWritten};
-ghost use Rattle.gx_equation.specs.Seen.{tree_of, trees_of, side_of, definitions_of};
-ghost use Rattle.gx_equation.specs.Trees.{kids_from};
-ghost use Rattle.gx_types.specs.Build.{is_built_term, are_built_terms, is_built_side, heads_built};
+ghost use Rattle.gx_equation.specs.Seen.{definitions_of};
 ghost use Rattle.gx_types.specs.Build.{file_leaf_count, link_definitions};
 ghost use Rattle.gx_types.specs.Build.{AreTreesOfFiles, AreTreesOfLinks};
 ghost use Rattle.gx_types.specs.Nodes.{AreNodes, AreLinkNodes};
@@ -13,60 +11,11 @@ ghost use Rattle.gx_typing.specs.Typed.{IsTyped, leaves, typing_with};
 use crate::built::{Built, LinkTrees, Trees};
 use crate::links::trees_of_links;
 use crate::nodes::nodes_of_files;
-use gx_equation::{Definition, Equation, Side, Term};
+use gx_equation::Equation;
 use gx_schema::Schema;
 use gx_typing::Typing;
 use gx_values::NoMemory;
 use std::alloc::Global;
-
-#[cycle(heads)]
-fn terms_built(kids: &[Term]) -> bool
-    ensures { result ≡ are_built_terms (kids_from (trees_of kids.now)) }
-{
-    for kid in kids {
-        if !term_built(kid) {
-            return false;
-        }
-    }
-    true
-}
-
-#[cycle(heads)]
-fn term_built(term: &Term) -> bool
-    ensures { result ≡ is_built_term (tree_of term.now) }
-{
-    match term {
-        Term::Leaf(_) => true,
-        Term::Actual(kid) | Term::Encode(_, _, kid) | Term::Divide(_, kid) => term_built(kid),
-        Term::Segment(_, first, second) | Term::Index(_, first, second) => {
-            term_built(first) && term_built(second)
-        }
-        Term::Transpose(kids) | Term::Partition(_, _, kids) => terms_built(kids),
-    }
-}
-
-fn side_built(side: &Side) -> bool
-    ensures { result ≡ is_built_side (side_of side.now) }
-{
-    match side {
-        Side::File(term) => term_built(term),
-        _ => false,
-    }
-}
-
-/// Whether each side is that of a file.
-pub fn heads_built(equation: &Equation) -> bool
-    ensures { result ≡ heads_built (definitions_of equation.now.definitions) }
-{
-    let mut rest = equation.definitions.0.as_slice();
-    while let [definition, after @ ..] = rest {
-        if !side_built(&definition.side) {
-            return false;
-        }
-        rest = after;
-    }
-    true
-}
 
 /// The leaves of a typed equation, and the nodes of the files and of the links of its schema, whose
 /// leaves have the numbers of the typing, from 0 on. `NoMemory` comes where there was none for the

@@ -10,5 +10,5 @@ mod mappings;
 mod nodes;
 
 pub use any::{AnyMapping, Passing};
-pub use building::{build, heads_built};
+pub use building::build;
 pub use built::{Built, LinkTree, LinkTrees, Trees};

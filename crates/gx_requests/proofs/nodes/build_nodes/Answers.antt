@@ -1,14 +1,16 @@
-use Rattle.std.proofs.Common.{sym, ◌∙◌}
-use Rattle.gx_equation.specs.Seen.{definitions_of}
-use Rattle.gx_types.specs.Build.{heads_built}
+use Rattle.std.proofs.Common.{refl}
 use Rattle.gx_engine.proofs.StartLemmas.{are_storable}
 use Rattle.gx_requests.proofs.nodes.build_nodes.Goals as goal
+
+pub returns-clause-built : goal.returns-clause-built
+returns-clause-built c = (refl, record { files = c.in_ok-built.ensures.trees; links = c.in_ok-built.ensures.link_trees })
 
 pub returns-clause-can_play : goal.returns-clause-can_play
 returns-clause-can_play c = (
   record {
-    storable = are_storable c.args.checked.schema (heads_built (definitions_of c.args.checked.equation.definitions)) c.requires.rules (sym c.is_built.ensures ∙ c.if-not-is_built.false);
+    storable = are_storable c.args.checked.schema c.requires.rules;
     nodes = c.in_ok-built.ensures.nodes;
+    link_nodes = c.in_ok-built.ensures.link_nodes;
     owned = c.in_ok-built.ensures.owned;
     few = c.in_ok-built.ensures.few;
   },

@@ -13,11 +13,11 @@ returns-in-Ok-clause-said g c = λ can digits counted.
     let after = g.M.Device.content c.make_stored-machine.result.1 in
     let free : CanAttach g.M.Device.tells mid = record { told = can.told; free = ap (λ n. n.shelf.name) c.in-Ok.ensures.content.now ∙ can.free } in
     unhad_end words old after (g.M.Device.content c.end-status.new.machine) c.make_stored-machine.result.0 c.end-status.result
-    (unhad words c.args.device.now digits c.args.blocks c.in-Ok.stored old mid after after (c.in-Ok.ensures.ready can.told (making c.args.device.now digits) (_, counted) tt) counted c.in-Ok.ensures.content.now c.make_stored-machine.result.0 (c.make_stored-machine.ensures.made free))
+    (unhad words c.args.device.now digits c.args.blocks c.in-Ok.stored old mid after after (c.in-Ok.ensures.ready can.told (making c.args.device.now digits) (_, counted)) counted c.in-Ok.ensures.content.now c.make_stored-machine.result.0 (c.make_stored-machine.ensures.made free))
     ((c.make_stored-machine.ensures.attaches free).said ∙ ap (λ n. n.said) c.in-Ok.ensures.content.now)
     ((c.make_stored-machine.ensures.attaches free).script ∙ c.in-Ok.ensures.content.script)
     (λ memory t task. absurd (not_played words old.aside.texts c.args.blocks t
-    (to_make words old.aside.texts c.args.device.now digits c.args.blocks c.in-Ok.stored (c.in-Ok.ensures.ready can.told (making c.args.device.now digits) (_, counted) tt) counted) task))
+    (to_make words old.aside.texts c.args.device.now digits c.args.blocks c.in-Ok.stored (c.in-Ok.ensures.ready can.told (making c.args.device.now digits) (_, counted)) counted) task))
     (record {
       status_is = c.end-status.ensures.status;
       said = c.end-status.ensures.said can.told;
@@ -35,7 +35,7 @@ returns-in-Ok-clause-due g c = λ can digits counted.
     let mid = g.M.Device.content c.prepare_stored.new.machine in
     let after = g.M.Device.content c.make_stored-machine.result.1 in
     let free : CanAttach g.M.Device.tells mid = record { told = can.told; free = ap (λ n. n.shelf.name) c.in-Ok.ensures.content.now ∙ can.free } in
-    made_due words c.args.device.now digits c.args.blocks c.in-Ok.stored old mid after (g.M.Device.content c.end-status.new.machine) (c.in-Ok.ensures.ready can.told (making c.args.device.now digits) (_, counted) tt) counted c.in-Ok.ensures.content.now c.make_stored-machine.result.0 c.end-status.result
+    made_due words c.args.device.now digits c.args.blocks c.in-Ok.stored old mid after (g.M.Device.content c.end-status.new.machine) (c.in-Ok.ensures.ready can.told (making c.args.device.now digits) (_, counted)) counted c.in-Ok.ensures.content.now c.make_stored-machine.result.0 c.end-status.result
     (c.make_stored-machine.ensures.made free)
     (record {
       status_is = c.end-status.ensures.status;
@@ -54,7 +54,7 @@ returns-in-Ok-clause-left g c = λ can digits counted.
     let mid = g.M.Device.content c.prepare_stored.new.machine in
     let after = g.M.Device.content c.make_stored-machine.result.1 in
     let free : CanAttach g.M.Device.tells mid = record { told = can.told; free = ap (λ n. n.shelf.name) c.in-Ok.ensures.content.now ∙ can.free } in
-    made_left words c.args.device.now digits c.args.blocks c.in-Ok.stored old mid after (g.M.Device.content c.end-status.new.machine) (c.in-Ok.ensures.ready can.told (making c.args.device.now digits) (_, counted) tt) counted c.in-Ok.ensures.content.now c.make_stored-machine.result.0 c.end-status.result
+    made_left words c.args.device.now digits c.args.blocks c.in-Ok.stored old mid after (g.M.Device.content c.end-status.new.machine) (c.in-Ok.ensures.ready can.told (making c.args.device.now digits) (_, counted)) counted c.in-Ok.ensures.content.now c.make_stored-machine.result.0 c.end-status.result
     c.in-Ok.ensures.stored (c.make_stored-machine.ensures.made free) (c.make_stored-machine.ensures.attaches free) (c.make_stored-machine.ensures.left free) c.end-status.ensures.devices
     (record {
       status_is = c.end-status.ensures.status;
@@ -70,7 +70,7 @@ pub returns-in-Err-clause-said : goal.returns-in-Err-clause-said
 returns-in-Err-clause-said g c = λ can digits counted.
     let words = request_words (making c.args.device.now digits) c.args.schema.now c.args.equation.now in
     unprepared_end words (g.M.Device.content c.args.machine) (g.M.Device.content c.prepare_stored.new.machine) (g.M.Device.content c.end-status-in-Err.new.machine) _ _ c.in-Err.ending c.end-status-in-Err.result
-    (c.in-Err.ensures.unprepared can.told (making c.args.device.now digits) (_, counted) tt) c.in-Err.ensures.content c.end-status-in-Err.ensures.devices
+    (c.in-Err.ensures.unprepared can.told (making c.args.device.now digits) (_, counted)) c.in-Err.ensures.content c.end-status-in-Err.ensures.devices
     (record {
       status_is = c.end-status-in-Err.ensures.status;
       said = c.end-status-in-Err.ensures.said can.told;
@@ -85,7 +85,7 @@ pub returns-in-Err-clause-due : goal.returns-in-Err-clause-due
 returns-in-Err-clause-due g c = λ can digits counted.
     let words = request_words (making c.args.device.now digits) c.args.schema.now c.args.equation.now in
     unprepared_due words (g.M.Device.content c.args.machine) (g.M.Device.content c.prepare_stored.new.machine) (g.M.Device.content c.end-status-in-Err.new.machine) _ _ c.in-Err.ending c.end-status-in-Err.result
-    (c.in-Err.ensures.unprepared can.told (making c.args.device.now digits) (_, counted) tt)
+    (c.in-Err.ensures.unprepared can.told (making c.args.device.now digits) (_, counted))
     (record {
       status_is = c.end-status-in-Err.ensures.status;
       said = c.end-status-in-Err.ensures.said can.told;
@@ -100,7 +100,7 @@ pub returns-in-Err-clause-left : goal.returns-in-Err-clause-left
 returns-in-Err-clause-left g c = λ can digits counted.
     let words = request_words (making c.args.device.now digits) c.args.schema.now c.args.equation.now in
     unprepared_left words c.args.device.now (g.M.Device.content c.args.machine) (g.M.Device.content c.prepare_stored.new.machine) (g.M.Device.content c.end-status-in-Err.new.machine) _ _ c.in-Err.ending c.end-status-in-Err.result
-    (c.in-Err.ensures.unprepared can.told (making c.args.device.now digits) (_, counted) tt) c.in-Err.ensures.content.now c.end-status-in-Err.ensures.devices
+    (c.in-Err.ensures.unprepared can.told (making c.args.device.now digits) (_, counted)) c.in-Err.ensures.content.now c.end-status-in-Err.ensures.devices
     (record {
       status_is = c.end-status-in-Err.ensures.status;
       said = c.end-status-in-Err.ensures.said can.told;

@@ -10,20 +10,20 @@ returns-in-Ok-clause-said g c = λ can.
     let words = request_words (running c.args.device.now) c.args.schema.now c.args.equation.now in
     let mid = g.M.Device.content c.prepare_stored.new.machine in
     let free : CanAttach g.M.Device.tells mid = record { told = can.told; free = ap (λ n. n.shelf.name) c.in-Ok.ensures.content.now ∙ can.free } in
-    c.run_stored.ensures.said free words (g.M.Device.content c.args.machine) c.in-Ok.ensures.content (c.in-Ok.ensures.ready can.told (running c.args.device.now) tt tt)
+    c.run_stored.ensures.said free words (g.M.Device.content c.args.machine) c.in-Ok.ensures.content (c.in-Ok.ensures.ready can.told (running c.args.device.now) tt)
 
 pub returns-in-Ok-clause-due : goal.returns-in-Ok-clause-due
 returns-in-Ok-clause-due g c = λ can.
     let words = request_words (running c.args.device.now) c.args.schema.now c.args.equation.now in
     let mid = g.M.Device.content c.prepare_stored.new.machine in
     let free : CanAttach g.M.Device.tells mid = record { told = can.told; free = ap (λ n. n.shelf.name) c.in-Ok.ensures.content.now ∙ can.free } in
-    c.run_stored.ensures.due free words (g.M.Device.content c.args.machine) c.in-Ok.ensures.content (c.in-Ok.ensures.ready can.told (running c.args.device.now) tt tt)
+    c.run_stored.ensures.due free words (g.M.Device.content c.args.machine) c.in-Ok.ensures.content (c.in-Ok.ensures.ready can.told (running c.args.device.now) tt)
 
 pub returns-in-Err-clause-said : goal.returns-in-Err-clause-said
 returns-in-Err-clause-said g c = λ can.
     let words = request_words (running c.args.device.now) c.args.schema.now c.args.equation.now in
     unprepared_end words (g.M.Device.content c.args.machine) (g.M.Device.content c.prepare_stored.new.machine) (g.M.Device.content c.end-status.new.machine) _ _ c.in-Err.ending c.end-status.result
-    (c.in-Err.ensures.unprepared can.told (running c.args.device.now) tt tt) c.in-Err.ensures.content c.end-status.ensures.devices
+    (c.in-Err.ensures.unprepared can.told (running c.args.device.now) tt) c.in-Err.ensures.content c.end-status.ensures.devices
     (record {
       status_is = c.end-status.ensures.status;
       said = c.end-status.ensures.said can.told;
@@ -38,7 +38,7 @@ pub returns-in-Err-clause-due : goal.returns-in-Err-clause-due
 returns-in-Err-clause-due g c = λ can.
     let words = request_words (running c.args.device.now) c.args.schema.now c.args.equation.now in
     unprepared_due words (g.M.Device.content c.args.machine) (g.M.Device.content c.prepare_stored.new.machine) (g.M.Device.content c.end-status.new.machine) _ _ c.in-Err.ending c.end-status.result
-    (c.in-Err.ensures.unprepared can.told (running c.args.device.now) tt tt)
+    (c.in-Err.ensures.unprepared can.told (running c.args.device.now) tt)
     (record {
       status_is = c.end-status.ensures.status;
       said = c.end-status.ensures.said can.told;
@@ -54,7 +54,7 @@ returns-in-Ok-clause-left g c = λ can.
     let words = request_words (running c.args.device.now) c.args.schema.now c.args.equation.now in
     let mid = g.M.Device.content c.prepare_stored.new.machine in
     let free : CanAttach g.M.Device.tells mid = record { told = can.told; free = ap (λ n. n.shelf.name) c.in-Ok.ensures.content.now ∙ can.free } in
-    c.run_stored.ensures.left free words (g.M.Device.content c.args.machine) c.in-Ok.ensures.content (c.in-Ok.ensures.ready can.told (running c.args.device.now) tt tt)
+    c.run_stored.ensures.left free words (g.M.Device.content c.args.machine) c.in-Ok.ensures.content (c.in-Ok.ensures.ready can.told (running c.args.device.now) tt)
 
 pub returns-in-Err-clause-left : goal.returns-in-Err-clause-left
 returns-in-Err-clause-left g c = λ can.
