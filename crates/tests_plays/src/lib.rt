@@ -3,6 +3,8 @@
 #![tactic(auto)]
 
 #[cfg(test)]
+mod linked;
+#[cfg(test)]
 mod plays;
 #[cfg(test)]
 mod row;

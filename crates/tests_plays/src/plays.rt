@@ -1,5 +1,6 @@
-// Plays of scripts: the plain program beside texts worked out by hand, and the program beside the
-// plain one.
+// Plays of scripts: the plain program and the program beside texts worked out by hand, and the program
+// beside the plain one.
+use crate::linked::LINKED_EQUATIONS;
 use crate::row::check_row;
 use gx_memory_machine::MemoryMachine;
 use gx_plain::play;
@@ -36,25 +37,32 @@ word = actual(actual(heap))
 "#,
 ];
 
-const LINKED: &str = "file dept (dno int, dname text 12)
+pub(crate) const LINKED: &str = "file dept (dno int, dname text 12)
 file emp (eno int, name text 24, pay int, room text 8)
 link works (dept, emp)
 link boss (emp, emp)
 ";
 
-fn plain(alloc: Global, schema: &str, script: &[u8]) -> Result<Vec<u8>, Fail> {
+// What the plain program says of a script.
+pub(crate) fn plain(alloc: Global, schema: &str, script: &[u8]) -> Result<Vec<u8>, Fail> {
     let schema = schema.as_bytes();
     let schema = read_schema(alloc, &schema[..schema.len().min(16380)])?;
     let text = play(alloc, &schema, script)?;
     Ok(text.0)
 }
 
-fn tried(alloc: Global, equation: &str, script: &[u8]) -> Result<MemoryMachine, Fail> {
+// A machine on which `try` played a script.
+pub(crate) fn tried(
+    alloc: Global,
+    schema: &str,
+    equation: &str,
+    script: &[u8],
+) -> Result<MemoryMachine, Fail> {
     let mut machine = MemoryMachine::new(alloc)?;
-    machine.add_text(alloc, "S", FILES.as_bytes())?;
+    machine.add_text(alloc, "S", schema.as_bytes())?;
     machine.add_text(alloc, "E", equation.as_bytes())?;
     machine.set_script(alloc, script)?;
-    machine.reserve(alloc, 1000, 20000)?;
+    machine.reserve(alloc, 1000, 60000)?;
     let mut words = Vec::new(alloc);
     for word in "try S E".split(' ') {
         words.push(String::from_str(alloc, word)?)?;
@@ -300,11 +308,15 @@ stopped at line 2: no transaction
 
 // Commands, refusals and orders on links, and some on records.
 #[test]
-fn plain_plays_are_right(rt: HostRuntime) -> Result<(), Fail> {
+fn plays_say_what_was_worked_out(rt: HostRuntime) -> Result<(), Fail> {
     let alloc = rt.alloc();
     for case in PLAIN_CASES {
         let said = plain(alloc, LINKED, case.script.as_bytes())?;
         check_row(&rt, case.script, said.as_slice() == case.said.as_bytes());
+        for equation in LINKED_EQUATIONS {
+            let machine = tried(alloc, LINKED, equation, case.script.as_bytes())?;
+            check_row(&rt, case.script, machine.said() == case.said.as_bytes());
+        }
     }
     Ok(())
 }
@@ -514,7 +526,7 @@ fn the_program_says_what_the_plain_one_does(rt: HostRuntime) -> Result<(), Fail>
     for script in SCRIPTS {
         let said = plain(alloc, FILES, script.as_bytes())?;
         for equation in EQUATIONS {
-            let machine = tried(alloc, equation, script.as_bytes())?;
+            let machine = tried(alloc, FILES, equation, script.as_bytes())?;
             check_row(&rt, script, machine.said() == said.as_slice());
         }
     }
@@ -531,7 +543,7 @@ fn commented(alloc: Global, letters: usize) -> Result<Vec<u8>, Fail> {
 
 // Plays a script with the program and with the plain one, and expects both to say the same.
 fn expect_alike(rt: &impl Abort, alloc: Global, script: &[u8], said: &str) -> Result<(), Fail> {
-    let machine = tried(alloc, EQUATIONS[0], script)?;
+    let machine = tried(alloc, FILES, EQUATIONS[0], script)?;
     assert!(rt; machine.said() == said.as_bytes());
     let plain = plain(alloc, FILES, script)?;
     assert!(rt; plain.as_slice() == said.as_bytes());

@@ -293,9 +293,8 @@ fn with_texts(alloc: Global) -> Result<MemoryMachine, Fail> {
     Ok(machine)
 }
 
-// Words that are no request, and texts that aren't there, too long, not accepted, or that can't be
-// carried out.
-const REFUSED: [(&str, &str); 23] = [
+// Words that are no request, and texts that aren't there, too long, or not accepted.
+const REFUSED: [(&str, &str); 21] = [
     ("", "refused: words\n"),
     ("try", "refused: words\n"),
     ("try S1", "refused: words\n"),
@@ -315,10 +314,8 @@ const REFUSED: [(&str, &str); 23] = [
     ("try linked E1", "refused: type line 1: definition\n"),
     ("check S1 pieces", "refused: type line 1: one bytes\n"),
     ("try wide E3", "refused: type line 1: entry too long\n"),
-    ("try linked ring", "refused: not built\n"),
     ("explain S1", "refused: words\n"),
     ("explain S1 unended", "refused: equation line 2: end\n"),
-    ("explain linked ring", "refused: not built\n"),
 ];
 
 #[test]
@@ -329,6 +326,53 @@ fn requests_are_refused(rt: HostRuntime) -> Result<(), Fail> {
         let (status, machine) = top(alloc, &words(alloc, line)?, machine);
         check_row(&rt, line, machine.said() == said.as_bytes());
         assert!(rt; status == Status::Refused);
+    }
+    Ok(())
+}
+
+// A script on a link, what is said of it, and the plans of its finds.
+const LINKED_SCRIPT: &str = "begin
+insert f 1
+insert f 2
+connect l 1 2
+commit
+owner l 2
+find f of l 1
+find f where k > 1 of l 1
+find f where k = 2 of l 1
+";
+
+const LINKED_SAID: &str = "begun
+ok
+ok
+ok
+committed 1
+f 1
+f 2
+found 1
+f 2
+found 1
+f 2
+found 1
+";
+
+const LINKED_PLANS: &str = "line 7: link l
+line 8: link l
+line 9: key k
+";
+
+#[test]
+fn links_are_carried_out(rt: HostRuntime) -> Result<(), Fail> {
+    let alloc = rt.alloc();
+    for (line, said) in [
+        ("try linked ring", LINKED_SAID),
+        ("explain linked ring", LINKED_PLANS),
+    ] {
+        let mut machine = with_texts(alloc)?;
+        machine.set_script(alloc, LINKED_SCRIPT.as_bytes())?;
+        let (status, machine) = top(alloc, &words(alloc, line)?, machine);
+        check_row(&rt, line, machine.said() == said.as_bytes());
+        assert!(rt; status == Status::Done);
     }
     Ok(())
 }

@@ -13,14 +13,14 @@ use gx_memory_machine::MemoryMachine;
 use gx_ports::{Entries, Leaves};
 use gx_schema::{Schema, read_schema};
 use gx_script::read_command;
-use gx_types::{Built, build, heads_built};
+use gx_types::{Built, build};
 use gx_typing::typed;
 use gx_values::{KeyBuf, Octets, Span};
 use std::alloc::Global;
 use std::process::Abort;
 use std::test::Fail;
 
-// A schema without links, and how its files are stored.
+// A schema, and how its files and its links are stored.
 fn built(
     rt: &impl Abort,
     alloc: Global,
@@ -33,8 +33,6 @@ fn built(
     assert!(rt; schema.len() < 100 && equation.len() < 100);
     let schema = read_schema(alloc, schema)?;
     let equation = read_equation(alloc, equation)?;
-    assert!(rt; schema.links.as_slice().is_empty());
-    assert!(rt; heads_built(&equation));
     let typing = typed(alloc, &schema, &equation)?;
     let built = build(alloc, &schema, &equation, typing)?;
     Ok((schema, built))
@@ -132,7 +130,7 @@ fn leaves_text<B: Leaves>(alloc: Global, leaves: &mut B) -> Result<String, Fail>
     Ok(text)
 }
 
-// A script on one file that is stored by an equation, its answers, and the entries that there are
+// A script on a database that is stored by an equation, its answers, and the entries that there are
 // after it.
 #[derive(Clone, Copy)]
 struct Case {
@@ -143,7 +141,10 @@ struct Case {
     entries: &'static str,
 }
 
-const CASES: [Case; 9] = [
+// A link between two files of keys alone.
+const LINKED: &str = "file d (k int) file e (k int) link l (d, e)";
+
+const CASES: [Case; 18] = [
     // Parts by the key: each bound is the least key of its part.
     Case {
         schema: "file f (k int)",
@@ -273,6 +274,237 @@ insert f 7 "ann""#,
 ok
 ",
         entries: "0 8000000000000007=000403616e6e\n",
+    },
+    // A ring: the owner leads to its first member, a member to the next one, and the last to the owner.
+    Case {
+        schema: LINKED,
+        equation: "d = heap e = heap l = ring(actual(heap), actual(heap))",
+        script: "begin
+insert d 1
+insert e 5
+insert e 9
+connect l 1 9
+connect l 1 5",
+        answers: "begun
+ok
+ok
+ok
+ok
+ok
+",
+        entries: "0 8000000000000001=
+1 8000000000000005=
+1 8000000000000009=
+2 8000000000000001=0000000000000005
+3 8000000000000005=0000000000000000000880000000000000090000000000000001
+3 8000000000000009=0000000000000001000880000000000000010000000000000001
+",
+    },
+    // Its first member goes.
+    Case {
+        schema: LINKED,
+        equation: "d = heap e = heap l = ring(actual(heap), actual(heap))",
+        script: "begin
+insert d 1
+insert e 5
+insert e 9
+connect l 1 9
+connect l 1 5
+disconnect l 5",
+        answers: "begun
+ok
+ok
+ok
+ok
+ok
+ok
+",
+        entries: "0 8000000000000001=
+1 8000000000000005=
+1 8000000000000009=
+2 8000000000000001=0000000000000009
+3 8000000000000009=0000000000000001000880000000000000010000000000000001
+",
+    },
+    // Its last member goes.
+    Case {
+        schema: LINKED,
+        equation: "d = heap e = heap l = ring(actual(heap), actual(heap))",
+        script: "begin
+insert d 1
+insert e 5
+insert e 9
+connect l 1 9
+connect l 1 5
+disconnect l 9",
+        answers: "begun
+ok
+ok
+ok
+ok
+ok
+ok
+",
+        entries: "0 8000000000000001=
+1 8000000000000005=
+1 8000000000000009=
+2 8000000000000001=0000000000000005
+3 8000000000000005=0000000000000001000880000000000000010000000000000001
+",
+    },
+    // Both go, and one goes twice.
+    Case {
+        schema: LINKED,
+        equation: "d = heap e = heap l = ring(actual(heap), actual(heap))",
+        script: "begin
+insert d 1
+insert e 5
+insert e 9
+connect l 1 9
+connect l 1 5
+disconnect l 5
+disconnect l 9
+disconnect l 9",
+        answers: "begun
+ok
+ok
+ok
+ok
+ok
+ok
+ok
+refused: no owner
+",
+        entries: "0 8000000000000001=
+1 8000000000000005=
+1 8000000000000009=
+",
+    },
+    // An inverted list: each pair under its owner, and the owner under each member.
+    Case {
+        schema: LINKED,
+        equation: "d = heap e = heap l = inverted(heap, actual(heap))",
+        script: "begin
+insert d 1
+insert e 5
+insert e 9
+connect l 1 9
+connect l 1 5",
+        answers: "begun
+ok
+ok
+ok
+ok
+ok
+",
+        entries: "0 8000000000000001=
+1 8000000000000005=
+1 8000000000000009=
+2 80000000000000018000000000000005=
+2 80000000000000018000000000000009=
+3 8000000000000005=0000000000000001
+3 8000000000000009=0000000000000001
+",
+    },
+    // One member stays.
+    Case {
+        schema: LINKED,
+        equation: "d = heap e = heap l = inverted(heap, actual(heap))",
+        script: "begin
+insert d 1
+insert e 5
+insert e 9
+connect l 1 9
+connect l 1 5
+disconnect l 5",
+        answers: "begun
+ok
+ok
+ok
+ok
+ok
+ok
+",
+        entries: "0 8000000000000001=
+1 8000000000000005=
+1 8000000000000009=
+2 80000000000000018000000000000009=
+3 8000000000000009=0000000000000001
+",
+    },
+    // An array in pieces: the keys of all members under their owner.
+    Case {
+        schema: LINKED,
+        equation: "d = heap e = heap l = array(divide(64, heap))",
+        script: "begin
+insert d 1
+insert e 5
+insert e 9
+connect l 1 9
+connect l 1 5",
+        answers: "begun
+ok
+ok
+ok
+ok
+ok
+",
+        entries: "0 8000000000000001=
+1 8000000000000005=
+1 8000000000000009=
+2 80000000000000018000000000000000=80000000000000058000000000000009
+",
+    },
+    // The last of them goes.
+    Case {
+        schema: LINKED,
+        equation: "d = heap e = heap l = array(divide(64, heap))",
+        script: "begin
+insert d 1
+insert e 5
+insert e 9
+connect l 1 9
+connect l 1 5
+disconnect l 9",
+        answers: "begun
+ok
+ok
+ok
+ok
+ok
+ok
+",
+        entries: "0 8000000000000001=
+1 8000000000000005=
+1 8000000000000009=
+2 80000000000000018000000000000000=8000000000000005
+",
+    },
+    // Both go.
+    Case {
+        schema: LINKED,
+        equation: "d = heap e = heap l = array(divide(64, heap))",
+        script: "begin
+insert d 1
+insert e 5
+insert e 9
+connect l 1 9
+connect l 1 5
+disconnect l 9
+disconnect l 5",
+        answers: "begun
+ok
+ok
+ok
+ok
+ok
+ok
+ok
+",
+        entries: "0 8000000000000001=
+1 8000000000000005=
+1 8000000000000009=
+",
     },
 ];
 
