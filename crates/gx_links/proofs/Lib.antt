@@ -1,3 +1,6 @@
 pub mod MemberLemmas
 pub mod RowLemmas
 pub mod KindLemmas
+pub mod OwnerLemmas
+pub mod WholeLemmas
+pub mod PairLemmas

@@ -4,3 +4,5 @@ mod PieceLemmas
 mod ChangeLemmas
 mod ArrayLemmas
 mod ArrayChanges
+mod InvertedPairs
+mod ArrayPairs
