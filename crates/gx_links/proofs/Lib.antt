@@ -1,6 +1,3 @@
 pub mod MemberLemmas
 pub mod RowLemmas
 pub mod KindLemmas
-pub mod OwnerLemmas
-pub mod WholeLemmas
-pub mod PairLemmas

@@ -2,5 +2,3 @@ pub mod Links
 pub mod Kinds
 pub mod Linksets
 pub mod Rows
-pub mod Owners
-pub mod Pairs

@@ -2,13 +2,5 @@
 #![tactic(auto)]
 
 mod linkset;
-mod owners;
-mod pairs;
-mod rows;
-mod whole;
 
 pub use linkset::{Linkset, MOST_MEMBERS};
-pub use owners::{are_few, owners_of};
-pub use pairs::{Owned, Owners, Pairs};
-pub use rows::are_rows;
-pub use whole::records_of;

@@ -4,5 +4,3 @@ mod PieceLemmas
 mod ChangeLemmas
 mod ArrayLemmas
 mod ArrayChanges
-mod InvertedPairs
-mod ArrayPairs

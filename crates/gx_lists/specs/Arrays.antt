@@ -14,7 +14,6 @@ use Rattle.gx_mapping.specs.Rule.{Rule, In}
 use Rattle.gx_gather.specs.Gather.{part_for}
 use Rattle.gx_stack.specs.Tree.{Tree, Kids, no_kids, kid, tree_form, leaf_body, AreValid}
 use Rattle.gx_links.specs.Kinds.{kinds_of}
-use Rattle.gx_links.specs.declared.pairs.Owned.{Owned}
 use Rattle.gx_links.specs.Links.{most_members}
 use Rattle.gx_links.specs.Linksets.{LinkRule}
 use Rattle.gx_links.specs.Rows.{link_rule}
@@ -98,22 +97,3 @@ WithoutMember kind r member = (has : HasMembers kind r) × (In member has.member
 abbrev pub IsOwnerAmong : Kind → Value → List Rec → Option Value → Type 0
 IsOwnerAmong kind member found (Some owner) = (r : Rec) × In r found × (get_or r.key 0 no_value ≡ owner) × WithMember kind r member
 IsOwnerAmong kind member found None = (r : Rec) → In r found → WithoutMember kind r member
-
--- ---- owners cut out of records
-
--- an owner with the members that a record has
-pub record IsCutOf (kind : Kind) (r : Rec) (g : Owned) : Type 0 where
-  pub owner : g.owner ≡ get_or r.key 0 no_value
-  pub fit : AreOfKind kind g.members
-  pub joined : key_of g.members ≡ leaf_body r.fields
-
--- those of each record
-abbrev pub AreCutOf : Kind → List Rec → List Owned → Type 0
-AreCutOf kind [] [] = Unit {0}
-AreCutOf kind (r ∷ rs) (g ∷ gs) = IsCutOf kind r g × AreCutOf kind rs gs
-AreCutOf kind _ _ = ⊥
-
--- those of each record, or some record is that of no members
-abbrev pub AreCutOwners : Kind → List Rec → Option (List Owned) → Type 0
-AreCutOwners kind found None = (r : Rec) × In r found × AreOfNone kind (leaf_body r.fields)
-AreCutOwners kind found (Some gs) = AreCutOf kind found gs

@@ -2,7 +2,6 @@
 #![tactic(auto)]
 
 mod array;
-mod array_pairs;
 mod arrays;
 mod inverted;
 mod pieces;

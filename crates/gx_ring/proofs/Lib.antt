@@ -9,4 +9,3 @@ pub mod WalkLemmas
 pub mod FoundLemmas
 pub mod ComeLemmas
 pub mod AskLemmas
-pub mod RingPairs

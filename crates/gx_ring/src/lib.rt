@@ -6,7 +6,6 @@ mod places;
 mod reads;
 mod records;
 mod ring;
-mod rows;
 mod spans;
 
 pub use ring::Ring;
