@@ -1,3 +1,5 @@
 pub mod MemberLemmas
 pub mod RowLemmas
 pub mod KindLemmas
+pub mod OwnerLemmas
+pub mod PairLemmas

@@ -66,7 +66,7 @@ value_cases k q = elim (bool_cases (is_same k q)) [
 
 -- ---- pairs and look-ups
 
-below_in : {K X : Type 0} (R : K → K → Ordering) (x : K) (es : List (K × X)) (r : K × X) → T (below_all R x es) → In r es → R x r.0 ≡ Less
+pub below_in : {K X : Type 0} (R : K → K → Ordering) (x : K) (es : List (K × X)) (r : K × X) → T (below_all R x es) → In r es → R x r.0 ≡ Less
 below_in R x [] r h there = absurd there
 below_in {K} {X} R x (s ∷ es) r h (inl same) = subst (λ (q : K × X). R x q.0 ≡ Less) (sym same) (is_less _ (first_of_both _ _ h))
 below_in R x (s ∷ es) r h (inr there) = below_in R x es r (second_of_both _ _ h) there

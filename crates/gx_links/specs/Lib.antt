@@ -2,3 +2,5 @@ pub mod Links
 pub mod Kinds
 pub mod Linksets
 pub mod Rows
+pub mod Owners
+pub mod Pairs

@@ -1,15 +1,17 @@
 -- Rows: the records that stand for a link in the nodes of a linkset. `rows` gives those of one owner and its members; a row is a part,
 -- with the number of its node from 0.
 use Rattle.std.specs.Prelude.{◌≡◌, ℕ, zero, suc, ◌<◌, ◌≤◌, Bool, List, [], length}
-use Rattle.std.specs.List.{flat_map}
+use Rattle.std.specs.List.{flat_map, IsDistinct}
+use Rattle.std.specs.List.Sorted.{IsStrictlySortedBy}
+use Rattle.std.specs.Ordering.{eq_by_cmp}
 use Rattle.gx_values.specs.declared.values.Kind.{Kind}
 use Rattle.gx_values.specs.declared.values.Value.{Value}
 use Rattle.gx_values.specs.declared.records.Form.{Form}
 use Rattle.gx_values.specs.declared.records.Rec.{Rec}
-use Rattle.gx_values.specs.Values.{Fits}
+use Rattle.gx_values.specs.Values.{value_cmp, Fits}
 use Rattle.gx_ports.specs.LeafMaps.{LeafMap}
 use Rattle.gx_mapping.specs.declared.parts.Part.{Part}
-use Rattle.gx_mapping.specs.Rule.{Rule, In, IsOf}
+use Rattle.gx_mapping.specs.Rule.{Rule, In, IsOf, part_cmp}
 use Rattle.gx_stack.specs.declared.entries.LeafEntry.{LeafEntry}
 use Rattle.gx_stack.specs.Tree.{Kids, kids_leaves, kid_entries}
 use Rattle.gx_stack.specs.Internal.{parts_for, AreInternal}
@@ -51,3 +53,8 @@ pub record RowLaws (owner member : Kind) (forms : ℕ → Form) (nodes : ℕ) (r
   pub once : (link : Link) (p q : Part) → IsLink owner member link → In p (link_parts rows link) → In q (link_parts rows link) → p.child ≡ q.child → p.rec.key ≡ q.rec.key → p ≡ q
   -- they tell the link
   pub told : (link other : Link) → IsLink owner member link → IsLink owner member other → ((p : Part) → In p (link_parts rows link) → In p (link_parts rows other)) → ((p : Part) → In p (link_parts rows other) → In p (link_parts rows link)) → link ≡ other
+
+-- no row of an owner stands twice, and each tells its owner
+pub record RowsApart (rows : Value → List Value → List Part) : Type 0 where
+  pub once : (o : Value) (ms : List Value) → IsStrictlySortedBy value_cmp ms → IsDistinct (eq_by_cmp part_cmp) (rows o ms)
+  pub whose : (o x : Value) (ms ys : List Value) (p : Part) → In p (rows o ms) → In p (rows x ys) → o ≡ x

@@ -2,5 +2,11 @@
 #![tactic(auto)]
 
 mod linkset;
+mod owners;
+mod pairs;
+mod rows;
 
 pub use linkset::{Linkset, MOST_MEMBERS};
+pub use owners::{are_few, owners_of};
+pub use pairs::{Owned, Owners, Pairs};
+pub use rows::are_rows;

@@ -7,8 +7,10 @@ ghost use Rattle.gx_ports.specs.LeafMaps.{LeafMap, map_at, entry_count, Extends,
 ghost use Rattle.gx_ports.specs.Calls.{Keeps, Reads, Ends};
 ghost use Rattle.gx_mapping.specs.Rule.{In};
 ghost use Rattle.gx_links.specs.Links.{Link, members_of, most_members};
+ghost use Rattle.gx_links.specs.Pairs.{ArePairs};
 ghost use Rattle.gx_links.specs.Linksets.{LinkRule, LinksetLaws, HasLink, AreMembers, IsOwner, CanConnect, CanDisconnect};
 
+use crate::pairs::Pairs;
 use gx_ports::{Leaves, Stop};
 use gx_values::{Value, Values};
 use std::alloc::Global;
@@ -155,6 +157,19 @@ pub trait Linkset {
             (entry_count (B.working leaves.old)
             + length ((rule self.now).entries owner.now
             (members_of (remove link member.now) owner.now))) };
+
+    /// All pairs of the link, each a member with its owner, in the order of the members. `None`: the
+    /// leaves hold no link. `Damaged`: some leaf's stored form isn't whole.
+    fn pairs<B: Leaves>(&self, alloc: Global, leaves: &mut B) -> Result<Option<Pairs>, Stop>
+        requires valid { valid self.now }
+        requires below { (n : ℕ) → In n (rule self.now).leaves → n < length (B.working leaves.old) }
+        ensures pairs { IfOk result
+            (ArePairs (rule self.now) (held self.now) (B.whole leaves.old)
+            (B.working leaves.old)) }
+        ensures reads { Reads B.View leaves.old leaves.new }
+        ensures ends { Ends B.View (B.whole leaves.old) leaves.old leaves.new result }
+        ensures block { (n : ℕ) → IsErrOf result (Stop.Damaged n) → B.whole leaves.old → n ≡ 0 }
+        ensures not_full { ¬ IsErrOf result Stop.Full };
 
     /// What is true of each linkset.
     ghost laws: { (l : Self) → valid l → LinksetLaws (rule l) (held l) };

@@ -1,7 +1,7 @@
 // The linksets of all kinds as one type.
 ghost use Rattle.std.specs.Prelude.{◌≡◌};
 
-use gx_links::Linkset;
+use gx_links::{Linkset, Pairs};
 use gx_lists::{Inverted, PointerArray};
 use gx_ports::{Leaves, Stop};
 use gx_ring::Ring;
@@ -99,6 +99,14 @@ impl<'a> Linkset for AnyLinkset<'a> {
             AnyLinkset::Array(linkset) => linkset.disconnect_from(alloc, leaves, owner, member),
             AnyLinkset::Ring(linkset) => linkset.disconnect_from(alloc, leaves, owner, member),
             AnyLinkset::Inverted(linkset) => linkset.disconnect_from(alloc, leaves, owner, member),
+        }
+    }
+
+    fn pairs<B: Leaves>(&self, alloc: Global, leaves: &mut B) -> Result<Option<Pairs>, Stop> {
+        match self {
+            AnyLinkset::Array(linkset) => linkset.pairs(alloc, leaves),
+            AnyLinkset::Ring(linkset) => linkset.pairs(alloc, leaves),
+            AnyLinkset::Inverted(linkset) => linkset.pairs(alloc, leaves),
         }
     }
 }

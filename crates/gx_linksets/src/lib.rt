@@ -5,4 +5,4 @@ mod any;
 mod stored;
 
 pub use any::AnyLinkset;
-pub use stored::linkset_at;
+pub use stored::{link_def, linkset_at};

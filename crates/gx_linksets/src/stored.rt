@@ -37,7 +37,8 @@ pub fn linkset_at<'a>(schema: &Schema, built: &'a Built, link: u16) -> AnyLinkse
     }
 }
 
-fn link_def(schema: &Schema, link: u16) -> &LinkDef
+/// The schema's link with this number, counted from 0.
+pub fn link_def(schema: &Schema, link: u16) -> &LinkDef
     requires { link < length schema.now.links }
     ensures { result.now ≡ link_at schema.now link }
 {

@@ -1,5 +1,5 @@
 -- What the changes of a pointer array make of the link, in the words of its calls.
-use Rattle.std.proofs.Common.{◌≡◌, ◌≢◌, ◌<◌, ◌≤◌, ◌+◌, ℕ, suc, List, [], ◌∷◌, ◌++◌, inl, inr, length, get_or, Option, Some, None, refl, sym, ap, subst, ◌∙◌, arith}
+use Rattle.std.proofs.Common.{◌≡◌, ◌<◌, ◌≤◌, ◌+◌, ℕ, List, [], ◌∷◌, ◌++◌, inl, inr, length, get_or, Option, Some, None, refl, sym, ap, subst, ◌∙◌, arith}
 use Rattle.std.specs.Prelude.{OnOk, Result, Ok, Err}
 use Rattle.std.specs.FinMap as fin
 use Rattle.gx_values.specs.declared.values.Kind.{Kind}
@@ -7,7 +7,7 @@ use Rattle.gx_values.specs.declared.values.Kind.TheVariants as kind
 use Rattle.gx_values.specs.declared.values.Value.{Value}
 use Rattle.gx_values.specs.declared.records.Rec.{Rec}
 use Rattle.gx_values.specs.Values.{Fits, IsSized, AreSized}
-use Rattle.gx_values.specs.Keys.{bytes_of, width_of}
+use Rattle.gx_values.specs.Keys.{bytes_of}
 use Rattle.gx_values.specs.Spans.{IsSpanKind}
 use Rattle.gx_values.proofs.CopyLemmas.{fit_sized}
 use Rattle.gx_values.proofs.KeyLemmas.{fit_bytes}
@@ -17,7 +17,7 @@ use Rattle.gx_stack.specs.Tree.{Tree, tree_form, leaf_body, entries_of}
 use Rattle.gx_stack.specs.Internal.{IsInternal, IsChange, changed}
 use Rattle.gx_links.specs.Links.{Link, members_of, most_members, with_member, without_member}
 use Rattle.gx_links.specs.Rows.{node_rows, owner_entries, IsHeldLink}
-use Rattle.gx_links.proofs.MemberLemmas.{in_members, from_members, new_here, members_with, members_gone, others_stay, from_with, from_without, with_length, without_length}
+use Rattle.gx_links.proofs.MemberLemmas.{in_members, from_members, new_here, members_with, members_gone, others_stay, from_with, from_without, with_length}
 use Rattle.gx_lists.specs.Inverted.{owner_kind, no_value}
 use Rattle.gx_lists.specs.Arrays.{array_rec, array_rows, one_node, IsArray, AreOfKind, AreCut, HasMembers}
 use Rattle.gx_lists.proofs.InvertedLemmas.{crowded_more}

@@ -1,17 +1,16 @@
 -- The records of a pointer array: what selections of them find, and what a change of one makes of the link.
-use Rattle.std.proofs.Common.{◌≡◌, ◌≢◌, ◌<◌, ◌≤◌, ◌+◌, ◌*◌, ℕ, Bool, true, false, List, [], ◌∷◌, ◌++◌, ◌⊎◌, inl, inr, length, Option, Some, None, refl, sym, ap, subst, ◌∙◌, get_or, arith, length-append}
+use Rattle.std.proofs.Common.{◌≡◌, ◌≢◌, ◌<◌, ◌≤◌, ◌+◌, ◌*◌, ℕ, Bool, true, false, List, [], ◌∷◌, ◌⊎◌, inl, inr, length, Option, Some, None, refl, sym, ap, subst, ◌∙◌, get_or, arith, length-append}
 use Rattle.std.specs.Prelude.{not, IfSome}
 use Rattle.std.specs.Ordering.{eq_by_cmp}
 use Rattle.std.specs.FinMap as fin
 use Rattle.std.proofs.lemmas.Bool.{true≢false}
 use Rattle.std.proofs.lemmas.List.Sums.{sum_by-cons}
 use Rattle.gx_values.specs.declared.values.Kind.{Kind}
-use Rattle.gx_values.specs.declared.values.Kind.TheVariants as kind
 use Rattle.gx_values.specs.declared.values.Value.{Value}
 use Rattle.gx_values.specs.declared.records.Rec.{Rec}
 use Rattle.gx_values.specs.declared.keys.Span.{Span}
 use Rattle.gx_values.specs.Values.{values_cmp, Fits, AreFit, AreSized}
-use Rattle.gx_values.specs.Keys.{key_of, is_inside, bytes_of, IsKeyKind}
+use Rattle.gx_values.specs.Keys.{key_of, is_inside, IsKeyKind}
 use Rattle.gx_values.proofs.CopyLemmas.{are_sized}
 use Rattle.gx_ports.specs.LeafMaps.{LeafMap, Limits, IsCrowdedBy}
 use Rattle.gx_mapping.specs.declared.parts.Part.{Part}
@@ -25,14 +24,14 @@ use Rattle.gx_stack.specs.Selected.{IsSelection}
 use Rattle.gx_stack.proofs.Children.{in_parts_for, from_parts_for}
 use Rattle.gx_stack.proofs.Same.{internal_of_members}
 use Rattle.gx_links.specs.Kinds.{AreOfKinds}
-use Rattle.gx_links.specs.Links.{Link, members_of, most_members, IsLink, with_member, without_member}
+use Rattle.gx_links.specs.Links.{Link, members_of, most_members, IsLink}
 use Rattle.gx_links.specs.Rows.{link_parts, node_rows, owner_entries, IsHeldLink, RowLaws}
 use Rattle.gx_links.proofs.KindLemmas.{fit_kinds}
-use Rattle.gx_links.proofs.MemberLemmas.{same_value, value_itself, value_cases, in_members, from_members, new_here, from_insert, still_there, members_with, others_stay, gone_free, gone_comes, from_remove, kept_there, members_gone, from_with}
+use Rattle.gx_links.proofs.MemberLemmas.{same_value, value_itself, value_cases, in_members, from_members, others_stay, gone_free, gone_comes}
 use Rattle.gx_links.proofs.RowLemmas.{node_set}
 use Rattle.gx_lists.specs.Spans.{begins_with}
 use Rattle.gx_lists.specs.Inverted.{owner_kind, no_value}
-use Rattle.gx_lists.specs.Arrays.{array_rec, array_rows, one_node, IsArray, array_rule, AreOfKind, first_body, AreCut, AreOfNone, HasMembers, IsOwnerAmong}
+use Rattle.gx_lists.specs.Arrays.{array_rec, array_rows, one_node, IsArray, AreOfKind, first_body, AreCut, AreOfNone, HasMembers, IsOwnerAmong}
 use Rattle.gx_lists.specs.Joined.{same_joined}
 use Rattle.gx_lists.specs.ArrayLaws.{key_kind, members_fit, array_row_of, of_array_row, array_row_laws, array_fits}
 use Rattle.gx_lists.proofs.InvertedLemmas.{crowded_more}

@@ -4,3 +4,6 @@ mod PieceLemmas
 mod ChangeLemmas
 mod ArrayLemmas
 mod ArrayChanges
+mod OrderLemmas
+mod InvertedPairs
+mod ArrayPairs

@@ -1,5 +1,5 @@
 -- Members joined by their key bytes, and what is cut of such bytes.
-use Rattle.std.proofs.Common.{◌≡◌, ◌≢◌, ◌<◌, ◌≤◌, ◌+◌, ◌*◌, ℕ, zero, suc, Bool, true, false, cond, List, [], ◌∷◌, ◌++◌, inl, inr, length, take, drop, Option, Some, None, refl, sym, ap, subst, ◌∙◌, arith, length-append, append_assoc, append-nil}
+use Rattle.std.proofs.Common.{◌≡◌, ◌<◌, ◌≤◌, ◌+◌, ℕ, true, cond, List, [], ◌∷◌, ◌++◌, inl, inr, length, take, drop, Option, Some, None, refl, sym, ap, subst, ◌∙◌, arith, length-append, append_assoc, append-nil}
 use Rattle.std.specs.Prelude.{IsTrue, not, ◌==◌, unwrap_or, nat_lt}
 use Rattle.std.specs.List.{list_all, position, prefix_len}
 use Rattle.std.proofs.lemmas.Bool.Decides.{nat_tests}
@@ -11,10 +11,9 @@ use Rattle.gx_values.specs.declared.values.Kind.TheVariants as kind
 use Rattle.gx_values.specs.declared.values.Value.{Value}
 use Rattle.gx_values.specs.declared.values.Value.TheVariants as value
 use Rattle.gx_values.specs.Values.{Fits, is_printable}
-use Rattle.gx_values.specs.Keys.{bytes_of, key_of, width_of, IsKeyKind}
+use Rattle.gx_values.specs.Keys.{bytes_of, key_of}
 use Rattle.gx_values.specs.Written.{IsRead}
-use Rattle.gx_values.proofs.KeyLemmas.{fit_bytes}
-use Rattle.gx_values.proofs.OrderLemmas.{printable_head, printable_tail, value_prefix_free}
+use Rattle.gx_values.proofs.OrderLemmas.{printable_head, printable_tail}
 use Rattle.gx_mapping.specs.Rule.{In}
 use Rattle.gx_gather.proofs.Lists.{in_cases}
 use Rattle.gx_lists.specs.Arrays.{AreOfKind, IsFrontWidth, AreCut, AreOfNone}

@@ -7,7 +7,6 @@ use Rattle.gx_values.specs.declared.values.Kind.TheVariants as kind
 use Rattle.gx_values.specs.declared.values.Value.{Value}
 use Rattle.gx_values.specs.declared.values.Value.TheVariants as value
 use Rattle.gx_values.specs.declared.records.Form.{Form}
-use Rattle.gx_values.specs.declared.records.Rec.{Rec}
 use Rattle.gx_values.specs.Values.{Fits}
 use Rattle.gx_values.specs.Keys.{key_of, width_of, IsKeyKind}
 use Rattle.gx_values.specs.Spans.{IsSpanKind}

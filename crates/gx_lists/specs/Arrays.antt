@@ -1,5 +1,6 @@
 -- Pointer arrays: a record of each owner that has a member, with the key bytes of its members joined.
 use Rattle.std.specs.Prelude.{◌≡◌, ◌≢◌, ℕ, suc, ◌*◌, ◌≤◌, ◌<◌, false, List, [], ◌∷◌, ◌++◌, length, Option, Some, None, get_or, if◌then◌else◌}
+use Rattle.std.specs.List.Sorted.{IsStrictlySortedBy}
 use Rattle.std.specs.Ordering.{is_lt}
 use Rattle.gx_values.specs.declared.values.Kind.{Kind}
 use Rattle.gx_values.specs.declared.values.Kind.TheVariants as kind
@@ -14,6 +15,7 @@ use Rattle.gx_mapping.specs.Rule.{Rule, In}
 use Rattle.gx_gather.specs.Gather.{part_for}
 use Rattle.gx_stack.specs.Tree.{Tree, Kids, no_kids, kid, tree_form, leaf_body, AreValid}
 use Rattle.gx_links.specs.Kinds.{kinds_of}
+use Rattle.gx_links.specs.declared.pairs.Owned.{Owned}
 use Rattle.gx_links.specs.Links.{most_members}
 use Rattle.gx_links.specs.Linksets.{LinkRule}
 use Rattle.gx_links.specs.Rows.{link_rule}
@@ -97,3 +99,37 @@ WithoutMember kind r member = (has : HasMembers kind r) × (In member has.member
 abbrev pub IsOwnerAmong : Kind → Value → List Rec → Option Value → Type 0
 IsOwnerAmong kind member found (Some owner) = (r : Rec) × In r found × (get_or r.key 0 no_value ≡ owner) × WithMember kind r member
 IsOwnerAmong kind member found None = (r : Rec) → In r found → WithoutMember kind r member
+
+-- ---- owners cut out of records
+
+-- members that one owner can have, in the order in which its record has them
+pub record AreOfOneOwner (ms : List Value) : Type 0 where
+  pub some : 0 < length ms
+  pub few : length ms ≤ most_members
+  pub in_order : IsStrictlySortedBy value_cmp ms
+
+-- the owner with its members that a record has
+pub record IsCutOf (kind : Kind) (r : Rec) (g : Owned) : Type 0 where
+  pub owner : g.owner ≡ get_or r.key 0 no_value
+  pub fit : AreOfKind kind g.members
+  pub joined : key_of g.members ≡ leaf_body r.fields
+  pub members : AreOfOneOwner g.members
+
+-- the record is that of no owner
+abbrev pub IsOfNoOwner : Kind → Rec → Type 0
+IsOfNoOwner kind r = (ms : List Value) → AreOfKind kind ms → AreOfOneOwner ms → key_of ms ≢ leaf_body r.fields
+
+abbrev pub IsCutOwner : Kind → Rec → Option Owned → Type 0
+IsCutOwner kind r None = IsOfNoOwner kind r
+IsCutOwner kind r (Some g) = IsCutOf kind r g
+
+-- those of each record
+abbrev pub AreCutOf : Kind → List Rec → List Owned → Type 0
+AreCutOf kind [] [] = Unit {0}
+AreCutOf kind (r ∷ rs) (g ∷ gs) = IsCutOf kind r g × AreCutOf kind rs gs
+AreCutOf kind _ _ = ⊥
+
+-- those of each record, or some record is that of no owner
+abbrev pub AreCutOwners : Kind → List Rec → Option (List Owned) → Type 0
+AreCutOwners kind found None = (r : Rec) × In r found × IsOfNoOwner kind r
+AreCutOwners kind found (Some gs) = AreCutOf kind found gs

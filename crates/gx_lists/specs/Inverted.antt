@@ -66,3 +66,7 @@ member_in r = get_or r.key 1 no_value
 abbrev pub owner_in : List Rec → Option Value
 owner_in [] = None
 owner_in (r ∷ rs) = Some (get_or r.fields 0 no_value)
+
+-- the pair in the record of a member
+abbrev pub owned_pair : Rec → Value × Value
+owned_pair r = (get_or r.key 0 no_value, get_or r.fields 0 no_value)

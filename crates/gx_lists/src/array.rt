@@ -1,15 +1,23 @@
 // Pointer arrays.
-ghost use Rattle.std.specs.Prelude.{◌≡◌};
+ghost use Rattle.std.specs.Prelude.{◌≡◌, [], IfOk};
+ghost use Rattle.gx_values.specs.declared.records.Rec.{Rec as Record};
+ghost use Rattle.gx_mapping.specs.Rule.{In, IsOf};
+ghost use Rattle.gx_stack.specs.Tree.{tree_form};
+ghost use Rattle.gx_stack.specs.Seen.{tree_of};
+ghost use Rattle.gx_links.specs.Pairs.{IsTold, two_parts};
+ghost use Rattle.gx_lists.specs.Inverted.{owner_kind};
+ghost use Rattle.gx_lists.specs.Arrays.{array_rows, IsArray};
 
+use crate::array_pairs::{cut_owners, is_each_once, pairs_by_member};
 use crate::arrays::{array_rec, first_body, owner_among, with_member, without_member};
 use crate::pieces::cut_members;
 use crate::spans::{value_span, whole_span};
 use gx_gather::{NO_BLOCK, Recs};
-use gx_links::{Linkset, MOST_MEMBERS};
+use gx_links::{Linkset, MOST_MEMBERS, Pairs};
 use gx_mapping::Mapping;
 use gx_ports::{Leaves, Stop};
 use gx_stack::Node;
-use gx_values::{Kind, Value, Values};
+use gx_values::{Kind, NoMemory, Value, Values};
 use std::alloc::Global;
 
 /// A pointer array: a link in one node, with a record of each owner that has a member. An owner is found
@@ -104,5 +112,34 @@ impl<'a, M: Mapping> Linkset for PointerArray<'a, M> {
         }
         let new = array_rec(alloc, owner, &rest.0)?;
         self.tree.replace(alloc, leaves, Some(&old), Some(&new))
+    }
+
+    fn pairs<B: Leaves>(&self, alloc: Global, leaves: &mut B) -> Result<Option<Pairs>, Stop> {
+        let Some(found) = self.tree.held(alloc, leaves)? else {
+            return Ok(None);
+        };
+        Ok(self.told(alloc, &found)?)
+    }
+}
+
+impl<'a, M: Mapping> PointerArray<'a, M> {
+    // The pairs of the link whose rows these records are. `None`: they are those of no link.
+    fn told(&self, alloc: Global, found: &Recs) -> Result<Option<Pairs>, NoMemory>
+        requires valid { IsArray M.rule (tree_of self.now.tree.now) self.now.member }
+        requires found { (r : Record) → In r found.now →
+            IsOf (tree_form M.rule (tree_of self.now.tree.now)) r }
+        ensures { IfOk result
+            (IsTold (owner_kind M.rule (tree_of self.now.tree.now)) self.now.member array_rows
+            (two_parts found.now [])) }
+    {
+        let Some(owners) = cut_owners(alloc, self.member, found)? else {
+            return Ok(None);
+        };
+        let pairs = pairs_by_member(alloc, owners)?;
+        if is_each_once(&pairs.0) {
+            Ok(Some(pairs))
+        } else {
+            Ok(None)
+        }
     }
 }

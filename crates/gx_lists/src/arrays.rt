@@ -45,7 +45,7 @@ pub fn array_rec(alloc: Global, owner: &Value, members: &[Value]) -> Result<Rec,
 }
 
 // The bytes of a record's one field.
-fn body_of(rec: &Rec) -> &[u8]
+pub fn body_of(rec: &Rec) -> &[u8]
     ensures { result.now ≡ leaf_body rec.now.fields }
 {
     match rec.fields.0.first() {

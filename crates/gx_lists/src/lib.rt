@@ -2,6 +2,7 @@
 #![tactic(auto)]
 
 mod array;
+mod array_pairs;
 mod arrays;
 mod inverted;
 mod pieces;

@@ -1,12 +1,17 @@
 // The records of inverted lists.
-ghost use Rattle.std.specs.Prelude.{◌≡◌, ◌<◌, ◌++◌, List, length, map, IfOk, OnOk};
+ghost use Rattle.std.specs.Prelude.{◌≡◌, ◌<◌, ◌++◌, List, length, map, get_or, IfOk, OnOk};
 ghost use Rattle.gx_values.specs.declared.records.Rec.{Rec as Record};
+ghost use Rattle.gx_values.specs.declared.values.Value.{Value as FieldValue};
 ghost use Rattle.gx_values.specs.Values.{IsSized};
 ghost use Rattle.gx_ports.specs.LeafMaps.{Extends};
 ghost use Rattle.gx_mapping.specs.Rule.{In};
-ghost use Rattle.gx_lists.specs.Inverted.{pair_rec, owned_rec, member_in, owner_in};
+ghost use Rattle.gx_links.specs.declared.pairs.Owned.{Owned as Group};
+ghost use Rattle.gx_links.specs.Pairs.{rows_of};
+ghost use Rattle.gx_lists.specs.Inverted.{pair_rec, owned_rec, member_in, owner_in, inverted_rows, owned_pair, no_value};
 
 use gx_gather::Recs;
+use gx_links::{Owners, Pairs};
+use gx_mapping::{Part, Parts};
 use gx_values::{NoMemory, Rec, Value, Values};
 use std::alloc::{AllocError, Global};
 
@@ -65,4 +70,62 @@ pub fn owner_of(found: Recs) -> Option<Value>
     }
     let mut rec = found.remove(0);
     Some(rec.fields.0.remove(0))
+}
+
+// The pairs in the records of members.
+pub fn owned_pairs(alloc: Global, up: &Recs) -> Result<Pairs, NoMemory>
+    requires keys { (r : Record) → In r up.now → (0 < length r.key) × IsSized (owned_pair r).0 }
+    requires fields { (r : Record) → In r up.now →
+        (0 < length r.fields) × IsSized (owned_pair r).1 }
+    ensures { IfOk result (λ pairs. pairs ≡ map owned_pair up.now) }
+{
+    let mut pairs = Vec::with_capacity(alloc, up.0.len())?;
+    for rec in &up.0 {
+        let member = first_value(&rec.key).copy(alloc)?;
+        let owner = first_value(&rec.fields).copy(alloc)?;
+        pairs.push((member, owner))?;
+    }
+    Ok(Pairs(pairs))
+}
+
+fn first_value(values: &Values) -> &Value
+    requires { 0 < length values.now }
+    ensures { result.now ≡ get_or values.now 0 no_value }
+{
+    &values.0[0]
+}
+
+// The rows of owners with their members.
+pub fn inverted_rows(alloc: Global, owners: &Owners) -> Result<Parts, NoMemory>
+    requires { (g : Group) → In g owners.now → (m : FieldValue) → In m g.members →
+        IsSized g.owner × IsSized m }
+    ensures { IfOk result (λ rows. rows ≡ rows_of inverted_rows owners.now) }
+{
+    let mut rows = Parts(Vec::new(alloc));
+    for owned in &owners.0 {
+        add_rows(alloc, &owned.owner, &owned.members, &mut rows)?;
+    }
+    Ok(rows)
+}
+
+fn add_rows(
+    alloc: Global,
+    owner: &Value,
+    members: &Values,
+    rows: &mut Parts,
+) -> Result<(), NoMemory>
+    requires { (m : FieldValue) → In m members.now → IsSized owner.now × IsSized m }
+    ensures { OnOk result (rows.new ≡ rows.old ++ inverted_rows owner.now members.now) }
+{
+    for member in &members.0 {
+        rows.0.push(Part {
+            child: 0,
+            rec: pair_rec(alloc, owner, member)?,
+        })?;
+        rows.0.push(Part {
+            child: 1,
+            rec: owned_rec(alloc, owner, member)?,
+        })?;
+    }
+    Ok(())
 }

@@ -9,3 +9,4 @@ pub mod WalkLemmas
 pub mod FoundLemmas
 pub mod ComeLemmas
 pub mod AskLemmas
+pub mod RingPairs

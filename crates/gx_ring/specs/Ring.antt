@@ -78,3 +78,7 @@ no_value = value.Bytes []
 
 abbrev pub key_value : Rec → Value
 key_value r = get_or r.key 0 no_value
+
+-- the pair in the record of a member
+abbrev pub chain_pair : Rec → Value × Value
+chain_pair r = (key_value r, get_or r.fields 2 no_value)

@@ -102,10 +102,10 @@ row_cases o (m ∷ ms) p (inr h) =
 
 -- ---- the rows of a link
 
-row_of : (link : Link) (p : Part) → In p (link_parts ring_rows link) → (o : Value) × In p (ring_rows o (members_of link o))
+pub row_of : (link : Link) (p : Part) → In p (link_parts ring_rows link) → (o : Value) × In p (ring_rows o (members_of link o))
 row_of link p h = let o = from_each (λ x. ring_rows x (members_of link x)) p (owners_of link) h in (o.0, o.2)
 
-of_row : (link : Link) (o : Value) (p : Part) → In p (ring_rows o (members_of link o)) → In p (link_parts ring_rows link)
+pub of_row : (link : Link) (o : Value) (p : Part) → In p (ring_rows o (members_of link o)) → In p (link_parts ring_rows link)
 of_row link o p h = in_each (λ x. ring_rows x (members_of link x)) o p (owners_of link) (go (members_of link o) refl h) h
   where
     go : (ms : List Value) → members_of link o ≡ ms → In p (ring_rows o ms) → In o (owners_of link)
@@ -127,7 +127,7 @@ chained_once link o q r s h k e =
     let owners : q ≡ o = some_same q o (sym (owned_in_chain link q s k) ∙ ap (λ ks. fin.get link (get_or ks 0 no_value)) (sym e) ∙ owned_in_chain link o r h) in
     chain_once o (members_of link o) (members_ascend link o) r s h (subst (λ x. In s (chain x (members_of link x))) owners k) e
 
-zero_one : (n m : ℕ) → n ≡ 0 → m ≡ 1 → n ≡ m → ⊥
+pub zero_one : (n m : ℕ) → n ≡ 0 → m ≡ 1 → n ≡ m → ⊥
 zero_one n m a b e = omega (arith, a, b, e)
 
 same_rows : (link : Link) (p q : Part) → In p (link_parts ring_rows link) → In q (link_parts ring_rows link) → p.child ≡ q.child → p.rec.key ≡ q.rec.key → p ≡ q

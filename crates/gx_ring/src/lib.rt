@@ -6,6 +6,7 @@ mod places;
 mod reads;
 mod records;
 mod ring;
+mod rows;
 mod spans;
 
 pub use ring::Ring;

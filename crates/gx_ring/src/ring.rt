@@ -1,15 +1,17 @@
 // The ring.
 ghost use Rattle.std.specs.Prelude.{◌≡◌, ◌<◌, ◌+◌, ℕ, length, IfOk, OnOk, IsErrOf};
+ghost use Rattle.gx_values.specs.declared.records.Rec.{Rec as Record};
 ghost use Rattle.gx_values.specs.declared.values.Value.{Value as FieldValue};
 ghost use Rattle.gx_values.specs.Values.{Fits};
 ghost use Rattle.gx_ports.specs.LeafMaps.{Extends};
 ghost use Rattle.gx_ports.specs.Calls.{Reads, Ends};
-ghost use Rattle.gx_mapping.specs.Rule.{In};
-ghost use Rattle.gx_stack.specs.Tree.{leaves_of};
+ghost use Rattle.gx_mapping.specs.Rule.{In, IsOf};
+ghost use Rattle.gx_stack.specs.Tree.{leaves_of, tree_form};
 ghost use Rattle.gx_stack.specs.Seen.{tree_of};
 ghost use Rattle.std.specs.Option.{option_map};
 ghost use Rattle.gx_stack.specs.Internal.{IfThere};
-ghost use Rattle.gx_ring.specs.Ring.{IsRing, member_kind};
+ghost use Rattle.gx_links.specs.Pairs.{IsTold, two_parts};
+ghost use Rattle.gx_ring.specs.Ring.{ring_rows, IsRing, owner_kind, member_kind};
 ghost use Rattle.gx_ring.specs.Records.{IsKeyValue};
 ghost use Rattle.gx_ring.specs.Steps.{leading, lead_change, own_change};
 ghost use Rattle.gx_ring.specs.Walks.{HasMember, HasChain, IsNext, AreWalked};
@@ -18,9 +20,10 @@ use crate::changes::{Change, replace_both};
 use crate::places::{Neighbours, neighbours_of, without};
 use crate::reads::record_at;
 use crate::records::{Behind, chain_rec, head_if, head_rec, read_behind, take_field};
-use gx_gather::NO_BLOCK;
-use gx_links::{Linkset, MOST_MEMBERS};
-use gx_mapping::Mapping;
+use crate::rows::{chain_pairs, ring_rows};
+use gx_gather::{NO_BLOCK, Recs, add_parts};
+use gx_links::{Linkset, MOST_MEMBERS, Pairs, are_few, are_rows, owners_of};
+use gx_mapping::{Mapping, Parts};
 use gx_ports::{Leaves, Stop};
 use gx_stack::Node;
 use gx_values::{Kind, NoMemory, Value, Values};
@@ -109,6 +112,16 @@ impl<'a, M: Mapping> Linkset for Ring<'a, M> {
         let lead = lead_change(alloc, owner, member, at)?.reversed();
         replace_both(alloc, leaves, self.chain, &own, self.leading(at), &lead)
     }
+
+    fn pairs<B: Leaves>(&self, alloc: Global, leaves: &mut B) -> Result<Option<Pairs>, Stop> {
+        let Some(heads) = self.heads.held(alloc, leaves)? else {
+            return Ok(None);
+        };
+        let Some(chain) = self.chain.held(alloc, leaves)? else {
+            return Ok(None);
+        };
+        Ok(self.told(alloc, heads, chain)?)
+    }
 }
 
 impl<'a, M: Mapping> Ring<'a, M> {
@@ -181,6 +194,32 @@ impl<'a, M: Mapping> Ring<'a, M> {
             Behind::Member(next) => Ok(Some(next)),
             Behind::Nothing => Ok(None),
             Behind::Unknown => Err(Stop::Damaged(NO_BLOCK)),
+        }
+    }
+
+    // The pairs of the link whose rows these records of the two nodes are. `None`: they are those
+    // of no link.
+    fn told(&self, alloc: Global, heads: Recs, chain: Recs) -> Result<Option<Pairs>, NoMemory>
+        requires valid { IsRing M.rule (tree_of self.now.heads.now) (tree_of self.now.chain.now) }
+        requires chain { (r : Record) → In r chain →
+            IsOf (tree_form M.rule (tree_of self.now.chain.now)) r }
+        ensures { IfOk result
+            (IsTold (owner_kind M.rule (tree_of self.now.heads.now))
+            (member_kind M.rule (tree_of self.now.chain.now)) ring_rows (two_parts heads chain)) }
+    {
+        let pairs = chain_pairs(alloc, &chain)?;
+        let owners = owners_of(alloc, &pairs)?;
+        if !are_few(&owners) {
+            return Ok(None);
+        }
+        let rows = ring_rows(alloc, &owners)?;
+        let mut found = Parts(Vec::new(alloc));
+        add_parts(0, heads, &mut found)?;
+        add_parts(1, chain, &mut found)?;
+        if are_rows(rows, &found)? {
+            Ok(Some(pairs))
+        } else {
+            Ok(None)
         }
     }
 

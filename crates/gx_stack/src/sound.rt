@@ -43,9 +43,9 @@ impl<M: Mapping> Node<M> {
         Ok(self.held(alloc, leaves)?.is_some())
     }
 
-    // The records that the leaves hold, in the order of their keys. `None`: they hold no set of
-    // records.
-    fn held<B: Leaves>(&self, alloc: Global, leaves: &mut B) -> Result<Option<Recs>, Stop>
+    /// The records that the leaves hold, in the order of their keys. `None`: they hold no set of
+    /// records. Each leaf is read once at most, and it ends as `sound` does.
+    pub fn held<B: Leaves>(&self, alloc: Global, leaves: &mut B) -> Result<Option<Recs>, Stop>
         requires valid { IsValid M.rule (tree_of self.now) }
         requires below { (n : ℕ) → In n (leaves_of (tree_of self.now)) →
             n < length (B.working leaves.old) }

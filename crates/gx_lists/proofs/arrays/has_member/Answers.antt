@@ -1,4 +1,4 @@
-use Rattle.std.proofs.Common.{rules, ◌≡◌, ◌∙◌, [], true, false, Ok, sym, ap, subst}
+use Rattle.std.proofs.Common.{rules, ◌≡◌, ◌∙◌, true, false, Ok, sym, ap, subst}
 use Rattle.gx_mapping.specs.Rule.{In}
 use Rattle.gx_lists.proofs.ArrayChanges.{has_of}
 use Rattle.gx_lists.proofs.arrays.has_member.Goals as goal
