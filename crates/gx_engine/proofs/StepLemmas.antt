@@ -31,11 +31,14 @@ use Rattle.gx_model.specs.Commands.{Refusal, no_record, next_state, refusal_of, 
 use Rattle.gx_model.specs.Play.{Playing, IsAnswered, seen_state, is_inside, working_after, with_working, next_of}
 use Rattle.gx_scan.specs.Files.{HasFile}
 use Rattle.gx_engine.specs.declared.engine.Engine.{Engine}
-use Rattle.gx_engine.specs.Edits.{is_edit, edit_text, HaveState}
 use Rattle.gx_engine.specs.Steps.{schema_of, built_of, leaves_of, IsSound, AreFresh, selects}
-use Rattle.gx_engine.specs.Work.{IsBounded}
-use Rattle.gx_engine.specs.Internal.{AreInternal, Stands, IsCarried, IsEdit, state_entries}
-use Rattle.gx_engine.proofs.EditLemmas.{has_file, ends_so, short_after}
+use Rattle.gx_states.specs.Internal.{AreInternal, HaveState, state_entries}
+use Rattle.gx_states.proofs.CallLemmas.{ends_so}
+use Rattle.gx_states.proofs.StoredLemmas.{has_file}
+use Rattle.gx_edits.specs.Edits.{is_edit, edit_text, IsEdit}
+use Rattle.gx_edits.proofs.EditLemmas.{short_after}
+use Rattle.gx_answers.specs.Work.{IsBounded}
+use Rattle.gx_engine.specs.Moments.{Stands, IsCarried}
 
 -- ---- moments of the play
 

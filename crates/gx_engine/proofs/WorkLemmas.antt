@@ -1,5 +1,5 @@
 -- The bound on the steps of commands that read.
-use Rattle.std.proofs.Common.{[], ◌≡◌, ℕ, zero, suc, ◌+◌, ◌*◌, ◌<◌, ◌≤◌, List, ◌∷◌, length, get_or, Option, Some, None, Result, Ok, Err, inl, inr, refl, sym, ap, subst, ◌∙◌, arith}
+use Rattle.std.proofs.Common.{◌≡◌, ℕ, ◌+◌, ◌*◌, ◌≤◌, length, Option, None, Result, Ok, Err, refl, sym, ap, subst, ◌∙◌, arith}
 use Rattle.std.specs.Prelude.{OnOk}
 use Rattle.std.specs.FinMap as fin
 use Rattle.std.proofs.Math.Nat.{mul-le-mul_left}
@@ -8,27 +8,21 @@ use Rattle.gx_schema.specs.declared.schema.Schema.{Schema}
 use Rattle.gx_schema.specs.Lookups.{file_at}
 use Rattle.gx_commands.specs.declared.command.Of.{Of}
 use Rattle.gx_commands.specs.declared.command.Find.{Find}
-use Rattle.gx_mapping.specs.Rule.{In}
-use Rattle.gx_stack.specs.declared.node.Node.{Node}
-use Rattle.gx_stack.specs.Tree.{Tree, entries_of}
-use Rattle.gx_stack.specs.Seen.{tree_of}
+use Rattle.gx_stack.specs.Tree.{Tree}
 use Rattle.gx_types.specs.declared.any.AnyMapping.{AnyMapping}
 use Rattle.gx_types.specs.declared.built.Built.{Built}
-use Rattle.gx_types.specs.Any.{any_rule}
-use Rattle.gx_types.specs.Nodes.{tree_at, AreNodes}
+use Rattle.gx_types.specs.Nodes.{tree_at}
 use Rattle.gx_planner.specs.declared.plans.Plan.{Plan}
 use Rattle.gx_planner.specs.declared.plans.Plan.TheVariants.{Key, Link, Index, KeyRange, IndexRange, Scan}
-use Rattle.gx_model.specs.States.{File, State, Row, file_in}
+use Rattle.gx_model.specs.States.{State, Row, file_in}
 use Rattle.gx_model.specs.Found.{meets_of}
-use Rattle.gx_scan.specs.Files.{rec_of}
-use Rattle.gx_scan.specs.Steps.{HaveAtMost}
 use Rattle.gx_scan.proofs.ListingLemmas.{same_filter}
 use Rattle.gx_finds.specs.Looked.{plan_for, condition_of, meets_one, rows_meeting, step_bound}
-use Rattle.gx_engine.specs.Work.{is_candidate, candidates, most_of, most_entries, most_with, find_bound}
+use Rattle.gx_answers.specs.Work.{meets_plan, candidates, most_with, find_bound}
 
 -- ---- the records that are looked at
 
-one_condition : (s : State) (q : Find) (plan : Plan) (r : Row) → q.of ≡ None → is_candidate s q plan r ≡ meets_one (condition_of q plan) r
+one_condition : (s : State) (q : Find) (plan : Plan) (r : Row) → q.of ≡ None → meets_plan (λ (x : Row). meets_of s q.of x.0) q plan r ≡ meets_one (condition_of q plan) r
 one_condition s q (Key number) r none = refl
 one_condition s q Link r none = ap (λ (o : Option Of). meets_of s o r.0) none
 one_condition s q (Index number) r none = refl
@@ -45,28 +39,6 @@ wider count most few leaves before after le steps =
     let product : count * few ≤ count * leaves = mul-le-mul_left count le in
     omega (arith, le, steps, product)
 
--- ---- the entries of a record
-
-among_most : (t : Tree AnyMapping) (rs : List Row) (r : Row) → In r rs → length (entries_of any_rule t (rec_of r)) ≤ most_of t rs
-among_most t [] r h = absurd h
-among_most t (x ∷ rs) r (inl is) = omega (arith, ap (λ (y : Row). length (entries_of any_rule t (rec_of y))) is)
-among_most t (x ∷ rs) r (inr h) = omega (arith, among_most t rs r h)
-
-file_most : (nodes : List (Node AnyMapping)) (fs : List File) (i : ℕ) (r : Row) → i < length nodes → i < length fs → In r (fin.entries (get_or fs i fin.empty)) → length (entries_of any_rule (tree_at nodes i) (rec_of r)) ≤ most_entries nodes fs
-file_most [] fs i r l m h = absurd (omega arith)
-file_most (n ∷ ns) [] i r l m h = absurd (omega arith)
-file_most (n ∷ ns) (f ∷ fs) zero r l m h = omega (arith, among_most (tree_of n) (fin.entries f) r h)
-file_most (n ∷ ns) (f ∷ fs) (suc i) r l m h = omega (arith, file_most ns fs i r (omega arith) (omega arith) h)
-
-most_least : (built : Built) (s : State) (o : Option Of) → most_entries built.files s.files ≤ most_with built s o
-most_least built s None = omega arith
-most_least built s (Some of) = omega arith
-
-pub have_most : (schema : Schema) (built : Built) (leaves : ℕ) (s : State) (i : ℕ) (t : Tree AnyMapping) (o : Option Of) → AreNodes schema built.files leaves → length s.files ≡ length schema.files → i < length schema.files → t ≡ tree_at built.files i → HaveAtMost (most_with built s o) t (file_in s i)
-have_most schema built leaves s i t o of many lt is = λ r h.
-    let one : length (entries_of any_rule t (rec_of r)) ≤ most_entries built.files s.files = subst (λ (x : Tree AnyMapping). length (entries_of any_rule x (rec_of r)) ≤ most_entries built.files s.files) (sym is) (file_most built.files s.files i r (omega (arith, of.many)) (omega (arith, many)) h) in
-    omega (arith, one, most_least built s o)
-
 -- ---- commands
 
 -- a command whose steps aren't counted
@@ -79,6 +51,6 @@ pub find_within : (schema : Schema) (built : Built) (leaves : ℕ) (s : State) (
 find_within schema built leaves s q file t few before after is tree none le steps =
     let f = file_in s q.file in
     let plan = plan_for (tree_at built.files q.file) (file_at schema q.file) q in
-    let these : rows_meeting (condition_of q plan) f ≡ candidates schema built s q = same_filter (meets_one (condition_of q plan)) (is_candidate s q plan) (fin.entries f) (λ r h. sym (one_condition s q plan r none)) in
+    let these : rows_meeting (condition_of q plan) f ≡ candidates schema built s q = same_filter (meets_one (condition_of q plan)) (meets_plan (λ (x : Row). meets_of s q.of x.0) q plan) (fin.entries f) (λ r h. sym (one_condition s q plan r none)) in
     let many : length (rows_meeting (condition_of q (plan_for t file q)) f) ≡ length (candidates schema built s q) = (λ i. length (rows_meeting (condition_of q (plan_for (tree i) (is i) q)) f)) ∙ ap length these in
     wider (length (candidates schema built s q)) (most_with built s q.of) few leaves before after le (subst (λ n. after ≤ before + step_bound n (most_with built s q.of) few) many steps)

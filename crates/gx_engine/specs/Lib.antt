@@ -1,5 +1,2 @@
-pub mod Internal
-pub mod Edits
+pub mod Moments
 pub mod Steps
-pub mod Work
-pub mod Queries

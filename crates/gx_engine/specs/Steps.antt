@@ -13,13 +13,13 @@ use Rattle.gx_ports.specs.declared.view.View.{Ghosts}
 use Rattle.gx_ports.specs.LeafMaps.{entry_count, IsCrowdedBy}
 use Rattle.gx_ports.specs.Calls.{Keeps, Talks}
 use Rattle.gx_types.specs.declared.built.Built.{Built}
-use Rattle.gx_types.specs.Nodes.{AreNodes, AreLinkNodes}
 use Rattle.gx_model.specs.Play.{Playing, seen_state, next_of}
 use Rattle.gx_engine.specs.declared.engine.Engine.{Engine}
 use Rattle.gx_engine.specs.declared.engine.StepStop.{StepStop}
 use Rattle.gx_engine.specs.declared.engine.StepStop.TheVariants.{Now, Stopped}
-use Rattle.gx_engine.specs.Work.{IsBounded}
-use Rattle.gx_engine.specs.Internal.{AreStorable, Stands, IsCarried, state_entries}
+use Rattle.gx_states.specs.Internal.{AreFor, state_entries}
+use Rattle.gx_answers.specs.Work.{IsBounded}
+use Rattle.gx_engine.specs.Moments.{Stands, IsCarried}
 
 -- ---- what contracts see of an engine
 
@@ -44,14 +44,6 @@ commits_of e = e.commits
 -- the first stop, which is kept
 abbrev pub stop_of : {S : Type 0} → Engine S → Option Stop
 stop_of e = e.stopped
-
--- there are nodes for each file and each link of the schema over so many leaves, and each leaf is of one of them
-pub record AreFor (schema : Schema) (built : Built) (leaves : ℕ) : Type 0 where
-  pub storable : AreStorable schema
-  pub nodes : AreNodes schema built.files leaves
-  pub link_nodes : AreLinkNodes schema built.files built.links leaves
-  pub owned : length built.owners ≡ leaves
-  pub few : leaves ≤ 255
 
 -- its schema can be stored as it is built
 abbrev pub IsReady : {S : Type 0} → Ghosts S → Engine S → Type 0

@@ -5,17 +5,17 @@ ghost use Rattle.gx_model.specs.Play.{Playing, start_at};
 ghost use Rattle.gx_ports.specs.LeafMaps.{LeafMap};
 ghost use Rattle.gx_ports.specs.Calls.{Keeps, Hearing, Saying};
 
-use crate::edits::{edit, edit_answer};
-use crate::files::{file_def, file_node};
-use crate::members::answer;
-use crate::records::reorganize;
+use crate::reorganize::reorganize;
+use gx_answers::answer;
 use gx_commands::{Command, Find};
 use gx_device::Failed;
+use gx_edits::{edit, edit_answer};
 use gx_finds::found_text;
 use gx_ports::{Leaves, Stop};
 use gx_rows::{commit_line, record_line};
 use gx_scan::find_record;
 use gx_schema::Schema;
+use gx_states::{file_def, file_node};
 use gx_types::Built;
 use gx_values::{Octets, Value};
 use std::alloc::{AllocError, Global};
@@ -42,10 +42,10 @@ pub struct Engine<B: Leaves + Drop> {
 
 impl<B: Leaves + Drop> Engine<B> {
     ghost use Rattle.gx_commands.specs.declared.command.Command.TheVariants as command;
-    ghost use Rattle.gx_engine.specs.Internal.{AreInternal};
-    ghost use Rattle.gx_engine.specs.Queries.{follows_link};
-    ghost use Rattle.gx_engine.specs.Edits.{is_edit};
-    ghost use Rattle.gx_engine.specs.Steps.{schema_of, built_of, leaves_of, is_open, commits_of, stop_of, is_fault_now, AreFor, IsReady, IsDue, StandsFor, IsAt, IsShortFor, CarriesOut, AreFresh, KeepsEngine, HasStepCause, IsStep, TakesFewSteps, IsServed, IsSame};
+    ghost use Rattle.gx_states.specs.Internal.{AreInternal, AreFor};
+    ghost use Rattle.gx_answers.specs.Queries.{follows_link};
+    ghost use Rattle.gx_edits.specs.Edits.{is_edit};
+    ghost use Rattle.gx_engine.specs.Steps.{schema_of, built_of, leaves_of, is_open, commits_of, stop_of, is_fault_now, IsReady, IsDue, StandsFor, IsAt, IsShortFor, CarriesOut, AreFresh, KeepsEngine, HasStepCause, IsStep, TakesFewSteps, IsServed, IsSame};
     ghost use Rattle.gx_engine.specs.declared.engine.StepStop.TheVariants.{Now, Stopped};
 
     /// An engine over leaves, which hold the files and the links of the schema as they are built. No
@@ -84,6 +84,13 @@ impl<B: Leaves + Drop> Engine<B> {
         ensures { result ≡ is_open self.now }
     {
         self.inside
+    }
+
+    /// How many commits there were, up to 2 ^ 64 - 1.
+    pub fn commits(&self) -> u64
+        ensures { result ≡ commits_of self.now }
+    {
+        self.commits
     }
 
     /// Carries out a command of the schema, where the transaction rule lets it stand, and appends its

@@ -1,11 +1,7 @@
 //! The engine: the commands of a script on leaves.
 #![tactic(auto)]
 
-mod edits;
 mod engine;
-mod files;
-mod links;
-mod members;
-mod records;
+mod reorganize;
 
 pub use engine::{Engine, StepStop};

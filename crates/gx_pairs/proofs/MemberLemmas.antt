@@ -1,13 +1,13 @@
 -- The records of an owner's members, and the steps that finding them takes.
 use Rattle.std.proofs.Common.{[], ◌≡◌, ℕ, zero, suc, ◌+◌, ◌*◌, ◌<◌, ◌≤◌, List, ◌∷◌, ◌++◌, length, map, drop, get_or, cond, Bool, true, false, Option, Some, None, Ok, Err, inl, inr, refl, sym, ap, subst, ◌∙◌, arith, append_assoc, append-nil}
 use Rattle.std.specs.Prelude.{T, filter, flat_map, ◌&&◌, ◌||◌, ◌==◌, not, is_some, IsTrue, Result, OnOk}
-use Rattle.std.specs.List.{list_any}
+use Rattle.std.specs.List.{AllByRecursion, list_any}
 use Rattle.std.specs.Option.{option_map}
 use Rattle.std.specs.declared.cmp.Ordering.TheVariants.{Less}
 use Rattle.std.specs.FinMap as fin
 use Rattle.std.specs.FinMap.Entries.{below_all}
 use Rattle.std.proofs.Math.Dec.{eqb-suc-zero}
-use Rattle.std.proofs.Math.Nat.{mul-le-mul}
+use Rattle.std.proofs.Math.Nat.{mul-le-mul, mul-le-mul_right}
 use Rattle.std.proofs.lemmas.Bool.{true≢false}
 use Rattle.std.proofs.lemmas.List.{length-map, drop_all}
 use Rattle.std.proofs.lemmas.List.Elements.{filter-append}
@@ -129,9 +129,10 @@ pub last_row : (f : File) (p : Row → Bool) (keys : List Value) (i : ℕ) (befo
 last_row f p keys i before rows past so_far =
     sym (append-nil rows) ∙ ap (λ (ks : List Value). rows ++ filter p (flat_map (rows_at f) ks)) (sym (drop_all i keys past)) ∙ so_far
 
-pub one_there : (f : File) (keys : List Value) (key : Value) → In key keys → AreThere f keys → AreThere f (key ∷ [])
-one_there f keys key h there k (inl e) = there k (subst (λ (x : Value). In x keys) (sym e) h)
-one_there f keys key h there k (inr none) = absurd none
+-- one more row that fits
+pub all_more : {A : Type 0} (P : A → Type 0) (xs : List A) (x : A) → AllByRecursion P xs → P x → AllByRecursion P (xs ++ x ∷ [])
+all_more P [] x all p = (p, tt)
+all_more P (y ∷ xs) x all p = (all.0, all_more P xs x all.1 p)
 
 -- ---- rows that are kept
 
@@ -233,3 +234,17 @@ pub once_at_least : (many cost before after : ℕ) → 0 < many → after ≤ be
 once_at_least many cost before after some steps =
     let least : 1 * cost ≤ many * cost = mul-le-mul some (omega arith) in
     omega (arith, least, steps)
+
+-- ---- steps of one member, by its key
+
+-- a look-up of the owner, where there is none
+pub one_owner_steps : (n most few leaves before after : ℕ) → few ≤ leaves → after ≤ before + (few + most) → after ≤ before + (n + 2) * (most + leaves)
+one_owner_steps n most few leaves before after le steps =
+    let all : 2 * (most + leaves) ≤ (n + 2) * (most + leaves) = mul-le-mul_right (most + leaves) (omega arith) in
+    omega (arith, le, steps, all)
+
+-- look-ups of the owner and of the record, and of each row in the link
+pub one_member_steps : (n k most few few' leaves leaves' before first second after : ℕ) → k ≡ n → leaves' ≡ leaves → few ≤ leaves → few' ≤ leaves → first ≤ before + (few + most) → second ≤ first + (few' + most) → after ≤ second + k * (most + leaves') → after ≤ before + (n + 2) * (most + leaves)
+one_member_steps n k most few few' leaves leaves' before first second after rows same le le' one two three =
+    let kept : after ≤ second + n * (most + leaves) = subst (λ m. after ≤ second + n * (most + m)) same (subst (λ m. after ≤ second + m * (most + leaves')) rows three) in
+    omega (arith, le, le', one, two, kept)

@@ -1,11 +1,13 @@
 // A link between two files, as it is stored, and the records at its ends.
-ghost use Rattle.std.specs.Prelude.{◌≡◌, ℕ, length, IfOk, IsErrOf, is_some};
+ghost use Rattle.std.specs.Prelude.{◌≡◌, ◌≤◌, ◌+◌, ℕ, length, IfOk, OnOk, IsErrOf, is_some};
 ghost use Rattle.std.specs.FinMap as fin;
 ghost use Rattle.gx_values.specs.Values.{Fits};
 ghost use Rattle.gx_schema.specs.Lookups.{key_kind};
 ghost use Rattle.gx_ports.specs.Calls.{Reads, Ends};
+ghost use Rattle.gx_stack.specs.Tree.{leaves_of};
 ghost use Rattle.gx_model.specs.States.{File as FileMap};
 ghost use Rattle.gx_scan.specs.Files.{IsInternal, HasFile};
+ghost use Rattle.gx_scan.specs.Steps.{HaveAtMost};
 ghost use Rattle.gx_pairs.specs.Stored.{file_of, node_tree, IsStoredFile};
 
 use gx_ports::{Leaves, Stop};
@@ -48,6 +50,11 @@ pub(crate) fn has_record<B: Leaves>(
     ensures found { (f : FileMap) → B.whole leaves.old →
         IsInternal (file_of stored.now) (node_tree stored.now) (B.working leaves.old) f →
         IfOk result (λ has. has ≡ is_some (fin.get f key.now)) }
+    ensures steps { (f : FileMap) (most : ℕ) → B.whole leaves.old →
+        IsInternal (file_of stored.now) (node_tree stored.now) (B.working leaves.old) f →
+        HaveAtMost most (node_tree stored.now) f → OnOk result
+        (B.work leaves.new
+        ≤ B.work leaves.old + (length (leaves_of (node_tree stored.now)) + most)) }
     ensures reads { Reads B.View leaves.old leaves.new }
     ensures ends { Ends B.View
         (B.whole leaves.old

@@ -12,8 +12,8 @@ use Rattle.gx_pairs.specs.Members.{member_rows}
 use Rattle.gx_pairs.proofs.MemberLemmas.{are_members, members_many, all_there, owner_steps, member_steps}
 use Rattle.gx_pairs.proofs.members.add_members.Goals as goal
 
-pub returns-in_err-find_record-clause-ends : goal.returns-in_err-find_record-clause-ends
-returns-in_err-find_record-clause-ends g c = record {
+pub returns-in_err-has_record-clause-ends : goal.returns-in_err-has_record-clause-ends
+returns-in_err-has_record-clause-ends g c = record {
   whole = search rules;
   later = search rules;
   fault = search rules;
@@ -23,19 +23,19 @@ returns-in_err-find_record-clause-ends g c = record {
       let both = sym p.1 ∙ e in
       let why : p.0 ≡ stop.Damaged block = cc in
       let linked = sound.1.3 in
-      c.in_err-find_record.ensures.ends.damaged block (ap Err (sym p.2 ∙ why)) (sound.0, (sound.1.0, linked.owners));
+      c.in_err-has_record.ensures.ends.damaged block (ap Err (sym p.2 ∙ why)) (sound.0, (sound.1.0, linked.owners));
 }
 
-pub returns-then-is_none-clause-steps : goal.returns-then-is_none-clause-steps
-returns-then-is_none-clause-steps g c = λ owners members link most whole linked few_owners few_members few_entries.
+pub returns-then-not-branch-clause-steps : goal.returns-then-not-branch-clause-steps
+returns-then-not-branch-clause-steps g c = λ owners members link most whole linked few_owners few_members few_entries.
     let s = c.args.stored.now in
     let maps = g.B.View.working c.args.leaves.now in
     let tree = c.requires.stored.owners.tree in
     let own = leaves_few (node_tree s.owners) (length maps) tree.valid tree.below in
-    owner_steps (length maps) most (length (leaves_of (node_tree s.owners))) (length (member_rows members link c.args.owner.now)) _ _ own (c.in_ok-find_record.ensures.steps owners most whole linked.owners few_owners)
+    owner_steps (length maps) most (length (leaves_of (node_tree s.owners))) (length (member_rows members link c.args.owner.now)) _ _ own (c.in_ok-has_record.ensures.steps owners most whole linked.owners few_owners)
 
 pub members-requires-clause-below : goal.members-requires-clause-below
-members-requires-clause-below g c = λ n h. subst (λ (maps : List LeafMap). n < length maps) (sym c.in_ok-find_record.ensures.reads.working) (c.requires.stored.below n h)
+members-requires-clause-below g c = λ n h. subst (λ (maps : List LeafMap). n < length maps) (sym c.in_ok-has_record.ensures.reads.working) (c.requires.stored.below n h)
 
 pub returns-in_err-members-clause-ends : goal.returns-in_err-members-clause-ends
 returns-in_err-members-clause-ends g c = record {
@@ -47,7 +47,7 @@ returns-in_err-members-clause-ends g c = record {
       let p = err_from_is_err_and c.from_residual-in_err-members.result c.from_residual-in_err-members.ensures.1 in
       let both = sym p.1 ∙ e in
       let why : p.0 ≡ stop.Damaged block = cc in
-      let owner = c.in_ok-find_record.ensures in
+      let owner = c.in_ok-has_record.ensures in
       let link = sound.1.2 in
       let linked = sound.1.3 in
       c.in_err-members.ensures.ends.damaged block (ap Err (sym p.2 ∙ why))
@@ -66,7 +66,7 @@ returns-in_err-add_records-clause-ends g c = record {
       let why : p.0 ≡ stop.Damaged block = cc in
       let s = c.args.stored.now in
       let o = c.args.owner.now in
-      let owner = c.in_ok-find_record.ensures in
+      let owner = c.in_ok-has_record.ensures in
       let them = c.in_ok-members.ensures in
       let members = sound.1.1 in
       let link = sound.1.2 in
@@ -89,7 +89,7 @@ pub returns-clause-those : goal.returns-clause-those
 returns-clause-those g c = λ owners members link whole linked yes.
     let s = c.args.stored.now in
     let o = c.args.owner.now in
-    let owner = c.in_ok-find_record.ensures in
+    let owner = c.in_ok-has_record.ensures in
     let them = c.in_ok-members.ensures in
     let those = them.found.those (owner.ends.whole whole) link linked.is_link (subst (g.L.Linkset.held s.linkset link) (sym owner.reads.working) linked.link) in
     let all = them.found.appended ∙ ap (λ (before : List Value). before ++ them.found.found) c.new.ensures.items in
@@ -106,7 +106,7 @@ returns-clause-steps g c = λ owners members link most whole linked few_owners f
     let rule = g.L.Linkset.rule s.linkset in
     let laws = g.met.L.Linkset.laws s.linkset c.requires.stored.valid in
     let leaves = length (b.working c.args.leaves.now) in
-    let owner = c.in_ok-find_record.ensures in
+    let owner = c.in_ok-has_record.ensures in
     let them = c.in_ok-members.ensures in
     let found = them.found.found in
     let held = subst (g.L.Linkset.held s.linkset link) (sym owner.reads.working) linked.link in

@@ -1,4 +1,5 @@
 use Rattle.std.proofs.Common.{rules, ◌≡◌, ◌∙◌, ◌+◌, Err, List, length, refl, sym, ap, subst, arith}
+use Rattle.std.proofs.lemmas.Bool.{true≢false}
 use Rattle.std.proofs.lemmas.Result.{err_from_is_err_and}
 use Rattle.gx_ports.specs.declared.stop.Stop.TheVariants as stop
 use Rattle.gx_ports.specs.LeafMaps.{LeafMap}
@@ -9,7 +10,7 @@ use Rattle.gx_model.specs.Found.{meets_conds}
 use Rattle.gx_scan.specs.Files.{IsInternal}
 use Rattle.gx_scan.proofs.StepLemmas.{taken_more, taken_all}
 use Rattle.gx_pairs.specs.Stored.{file_of, node_tree, IsStoredFile}
-use Rattle.gx_pairs.proofs.MemberLemmas.{next_row, last_row, one_there}
+use Rattle.gx_pairs.proofs.MemberLemmas.{next_row, last_row}
 use Rattle.gx_pairs.proofs.members.add_records.Goals as goal
 
 pub loop-key-init : goal.loop-key-init
@@ -50,6 +51,25 @@ loop-key-preserved g c =
       counted = e.ends.counted refl ∙ inv.counted;
     }
 
+pub returns-then-not-branch-clause-ends : goal.returns-then-not-branch-clause-ends
+returns-then-not-branch-clause-ends g c =
+    let inv = c.loop-key.invariant in
+    let e = c.in_ok-add_record.ensures in
+    record {
+      whole = search rules;
+      later = omega (arith, inv.counted, e.ends.counted refl);
+      fault = search rules;
+      counted = search rules;
+      damaged = λ block is sound.
+          let s = c.args.stored.now in
+          let keys = c.args.keys.now in
+          let key = c.key-item.result in
+          let f = sound.1.0 in
+          let at = subst (λ (maps : List LeafMap). IsInternal (file_of s) (node_tree s) maps f) (sym inv.reads.working) sound.1.1 in
+          let there = sound.1.2 key (in_read keys c.loop-key.key-index key c.key-item.is c.loop-key-test.true) in
+          true≢false (sym there ∙ sym (e.there f (inv.whole sound.0) at) ∙ c.if-not-branch.true);
+    }
+
 pub returns-in_err-add_record-clause-ends : goal.returns-in_err-add_record-clause-ends
 returns-in_err-add_record-clause-ends g c = record {
   whole = search rules;
@@ -58,22 +78,13 @@ returns-in_err-add_record-clause-ends g c = record {
   counted = search rules;
   damaged = λ block e sound.
       let s = c.args.stored.now in
-      let keys = c.args.keys.now in
-      let i = c.loop-key.key-index in
-      let key = c.key-item.result in
       let inv = c.loop-key.invariant in
       let p = err_from_is_err_and c.from_residual.result c.from_residual.ensures.1 in
       let both = sym p.1 ∙ e in
       let why : p.0 ≡ stop.Damaged block = cc in
       let f = sound.1.0 in
-      c.in_err-add_record.ensures.ends.damaged block (ap Err (sym p.2 ∙ why)) (
-        inv.whole sound.0,
-        (
-          f,
-          subst (λ (maps : List LeafMap). IsInternal (file_of s) (node_tree s) maps f) (sym inv.reads.working) sound.1.1,
-          one_there f keys key (in_read keys i key c.key-item.is c.loop-key-test.true) sound.1.2,
-        ),
-      );
+      c.in_err-add_record.ensures.ends.damaged block (ap Err (sym p.2 ∙ why))
+      (inv.whole sound.0, (f, subst (λ (maps : List LeafMap). IsInternal (file_of s) (node_tree s) maps f) (sym inv.reads.working) sound.1.1));
 }
 
 pub returns-clause-rows : goal.returns-clause-rows

@@ -1,8 +1,7 @@
 use Rattle.std.proofs.Common.{rules, ◌∙◌, ◌++◌, ℕ, List, sym, ap}
 use Rattle.std.proofs.lemmas.Bool.{true≢false}
 use Rattle.gx_model.specs.Play.{seen_state}
-use Rattle.gx_engine.proofs.StepLemmas.{state_cause}
-use Rattle.gx_engine.proofs.AnswerLemmas.{answer_carried, follow_fresh, follow_stays, follow_selects}
+use Rattle.gx_engine.proofs.FollowLemmas.{follow_stays, follow_fresh, follow_selects, answer_carried}
 use Rattle.gx_engine.proofs.engine.Engine.answer.Goals as goal
 
 pub returns-clause-step : goal.returns-clause-step

@@ -7,10 +7,11 @@ use Rattle.gx_scan.specs.Files.{IsTreeFor}
 use Rattle.gx_scan.specs.Where.{AreNamed}
 use Rattle.gx_model.specs.Play.{seen_state}
 use Rattle.gx_scan.proofs.StepLemmas.{leaves_few}
-use Rattle.gx_engine.specs.Work.{most_with}
-use Rattle.gx_engine.proofs.EditLemmas.{internal_at}
-use Rattle.gx_engine.proofs.StepLemmas.{file_cause, find_carried}
-use Rattle.gx_engine.proofs.WorkLemmas.{have_most, find_within}
+use Rattle.gx_states.proofs.StoredLemmas.{internal_at}
+use Rattle.gx_answers.specs.Work.{most_with}
+use Rattle.gx_answers.proofs.WorkLemmas.{have_most}
+use Rattle.gx_engine.proofs.StepLemmas.{find_carried, file_cause}
+use Rattle.gx_engine.proofs.WorkLemmas.{find_within}
 use Rattle.gx_engine.proofs.engine.Engine.find.Goals as goal
 
 pub found_text-requires-clause-tree : goal.found_text-requires-clause-tree

@@ -4,10 +4,11 @@ use Rattle.gx_stack.specs.Seen.{tree_of}
 use Rattle.gx_scan.specs.Files.{IsTreeFor}
 use Rattle.gx_model.specs.Play.{seen_state}
 use Rattle.gx_scan.proofs.StepLemmas.{leaves_few}
-use Rattle.gx_engine.specs.Work.{most_entries}
-use Rattle.gx_engine.proofs.EditLemmas.{internal_at}
+use Rattle.gx_states.proofs.StoredLemmas.{internal_at}
+use Rattle.gx_answers.specs.Work.{most_entries}
+use Rattle.gx_answers.proofs.WorkLemmas.{have_most}
 use Rattle.gx_engine.proofs.StepLemmas.{file_cause}
-use Rattle.gx_engine.proofs.WorkLemmas.{have_most, record_within}
+use Rattle.gx_engine.proofs.WorkLemmas.{record_within}
 use Rattle.gx_engine.proofs.engine.Engine.get.Goals as goal
 
 pub find_record-requires-clause-tree : goal.find_record-requires-clause-tree

@@ -1,4 +1,4 @@
-use Rattle.gx_engine.proofs.ToldLemmas.{state_told}
+use Rattle.gx_states.proofs.ToldLemmas.{state_told}
 use Rattle.gx_engine.proofs.engine.Engine.leaves_tell_the_state.Goals as goal
 
 pub returns : goal.returns

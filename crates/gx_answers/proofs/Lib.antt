@@ -1,0 +1,3 @@
+pub mod WorkLemmas
+mod FoundLemmas
+mod AnswerLemmas

@@ -1,0 +1,85 @@
+// The members of an owner that a `find` gives.
+ghost use Rattle.std.specs.Prelude.{◌≡◌, ◌^◌, ◌<◌, ◌≤◌, ◌+◌, [], ℕ, true, Some, length, filter, is_some, IfOk, OnOk, IsErrOf};
+ghost use Rattle.std.specs.FinMap as fin;
+ghost use Rattle.std.specs.List.{AllByRecursion};
+ghost use Rattle.gx_values.specs.Values.{Fits};
+ghost use Rattle.gx_schema.specs.Lookups.{key_kind};
+ghost use Rattle.gx_commands.specs.Commands.{IsCondOf};
+ghost use Rattle.gx_ports.specs.Calls.{Reads, Ends};
+ghost use Rattle.gx_model.specs.States.{File as FileMap, Link as LinkMap};
+ghost use Rattle.gx_scan.specs.Steps.{HaveAtMost};
+ghost use Rattle.gx_pairs.specs.Stored.{file_of, node_tree, IsStoredLink, AreLinked, HaveLink, OwnersHaveAtMost};
+ghost use Rattle.gx_pairs.specs.Members.{is_member_of, AreMembersOf};
+ghost use Rattle.gx_finds.specs.Looked.{plan_for, step_bound};
+ghost use Rattle.gx_answers.specs.Work.{meets_plan};
+ghost use Rattle.gx_answers.specs.Queries.{key_number};
+
+use gx_commands::{Find, Of};
+use gx_finds::{condition_at, indexed_fields};
+use gx_links::Linkset;
+use gx_pairs::{StoredLink, add_member_at, add_members};
+use gx_planner::{Plan, plan};
+use gx_ports::{Leaves, Stop};
+use gx_rows::Row;
+use std::alloc::Global;
+
+/// Appends the owner's members that meet the conditions to none, in any order, and answers whether there
+/// is a record of the owner. Where the key is given, no other record is looked at.
+pub(crate) fn add_found_members<B: Leaves, L: Linkset>(
+    alloc: Global,
+    stored: &StoredLink<L>,
+    find: &Find,
+    of: &Of,
+    leaves: &mut B,
+    rows: &mut Vec<Row>,
+) -> Result<bool, Stop>
+    requires stored { IsStoredLink L.rule L.valid stored.now (length (B.working leaves.old)) }
+    requires owner { Fits (key_kind (file_of stored.now.owners)) of.now.owner }
+    requires conds { AllByRecursion (IsCondOf (file_of stored.now.members)) find.now.conds }
+    requires few { length find.now.conds < 2 ^ 16 }
+    requires of { find.now.of ≡ Some of.now }
+    requires none { rows.old.items ≡ [] }
+    ensures there { (owners members : FileMap) (link : LinkMap) → B.whole leaves.old →
+        AreLinked L.rule L.held stored.now (B.working leaves.old) owners members link →
+        IfOk result (λ there. there ≡ is_some (fin.get owners of.now.owner)) }
+    ensures those { (owners members : FileMap) (link : LinkMap) → B.whole leaves.old →
+        AreLinked L.rule L.held stored.now (B.working leaves.old) owners members link →
+        IfOk result (λ there. there ≡ true →
+        AreMembersOf members link of.now.owner find.now.conds rows.new.items) }
+    ensures steps { (owners members : FileMap) (link : LinkMap) (most : ℕ) → B.whole leaves.old →
+        AreLinked L.rule L.held stored.now (B.working leaves.old) owners members link →
+        HaveAtMost most (node_tree stored.now.owners) owners →
+        HaveAtMost most (node_tree stored.now.members) members →
+        OwnersHaveAtMost most (L.rule stored.now.linkset) link → OnOk result
+        (B.work leaves.new
+        ≤ B.work leaves.old + step_bound
+        (length (filter (meets_plan (is_member_of link of.now.owner) find.now
+        (plan_for (node_tree stored.now.members) (file_of stored.now.members) find.now))
+        (fin.entries members))) most (length (B.working leaves.old))) }
+    ensures reads { Reads B.View leaves.old leaves.new }
+    ensures ends { Ends B.View
+        (B.whole leaves.old × HaveLink L.rule L.held stored.now (B.working leaves.old))
+        leaves.old leaves.new result }
+    ensures block { (n : ℕ) → IsErrOf result (Stop.Damaged n) → B.whole leaves.old → n ≡ 0 }
+    ensures not_full { ¬ IsErrOf result Stop.Full }
+{
+    let conds = find.conds.0.as_slice();
+    let indexed = indexed_fields(alloc, stored.members.file, stored.members.node)?;
+    match key_number(plan(find, &indexed)) {
+        Some(number) => {
+            let cond = condition_at(find, number);
+            add_member_at(alloc, stored, &of.owner, &cond.bound, conds, leaves, rows)
+        }
+        None => add_members(alloc, stored, &of.owner, conds, leaves, rows),
+    }
+}
+
+// The number of the condition that gives the key.
+fn key_number(plan: Plan) -> Option<u16>
+    ensures { result ≡ key_number plan }
+{
+    match plan {
+        Plan::Key(number) => Some(number),
+        _ => None,
+    }
+}

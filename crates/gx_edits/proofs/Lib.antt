@@ -1,0 +1,5 @@
+mod ChangeLemmas
+mod RecordLemmas
+mod EndLemmas
+mod RelinkLemmas
+pub mod EditLemmas

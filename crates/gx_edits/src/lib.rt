@@ -1,0 +1,8 @@
+//! The commands that change records or links, on leaves.
+#![tactic(auto)]
+
+mod edits;
+mod links;
+mod records;
+
+pub use edits::{edit, edit_answer};

@@ -1,0 +1,196 @@
+// Edits of records: each is looked up and changed in the file's node.
+ghost use Rattle.std.specs.Prelude.{[], ◌≡◌, ◌<◌, ◌∷◌, ◌+◌, ℕ, List, length, IfOk, IsErrOf, Option, Some, not, is_some};
+ghost use Rattle.std.specs.FinMap as fin;
+ghost use Rattle.std.specs.List.{AllByRecursion};
+ghost use Rattle.gx_values.specs.Values.{Fits, AreFit, AreSized};
+ghost use Rattle.gx_values.specs.declared.values.Value.{Value as TheValue};
+ghost use Rattle.gx_schema.specs.Lookups.{key_kind, data_fields};
+ghost use Rattle.gx_commands.specs.Commands.{IsChangeOf};
+ghost use Rattle.gx_ports.specs.LeafMaps.{entry_count, IsCrowded, IsCrowdedBy};
+ghost use Rattle.gx_ports.specs.Calls.{Keeps, Ends};
+ghost use Rattle.gx_mapping.specs.Rule.{IsOf};
+ghost use Rattle.gx_stack.specs.Tree.{entries_of};
+ghost use Rattle.gx_stack.specs.Seen.{tree_of};
+ghost use Rattle.gx_types.specs.Any.{any_rule};
+ghost use Rattle.gx_typing.specs.Dues.{file_form};
+ghost use Rattle.gx_model.specs.States.{File as FileMap};
+ghost use Rattle.gx_model.specs.Commands.{changed, updated, first_refusal, key_exists, no_record};
+ghost use Rattle.gx_scan.specs.Files.{rec_of, IsInternal, HasFile, IsStorable, IsTreeFor};
+ghost use Rattle.gx_edits.specs.Records.{IsEditedWhere};
+
+use gx_commands::Change;
+use gx_pairs::Refused;
+use gx_ports::{Leaves, Stop};
+use gx_scan::find_record;
+use gx_schema::FileDef;
+use gx_stack::Node;
+use gx_types::AnyMapping;
+use gx_values::{NoMemory, Rec, Value, Values};
+use std::alloc::Global;
+
+// The record of a key and other values.
+fn new_record(alloc: Global, key: &Value, values: &[Value]) -> Result<Rec, NoMemory>
+    ensures { AreSized (key.now ∷ values.now) →
+        IfOk result (λ made. made ≡ rec_of (key.now, values.now)) }
+{
+    let mut keys = Vec::with_capacity(alloc, 1)?;
+    keys.push(key.copy(alloc)?)?;
+    let mut fields = Vec::with_capacity(alloc, values.len())?;
+    for value in values {
+        fields.push(value.copy(alloc)?)?;
+    }
+    Ok(Rec {
+        key: Values(keys),
+        fields: Values(fields),
+    })
+}
+
+/// Puts a new record into the file's node, or answers why it doesn't.
+pub(crate) fn insert_record<B: Leaves>(
+    alloc: Global,
+    file: &FileDef,
+    node: &Node<AnyMapping>,
+    key: &Value,
+    values: &[Value],
+    leaves: &mut B,
+) -> Result<Option<Refused>, Stop>
+    requires tree { IsTreeFor file.now (tree_of node.now) (length (B.working leaves.old)) }
+    requires storable { IsStorable file.now }
+    requires key { Fits (key_kind file.now) key.now }
+    requires values { AreFit (data_fields file.now) values.now }
+    ensures inserted { (f : FileMap) → B.whole leaves.old →
+        IsInternal file.now (tree_of node.now) (B.working leaves.old) f → IfOk result
+        (λ why. IsEditedWhere file.now (tree_of node.now)
+        (B.working leaves.old) (B.working leaves.new) f
+        (first_refusal ((is_some (fin.get f key.now), key_exists) ∷ []))
+        (fin.insert f key.now values.now) why) }
+    ensures keeps { Keeps B.View leaves.old leaves.new }
+    ensures ends { Ends B.View
+        (B.whole leaves.old × HasFile file.now (tree_of node.now) (B.working leaves.old))
+        leaves.old leaves.new result }
+    ensures block { (n : ℕ) → IsErrOf result (Stop.Damaged n) → B.whole leaves.old → n ≡ 0 }
+    ensures full { (f : FileMap) → B.whole leaves.old →
+        IsInternal file.now (tree_of node.now) (B.working leaves.old) f → IsErrOf result Stop.Full →
+        (fin.get f key.now ≡ Option.None)
+        × IsCrowdedBy (B.limit leaves.old)
+        (entry_count (B.working leaves.old)
+        + length (entries_of any_rule (tree_of node.now) (rec_of (key.now, values.now)))) }
+{
+    if find_record(alloc, file, node, key, leaves)?.is_some() {
+        return Ok(Some(Refused::KeyExists));
+    }
+    let new = new_record(alloc, key, values)?;
+    node.replace(alloc, leaves, None, Some(&new))?;
+    Ok(None)
+}
+
+/// Takes the record with this key away, or answers why it doesn't.
+pub(crate) fn delete_record<B: Leaves>(
+    alloc: Global,
+    file: &FileDef,
+    node: &Node<AnyMapping>,
+    key: &Value,
+    leaves: &mut B,
+) -> Result<Option<Refused>, Stop>
+    requires tree { IsTreeFor file.now (tree_of node.now) (length (B.working leaves.old)) }
+    requires storable { IsStorable file.now }
+    requires key { Fits (key_kind file.now) key.now }
+    ensures deleted { (f : FileMap) → B.whole leaves.old →
+        IsInternal file.now (tree_of node.now) (B.working leaves.old) f → IfOk result
+        (λ why. IsEditedWhere file.now (tree_of node.now)
+        (B.working leaves.old) (B.working leaves.new) f
+        (first_refusal ((not (is_some (fin.get f key.now)), no_record) ∷ []))
+        (fin.remove f key.now) why) }
+    ensures keeps { Keeps B.View leaves.old leaves.new }
+    ensures ends { Ends B.View
+        (B.whole leaves.old × HasFile file.now (tree_of node.now) (B.working leaves.old))
+        leaves.old leaves.new result }
+    ensures block { (n : ℕ) → IsErrOf result (Stop.Damaged n) → B.whole leaves.old → n ≡ 0 }
+    ensures full { B.whole leaves.old → IsErrOf result Stop.Full →
+        IsCrowded (B.limit leaves.old) (B.working leaves.old) }
+{
+    let Some(old) = find_record(alloc, file, node, key, leaves)? else {
+        return Ok(Some(Refused::NoRecord));
+    };
+    node.replace(alloc, leaves, Some(&old), None)?;
+    Ok(None)
+}
+
+/// Changes the record with this key, or answers why it doesn't.
+pub(crate) fn update_record<B: Leaves>(
+    alloc: Global,
+    file: &FileDef,
+    node: &Node<AnyMapping>,
+    key: &Value,
+    changes: &[Change],
+    leaves: &mut B,
+) -> Result<Option<Refused>, Stop>
+    requires tree { IsTreeFor file.now (tree_of node.now) (length (B.working leaves.old)) }
+    requires storable { IsStorable file.now }
+    requires key { Fits (key_kind file.now) key.now }
+    requires changes { AllByRecursion (IsChangeOf file.now) changes.now }
+    ensures updated { (f : FileMap) → B.whole leaves.old →
+        IsInternal file.now (tree_of node.now) (B.working leaves.old) f → IfOk result
+        (λ why. IsEditedWhere file.now (tree_of node.now)
+        (B.working leaves.old) (B.working leaves.new) f
+        (first_refusal ((not (is_some (fin.get f key.now)), no_record) ∷ []))
+        (updated f key.now changes.now) why) }
+    ensures keeps { Keeps B.View leaves.old leaves.new }
+    ensures ends { Ends B.View
+        (B.whole leaves.old × HasFile file.now (tree_of node.now) (B.working leaves.old))
+        leaves.old leaves.new result }
+    ensures block { (n : ℕ) → IsErrOf result (Stop.Damaged n) → B.whole leaves.old → n ≡ 0 }
+    ensures full { (f : FileMap) → B.whole leaves.old →
+        IsInternal file.now (tree_of node.now) (B.working leaves.old) f → IsErrOf result Stop.Full →
+        (values : List TheValue) × (fin.get f key.now ≡ Option.Some values)
+        × IsCrowdedBy (B.limit leaves.old)
+        (entry_count (B.working leaves.old)
+        + length (entries_of any_rule (tree_of node.now) (rec_of (key.now, changed values changes.now)))) }
+{
+    let Some(old) = find_record(alloc, file, node, key, leaves)? else {
+        return Ok(Some(Refused::NoRecord));
+    };
+    let new = changed_record(alloc, file, &old, changes)?;
+    node.replace(alloc, leaves, Some(&old), Some(&new))?;
+    Ok(None)
+}
+
+// The record after the changes.
+fn changed_record(
+    alloc: Global,
+    file: &FileDef,
+    old: &Rec,
+    changes: &[Change],
+) -> Result<Rec, NoMemory>
+    requires old { IsOf (file_form file.now) old.now }
+    requires changes { AllByRecursion (IsChangeOf file.now) changes.now }
+    ensures key { IfOk result (λ made. made.key ≡ old.now.key) }
+    ensures fields { IfOk result (λ made. made.fields ≡ changed old.now.fields changes.now) }
+    ensures fits { IfOk result (IsOf (file_form file.now)) }
+{
+    Ok(Rec {
+        key: old.key.copy(alloc)?,
+        fields: changed_values(alloc, file, old.fields.copy(alloc)?, changes)?,
+    })
+}
+
+// The values after the changes.
+fn changed_values(
+    alloc: Global,
+    file: &FileDef,
+    values: Values,
+    changes: &[Change],
+) -> Result<Values, NoMemory>
+    requires values { AreFit (data_fields file.now) values }
+    requires changes { AllByRecursion (IsChangeOf file.now) changes.now }
+    ensures changed { IfOk result (λ after. after ≡ changed values changes.now) }
+    ensures fits { IfOk result (AreFit (data_fields file.now)) }
+{
+    let _file = file;
+    let mut values = values.0;
+    for change in changes {
+        let value = change.value.copy(alloc)?;
+        values[change.field as usize - 1] = value;
+    }
+    Ok(Values(values))
+}

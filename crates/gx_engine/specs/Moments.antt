@@ -1,0 +1,22 @@
+-- What an engine stands for at a moment of a play.
+use Rattle.std.specs.Prelude.{◌≡◌, ℕ, List, ◌++◌, Bool}
+use Rattle.gx_schema.specs.declared.schema.Schema.{Schema}
+use Rattle.gx_ports.specs.LeafMaps.{LeafMap}
+use Rattle.gx_commands.specs.declared.command.Command.{Command}
+use Rattle.gx_types.specs.declared.built.Built.{Built}
+use Rattle.gx_model.specs.Play.{Playing, seen_state, is_inside, next_of, IsAnswered}
+use Rattle.gx_states.specs.Internal.{AreInternal}
+
+-- what the engine has stands for a moment of the play
+pub record Stands (schema : Schema) (built : Built) (inside : Bool) (commits : ℕ) (working kept : List LeafMap) (p : Playing) : Type 0 where
+  pub inside_same : inside ≡ is_inside p
+  pub commits_same : commits ≡ p.commits
+  pub working_is : AreInternal schema built working (seen_state p)
+  pub kept_is : AreInternal schema built kept p.kept
+
+-- a command was carried out: its answer was appended, and the leaves stand for what comes after
+pub record IsCarried (schema : Schema) (built : Built) (p : Playing) (c : Command) (old new : List ℕ) (inside : Bool) (commits : ℕ) (working kept : List LeafMap) : Type 0 where
+  pub answer : List ℕ
+  pub said : new ≡ old ++ answer
+  pub answered : IsAnswered schema p c answer
+  pub stands : Stands schema built inside commits working kept (next_of schema p c)

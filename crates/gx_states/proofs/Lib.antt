@@ -1,0 +1,6 @@
+pub mod CallLemmas
+pub mod CountLemmas
+pub mod LinkLemmas
+pub mod StoredLemmas
+pub mod StartLemmas
+pub mod ToldLemmas
