@@ -5,3 +5,5 @@ pub mod FrameLemmas
 pub mod CrowdLemmas
 pub mod ChangeLemmas
 pub mod MakeLemmas
+pub mod TableLemmas
+pub mod ExamineLemmas

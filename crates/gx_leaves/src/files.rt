@@ -150,3 +150,23 @@ pub fn reorganize_file<P: Pages>(alloc: Global, pages: &mut P, place: &Place) ->
         LeafKind::Isam => isam::reorganize(alloc, pages, place),
     }
 }
+
+/// Examines a file. `Damaged`: it isn't whole, and the block is that of a page that shows it.
+pub fn check_file<P: Pages>(alloc: Global, pages: &mut P, place: &Place) -> Result<(), Stop>
+    requires built { IsTrue (is_built place.now.spec.kind) }
+    requires place { IsPlace (P.ground pages.old) place.now }
+    ensures ok { IsTrue P.tells → OnOk result
+        (IsWhole P.PageView (IsFileAt (P.ground pages.old) place.now) pages.old) }
+    ensures reads { ReadsPages P.PageView pages.old pages.new }
+    ensures ends { EndsFile P.PageView
+        (IsWhole P.PageView (IsFileAt (P.ground pages.old) place.now) pages.old)
+        pages.old pages.new result }
+    ensures not_full { ¬ IsErrOf result Stop.Full }
+{
+    match place.spec.kind {
+        LeafKind::Heap => heap::check(alloc, pages, place),
+        LeafKind::Hash(_) => hash::check(alloc, pages, place),
+        LeafKind::Isam => isam::check(alloc, pages, place),
+        LeafKind::Bplus => bplus::check(alloc, pages, place),
+    }
+}

@@ -1,8 +1,10 @@
 //! Leaves on pages: each leaf is a file of its kind, and all share one table of owners.
 #![tactic(auto)]
 
+mod checking;
 mod files;
 mod making;
 mod paged;
 
+pub use checking::CheckLeaves;
 pub use paged::PagedLeaves;

@@ -20,7 +20,7 @@ use Rattle.gx_pages.specs.View.{journal_of}
 use Rattle.gx_pages.specs.Paged.{ground_of, kept_sheets, working_sheets}
 use Rattle.gx_leaves.specs.Paged as leaves
 use Rattle.gx_store.specs.Device.{AreMaps, ground_on}
-use Rattle.gx_store.specs.Store.{HoldsMaps}
+use Rattle.gx_store.specs.Store.{HoldsMaps, IsJustOpened}
 
 pub if_ok_both : {T E : Type 0} (r : Result T E) (P Q R : T → Type 0) → ((x : T) → P x → Q x → R x) → IfOk r P → IfOk r Q → IfOk r R
 if_ok_both (Ok x) P Q R f p q = f x p q
@@ -108,3 +108,19 @@ module _ {M : Type 0} {g : device.Ghosts M} where
         (works s.pages ∙ ap working_sheets is ∙ ap sheets_of (same ∙ kept))
         (keeps_sheets s.pages ∙ ap kept_sheets is ∙ ap sheets_of keeps.kept)
         places
+
+    -- and they are as at the last commit
+    pub adopted_just : (j k : Journal M g) → Keeps j k → working_of k ≡ working_of j → working_of j ≡ kept_of j → IsSteady j
+        → (s : PagedLeaves (Paged M g) v) → journal_of (leaves.pages_of s) ≡ k → IsJustOpened s
+    adopted_just j k keeps same kept steady s is =
+        let sheets : v.working s.pages ≡ v.kept s.pages =
+        works s.pages ∙ ap working_sheets is ∙ ap sheets_of (same ∙ kept ∙ sym keeps.kept) ∙ sym (ap kept_sheets is) ∙ sym (keeps_sheets s.pages) in
+        record {
+          steady = steadies s.pages (ap (λ (x : Journal M g). x.failed) is ∙ keeps.steady ∙ steady);
+          kept_is = ap (λ (x : Sheets). maps_of (v.ground s.pages) s.places.items x) (sym sheets);
+          was_whole = λ whole. record {
+            told = whole.told;
+            settled = whole.settled;
+            laid = subst (λ (x : Sheets). AreLaid (v.ground s.pages) s.places.items x) sheets whole.laid;
+          };
+        }

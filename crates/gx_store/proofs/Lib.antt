@@ -8,3 +8,4 @@ pub mod MakeLemmas
 pub mod LeftLemmas
 pub mod JournalLemmas
 pub mod AlikeLemmas
+pub mod OpenedLemmas

@@ -44,6 +44,12 @@ module _ {M : Type 0} {g : device.Ghosts M} {v : page_view.Ghosts (Paged M g)} w
     pub whole : IsWhole s
     pub was_whole : WasWhole s
 
+  -- No commit of the leaves has failed, and what they hold is what they held at the last one, whether whole or not.
+  pub record IsJustOpened (s : PagedLeaves (Paged M g) v) : Type 0 where
+    pub steady : v.steady (pages_of s)
+    pub kept_is : kept_of s ≡ working_of s
+    pub was_whole : IsWhole s → WasWhole s
+
   -- the machine, whether or not its device was opened
   abbrev pub machine_left : Result (PagedLeaves (Paged M g) v) (M × Unopened) → M
   machine_left (Ok s) = machine_of s

@@ -7,6 +7,6 @@ mod store;
 mod unopened;
 
 pub use making::make;
-pub use opening::open;
+pub use opening::{open, open_attached};
 pub use store::{FRAMES, Store, close};
 pub use unopened::Unopened;

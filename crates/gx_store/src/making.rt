@@ -27,7 +27,7 @@ use std::alloc::Global;
 
 /// Makes a device of that name with so many blocks, and an empty database on it under these two
 /// canonical texts. The specs are those of the texts. The magic is written last, so that a crash
-/// before leaves no database.
+/// before leaves no database. After Ok the device is attached.
 ///
 /// Otherwise, in this order: `Size` of the number, `Exists`; then no device is made or changed.
 /// `Fault`: the count of faults rose; with every other answer it stays. `NoMemory`: there was none.
@@ -49,6 +49,8 @@ pub fn make<M: Machine + Drop>(
         (IsMadeOn blocks schema.now equation.now specs.now)) }
     ensures new { CanAttach M.tells (M.content machine) →
         OnOk result.0 (device_at (M.content machine).now name.now ≡ None) }
+    ensures named { CanAttach M.tells (M.content machine) →
+        OnOk result.0 ((M.content result.1).now.shelf.name ≡ Some name.now) }
     ensures size { OnOk result.0 (IsSize specs.now blocks) }
     ensures unmade { CanAttach M.tells (M.content machine) → IfErr result.0
         (IsUnmade name.now blocks specs.now (M.content machine)) }

@@ -5,12 +5,12 @@ ghost use Rattle.gx_device.specs.Faults.{Counted};
 ghost use Rattle.gx_ports.specs.LeafMaps.{LeafMap};
 ghost use Rattle.gx_leaves.specs.Kinds.{are_built};
 ghost use Rattle.gx_leaves.specs.Places.{specs_of, places_of, IsRoomFor};
-ghost use Rattle.gx_leaves.specs.Paged.{pages_of, places_in, head_of};
+ghost use Rattle.gx_leaves.specs.Paged.{pages_of, places_in, working_of as maps_in, head_of, IsWhole};
 ghost use Rattle.gx_journal.specs.Journal.{IsCalm, IsSteady, device_of, content_of, working_of, kept_of, head_blocks};
 ghost use Rattle.gx_pages.specs.View.{journal_of};
 ghost use Rattle.gx_pages.specs.Paged.{ground_of, kept_sheets};
-ghost use Rattle.gx_store.specs.Device.{AreMaps, AreTexts, IsHeadOf, ReadAlike, Reopens, ground_on};
-ghost use Rattle.gx_store.specs.Store.{CanAttach, Attaches, OfBlocks, machine_of, HoldsMaps, machine_left, goes_on};
+ghost use Rattle.gx_store.specs.Device.{AreMaps, AreTexts, IsHeadOf, IsSettled, ReadAlike, Reopens, ground_on};
+ghost use Rattle.gx_store.specs.Store.{CanAttach, Attaches, OfBlocks, machine_of, HoldsMaps, IsJustOpened, machine_left, goes_on};
 ghost use Rattle.gx_store.specs.Opening.{AreOpened, AreUnopened, AreUnread, IsRecoveryOf, IsUnopened, is_untouched};
 
 use crate::store::{FRAMES, Store, is_size};
@@ -46,6 +46,10 @@ pub fn open<M: Machine + Drop>(
         (blocks : List (List ℕ)) (maps : List LeafMap) →
         device_at (M.content machine).now name.now ≡ Some blocks →
         Reopens schema.now equation.now specs.now maps blocks → IfOk result (HoldsMaps maps) }
+    ensures just_opened { CanAttach M.tells (M.content machine) → IfOk result IsJustOpened }
+    ensures settled { CanAttach M.tells (M.content machine) → IfOk result (λ s. IsWhole s →
+        IsSettled schema.now equation.now specs.now (maps_in s)
+        (M.content (machine_of s)).now.blocks) }
     ensures specs { IfOk result (λ s. specs_of (places_in s) ≡ specs.now) }
     ensures opened { CanAttach M.tells (M.content machine) → OnOk result
         (OfBlocks name.now (M.content machine) (AreOpened schema.now equation.now specs.now)) }
@@ -84,8 +88,11 @@ pub fn open<M: Machine + Drop>(
     open_attached(alloc, machine, schema, equation, specs)
 }
 
-// Opens the leaves on the attached device.
-fn open_attached<M: Machine + Drop>(
+/// Settles what a crash left on the device that is attached, and opens its leaves, where it holds a
+/// database under these two canonical texts. The specs are those of the texts.
+///
+/// Otherwise the machine is handed back, as by `open`, which also attaches the device.
+pub fn open_attached<M: Machine + Drop>(
     alloc: Global,
     machine: M,
     schema: &[u8],
@@ -98,6 +105,10 @@ fn open_attached<M: Machine + Drop>(
     ensures holds { IsTrue M.tells → (maps : List LeafMap) →
         Reopens schema.now equation.now specs.now maps (M.content machine).now.blocks →
         IfOk result (HoldsMaps maps) }
+    ensures just_opened { IsTrue M.tells → IfOk result IsJustOpened }
+    ensures settled { IsTrue M.tells → IfOk result (λ s. IsWhole s →
+        IsSettled schema.now equation.now specs.now (maps_in s)
+        (M.content (machine_of s)).now.blocks) }
     ensures specs { IfOk result (λ s. specs_of (places_in s) ≡ specs.now) }
     ensures opened { IsTrue M.tells → OnOk result
         (AreOpened schema.now equation.now specs.now (M.content machine).now.blocks) }
@@ -106,6 +117,8 @@ fn open_attached<M: Machine + Drop>(
     ensures untouched { IsTrue M.tells → IfErr result (λ e. is_untouched e.1 ≡ true →
         (M.content e.0).now.blocks ≡ (M.content machine).now.blocks) }
     ensures silent { Silent (M.content machine) (M.content (machine_left result)) }
+    ensures head { IsTrue M.tells → IfOk result
+        (λ s. IsHeadOf schema.now equation.now specs.now (head_of s)) }
     ensures ground { IsTrue M.tells → IfOk result
         (λ s. ground_of (journal_of (pages_of s)) ≡ ground_on (M.content machine).now.blocks) }
     ensures kept { IsTrue M.tells → goes_on result ≡ true →
@@ -139,6 +152,8 @@ fn open_journal<M: Machine + Drop>(
         (maps : List LeafMap) →
         AreMaps (ground_of journal) specs.now maps (kept_sheets journal) →
         IfOk result (HoldsMaps maps) }
+    ensures just_opened { working_of journal ≡ kept_of journal → IsSteady journal →
+        IfOk result IsJustOpened }
     ensures specs { IfOk result (λ s. specs_of (places_in s) ≡ specs.now) }
     ensures texts { IsTrue M.tells → OnOk result
         (AreTexts schema.now equation.now (head_blocks journal)) }

@@ -1,10 +1,10 @@
-use Rattle.std.proofs.Common.{◌≡◌, ap, subst, refl}
+use Rattle.std.proofs.Common.{subst}
 use Rattle.std.specs.Prelude.{OnOk}
 use Rattle.gx_ports.specs.LeafMaps.{LeafMap}
 use Rattle.gx_ports.specs.Files.{Holds, IsFull, SparesOthers, EndsFile, IsWhole}
 use Rattle.gx_isam.specs.Fresh.{IsFresh}
 use Rattle.gx_leaves.specs.Kinds.{IsFileAt}
-use Rattle.gx_leaves.proofs.KindLemmas.{fresh_as_ever, fresh_is, isam_is}
+use Rattle.gx_leaves.proofs.KindLemmas.{fresh_is, isam_is}
 use Rattle.gx_leaves.proofs.files.reorganize_file.Goals as goal
 
 pub returns-in-Isam-clause-others : goal.returns-in-Isam-clause-others

@@ -6,7 +6,7 @@ use Rattle.gx_device.specs.Content.{Moment, device_at, zero_blocks}
 use Rattle.gx_layout.specs.Head.{HasMagic}
 use Rattle.gx_store.specs.Device.{IsMadeOn, IsNoneOrEmpty}
 use Rattle.gx_store.specs.Making.{IsUnmade, IsUnmadeOn}
-use Rattle.gx_store.proofs.ShelfLemmas.{attached_at, attached_rest, refused_rest}
+use Rattle.gx_store.proofs.ShelfLemmas.{attached_at, attached_named, attached_rest, refused_rest}
 use Rattle.gx_store.proofs.AttachLemmas.{some_same}
 use Rattle.gx_store.proofs.MakeLemmas.{unmade_by, unmade_on, unmade_touched, on_ok_always, none_made}
 use Rattle.gx_store.proofs.making.make.Goals as goal
@@ -46,6 +46,12 @@ pub returns-clause-new : goal.returns-clause-new
 returns-clause-new g c = λ can.
     let m = c.in_default.ensures.made can.told can.free c.args.blocks refl in
     on_ok_always c.make_attached.result.0 m.free
+
+pub returns-clause-named : goal.returns-clause-named
+returns-clause-named g c = λ can.
+    let m = c.in_default.ensures.made can.told can.free c.args.blocks refl in
+    on_ok_always c.make_attached.result.0
+    (attached_named c.args.name.now (zero_blocks c.args.blocks) (g.M.Device.content c.args.machine) (g.M.Device.content c.attach.new.self) (g.M.Device.content c.make_attached.result.1) can.free m.attached c.make_attached.ensures.silent)
 
 pub returns-clause-unmade : goal.returns-clause-unmade
 returns-clause-unmade g c = λ can.

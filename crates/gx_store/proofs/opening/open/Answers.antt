@@ -2,15 +2,13 @@ use Rattle.std.proofs.Common.{◌≡◌, ◌∙◌, ℕ, List, Some, None, refl,
 use Rattle.std.specs.Prelude.{Err}
 use Rattle.std.proofs.lemmas.Result.{IfOk-weaker, IfErr-weaker, on_ok_weaker}
 use Rattle.gx_device.specs.Content.{Moment, Silent, device_at}
-use Rattle.gx_leaves.specs.Paged.{head_of}
-use Rattle.gx_ports.specs.Sheets.{Ground}
 use Rattle.gx_store.specs.Device.{ReadAlike, Reopens, ground_on}
 use Rattle.gx_store.specs.Opening.{AreOpened, AreUnopened, IsRecoveryOf, IsUnopened}
 use Rattle.gx_store.specs.Store.{machine_left}
 use Rattle.gx_store.proofs.ShelfLemmas.{attached_named, attached_at, attached_rest, refused_rest}
 use Rattle.gx_store.proofs.AttachLemmas.{attached_blocks, left_alone, if_err_with, if_ok_with}
 use Rattle.gx_store.proofs.CauseLemmas.{refused_by, unopened_on}
-use Rattle.gx_store.proofs.AlikeLemmas.{alike_itself, headed, recovery_itself}
+use Rattle.gx_store.proofs.AlikeLemmas.{alike_itself, recovery_itself}
 use Rattle.gx_store.proofs.opening.open.Goals as goal
 
 pub returns-in-Err-clause-unopened : goal.returns-in-Err-clause-unopened
@@ -79,14 +77,6 @@ returns-clause-attaches g c = λ can.
 pub returns-in-Err-clause-kept : goal.returns-in-Err-clause-kept
 returns-in-Err-clause-kept g c = λ can goes blocks was.
     (blocks, ap (λ (m : Moment). device_at m c.args.name.now) c.in-Err.ensures.refused.now ∙ was, alike_itself blocks)
-
-pub returns-clause-head : goal.returns-clause-head
-returns-clause-head g c = λ can.
-    headed c.open_attached.result (λ s. head_of s) c.args.schema.now c.args.equation.now c.args.specs.now
-    (g.M.Device.content c.attach.new.self).now.blocks
-    (c.open_attached.ensures.opened can.told)
-    (IfOk-weaker c.open_attached.result _ _ (λ s is. ap (λ (b : Ground). b.head) is) (c.open_attached.ensures.ground can.told))
-    c.open_attached.ensures.specs
 
 pub returns-clause-ground : goal.returns-clause-ground
 returns-clause-ground g c = λ can.

@@ -3,12 +3,18 @@ use Rattle.std.proofs.lemmas.Result.{IfOk-weaker, IfErr-weaker, on_ok_weaker}
 use Rattle.gx_layout.specs.Layout.{pages_of}
 use Rattle.gx_journal.specs.State.{head_told}
 use Rattle.gx_journal.specs.Journal.{size_of, head_blocks, kept_of, content_of}
-use Rattle.gx_store.specs.Device.{AreTexts}
-use Rattle.gx_store.specs.Store.{is_fault}
-use Rattle.gx_store.proofs.HeldLemmas.{maps_opened, ground_same}
+use Rattle.gx_leaves.specs.Paged as leaves
+use Rattle.gx_leaves.specs.Places.{specs_of}
+use Rattle.gx_pages.specs.Paged.{ground_of, kept_sheets}
+use Rattle.gx_pages.specs.View.{journal_of}
+use Rattle.gx_ports.specs.Sheets.{Ground}
+use Rattle.gx_store.specs.Device.{AreTexts, IsHeadOf, IsSettled}
+use Rattle.gx_store.specs.Store.{IsJustOpened, machine_of, is_fault}
+use Rattle.gx_store.proofs.HeldLemmas.{maps_opened, ground_same, if_ok_both}
+use Rattle.gx_store.proofs.JournalLemmas.{journal_settled, maps_placed}
 use Rattle.gx_store.proofs.ShelfLemmas.{silent_after}
 use Rattle.gx_store.proofs.CauseLemmas.{counted_after, sized_by, unread_on, unread_touched}
-use Rattle.gx_store.proofs.AlikeLemmas.{alike_then, recovered_alike, refused_alike, recovery_of, recovery_then}
+use Rattle.gx_store.proofs.AlikeLemmas.{alike_then, recovered_alike, refused_alike, recovery_of, recovery_then, headed}
 use Rattle.gx_store.proofs.opening.open_attached.Goals as goal
 
 pub returns-in-Ok-clause-holds : goal.returns-in-Ok-clause-holds
@@ -101,3 +107,27 @@ returns-in-Ok-clause-unopened g c = λ told.
     (c.in-Ok.ensures.magic told)
     (c.in-Ok.ensures.head ∙ ap (λ (b : Bool). head_told b old) told) is)
     (c.open_journal.ensures.other told)
+
+pub returns-in-Ok-clause-head : goal.returns-in-Ok-clause-head
+returns-in-Ok-clause-head g c = λ told.
+    headed c.open_journal.result (λ s. leaves.head_of s) c.args.schema.now c.args.equation.now c.args.specs.now
+    (g.M.Device.content c.args.machine).now.blocks
+    (returns-in-Ok-clause-opened g c told)
+    (IfOk-weaker c.open_journal.result _ _ (λ s is. ap (λ (b : Ground). b.head) is) (returns-in-Ok-clause-ground g c told))
+    c.open_journal.ensures.specs
+
+pub returns-in-Ok-clause-settled : goal.returns-in-Ok-clause-settled
+returns-in-Ok-clause-settled g c = λ told.
+    let schema = c.args.schema.now in
+    let equation = c.args.equation.now in
+    if_ok_both c.open_journal.result (λ s. IsJustOpened s) (λ s. IsHeadOf schema equation c.args.specs.now (leaves.head_of s))
+    (λ s. leaves.IsWhole s → IsSettled schema equation c.args.specs.now (leaves.working_of s) (g.M.Device.content (machine_of s)).now.blocks)
+    (λ s just head whole.
+    let j = journal_of (leaves.pages_of s) in
+    subst (λ specs. IsSettled schema equation specs (leaves.working_of s) (content_of j).now.blocks) head.leaves
+    (subst (λ maps. IsSettled schema equation (specs_of (leaves.places_in s)) maps (content_of j).now.blocks) just.kept_is
+    (journal_settled j told (g.met.M.Device.sized j.device told) just.steady schema equation (specs_of (leaves.places_in s)) (leaves.kept_of s) head.magic head.texts
+    s.laid_out.room.room
+    (maps_placed (ground_of j) (leaves.places_in s) (kept_sheets j) s.laid_out.places_are (just.was_whole whole).laid))))
+    (c.open_journal.ensures.just_opened c.in-Ok.ensures.working c.in-Ok.ensures.steady)
+    (returns-in-Ok-clause-head g c told)

@@ -9,7 +9,7 @@ use Rattle.gx_leaves.specs.Places.{specs_of}
 use Rattle.gx_leaves.proofs.PlaceLemmas.{specs_back}
 use Rattle.gx_store.specs.Opening.{AreUnread}
 use Rattle.gx_store.specs.Store.{machine_left}
-use Rattle.gx_store.proofs.HeldLemmas.{adopted, ground_kept, if_ok_both}
+use Rattle.gx_store.proofs.HeldLemmas.{adopted, adopted_just, ground_kept, if_ok_both}
 use Rattle.gx_store.proofs.LeftLemmas.{left_is, goes_on_is}
 use Rattle.gx_store.proofs.CauseLemmas.{counted_still}
 use Rattle.gx_store.proofs.opening.open_journal.Goals as goal
@@ -51,3 +51,9 @@ returns-in-Ok-None-clause-ground g c =
 pub returns-in-Ok-None-clause-blocks : goal.returns-in-Ok-None-clause-blocks
 returns-in-Ok-None-clause-blocks g c =
     ap (λ d. (g.M.Device.content d).now.blocks) (left_is c.adopt.result c.texts_differ.new.self c.adopt.ensures.journal c.adopt.ensures.back) ∙ c.texts_differ.ensures.blocks
+
+pub returns-in-Ok-None-clause-just_opened : goal.returns-in-Ok-None-clause-just_opened
+returns-in-Ok-None-clause-just_opened g c = λ same steady.
+    IfOk-weaker c.adopt.result _ _
+    (adopted_just (λ p. refl) (λ p. refl) (λ p. refl) (λ p h. h) c.args.journal c.texts_differ.new.self c.texts_differ.ensures.keeps c.texts_differ.ensures.working same steady)
+    c.adopt.ensures.journal
