@@ -1,0 +1,6 @@
+mod FileLemmas
+mod KeyLemmas
+mod PairLemmas
+mod SearchLemmas
+mod StateLemmas
+mod TextLemmas

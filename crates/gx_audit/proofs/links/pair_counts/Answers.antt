@@ -1,0 +1,31 @@
+use Rattle.std.proofs.Common.{rules, ◌≡◌, ◌++◌, ◌∷◌, [], ◌∙◌, refl, sym, subst}
+use Rattle.std.specs.FinMap as fin
+use Rattle.std.proofs.lemmas.List.{map-append}
+use Rattle.gx_ports.proofs.CallLemmas.{reads_joined}
+use Rattle.gx_audit.specs.Audits.{AreFiles, IsLinkAt, IsPairCount}
+use Rattle.gx_audit.proofs.StateLemmas.{link_more}
+use Rattle.gx_audit.proofs.links.pair_counts.Goals as goal
+
+pub loop-link-preserved : goal.loop-link-preserved
+loop-link-preserved g c =
+    let b = g.B.View in
+    let at = c.loop-link in
+    let inv = at.invariant in
+    let schema = c.args.schema.now in
+    let built = c.args.built.now in
+    let maps = b.working c.args.leaves.now in
+    let e = c.in_ok-count.ensures in
+    let same : b.working at.leaves ≡ maps = inv.reads.working in
+    record {
+      found = λ fs files are w.
+          let ls = inv.found fs files are w in
+          let here = subst (IsPairCount schema built (b.whole at.leaves) (b.working at.leaves) fs at.link) c.in-Some.is (e.count fs (subst (λ ms. AreFiles schema built.files ms fs) (sym same) files) are) (inv.whole w) in (
+            ls.0 ++ here.0 ∷ [],
+            link_more schema built maps fs at.link ls.0 here.0 ls.1 (subst (λ ms. IsLinkAt schema built ms fs at.link here.0) same here.1),
+            c.in_ok-push.ensures.items ∙ (λ i. ls.2 i ++ here.2 i ∷ []) ∙ sym (map-append fin.len ls.0 (here.0 ∷ [])),
+          );
+      many = search rules;
+      reads = reads_joined b inv.reads e.reads;
+      whole = λ h. e.ends.whole (inv.whole h);
+      counted = e.ends.counted refl ∙ inv.counted;
+    }
