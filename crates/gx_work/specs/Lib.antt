@@ -1,0 +1,5 @@
+pub mod Schema
+pub mod Tasks
+pub mod Workload
+pub mod Summary
+pub mod Laws

@@ -1,0 +1,4 @@
+pub mod AnsweringLemmas
+pub mod CountLemmas
+pub mod WorkedLemmas
+pub mod DoneLemmas

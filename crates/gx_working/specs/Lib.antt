@@ -1,0 +1,3 @@
+pub mod Answering
+pub mod Worked
+pub mod Counts
