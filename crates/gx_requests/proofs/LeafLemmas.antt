@@ -1,13 +1,16 @@
--- There are files of the kind of each leaf of an equation that some text means.
-use Rattle.std.proofs.Common.{◌≡◌, ℕ, zero, suc, ◌<◌, List, [], ◌∷◌, ◌++◌, map, Bool, true, refl, ap, subst, sym, ◌∙◌, arith}
+-- There are files of the kind of each leaf of an equation that some text means, and one leaf at least.
+use Rattle.std.proofs.Common.{◌≡◌, ℕ, zero, suc, ◌<◌, ◌≤◌, List, [], ◌∷◌, ◌++◌, length, map, Bool, true, refl, ap, subst, sym, ◌∙◌, arith}
 use Rattle.std.specs.Prelude.{nat_lt, ◌&&◌}
 use Rattle.std.specs.List.{list_all, AllByRecursion}
 use Rattle.std.proofs.lemmas.Bool.Decides.{nat_tests}
+use Rattle.std.proofs.lemmas.List.{length-map}
 use Rattle.std.proofs.lemmas.List.Folds.{list_all-append, list_all-map}
 use Rattle.gx_values.specs.declared.records.Form.{Form}
 use Rattle.gx_ports.specs.declared.kinds.LeafKind.TheVariants as leaf
 use Rattle.gx_ports.specs.declared.kinds.LeafSpec.{LeafSpec}
+use Rattle.gx_schema.specs.declared.schema.FileDef.{FileDef}
 use Rattle.gx_schema.specs.declared.schema.Schema.{Schema}
+use Rattle.gx_schema.specs.Rules.{IsSchema}
 use Rattle.gx_equation.specs.declared.heads.Head.{Head}
 use Rattle.gx_equation.specs.declared.heads.Head.TheVariants as heads
 use Rattle.gx_equation.specs.Printing.{IsHead, IsTerm, IsSide, IsDefinition, AreWritten}
@@ -17,8 +20,11 @@ use Rattle.gx_forms.specs.Forms.{kid_form, link_form}
 use Rattle.gx_typing.specs.declared.dues.Due.{Due}
 use Rattle.gx_typing.specs.declared.dues.Stored.{Stored}
 use Rattle.gx_typing.specs.declared.dues.Stored.TheVariants as stored
-use Rattle.gx_typing.specs.Dues.{dues}
-use Rattle.gx_typing.specs.Typed.{Leaf, spec_of, leaf_here, leaves_of, leaves_of_kids, leaves_of_side, leaves_of_all, leaves}
+use Rattle.gx_typing.specs.Dues.{dues, file_form, file_due, link_due}
+use Rattle.gx_typing.specs.Typed.{Leaf, spec_of, leaf_here, leaves_of, leaves_of_kids, leaves_of_side, leaves_of_all, leaves, IsTypedSide, AreTyped, IsTyped}
+use Rattle.gx_types.specs.Build.{side_leaf_count, all_leaf_count}
+use Rattle.gx_types.proofs.FileLaws.{split_count, total_count}
+use Rattle.gx_types.proofs.MakerLaws.{some_leaf}
 use Rattle.gx_leaves.specs.Kinds.{is_built, are_built}
 
 -- there are files of the kind of the leaf
@@ -70,6 +76,25 @@ in_definitions owner [] ds are = refl
 in_definitions owner (due ∷ ms) [] are = refl
 in_definitions owner (due ∷ ms) (d ∷ ds) are =
     both (leaves_of_side owner due.stored d.side) (leaves_of_all (suc owner) ms ds) (in_side owner due.stored d.side are.0.side) (in_definitions (suc owner) ms ds are.1)
+
+-- ---- how many there are
+
+some_in_side : (form : Form) (side : SideTree) → IsSide side → IsTypedSide (stored.File form) side → 1 ≤ side_leaf_count side
+some_in_side form (file_side t) is typed = some_leaf 16 form t is
+some_in_side form (link_side linkset ts) is typed = absurd typed
+
+some_in : (files : List FileDef) (more : List Due) (ds : List DefinitionTree) → 0 < length files → AllByRecursion IsDefinition ds → AreTyped (map file_due files ++ more) ds → 1 ≤ all_leaf_count ds
+some_in [] more ds some each typed = absurd (omega (arith, some))
+some_in (file ∷ files) more [] some each typed = absurd typed
+some_in (file ∷ files) more (d ∷ ds) some each typed = omega (arith, some_in_side (file_form file) d.side each.0.side typed.1)
+
+-- a file has a leaf
+pub some_leaves : (schema : Schema) (ds : List DefinitionTree) → IsSchema schema → AreWritten ds → IsTyped schema ds → 0 < length (map spec_of (leaves schema ds))
+some_leaves schema ds is written typed =
+    let total = split_count schema.files ds ∙ total_count schema ds (length (leaves schema ds)) typed refl in
+    omega (arith, length-map (leaves schema ds) spec_of, total, some_in schema.files (map (link_due schema.files) schema.links) ds is.some written.each typed.definitions)
+
+-- ---- their kinds
 
 pub leaves_built : (schema : Schema) (ds : List DefinitionTree) → AreWritten ds → are_built (map spec_of (leaves schema ds)) ≡ true
 leaves_built schema ds written =

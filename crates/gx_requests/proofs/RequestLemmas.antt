@@ -1,5 +1,5 @@
 -- Why a request isn't carried out, from why its texts aren't accepted, and what is built of accepted texts.
-use Rattle.std.proofs.Common.{◌≡◌, ◌≤◌, ℕ, List, Result, Ok, Err, sym, ap, subst, ◌∙◌, arith, inl, inr, length}
+use Rattle.std.proofs.Common.{◌≡◌, ◌≤◌, ℕ, List, Result, Ok, Err, refl, sym, ap, subst, ◌∙◌, arith, inl, inr, length}
 use Rattle.std.specs.Prelude.{IfOk, IfErr, IsErrAnd}
 use Rattle.std.proofs.lemmas.List.{length-map}
 use Rattle.gx_device.specs.Content.{Texts}
@@ -17,9 +17,52 @@ use Rattle.gx_requests.specs.declared.opened.Stored.{Stored}
 use Rattle.gx_requests.specs.declared.reading.Checked.{Checked}
 use Rattle.gx_play.specs.declared.summary.Summary.{Summary}
 use Rattle.gx_requests.specs.Checked.{AreChecked, IsAcceptedAs, IsBuiltFor, IsPrepared, IsStoredOf, IsStoredFor}
-use Rattle.gx_requests.specs.Requests.{IsAsked, IsAccepted, AreAccepted, AreUnchecked, IsSummary, IsUnprepared}
+use Rattle.gx_requests.specs.Requests.{IsText, IsSchemaOf, IsAsked, IsAccepted, AreAccepted, AreUnchecked, IsSummary, IsUnprepared}
 use Rattle.gx_play.specs.Summaries.{summary_of}
-use Rattle.gx_requests.specs.Words.{Action, checking}
+use Rattle.gx_requests.specs.Words.{Action, checking, trying, explaining, making, running, inspecting, working, IsCounted, IsCountedOfTwo, IsCountedOfOne}
+use Rattle.gx_work.specs.Schema.{schema_lines}
+
+-- ---- a request that names both texts
+
+pub two_counted : (a : Action) → IsCountedOfTwo a → IsCounted a
+two_counted checking is = is
+two_counted trying is = is
+two_counted explaining is = is
+two_counted (making device blocks) is = is
+two_counted (running device) is = is
+two_counted (inspecting device) is = is
+two_counted (working device blocks records) is = absurd is
+
+pub two_there : (a : Action) (texts : Texts) (name text : List ℕ) → IsCountedOfTwo a → IsText texts name text → IsSchemaOf a texts name text
+two_there checking texts name text two is = is
+two_there trying texts name text two is = is
+two_there explaining texts name text two is = is
+two_there (making device blocks) texts name text two is = is
+two_there (running device) texts name text two is = is
+two_there (inspecting device) texts name text two is = is
+two_there (working device blocks records) texts name text two is = absurd two
+
+-- ---- a request that names the equation alone
+
+pub one_counted : (a : Action) → IsCountedOfOne a → IsCounted a
+one_counted (working device blocks records) is = is
+one_counted checking is = absurd is
+one_counted trying is = absurd is
+one_counted explaining is = absurd is
+one_counted (making device blocks) is = absurd is
+one_counted (running device) is = absurd is
+one_counted (inspecting device) is = absurd is
+
+pub one_there : (a : Action) (texts : Texts) (name : List ℕ) → IsCountedOfOne a → IsSchemaOf a texts name schema_lines
+one_there (working device blocks records) texts name is = refl
+one_there checking texts name is = absurd is
+one_there trying texts name is = absurd is
+one_there explaining texts name is = absurd is
+one_there (making device blocks) texts name is = absurd is
+one_there (running device) texts name is = absurd is
+one_there (inspecting device) texts name is = absurd is
+
+-- ---- accepted texts
 
 -- as many leaves as a typed equation may have
 pub few_leaves : (s e : List ℕ) (schema : Schema) (ds : List DefinitionTree) (typing : Typing) → AreAccepted s e schema ds typing → length typing.specs ≤ 255

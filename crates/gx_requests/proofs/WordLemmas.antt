@@ -5,7 +5,7 @@ use Rattle.std.specs.List.{list_all}
 use Rattle.std.proofs.lemmas.Bool.Decides.{nat_tests}
 use Rattle.gx_tokens.specs.Lexemes.{is_digit}
 use Rattle.gx_tokens.specs.Numbers.{are_digits, digits_value, is_number, number_value, signed_in_range, signed_number}
-use Rattle.gx_requests.specs.Words.{Action, checking, trying, explaining, making, running, request_words, has_sign, IsCount, IsCounted}
+use Rattle.gx_requests.specs.Words.{Action, checking, trying, explaining, making, running, inspecting, working, request_words, has_sign, IsCount, IsRecordCount, NoCounts, IsCounted}
 
 abbrev number_by : Bool → ℕ → List ℕ → ℤ
 number_by minus b bs = if minus then neg_ℤ (pos (digits_value bs)) else pos (digits_value (b ∷ bs))
@@ -71,15 +71,20 @@ pub five_words : {Z : Type 0} (words : List (String Z)) (a b c d e : String Z) (
 five_words words a b c d e first second third fourth fifth least most p q r s t f g h k l =
     five_of words a b c d e least most p q r s t ∙ (λ i. sym f i ∷ sym g i ∷ sym h i ∷ sym k i ∷ sym l i ∷ [])
 
--- they are no request but `make`
-pub no_five : (ws : List (List ℕ)) (first second third fourth fifth : List ℕ) → ws ≡ first ∷ second ∷ third ∷ fourth ∷ fifth ∷ [] → ((n : ℕ) → first ≡ codes "make" → ¬ IsCount fifth n) → (a : Action) (schema equation : List ℕ) → IsCounted a → ws ≡ request_words a schema equation → ⊥
+-- they are no request but `make` and `work`
+pub no_five : (ws : List (List ℕ)) (first second third fourth fifth : List ℕ) → ws ≡ first ∷ second ∷ third ∷ fourth ∷ fifth ∷ [] → NoCounts first fourth fifth → (a : Action) (schema equation : List ℕ) → IsCounted a → ws ≡ request_words a schema equation → ⊥
 no_five ws first second third fourth fifth are none checking schema equation counted is = let many : 5 ≡ 3 = ap (λ (l : List (List ℕ)). length l) (sym are ∙ is) in absurd (omega (arith, many))
 no_five ws first second third fourth fifth are none trying schema equation counted is = let many : 5 ≡ 3 = ap (λ (l : List (List ℕ)). length l) (sym are ∙ is) in absurd (omega (arith, many))
 no_five ws first second third fourth fifth are none explaining schema equation counted is = let many : 5 ≡ 3 = ap (λ (l : List (List ℕ)). length l) (sym are ∙ is) in absurd (omega (arith, many))
 no_five ws first second third fourth fifth are none (running device) schema equation counted is = let many : 5 ≡ 4 = ap (λ (l : List (List ℕ)). length l) (sym are ∙ is) in absurd (omega (arith, many))
+no_five ws first second third fourth fifth are none (inspecting device) schema equation counted is = let many : 5 ≡ 4 = ap (λ (l : List (List ℕ)). length l) (sym are ∙ is) in absurd (omega (arith, many))
 no_five ws first second third fourth fifth are none (making device digits) schema equation counted is =
-    none counted.0 (ap (λ (l : List (List ℕ)). get_or l 0 []) (sym are ∙ is))
+    none.make (ap (λ (l : List (List ℕ)). get_or l 0 []) (sym are ∙ is)) counted.0
     (subst (λ (w : List ℕ). IsCount w counted.0) (sym (ap (λ (l : List (List ℕ)). get_or l 4 []) (sym are ∙ is))) counted.1)
+no_five ws first second third fourth fifth are none (working device blocks records) schema equation counted is =
+    none.work (ap (λ (l : List (List ℕ)). get_or l 0 []) (sym are ∙ is)) counted.0.0 counted.1.0
+    (subst (λ (w : List ℕ). IsCount w counted.0.0) (sym (ap (λ (l : List (List ℕ)). get_or l 3 []) (sym are ∙ is))) counted.0.1)
+    (subst (λ (w : List ℕ). IsRecordCount w counted.1.0) (sym (ap (λ (l : List (List ℕ)). get_or l 4 []) (sym are ∙ is))) counted.1.1)
 
 -- ---- what a word counts
 

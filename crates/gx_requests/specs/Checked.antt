@@ -1,5 +1,5 @@
 -- The steps from the texts of a request to what is played.
-use Rattle.std.specs.Prelude.{◌≡◌, ℕ, ◌+◌, ◌≤◌, List, length, true, Err}
+use Rattle.std.specs.Prelude.{◌≡◌, ℕ, ◌+◌, ◌≤◌, ◌<◌, List, length, true, Err}
 use Rattle.gx_tokens.specs.declared.why.Unread.TheVariants as unread
 use Rattle.gx_device.specs.Content.{Texts}
 use Rattle.gx_schema.specs.declared.schema.Schema.{Schema}
@@ -10,7 +10,7 @@ use Rattle.gx_schema.specs.WellFormed.{IsWellFormed}
 use Rattle.gx_equation.specs.Printing.{AreWritten, equation_text}
 use Rattle.gx_equation.specs.Seen.{definitions_of}
 use Rattle.gx_equation.specs.Trees.{DefinitionTree}
-use Rattle.gx_engine.specs.Steps.{AreFor}
+use Rattle.gx_states.specs.Internal.{AreFor}
 use Rattle.gx_leaves.specs.Kinds.{are_built}
 use Rattle.gx_types.specs.declared.built.Built.{Built}
 use Rattle.gx_typing.specs.declared.typing.Typing.{Typing}
@@ -96,8 +96,9 @@ pub record IsStoredFor (words : List (List ℕ)) (texts : Texts) (a : Action) (x
   pub schema_text_is : x.schema_text ≡ schema_text x.schema
   pub equation_text_is : x.equation_text ≡ equation_text definitions
 
--- a script can be played on it, its texts fit a device, and there are files of the kind of each of its leaves
+-- a script can be played on it, its texts fit a device, it has a leaf, and there are files of the kind of each of its leaves
 pub record IsStored (x : Stored) : Type 0 where
   pub can_play : CanPlay (x.schema, x.built)
   pub short : length x.schema_text + length x.equation_text ≤ text_limit
+  pub some : 0 < length x.built.specs
   pub kinds : are_built x.built.specs ≡ true

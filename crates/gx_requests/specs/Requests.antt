@@ -18,9 +18,10 @@ use Rattle.gx_play.specs.declared.ending.Ending.{Ending}
 use Rattle.gx_play.specs.declared.ending.Ending.TheVariants as ending
 use Rattle.gx_play.specs.declared.summary.Summary.{Summary}
 use Rattle.gx_requests.specs.Lengths.{text_length}
-use Rattle.gx_requests.specs.Words.{Action, checking, request_words, IsCounted, IsOnDevice}
+use Rattle.gx_requests.specs.Words.{Action, checking, working, request_words, IsCounted, IsOnDevice}
 use Rattle.gx_play.specs.Endings.{IsOutside}
 use Rattle.gx_play.specs.Summaries.{summary_of}
+use Rattle.gx_work.specs.Schema.{schema_lines}
 
 -- the most bytes that a text may have, and that the two canonical texts may have together
 abbrev pub text_limit : ℕ
@@ -38,23 +39,33 @@ IsThere texts name = (text : List ℕ) × IsText texts name text
 abbrev pub IsTooLong : Texts → List ℕ → Type 0
 IsTooLong texts name = IsSomeAnd (get texts name) (λ text. text_limit < length text)
 
+-- the text of the schema: that of this name, or the workload's own
+abbrev pub IsSchemaOf : Action → Texts → List ℕ → List ℕ → Type 0
+IsSchemaOf (working device blocks records) texts name text = text ≡ schema_lines
+IsSchemaOf a texts name text = IsText texts name text
+
 -- the words ask for this of two texts, which are there
 pub record IsAsked (words : List (List ℕ)) (texts : Texts) (a : Action) (schema equation : List ℕ) : Type 0 where
   pub schema_name : List ℕ
   pub equation_name : List ℕ
   pub words_are : words ≡ request_words a schema_name equation_name
   pub counted : IsCounted a
-  pub schema_there : IsText texts schema_name schema
+  pub schema_there : IsSchemaOf a texts schema_name schema
   pub equation_there : IsText texts equation_name equation
 
--- the words name this text as the schema, or as the equation, and then the schema is there
+-- the text of this name is the schema, or the equation, and then the schema is there
+abbrev pub IsEither : Action → Texts → List ℕ → List ℕ → List ℕ → Type 0
+IsEither (working device blocks records) texts name schema equation = name ≡ equation
+IsEither a texts name schema equation = (name ≡ schema) ⊎ (IsThere texts schema × (name ≡ equation))
+
+-- the words name this text so
 pub record IsNamed (words : List (List ℕ)) (texts : Texts) (name : List ℕ) : Type 0 where
   pub asked : Action
   pub schema_name : List ℕ
   pub equation_name : List ℕ
   pub words_are : words ≡ request_words asked schema_name equation_name
   pub counted : IsCounted asked
-  pub first : (name ≡ schema_name) ⊎ (IsThere texts schema_name × (name ≡ equation_name))
+  pub first : IsEither asked texts name schema_name equation_name
 
 -- ---- of the two texts alone
 

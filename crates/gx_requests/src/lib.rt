@@ -8,6 +8,6 @@ mod texts;
 mod words;
 
 pub use nodes::prepare_nodes;
-pub use opened::{Stored, prepare_stored, unopened_ending};
+pub use opened::{Stored, prepare_stored, prepare_under, unopened_ending};
 pub use reading::{Checked, read_texts};
 pub use words::{Request, read_words};

@@ -2,7 +2,7 @@
 ghost use Rattle.std.specs.Prelude.{◌≡◌, ◌≤◌, false, IsTrue, IfOk, IfErr, IsErrOf};
 ghost use Rattle.gx_device.specs.Content.{SameContent};
 ghost use Rattle.gx_device.specs.Faults.{Rose};
-ghost use Rattle.gx_requests.specs.Words.{Action, request_words, IsCounted};
+ghost use Rattle.gx_requests.specs.Words.{Action, request_words, IsCountedOfTwo};
 ghost use Rattle.gx_requests.specs.Checked.{IsChecked, IsBuiltFor, IsPrepared, CanPlay};
 ghost use Rattle.gx_play.specs.Endings.{is_fault};
 ghost use Rattle.gx_requests.specs.Requests.{IsUnprepared};
@@ -24,11 +24,11 @@ pub fn prepare_nodes<'a, M: Machine>(
     equation: &'a str,
     machine: &mut M,
 ) -> Result<(Schema, Built), Ending<'a>>
-    ensures prepared { IsTrue M.tells → (a : Action) → IsCounted a → IfOk result
+    ensures prepared { IsTrue M.tells → (a : Action) → IsCountedOfTwo a → IfOk result
         (IsPrepared (request_words a schema.now equation.now)
         (M.content machine.old).aside.texts a) }
     ensures can_play { IfOk result CanPlay }
-    ensures unprepared { IsTrue M.tells → (a : Action) → IsCounted a → IfErr result
+    ensures unprepared { IsTrue M.tells → (a : Action) → IsCountedOfTwo a → IfErr result
         (IsUnprepared (request_words a schema.now equation.now)
         (M.content machine.old).aside.texts (M.faults machine.old) (M.faults machine.new)) }
     ensures fault { IsErrOf result Ending.Fault → Rose (M.faults machine.old) (M.faults machine.new) }

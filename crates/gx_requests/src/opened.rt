@@ -1,13 +1,17 @@
 // What a request on a device is prepared from, and why its device isn't had.
-ghost use Rattle.std.specs.Prelude.{◌≡◌, ◌≤◌, List, ℕ, false, IsTrue, IfOk, IfErr, IsErrOf};
+ghost use Rattle.std.specs.Prelude.{◌≡◌, ◌≤◌, List, [], ℕ, false, IsTrue, IfOk, IfErr, IsErrOf};
 ghost use Rattle.gx_device.specs.Content.{SameContent};
 ghost use Rattle.gx_device.specs.Faults.{Rose};
-ghost use Rattle.gx_requests.specs.Words.{Action, request_words, IsCounted};
+ghost use Rattle.gx_schema.specs.Grammar.{IsSchemaText};
+ghost use Rattle.gx_schema.specs.Rules.{IsSchema};
+ghost use Rattle.gx_schema.specs.WellFormed.{IsWellFormed};
+ghost use Rattle.gx_work.specs.Schema.{schema_lines};
+ghost use Rattle.gx_requests.specs.Words.{Action, request_words, IsCountedOfTwo, IsCountedOfOne};
 ghost use Rattle.gx_requests.specs.Checked.{IsChecked, IsStoredOf, IsStoredFor, IsStored};
 ghost use Rattle.gx_play.specs.Endings.{is_fault, unopened_ending};
 ghost use Rattle.gx_requests.specs.Requests.{IsUnprepared};
 
-use crate::reading::{Checked, read_texts};
+use crate::reading::{Checked, read_equation_text, read_texts};
 use gx_device::Machine;
 use gx_play::{DeviceWhy, Ending};
 use gx_printing::print_equation;
@@ -39,11 +43,11 @@ pub fn prepare_stored<'a, M: Machine>(
     equation: &'a str,
     machine: &mut M,
 ) -> Result<Stored, Ending<'a>>
-    ensures ready { IsTrue M.tells → (a : Action) → IsCounted a → IfOk result
+    ensures ready { IsTrue M.tells → (a : Action) → IsCountedOfTwo a → IfOk result
         (IsStoredFor (request_words a schema.now equation.now)
         (M.content machine.old).aside.texts a) }
     ensures stored { IfOk result IsStored }
-    ensures unprepared { IsTrue M.tells → (a : Action) → IsCounted a → IfErr result
+    ensures unprepared { IsTrue M.tells → (a : Action) → IsCountedOfTwo a → IfErr result
         (IsUnprepared (request_words a schema.now equation.now)
         (M.content machine.old).aside.texts (M.faults machine.old) (M.faults machine.new)) }
     ensures fault { IsErrOf result Ending.Fault → Rose (M.faults machine.old) (M.faults machine.new) }
@@ -52,6 +56,35 @@ pub fn prepare_stored<'a, M: Machine>(
     ensures content { SameContent (M.content machine.old) (M.content machine.new) }
 {
     let checked = read_texts(alloc, schema, equation, machine)?;
+    Ok(build_stored(alloc, checked)?)
+}
+
+/// What the equation of this name gives for a device under a schema that is there already. A refusal is
+/// the first reason in the order of the text, the equation, its types, and the length of the canonical
+/// texts. `Fault` comes only where a call of the machine failed.
+pub fn prepare_under<'a, M: Machine>(
+    alloc: Global,
+    schema: Schema,
+    equation: &'a str,
+    machine: &mut M,
+) -> Result<Stored, Ending<'a>>
+    requires means { IsSchemaText schema_lines schema }
+    requires rules { IsSchema schema }
+    requires well_formed { IsWellFormed schema }
+    ensures ready { IsTrue M.tells → (a : Action) → IsCountedOfOne a → IfOk result
+        (IsStoredFor (request_words a [] equation.now)
+        (M.content machine.old).aside.texts a) }
+    ensures stored { IfOk result IsStored }
+    ensures schema { IfOk result (λ x. x.schema ≡ schema) }
+    ensures unprepared { IsTrue M.tells → (a : Action) → IsCountedOfOne a → IfErr result
+        (IsUnprepared (request_words a [] equation.now)
+        (M.content machine.old).aside.texts (M.faults machine.old) (M.faults machine.new)) }
+    ensures fault { IsErrOf result Ending.Fault → Rose (M.faults machine.old) (M.faults machine.new) }
+    ensures counted { is_fault result ≡ false → M.faults machine.new ≡ M.faults machine.old }
+    ensures later { M.faults machine.old ≤ M.faults machine.new }
+    ensures content { SameContent (M.content machine.old) (M.content machine.new) }
+{
+    let checked = read_equation_text(alloc, schema, equation, machine)?;
     Ok(build_stored(alloc, checked)?)
 }
 

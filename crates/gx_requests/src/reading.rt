@@ -1,5 +1,5 @@
 // Reading the two texts of a request, up to what the checker says of them.
-ghost use Rattle.std.specs.Prelude.{◌≡◌, ◌≤◌, ◌<◌, length, List, ℕ, false, IsTrue, IfOk, IfErr, IsErrOf};
+ghost use Rattle.std.specs.Prelude.{◌≡◌, ◌≤◌, ◌<◌, length, [], List, ℕ, false, IsTrue, IfOk, IfErr, IsErrOf};
 ghost use Rattle.gx_device.specs.Content.{SameContent};
 ghost use Rattle.gx_device.specs.Faults.{Rose};
 ghost use Rattle.gx_schema.specs.Grammar.{IsSchemaText};
@@ -9,8 +9,9 @@ ghost use Rattle.gx_equation.specs.Grammar.{Means};
 ghost use Rattle.gx_equation.specs.Printing.{AreWritten};
 ghost use Rattle.gx_equation.specs.Seen.{definitions_of};
 ghost use Rattle.gx_typing.specs.Typed.{IsTyped, leaves, typing_with};
-ghost use Rattle.gx_requests.specs.Words.{Action, request_words, IsCounted};
+ghost use Rattle.gx_requests.specs.Words.{Action, request_words, IsCountedOfTwo, IsCountedOfOne};
 ghost use Rattle.gx_requests.specs.Lengths.{text_length};
+ghost use Rattle.gx_work.specs.Schema.{schema_lines};
 ghost use Rattle.gx_requests.specs.Checked.{IsUnread, IsUnreadEquation, IsUntyped, IsChecked, IsAcceptedAs, AreChecked};
 ghost use Rattle.gx_play.specs.Endings.{is_fault};
 ghost use Rattle.gx_requests.specs.Requests.{AreUnchecked, IsUnprepared, equation_of, text_limit};
@@ -45,11 +46,11 @@ pub fn read_texts<'a, M: Machine>(
     equation: &'a str,
     machine: &mut M,
 ) -> Result<Checked, Ending<'a>>
-    ensures accepted { IsTrue M.tells → (a : Action) → IsCounted a → IfOk result
+    ensures accepted { IsTrue M.tells → (a : Action) → IsCountedOfTwo a → IfOk result
         (IsAcceptedAs (request_words a schema.now equation.now)
         (M.content machine.old).aside.texts a) }
     ensures checked { IfOk result IsChecked }
-    ensures unaccepted { IsTrue M.tells → (a : Action) → IsCounted a → IfErr result
+    ensures unaccepted { IsTrue M.tells → (a : Action) → IsCountedOfTwo a → IfErr result
         (IsUnprepared (request_words a schema.now equation.now)
         (M.content machine.old).aside.texts (M.faults machine.old) (M.faults machine.new)) }
     ensures fault { IsErrOf result Ending.Fault → Rose (M.faults machine.old) (M.faults machine.new) }
@@ -62,6 +63,34 @@ pub fn read_texts<'a, M: Machine>(
     check_texts(alloc, &schema_text, &equation_text)
 }
 
+/// What the text of this name gives under a schema that is there already. A refusal is the first reason
+/// in the order of the text, the equation, its types, and the length of the canonical texts.
+pub fn read_equation_text<'a, M: Machine>(
+    alloc: Global,
+    schema: Schema,
+    equation: &'a str,
+    machine: &mut M,
+) -> Result<Checked, Ending<'a>>
+    requires means { IsSchemaText schema_lines schema }
+    requires rules { IsSchema schema }
+    requires well_formed { IsWellFormed schema }
+    ensures accepted { IsTrue M.tells → (a : Action) → IsCountedOfOne a → IfOk result
+        (IsAcceptedAs (request_words a [] equation.now)
+        (M.content machine.old).aside.texts a) }
+    ensures checked { IfOk result IsChecked }
+    ensures schema { IfOk result (λ c. c.schema ≡ schema) }
+    ensures unaccepted { IsTrue M.tells → (a : Action) → IsCountedOfOne a → IfErr result
+        (IsUnprepared (request_words a [] equation.now)
+        (M.content machine.old).aside.texts (M.faults machine.old) (M.faults machine.new)) }
+    ensures fault { IsErrOf result Ending.Fault → Rose (M.faults machine.old) (M.faults machine.new) }
+    ensures counted { is_fault result ≡ false → M.faults machine.new ≡ M.faults machine.old }
+    ensures later { M.faults machine.old ≤ M.faults machine.new }
+    ensures content { SameContent (M.content machine.old) (M.content machine.new) }
+{
+    let equation_text = fetch_text(alloc, equation, machine)?;
+    check_equation(alloc, schema, &equation_text)
+}
+
 // What the checker says of two texts.
 fn check_texts<'a>(alloc: Global, schema: &[u8], equation: &[u8]) -> Result<Checked, Ending<'a>>
     requires schema { length schema.now ≤ text_limit }
@@ -72,6 +101,22 @@ fn check_texts<'a>(alloc: Global, schema: &[u8], equation: &[u8]) -> Result<Chec
     ensures no_fault { ¬ IsErrOf result Ending.Fault }
 {
     let schema = schema_from(alloc, schema)?;
+    check_equation(alloc, schema, equation)
+}
+
+// What it says of an equation under a schema.
+fn check_equation<'a>(alloc: Global, schema: Schema, equation: &[u8]) -> Result<Checked, Ending<'a>>
+    requires rules { IsSchema schema }
+    requires well_formed { IsWellFormed schema }
+    requires equation { length equation.now ≤ text_limit }
+    ensures accepted { (text : List ℕ) → IsSchemaText text schema →
+        IfOk result (AreChecked text equation.now) }
+    ensures checked { IfOk result IsChecked }
+    ensures schema { IfOk result (λ c. c.schema ≡ schema) }
+    ensures unaccepted { (text : List ℕ) → IsSchemaText text schema →
+        IfErr result (AreUnchecked text equation.now) }
+    ensures no_fault { ¬ IsErrOf result Ending.Fault }
+{
     let equation = equation_from(alloc, equation)?;
     let typing = typing_from(alloc, &schema, &equation)?;
     if canonical_length(alloc, &schema, &equation)? > TEXT_LIMIT as usize {

@@ -1,6 +1,6 @@
 -- A request that is accepted isn't refused, one that can be carried out has no wrong device, and its schema is one.
 use Rattle.std.proofs.Common.{◌≡◌, ℕ, ◌<◌, List, [], length, get_or, Result, Ok, Err, Option, Some, None, refl, sym, ap, subst, ◌∙◌, arith, inl, inr}
-use Rattle.std.specs.Prelude.{◌⊎◌, ◌≢◌, IsSomeAnd, codes}
+use Rattle.std.specs.Prelude.{◌⊎◌, ◌≢◌, IsSomeAnd, ◌==◌, if◌then◌else◌}
 use Rattle.std.specs.FinMap.{get}
 use Rattle.gx_device.specs.Content.{Content, Texts, device_at}
 use Rattle.gx_ports.specs.LeafMaps.{Limits}
@@ -33,73 +33,87 @@ use Rattle.gx_play.specs.declared.status.Status.{Status}
 use Rattle.gx_play.specs.declared.status.Status.TheVariants as status
 use Rattle.gx_requests.specs.Lengths.{text_length}
 use Rattle.gx_play.specs.Endings.{status_of, IsOutside}
-use Rattle.gx_requests.specs.Requests.{IsText, IsThere, IsTooLong, IsNamed, IsAsked, AreRead, AreAccepted, AreUnaccepted, IsAccepted, IsRefused, IsUnprepared, equation_of, text_limit}
+use Rattle.gx_requests.specs.Requests.{IsText, IsThere, IsTooLong, IsSchemaOf, IsEither, IsNamed, IsAsked, AreRead, AreAccepted, AreUnaccepted, IsAccepted, IsRefused, IsUnprepared, equation_of, text_limit}
 use Rattle.gx_play.specs.Played.{IsPlay, IsPlayText, IsStoppedText}
 use Rattle.gx_top.specs.Tasks.{Task, IsTask, IsToPlay, IsHeldOn, IsStart, IsFrom}
 use Rattle.gx_top.specs.Devices.{IsToMake, IsWrongOn, IsWrong, IsBefore}
 use Rattle.gx_top.specs.Tries.{IsCheckable}
 use Rattle.gx_top.specs.Explained.{IsToExplain}
-use Rattle.gx_requests.specs.Words.{Action, checking, trying, explaining, making, running, request_words}
+use Rattle.gx_top.specs.Inspected.{IsToInspect}
+use Rattle.gx_top.specs.Worked.{IsToWork}
+use Rattle.gx_requests.specs.Words.{Action, checking, trying, explaining, making, running, inspecting, working, request_words}
+
+-- ---- two requests of the same words
+
+-- what some words ask for, by the first letter of the first one, which no two of them share
+asked_by : ℕ → List (List ℕ) → Action
+asked_by letter words =
+    if letter == 99 then checking
+    else if letter == 116 then trying
+    else if letter == 101 then explaining
+    else if letter == 109 then making (get_or words 3 []) (get_or words 4 [])
+    else if letter == 114 then running (get_or words 3 [])
+    else if letter == 105 then inspecting (get_or words 3 [])
+    else working (get_or words 2 []) (get_or words 3 []) (get_or words 4 [])
+
+asked_of : List (List ℕ) → Action
+asked_of words = asked_by (get_or (get_or words 0 []) 0 0) words
+
+asked : (a : Action) (schema equation : List ℕ) → asked_of (request_words a schema equation) ≡ a
+unfolding asked_of asked_by
+asked checking schema equation = refl
+asked trying schema equation = refl
+asked explaining schema equation = refl
+asked (making device blocks) schema equation = refl
+asked (running device) schema equation = refl
+asked (inspecting device) schema equation = refl
+asked (working device blocks records) schema equation = refl
 
 -- the words of one request are those of no other
 action_once : (a b : Action) (s t e f : List ℕ) → request_words a s e ≡ request_words b t f → a ≡ b
-action_once checking checking s t e f same = refl
-action_once trying trying s t e f same = refl
-action_once explaining explaining s t e f same = refl
-action_once (making d n) (making c m) s t e f same = λ i. making (get_or (same i) 3 []) (get_or (same i) 4 [])
-action_once (running d) (running c) s t e f same = λ i. running (get_or (same i) 3 [])
-action_once checking trying s t e f same = absurd (never (ap (λ (ws : List (List ℕ)). get_or ws 0 []) same))
-  where
-    never : codes "check" ≡ codes "try" → ⊥
-    never g = cc
-action_once trying checking s t e f same = absurd (never (ap (λ (ws : List (List ℕ)). get_or ws 0 []) same))
-  where
-    never : codes "try" ≡ codes "check" → ⊥
-    never g = cc
-action_once checking explaining s t e f same = absurd (never (ap (λ (ws : List (List ℕ)). get_or ws 0 []) same))
-  where
-    never : codes "check" ≡ codes "explain" → ⊥
-    never g = cc
-action_once explaining checking s t e f same = absurd (never (ap (λ (ws : List (List ℕ)). get_or ws 0 []) same))
-  where
-    never : codes "explain" ≡ codes "check" → ⊥
-    never g = cc
-action_once trying explaining s t e f same = absurd (never (ap (λ (ws : List (List ℕ)). get_or ws 0 []) same))
-  where
-    never : codes "try" ≡ codes "explain" → ⊥
-    never g = cc
-action_once explaining trying s t e f same = absurd (never (ap (λ (ws : List (List ℕ)). get_or ws 0 []) same))
-  where
-    never : codes "explain" ≡ codes "try" → ⊥
-    never g = cc
-action_once checking (making c m) s t e f same = absurd (let many : 3 ≡ 5 = ap (λ (ws : List (List ℕ)). length ws) same in omega (arith, many))
-action_once checking (running c) s t e f same = absurd (let many : 3 ≡ 4 = ap (λ (ws : List (List ℕ)). length ws) same in omega (arith, many))
-action_once trying (making c m) s t e f same = absurd (let many : 3 ≡ 5 = ap (λ (ws : List (List ℕ)). length ws) same in omega (arith, many))
-action_once trying (running c) s t e f same = absurd (let many : 3 ≡ 4 = ap (λ (ws : List (List ℕ)). length ws) same in omega (arith, many))
-action_once explaining (making c m) s t e f same = absurd (let many : 3 ≡ 5 = ap (λ (ws : List (List ℕ)). length ws) same in omega (arith, many))
-action_once explaining (running c) s t e f same = absurd (let many : 3 ≡ 4 = ap (λ (ws : List (List ℕ)). length ws) same in omega (arith, many))
-action_once (making d n) checking s t e f same = absurd (let many : 5 ≡ 3 = ap (λ (ws : List (List ℕ)). length ws) same in omega (arith, many))
-action_once (making d n) trying s t e f same = absurd (let many : 5 ≡ 3 = ap (λ (ws : List (List ℕ)). length ws) same in omega (arith, many))
-action_once (making d n) explaining s t e f same = absurd (let many : 5 ≡ 3 = ap (λ (ws : List (List ℕ)). length ws) same in omega (arith, many))
-action_once (making d n) (running c) s t e f same = absurd (let many : 5 ≡ 4 = ap (λ (ws : List (List ℕ)). length ws) same in omega (arith, many))
-action_once (running d) checking s t e f same = absurd (let many : 4 ≡ 3 = ap (λ (ws : List (List ℕ)). length ws) same in omega (arith, many))
-action_once (running d) trying s t e f same = absurd (let many : 4 ≡ 3 = ap (λ (ws : List (List ℕ)). length ws) same in omega (arith, many))
-action_once (running d) explaining s t e f same = absurd (let many : 4 ≡ 3 = ap (λ (ws : List (List ℕ)). length ws) same in omega (arith, many))
-action_once (running d) (making c m) s t e f same = absurd (let many : 4 ≡ 5 = ap (λ (ws : List (List ℕ)). length ws) same in omega (arith, many))
+action_once a b s t e f same = sym (asked a s e) ∙ ap asked_of same ∙ asked b t f
+
+-- a word names the schema
+abbrev pub NamesSchema : Action → Type 0
+NamesSchema (working device blocks records) = ⊥
+NamesSchema a = Unit {0}
 
 pub record SameWords (a b : Action) (s t e f : List ℕ) : Type 0 where
   pub actions : a ≡ b
-  pub schemas : s ≡ t
+  pub schemas : NamesSchema a → s ≡ t
   pub equations : e ≡ f
+
+second : List (List ℕ) → List ℕ
+second words = get_or words 1 []
+
+third : List (List ℕ) → List ℕ
+third words = get_or words 2 []
+
+schema_named : (a : Action) (s t e f : List ℕ) → request_words a s e ≡ request_words a t f → NamesSchema a → s ≡ t
+unfolding second
+schema_named checking s t e f same names = ap second same
+schema_named trying s t e f same names = ap second same
+schema_named explaining s t e f same names = ap second same
+schema_named (making device blocks) s t e f same names = ap second same
+schema_named (running device) s t e f same names = ap second same
+schema_named (inspecting device) s t e f same names = ap second same
+schema_named (working device blocks records) s t e f same names = absurd names
+
+equation_named : (a : Action) (s t e f : List ℕ) → request_words a s e ≡ request_words a t f → e ≡ f
+unfolding second third
+equation_named checking s t e f same = ap third same
+equation_named trying s t e f same = ap third same
+equation_named explaining s t e f same = ap third same
+equation_named (making device blocks) s t e f same = ap third same
+equation_named (running device) s t e f same = ap third same
+equation_named (inspecting device) s t e f same = ap third same
+equation_named (working device blocks records) s t e f same = ap second same
 
 pub same_words : (words : List (List ℕ)) (a b : Action) (s t e f : List ℕ) → words ≡ request_words a s e → words ≡ request_words b t f → SameWords a b s t e f
 same_words words a b s t e f p q =
-    let same : request_words a s e ≡ request_words b t f = sym p ∙ q in
-    record {
-      actions = action_once a b s t e f same;
-      schemas = ap (λ (ws : List (List ℕ)). get_or ws 1 []) same;
-      equations = ap (λ (ws : List (List ℕ)). get_or ws 2 []) same;
-    }
+    let once : a ≡ b = action_once a b s t e f (sym p ∙ q) in
+    let same : request_words a s e ≡ request_words a t f = subst (λ c. request_words a s e ≡ request_words c t f) (sym once) (sym p ∙ q) in
+    record { actions = once; schemas = schema_named a s t e f same; equations = equation_named a s t e f same }
 
 ok_not_bad : (s : Schema) (e : Unread) → ◌≡◌ {A = Result Schema Unread} (Ok s) (Err e) → ⊥
 ok_not_bad s e f = cc
@@ -119,25 +133,50 @@ text_once texts a b x y same is other = some_once x y (sym is ∙ ap (λ n. get 
 
 -- ---- two readings of the same words
 
-pub one_request : (words : List (List ℕ)) (texts : Texts) (a b : Action) (s t e f : List ℕ) → IsAsked words texts a s e → IsAsked words texts b t f → SameWords a b s t e f
+-- the texts that they name
+pub record SameAsked (a b : Action) (s t e f : List ℕ) : Type 0 where
+  pub actions : a ≡ b
+  pub schemas : s ≡ t
+  pub equations : e ≡ f
+
+schema_once : (a : Action) (texts : Texts) (name other s t : List ℕ) → (NamesSchema a → name ≡ other) → IsSchemaOf a texts name s → IsSchemaOf a texts other t → s ≡ t
+schema_once checking texts name other s t same x y = text_once texts name other s t (same tt) x.0 y.0
+schema_once trying texts name other s t same x y = text_once texts name other s t (same tt) x.0 y.0
+schema_once explaining texts name other s t same x y = text_once texts name other s t (same tt) x.0 y.0
+schema_once (making device blocks) texts name other s t same x y = text_once texts name other s t (same tt) x.0 y.0
+schema_once (running device) texts name other s t same x y = text_once texts name other s t (same tt) x.0 y.0
+schema_once (inspecting device) texts name other s t same x y = text_once texts name other s t (same tt) x.0 y.0
+schema_once (working device blocks records) texts name other s t same x y = x ∙ sym y
+
+pub one_request : (words : List (List ℕ)) (texts : Texts) (a b : Action) (s t e f : List ℕ) → IsAsked words texts a s e → IsAsked words texts b t f → SameAsked a b s t e f
 one_request words texts a b s t e f x y =
     let same = same_words words a b x.schema_name y.schema_name x.equation_name y.equation_name x.words_are y.words_are in
     record {
       actions = same.actions;
-      schemas = text_once texts x.schema_name y.schema_name s t same.schemas x.schema_there.0 y.schema_there.0;
+      schemas = schema_once a texts x.schema_name y.schema_name s t same.schemas x.schema_there (subst (λ c. IsSchemaOf c texts y.schema_name t) (sym same.actions) y.schema_there);
       equations = text_once texts x.equation_name y.equation_name e f same.equations x.equation_there.0 y.equation_there.0;
     }
 
+-- where both texts are there, so is the one of this name
+one_there : (texts : Texts) (name schema other equation s e : List ℕ) → schema ≡ other → IsText texts schema s → IsText texts equation e → (name ≡ other) ⊎ (IsThere texts other × (name ≡ equation)) → IsThere texts name
+one_there texts name schema other equation s e same x y (inl is) = (s, subst (λ k. IsText texts k s) (same ∙ sym is) x)
+one_there texts name schema other equation s e same x y (inr is) = (e, subst (λ k. IsText texts k e) (sym is.1) y)
+
+either_there : (a : Action) (texts : Texts) (name schema other equation s e : List ℕ) → (NamesSchema a → schema ≡ other) → IsSchemaOf a texts schema s → IsText texts equation e → IsEither a texts name other equation → IsThere texts name
+either_there checking texts name schema other equation s e same x y is = one_there texts name schema other equation s e (same tt) x y is
+either_there trying texts name schema other equation s e same x y is = one_there texts name schema other equation s e (same tt) x y is
+either_there explaining texts name schema other equation s e same x y is = one_there texts name schema other equation s e (same tt) x y is
+either_there (making device blocks) texts name schema other equation s e same x y is = one_there texts name schema other equation s e (same tt) x y is
+either_there (running device) texts name schema other equation s e same x y is = one_there texts name schema other equation s e (same tt) x y is
+either_there (inspecting device) texts name schema other equation s e same x y is = one_there texts name schema other equation s e (same tt) x y is
+either_there (working device blocks records) texts name schema other equation s e same x y is = (e, subst (λ k. IsText texts k e) (sym is) y)
+
 -- neither of two texts that are there is missing or too long
 pub named : (words : List (List ℕ)) (texts : Texts) (name : List ℕ) (a : Action) (s e : List ℕ) → IsAsked words texts a s e → IsNamed words texts name → IsThere texts name
-named words texts name a s e x y = there y.first
-  where
-    same : SameWords a y.asked x.schema_name y.schema_name x.equation_name y.equation_name
-    same = same_words words a y.asked x.schema_name y.schema_name x.equation_name y.equation_name x.words_are y.words_are
-
-    there : ((name ≡ y.schema_name) ⊎ (IsThere texts y.schema_name × (name ≡ y.equation_name))) → IsThere texts name
-    there (inl is) = (s, subst (λ k. IsText texts k s) (same.schemas ∙ sym is) x.schema_there)
-    there (inr is) = (e, subst (λ k. IsText texts k e) (same.equations ∙ sym is.1) x.equation_there)
+named words texts name a s e x y =
+    let same = same_words words a y.asked x.schema_name y.schema_name x.equation_name y.equation_name x.words_are y.words_are in
+    either_there a texts name x.schema_name y.schema_name x.equation_name s e same.schemas x.schema_there x.equation_there
+    (subst (λ c. IsEither c texts name y.schema_name x.equation_name) (sym same.actions) (subst (λ k. IsEither y.asked texts name y.schema_name k) (sym same.equations) y.first))
 
 pub not_missing : (texts : Texts) (name : List ℕ) → IsThere texts name → get texts name ≡ None → ⊥
 not_missing texts name is none = some_not_none is.0 (sym is.1.0 ∙ none)
@@ -288,6 +327,93 @@ made_not_explained words texts blocks x y = making_not_explaining x.device x.dig
 pub wrong_not_explained : (words : List (List ℕ)) (before : Content) (wrong : DeviceWhy) → IsWrong words before wrong → IsToExplain words before.aside.texts → ⊥
 wrong_not_explained words before wrong (inl run) y = task_not_explained words before.aside.texts run.task run.is y
 wrong_not_explained words before wrong (inr make) y = made_not_explained words before.aside.texts make.0 make.1 y
+
+-- ---- a request to inspect is no other
+
+pub task_not_inspected : (words : List (List ℕ)) (texts : Texts) (t : Task) → IsTask words texts t → IsToInspect words texts → ⊥
+task_not_inspected words texts t x y = to_play words texts t (inspecting y.device) y.schema y.definitions y.typing x y.accepted
+
+pub checking_not_inspecting : (device : List ℕ) → checking ≡ inspecting device → ⊥
+checking_not_inspecting device e = cc
+
+pub checked_not_inspected : (words : List (List ℕ)) (before : Content) → IsCheckable words before → IsToInspect words before.aside.texts → ⊥
+checked_not_inspected words before x y = checking_not_inspecting y.device (one_acceptance words before.aside.texts checking (inspecting y.device) x.0 y.schema x.1 y.definitions x.2 y.typing x.3 y.accepted).actions
+
+pub making_not_inspecting : (device digits other : List ℕ) → making device digits ≡ inspecting other → ⊥
+making_not_inspecting device digits other e = cc
+
+pub made_not_inspected : (words : List (List ℕ)) (texts : Texts) (blocks : ℕ) → IsToMake words texts blocks → IsToInspect words texts → ⊥
+made_not_inspected words texts blocks x y = making_not_inspecting x.device x.digits y.device (one_acceptance words texts (making x.device x.digits) (inspecting y.device) x.schema y.schema x.definitions y.definitions x.typing y.typing x.accepted y.accepted).actions
+
+pub explaining_not_inspecting : (device : List ℕ) → explaining ≡ inspecting device → ⊥
+explaining_not_inspecting device e = cc
+
+pub explained_not_inspected : (words : List (List ℕ)) (texts : Texts) → IsToExplain words texts → IsToInspect words texts → ⊥
+explained_not_inspected words texts x y = explaining_not_inspecting y.device (one_acceptance words texts explaining (inspecting y.device) x.schema y.schema x.definitions y.definitions x.typing y.typing x.accepted y.accepted).actions
+
+pub trying_not_inspecting : (device : List ℕ) → trying ≡ inspecting device → ⊥
+trying_not_inspecting device e = cc
+
+pub running_not_inspecting : (name device : List ℕ) → running name ≡ inspecting device → ⊥
+running_not_inspecting name device e = cc
+
+pub inspected_not_refused : (words : List (List ℕ)) (texts : Texts) (why : Ending) → IsToInspect words texts → IsRefused words texts why → ⊥
+inspected_not_refused words texts why x r = accepted_not_refused words texts (inspecting x.device) x.schema x.definitions x.typing why x.accepted r
+
+pub wrong_not_inspected : (words : List (List ℕ)) (before : Content) (wrong : DeviceWhy) → IsWrong words before wrong → IsToInspect words before.aside.texts → ⊥
+wrong_not_inspected words before wrong (inl run) y = task_not_inspected words before.aside.texts run.task run.is y
+wrong_not_inspected words before wrong (inr make) y = made_not_inspected words before.aside.texts make.0 make.1 y
+
+-- ---- a request to play the workload is no other
+
+pub task_not_worked : (words : List (List ℕ)) (texts : Texts) (t : Task) (count records : ℕ) → IsTask words texts t → IsToWork words texts count records → ⊥
+task_not_worked words texts t count records x y = to_play words texts t (working y.device y.digits y.number) y.schema y.definitions y.typing x y.accepted
+
+pub checking_not_working : (device digits number : List ℕ) → checking ≡ working device digits number → ⊥
+checking_not_working device digits number e = cc
+
+pub checked_not_worked : (words : List (List ℕ)) (before : Content) (count records : ℕ) → IsCheckable words before → IsToWork words before.aside.texts count records → ⊥
+checked_not_worked words before count records x y = checking_not_working y.device y.digits y.number (one_acceptance words before.aside.texts checking (working y.device y.digits y.number) x.0 y.schema x.1 y.definitions x.2 y.typing x.3 y.accepted).actions
+
+pub making_not_working : (name blocks device digits number : List ℕ) → making name blocks ≡ working device digits number → ⊥
+making_not_working name blocks device digits number e = cc
+
+pub made_not_worked : (words : List (List ℕ)) (texts : Texts) (blocks count records : ℕ) → IsToMake words texts blocks → IsToWork words texts count records → ⊥
+made_not_worked words texts blocks count records x y = making_not_working x.device x.digits y.device y.digits y.number (one_acceptance words texts (making x.device x.digits) (working y.device y.digits y.number) x.schema y.schema x.definitions y.definitions x.typing y.typing x.accepted y.accepted).actions
+
+pub explaining_not_working : (device digits number : List ℕ) → explaining ≡ working device digits number → ⊥
+explaining_not_working device digits number e = cc
+
+pub explained_not_worked : (words : List (List ℕ)) (texts : Texts) (count records : ℕ) → IsToExplain words texts → IsToWork words texts count records → ⊥
+explained_not_worked words texts count records x y = explaining_not_working y.device y.digits y.number (one_acceptance words texts explaining (working y.device y.digits y.number) x.schema y.schema x.definitions y.definitions x.typing y.typing x.accepted y.accepted).actions
+
+pub inspecting_not_working : (name device digits number : List ℕ) → inspecting name ≡ working device digits number → ⊥
+inspecting_not_working name device digits number e = cc
+
+pub inspected_not_worked : (words : List (List ℕ)) (texts : Texts) (count records : ℕ) → IsToInspect words texts → IsToWork words texts count records → ⊥
+inspected_not_worked words texts count records x y = inspecting_not_working x.device y.device y.digits y.number (one_acceptance words texts (inspecting x.device) (working y.device y.digits y.number) x.schema y.schema x.definitions y.definitions x.typing y.typing x.accepted y.accepted).actions
+
+pub wrong_not_worked : (words : List (List ℕ)) (before : Content) (wrong : DeviceWhy) (count records : ℕ) → IsWrong words before wrong → IsToWork words before.aside.texts count records → ⊥
+wrong_not_worked words before wrong count records (inl run) y = task_not_worked words before.aside.texts run.task count records run.is y
+wrong_not_worked words before wrong count records (inr make) y = made_not_worked words before.aside.texts make.0 count records make.1 y
+
+pub worked_not_refused : (words : List (List ℕ)) (texts : Texts) (count records : ℕ) (why : Ending) → IsToWork words texts count records → IsRefused words texts why → ⊥
+worked_not_refused words texts count records why x r = accepted_not_refused words texts (working x.device x.digits x.number) x.schema x.definitions x.typing why x.accepted r
+
+pub trying_not_working : (device digits number : List ℕ) → trying ≡ working device digits number → ⊥
+trying_not_working device digits number e = cc
+
+pub running_not_working : (name device digits number : List ℕ) → running name ≡ working device digits number → ⊥
+running_not_working name device digits number e = cc
+
+pub working_not_inspecting : (device digits number name : List ℕ) → working device digits number ≡ inspecting name → ⊥
+working_not_inspecting device digits number name e = cc
+
+pub working_not_making : (device digits number name blocks : List ℕ) → working device digits number ≡ making name blocks → ⊥
+working_not_making device digits number name blocks e = cc
+
+pub working_not_running : (device digits number name : List ℕ) → working device digits number ≡ running name → ⊥
+working_not_running device digits number name e = cc
 
 -- ---- a device that holds a state isn't wrong
 

@@ -32,7 +32,7 @@ use Rattle.gx_top.specs.Explained.{IsToExplain}
 use Rattle.gx_top.proofs.StayLemmas.{devices_same, starts_same}
 use Rattle.gx_top.proofs.TryLemmas.{refused_says, memory_says, unprepared_front, check_done, check_front}
 use Rattle.gx_top.proofs.RowLemmas.{behind, done_row, stopped_row, short_row, full_row, front_row}
-use Rattle.gx_top.proofs.CompleteLemmas.{refused_status, unprepared_memory, unprepared_refuses, accepted_not_refused, checkable_not_refused, wrong_not_refused, checked_no_task, checked_not_made, checked_not_wrong, made_no_task, task_not_explained, checked_not_explained, made_not_explained, start_not_wrong, one_task, not_stopped, not_good, said_complete}
+use Rattle.gx_top.proofs.CompleteLemmas.{task_not_worked, checked_not_worked, worked_not_refused, task_not_inspected, checked_not_inspected, inspected_not_refused, refused_status, unprepared_memory, unprepared_refuses, accepted_not_refused, checkable_not_refused, wrong_not_refused, checked_no_task, checked_not_made, checked_not_wrong, made_no_task, task_not_explained, checked_not_explained, made_not_explained, start_not_wrong, one_task, not_stopped, not_good, said_complete}
 
 done_not_outside : (s : Status) → s ≡ status.Done → s ≢ status.Outside
 done_not_outside s is e = never (sym is ∙ e)
@@ -155,11 +155,15 @@ unprepared_due words old mid new before now why s is e due can outside = by_due 
     by_due : (due : Status) → IsDueStatus words old due → (s ≡ due) ⊎ (s ≡ status.Memory)
     by_due status.Done (inl (t, task, play)) = inr (memory (accepted_not_refused words old.aside.texts t.action t.schema t.definitions t.typing why task.accepted))
     by_due status.Done (inr (inl checkable)) = inr (memory (checkable_not_refused words old why checkable))
-    by_due status.Done (inr (inr (inr (r, text, ends)))) = inr (memory (accepted_not_refused words old.aside.texts explaining r.schema r.definitions r.typing why r.accepted))
+    by_due status.Done (inr (inr (inr (inl (r, text, ends))))) = inr (memory (accepted_not_refused words old.aside.texts explaining r.schema r.definitions r.typing why r.accepted))
+    by_due status.Done (inr (inr (inr (inr (inl sound))))) = inr (memory (inspected_not_refused words old.aside.texts why sound.0))
+    by_due status.Done (inr (inr (inr (inr (inr can))))) = inr (memory (worked_not_refused words old.aside.texts can.blocks can.records why can.request))
     by_due status.Done (inr (inr (inl can))) = inr (memory (accepted_not_refused words old.aside.texts (making can.request.device can.request.digits) can.request.schema can.request.definitions can.request.typing why can.request.accepted))
     by_due status.Script (number, reason, inr (r, text, ends)) = inr (memory (accepted_not_refused words old.aside.texts explaining r.schema r.definitions r.typing why r.accepted))
     by_due status.Script (number, reason, inl (t, task, play)) = inr (memory (accepted_not_refused words old.aside.texts t.action t.schema t.definitions t.typing why task.accepted))
-    by_due status.Device wrong = inr (memory (wrong_not_refused words old wrong.why why wrong.wrong))
+    by_due status.Device (inl wrong) = inr (memory (wrong_not_refused words old wrong.why why wrong.wrong))
+    by_due status.Device (inr (inl wrong)) = inr (memory (inspected_not_refused words old.aside.texts why wrong.0))
+    by_due status.Device (inr (inr un)) = inr (memory (worked_not_refused words old.aside.texts un.blocks un.records why un.request))
     by_due status.Refused refused = unprepared_refuses words old.aside.texts before now why s is e.status_is e.fault outside
     by_due status.Memory due = absurd due
     by_due status.Full due = absurd due
@@ -202,11 +206,15 @@ check_due words old mid new summary s is e due can outside = by_due due can
     by_due : (due : Status) → IsDueStatus words old due → (s ≡ due) ⊎ (s ≡ status.Memory)
     by_due status.Done (inl (t, task, play)) = absurd (checked_no_task words old t task (is.0, is.1, is.2, is.3))
     by_due status.Done (inr (inl checkable)) = said_complete s e.status_is outside
-    by_due status.Done (inr (inr (inr (r, text, ends)))) = absurd (checked_not_explained words old (is.0, is.1, is.2, is.3) r)
+    by_due status.Done (inr (inr (inr (inl (r, text, ends))))) = absurd (checked_not_explained words old (is.0, is.1, is.2, is.3) r)
+    by_due status.Done (inr (inr (inr (inr (inl sound))))) = absurd (checked_not_inspected words old (is.0, is.1, is.2, is.3) sound.0)
+    by_due status.Done (inr (inr (inr (inr (inr can))))) = absurd (checked_not_worked words old can.blocks can.records (is.0, is.1, is.2, is.3) can.request)
     by_due status.Done (inr (inr (inl can))) = absurd (checked_not_made words old can.blocks (is.0, is.1, is.2, is.3) can.request)
     by_due status.Script (number, reason, inr (r, text, ends)) = absurd (checked_not_explained words old (is.0, is.1, is.2, is.3) r)
     by_due status.Script (number, reason, inl (t, task, play)) = absurd (checked_no_task words old t task (is.0, is.1, is.2, is.3))
-    by_due status.Device wrong = absurd (checked_not_wrong words old wrong.why (is.0, is.1, is.2, is.3) wrong.wrong)
+    by_due status.Device (inl wrong) = absurd (checked_not_wrong words old wrong.why (is.0, is.1, is.2, is.3) wrong.wrong)
+    by_due status.Device (inr (inl wrong)) = absurd (checked_not_inspected words old (is.0, is.1, is.2, is.3) wrong.0)
+    by_due status.Device (inr (inr un)) = absurd (checked_not_worked words old un.blocks un.records (is.0, is.1, is.2, is.3) un.request)
     by_due status.Refused refused = absurd (checkable_not_refused words old refused.0 (is.0, is.1, is.2, is.3) refused.1)
     by_due status.Memory due = absurd due
     by_due status.Full due = absurd due
@@ -328,7 +336,7 @@ unhad_said : (words : List (List ℕ)) (old mid new : Content) (why : Ending) (s
 unhad_said words old mid new why status.Done is unsaid starts e = inl (unhad_done words old mid new why is unsaid e)
 unhad_said words old mid new why status.Memory is unsaid starts e = inl (memory_says words old mid new (e.memory refl) unsaid (starts refl))
 unhad_said words old mid new why status.Outside is unsaid starts e = inl (unhad_front words old mid new why is unsaid e)
-unhad_said words old mid new why status.Device is unsaid starts e = unhad_device words old mid new why is unsaid e
+unhad_said words old mid new why status.Device is unsaid starts e = inl (unhad_device words old mid new why is unsaid e)
 unhad_said words old mid new why status.Script is unsaid starts e = absurd (subst IsUnhadStatus (sym (e.status_is (λ f. cc) (λ f. cc))) (unhad_status words old why is))
 unhad_said words old mid new why status.Refused is unsaid starts e = absurd (subst IsUnhadStatus (sym (e.status_is (λ f. cc) (λ f. cc))) (unhad_status words old why is))
 unhad_said words old mid new why status.Full is unsaid starts e = absurd (subst IsUnhadStatus (sym (e.status_is (λ f. cc) (λ f. cc))) (unhad_status words old why is))
@@ -399,7 +407,9 @@ unhad_due words old mid new why s t is task e due can outside = by_due due can (
     by_due : (due : Status) → IsDueStatus words old due → ((s ≡ status.Memory) ⊎ ((s ≡ status.Device) ⊎ (s ≡ status.Memory)) × ((wrong : DeviceWhy) × IsWrong words old wrong × IsBefore wrong)) → (s ≡ due) ⊎ (s ≡ status.Memory)
     by_due status.Done (inl (u, other, play)) had = inr (playable u play.limit play.start other play.from had)
     by_due status.Done (inr (inl checkable)) had = absurd (checked_no_task words old t task checkable)
-    by_due status.Done (inr (inr (inr (r, text, ends)))) had = absurd (task_not_explained words old.aside.texts t task r)
+    by_due status.Done (inr (inr (inr (inl (r, text, ends))))) had = absurd (task_not_explained words old.aside.texts t task r)
+    by_due status.Done (inr (inr (inr (inr (inl sound))))) had = absurd (task_not_inspected words old.aside.texts t task sound.0)
+    by_due status.Done (inr (inr (inr (inr (inr can))))) had = absurd (task_not_worked words old.aside.texts t can.blocks can.records task can.request)
     by_due status.Done (inr (inr (inl can))) had = absurd (made_no_task words old.aside.texts t can.blocks task can.request)
     by_due status.Script (number, reason, inr (r, text, ends)) had = absurd (task_not_explained words old.aside.texts t task r)
     by_due status.Script (number, reason, inl (u, other, play)) had = inr (playable u play.limit play.start other play.from had)
@@ -553,9 +563,9 @@ run_said : (words : List (List ℕ)) (t : Task) (old mid new : Content) (played 
 run_said words t old mid new played status.Done r = inr (inl (t, r.task, run_row words t old mid new played status.Done r))
 run_said words t old mid new played status.Script r = inl (t, r.task, run_row words t old mid new played status.Script r)
 run_said words t old mid new played status.Memory r = inr (inl (t, r.task, run_row words t old mid new played status.Memory r))
-run_said words t old mid new played status.Full r = (t, r.task, run_row words t old mid new played status.Full r)
+run_said words t old mid new played status.Full r = inl (t, r.task, run_row words t old mid new played status.Full r)
 run_said words t old mid new played status.Outside r = inr (inl (t, r.task, run_row words t old mid new played status.Outside r))
-run_said words t old mid new played status.Device r = run_device words t old mid new played r
+run_said words t old mid new played status.Device r = inl (run_device words t old mid new played r)
 run_said words t old mid new played status.Refused r = absurd (run_unrefused words t old mid new played r)
 
 run_heard : (words : List (List ℕ)) (t : Task) (old mid new : Content) (played : Result (Unit {0}) Ending) (s : Status) → IsRun words t old mid new played s → s ≡ status.Done → (limit : Option Limits) (start : State) → IsFrom t old limit start → new.script ≡ []
@@ -598,13 +608,17 @@ run_due words t old mid new played s r due can outside = by_due due can
         let here = subst (λ (v : Task). CanPlayTo v old good) (one_task words old.aside.texts u t other r.task) play in
         good_status t old new s here (run_row words t old mid new played s r here.limit here.start here.from) outside
     by_due status.Done (inr (inl checkable)) = absurd (checked_no_task words old t r.task checkable)
-    by_due status.Done (inr (inr (inr (q, text, ends)))) = absurd (task_not_explained words old.aside.texts t r.task q)
+    by_due status.Done (inr (inr (inr (inl (q, text, ends))))) = absurd (task_not_explained words old.aside.texts t r.task q)
+    by_due status.Done (inr (inr (inr (inr (inl sound))))) = absurd (task_not_inspected words old.aside.texts t r.task sound.0)
+    by_due status.Done (inr (inr (inr (inr (inr can))))) = absurd (task_not_worked words old.aside.texts t can.blocks can.records r.task can.request)
     by_due status.Done (inr (inr (inl make))) = absurd (made_no_task words old.aside.texts t make.blocks r.task make.request)
     by_due status.Script (number, reason, inr (q, text, ends)) = absurd (task_not_explained words old.aside.texts t r.task q)
     by_due status.Script (number, reason, inl (u, other, play)) =
         let here = subst (λ (v : Task). CanPlayTo v old (stopped number reason)) (one_task words old.aside.texts u t other r.task) play in
         line_status t old new number reason s here (run_row words t old mid new played s r here.limit here.start here.from) outside
-    by_due status.Device wrong = absurd (r.right wrong.why wrong.is_before wrong.wrong)
+    by_due status.Device (inl wrong) = absurd (r.right wrong.why wrong.is_before wrong.wrong)
+    by_due status.Device (inr (inl wrong)) = absurd (task_not_inspected words old.aside.texts t r.task wrong.0)
+    by_due status.Device (inr (inr un)) = absurd (task_not_worked words old.aside.texts t un.blocks un.records r.task un.request)
     by_due status.Refused refused = absurd (accepted_not_refused words old.aside.texts t.action t.schema t.definitions t.typing refused.0 r.task.accepted refused.1)
     by_due status.Memory due = absurd due
     by_due status.Full due = absurd due

@@ -13,7 +13,7 @@ use Rattle.gx_top.specs.Explaining.{fields_in}
 use Rattle.gx_requests.specs.Checked.{IsPrepared}
 use Rattle.gx_top.specs.Tries.{IsSaid, IsEnd, IsDueStatus, IsAsDue}
 use Rattle.gx_requests.specs.Words.{explaining}
-use Rattle.gx_top.proofs.CompleteLemmas.{one_acceptance, accepted_not_refused, task_not_explained, checked_not_explained, made_not_explained, wrong_not_explained}
+use Rattle.gx_top.proofs.CompleteLemmas.{one_acceptance, accepted_not_refused, task_not_explained, checked_not_explained, made_not_explained, wrong_not_explained, explained_not_inspected, explained_not_worked}
 use Rattle.gx_top.proofs.ExplainEndLemmas.{same_fields}
 use Rattle.gx_top.proofs.ExplainOnceLemmas.{text_once}
 
@@ -72,10 +72,10 @@ explained_by words old mid new s x schema built p q is script said row =
     )
 
 explain_said : (words : List (List ℕ)) (old new : Content) (s : Status) → Explains words old new s → IsSaid words old new s
-explain_said words old new status.Done is = inr (inr is)
+explain_said words old new status.Done is = inr (inr (inl is))
 explain_said words old new status.Script is = inr is
 explain_said words old new status.Memory is = inr (inr is)
-explain_said words old new status.Outside is = inr (inr is)
+explain_said words old new status.Outside is = inr (inr (inl is))
 explain_said words old new status.Refused is = absurd is.1
 explain_said words old new status.Full is = absurd is.1
 explain_said words old new status.Device is = absurd is.1
@@ -95,10 +95,14 @@ explain_due words old new s is due can outside = by_due due can
     by_due status.Done (inl (t, task, play)) = absurd (task_not_explained words old.aside.texts t task is.0)
     by_due status.Done (inr (inl checkable)) = absurd (checked_not_explained words old checkable is.0)
     by_due status.Done (inr (inr (inl make))) = absurd (made_not_explained words old.aside.texts make.blocks make.request is.0)
-    by_due status.Done (inr (inr (inr explainable))) = ends_so words old new s good is.0 is.1 explainable outside
+    by_due status.Done (inr (inr (inr (inr (inl sound))))) = absurd (explained_not_inspected words old.aside.texts is.0 sound.0)
+    by_due status.Done (inr (inr (inr (inr (inr can))))) = absurd (explained_not_worked words old.aside.texts can.blocks can.records is.0 can.request)
+    by_due status.Done (inr (inr (inr (inl explainable)))) = ends_so words old new s good is.0 is.1 explainable outside
     by_due status.Script (number, why, inl (t, task, play)) = absurd (task_not_explained words old.aside.texts t task is.0)
     by_due status.Script (number, why, inr explainable) = ends_so words old new s (stopped number why) is.0 is.1 explainable outside
-    by_due status.Device wrong = absurd (wrong_not_explained words old wrong.why wrong.wrong is.0)
+    by_due status.Device (inr (inl wrong)) = absurd (explained_not_inspected words old.aside.texts is.0 wrong.0)
+    by_due status.Device (inr (inr un)) = absurd (explained_not_worked words old.aside.texts un.blocks un.records is.0 un.request)
+    by_due status.Device (inl wrong) = absurd (wrong_not_explained words old wrong.why wrong.wrong is.0)
     by_due status.Refused refused = absurd (accepted_not_refused words old.aside.texts explaining is.0.schema is.0.definitions is.0.typing refused.0 is.0.accepted refused.1)
     by_due status.Memory due = absurd due
     by_due status.Full due = absurd due

@@ -1,5 +1,5 @@
 -- The fields that are indexed in a term are those that are indexed in the node that it means.
-use Rattle.std.proofs.Common.{◌≡◌, ℕ, zero, suc, ◌+◌, ◌<◌, List, [], ◌∷◌, length, get_or, Bool, false, refl, ap, ◌∙◌, arith}
+use Rattle.std.proofs.Common.{◌≡◌, ℕ, zero, suc, ◌+◌, List, [], ◌∷◌, Bool, false, refl, ap, ◌∙◌, arith}
 use Rattle.std.specs.Prelude.{not, ◌&&◌, ◌||◌, is_some}
 use Rattle.gx_values.specs.declared.records.Form.{Form}
 use Rattle.gx_schema.specs.declared.schema.FileDef.{FileDef}
@@ -28,12 +28,6 @@ all_shift c = omega arith
 
 one_shift : (i c : ℕ) → i + suc c ≡ suc i + c
 one_shift i c = omega arith
-
--- the node of a number has the tree of this number
-pub tree_read : (xs : List (Node AnyMapping)) (i : ℕ) (x : Node AnyMapping) → i < length xs → x ≡ get_or xs i x → tree_of x ≡ tree_at xs i
-tree_read [] i x lt is = absurd (omega arith)
-tree_read (y ∷ xs) zero x lt is = ap tree_of is
-tree_read (y ∷ xs) (suc i) x lt is = tree_read xs i x (omega arith) is
 
 -- no field is indexed in a leaf
 leaf_not : (n : ℕ) (form : Form) (top : Head) (kids : Trees) (m : ℕ) (f : Form) (name : List ℕ) → IsLeafOf n form top kids m f → false ≡ term_indexed form (node top kids) name

@@ -10,6 +10,10 @@ mod StoreLemmas
 mod MakeLemmas
 mod RanLemmas
 mod UnopenedLemmas
+mod InspectLemmas
+mod ExamineLemmas
+mod WorkLemmas
+mod WorkingLemmas
 mod IndexedLaws
 mod ExplainLemmas
 mod ExplainOnceLemmas

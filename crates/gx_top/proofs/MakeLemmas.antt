@@ -8,7 +8,7 @@ use Rattle.gx_schema.specs.Printing.{schema_text}
 use Rattle.gx_equation.specs.Printing.{equation_text}
 use Rattle.gx_typing.specs.declared.typing.Typing.{Typing}
 use Rattle.gx_typing.specs.Typed.{leaves, typing_with}
-use Rattle.gx_engine.proofs.StartLemmas.{start_state}
+use Rattle.gx_states.proofs.StartLemmas.{start_state}
 use Rattle.gx_layout.specs.Layout.{pages_of}
 use Rattle.gx_store.specs.Device.{IsSize, IsMadeOn, IsNoneOrEmpty}
 use Rattle.gx_store.specs.Making.{IsUnmade}
@@ -31,8 +31,8 @@ use Rattle.gx_requests.specs.Requests.{IsUnprepared}
 use Rattle.gx_play.specs.Say.{SameDevices}
 use Rattle.gx_top.specs.Tasks.{Task, IsTask, IsToPlay}
 use Rattle.gx_top.specs.Tries.{IsAsDue, IsDueStatus}
-use Rattle.gx_requests.specs.Words.{Action, checking, trying, explaining, making, running, request_words, IsCount}
-use Rattle.gx_top.proofs.CompleteLemmas.{same_words, one_acceptance, accepted_not_refused, made_not_explained}
+use Rattle.gx_requests.specs.Words.{Action, checking, trying, explaining, making, running, inspecting, request_words, IsCount}
+use Rattle.gx_top.proofs.CompleteLemmas.{same_words, one_acceptance, accepted_not_refused, made_not_explained, made_not_inspected, made_not_worked}
 use Rattle.gx_top.proofs.StayLemmas.{devices_same}
 use Rattle.gx_top.proofs.EndLemmas.{IsUnhad, unplayed, not_done, not_device}
 
@@ -174,7 +174,7 @@ status_is : (why : Ending) (old new : Content) (s t : Status) → IsEnded why ol
 status_is why old new s t e is outside memory = sym (e.status_is (λ o. outside (sym is ∙ o)) (λ m. memory (sym is ∙ m))) ∙ is
 
 -- no device that may be made can't be
-not_both : (specs : List LeafSpec) (device : List ℕ) (count : ℕ) (before : Content) (why : DeviceWhy) → IsSize specs count → device_at before.now device ≡ None → IsUnmakable specs device count before why → ⊥
+pub not_both : (specs : List LeafSpec) (device : List ℕ) (count : ℕ) (before : Content) (why : DeviceWhy) → IsSize specs count → device_at before.now device ≡ None → IsUnmakable specs device count before why → ⊥
 not_both specs device count before device_why.Exists size free h = never (sym (ap (λ (o : Option (List (List ℕ))). is_some o) free) ∙ h.1)
   where
     never : false ≡ true → ⊥
@@ -251,10 +251,14 @@ module _ (words : List (List ℕ)) (device digits : List ℕ) (count : ℕ) (x :
   due_by why s w e status.Done (inr (inl check)) outside =
       absurd (not_checking device digits (one_acceptance words old.aside.texts checking (making device digits) check.0 x.schema check.1 st.definitions check.2 st.typing check.3 st.accepted).actions)
   due_by why s w e status.Done (inr (inr (inl can))) outside = can_due why s w e can outside
-  due_by why s w e status.Done (inr (inr (inr (r, text, ends)))) outside = absurd (made_not_explained words old.aside.texts count request r)
+  due_by why s w e status.Done (inr (inr (inr (inr (inl sound))))) outside = absurd (made_not_inspected words old.aside.texts count request sound.0)
+  due_by why s w e status.Done (inr (inr (inr (inr (inr other))))) outside = absurd (made_not_worked words old.aside.texts count other.blocks other.records request other.request)
+  due_by why s w e status.Done (inr (inr (inr (inl (r, text, ends))))) outside = absurd (made_not_explained words old.aside.texts count request r)
   due_by why s w e status.Script (number, reason, inl (t, task, play)) outside = absurd (not_played words old.aside.texts count t request task)
   due_by why s w e status.Script (number, reason, inr (r, text, ends)) outside = absurd (made_not_explained words old.aside.texts count request r)
-  due_by why s w e status.Device wrong outside = wrong_due why s wrong.why w e (wrong_here wrong.why wrong.wrong) outside
+  due_by why s w e status.Device (inr (inl wrong)) outside = absurd (made_not_inspected words old.aside.texts count request wrong.0)
+  due_by why s w e status.Device (inr (inr un)) outside = absurd (made_not_worked words old.aside.texts count un.blocks un.records request un.request)
+  due_by why s w e status.Device (inl wrong) outside = wrong_due why s wrong.why w e (wrong_here wrong.why wrong.wrong) outside
   due_by why s w e status.Refused refused outside = absurd (accepted_not_refused words old.aside.texts (making device digits) x.schema st.definitions st.typing refused.0 st.accepted refused.1)
   due_by why s w e status.Memory due outside = absurd due
   due_by why s w e status.Full due outside = absurd due
@@ -383,6 +387,9 @@ not_trying device digits e = cc
 
 pub not_explaining : (device digits : List ℕ) → explaining ≡ making device digits → ⊥
 not_explaining device digits e = cc
+
+pub not_inspecting : (name device digits : List ℕ) → inspecting name ≡ making device digits → ⊥
+not_inspecting name device digits e = cc
 
 pub not_running : (name device digits : List ℕ) → running name ≡ making device digits → ⊥
 not_running name device digits e = cc

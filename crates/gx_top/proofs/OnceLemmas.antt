@@ -24,12 +24,12 @@ use Rattle.gx_play.specs.declared.ending.Ending.{Ending}
 use Rattle.gx_play.specs.declared.ending.Ending.TheVariants as ending
 use Rattle.gx_requests.specs.Lengths.{text_length}
 use Rattle.gx_play.specs.Endings.{line_of}
-use Rattle.gx_requests.specs.Requests.{IsThere, IsNamed, IsAsked, AreRead, AreUnaccepted, IsRefused, equation_of, text_limit}
+use Rattle.gx_requests.specs.Requests.{IsText, IsThere, IsSchemaOf, IsEither, IsNamed, IsAsked, AreRead, AreUnaccepted, IsRefused, equation_of, text_limit}
 use Rattle.gx_play.specs.Played.{IsPlayText}
-use Rattle.gx_top.specs.Tasks.{Task, IsTask}
+use Rattle.gx_top.specs.Tasks.{Task, IsTask, IsToPlay}
 use Rattle.gx_top.specs.Tries.{IsWholeText, IsUnder, PlayOneScript}
-use Rattle.gx_requests.specs.Words.{Action, request_words, IsCounted}
-use Rattle.gx_top.proofs.CompleteLemmas.{SameWords, same_words, one_request, named, not_missing, not_long, text_once, equation_read}
+use Rattle.gx_requests.specs.Words.{Action, checking, trying, explaining, making, running, inspecting, working, request_words, IsCounted}
+use Rattle.gx_top.proofs.CompleteLemmas.{NamesSchema, same_words, one_request, named, not_missing, not_long, text_once, equation_read}
 
 -- ---- the line of a refusal, from what stands in the texts
 
@@ -125,17 +125,26 @@ reason words texts ending.Fault r = absurd r.4
 reason words texts (ending.Line number why) r = absurd r.4
 
 -- the text that isn't had is the first one of the two
-name_once : (words : List (List ℕ)) (texts : Texts) (name other : List ℕ) → IsNamed words texts name → IsNamed words texts other → (IsThere texts name → ⊥) → (IsThere texts other → ⊥) → name ≡ other
-name_once words texts name other x y lost missed = by_place x.first y.first
-  where
-    same : SameWords x.asked y.asked x.schema_name y.schema_name x.equation_name y.equation_name
-    same = same_words words x.asked y.asked x.schema_name y.schema_name x.equation_name y.equation_name x.words_are y.words_are
+lost_once : (texts : Texts) (name other schema same equation : List ℕ) → schema ≡ same → (IsThere texts name → ⊥) → (IsThere texts other → ⊥) → (name ≡ schema) ⊎ (IsThere texts schema × (name ≡ equation)) → (other ≡ same) ⊎ (IsThere texts same × (other ≡ equation)) → name ≡ other
+lost_once texts name other schema same equation is lost missed (inl p) (inl q) = p ∙ is ∙ sym q
+lost_once texts name other schema same equation is lost missed (inl p) (inr q) = absurd (lost (subst (IsThere texts) (sym (p ∙ is)) q.0))
+lost_once texts name other schema same equation is lost missed (inr p) (inl q) = absurd (missed (subst (IsThere texts) (is ∙ sym q) p.0))
+lost_once texts name other schema same equation is lost missed (inr p) (inr q) = p.1 ∙ sym q.1
 
-    by_place : ((name ≡ x.schema_name) ⊎ (IsThere texts x.schema_name × (name ≡ x.equation_name))) → ((other ≡ y.schema_name) ⊎ (IsThere texts y.schema_name × (other ≡ y.equation_name))) → name ≡ other
-    by_place (inl p) (inl q) = p ∙ same.schemas ∙ sym q
-    by_place (inl p) (inr q) = absurd (lost (subst (IsThere texts) (sym (p ∙ same.schemas)) q.0))
-    by_place (inr p) (inl q) = absurd (missed (subst (IsThere texts) (same.schemas ∙ sym q) p.0))
-    by_place (inr p) (inr q) = p.1 ∙ same.equations ∙ sym q.1
+either_once : (a : Action) (texts : Texts) (name other schema same equation : List ℕ) → (NamesSchema a → schema ≡ same) → (IsThere texts name → ⊥) → (IsThere texts other → ⊥) → IsEither a texts name schema equation → IsEither a texts other same equation → name ≡ other
+either_once checking texts name other schema same equation is lost missed p q = lost_once texts name other schema same equation (is tt) lost missed p q
+either_once trying texts name other schema same equation is lost missed p q = lost_once texts name other schema same equation (is tt) lost missed p q
+either_once explaining texts name other schema same equation is lost missed p q = lost_once texts name other schema same equation (is tt) lost missed p q
+either_once (making device blocks) texts name other schema same equation is lost missed p q = lost_once texts name other schema same equation (is tt) lost missed p q
+either_once (running device) texts name other schema same equation is lost missed p q = lost_once texts name other schema same equation (is tt) lost missed p q
+either_once (inspecting device) texts name other schema same equation is lost missed p q = lost_once texts name other schema same equation (is tt) lost missed p q
+either_once (working device blocks records) texts name other schema same equation is lost missed p q = p ∙ sym q
+
+name_once : (words : List (List ℕ)) (texts : Texts) (name other : List ℕ) → IsNamed words texts name → IsNamed words texts other → (IsThere texts name → ⊥) → (IsThere texts other → ⊥) → name ≡ other
+name_once words texts name other x y lost missed =
+    let same = same_words words x.asked y.asked x.schema_name y.schema_name x.equation_name y.equation_name x.words_are y.words_are in
+    either_once x.asked texts name other x.schema_name y.schema_name x.equation_name same.schemas lost missed x.first
+    (subst (λ a. IsEither a texts other y.schema_name x.equation_name) (sym same.actions) (subst (λ k. IsEither y.asked texts other y.schema_name k) (sym same.equations) y.first))
 
 line_once : (words : List (List ℕ)) (texts : Texts) (line other : List ℕ) → HasReason words texts line → HasReason words texts other → line ≡ other
 line_once words texts line other (inl x) (inl y) = x.1 ∙ sym y.1
@@ -156,11 +165,30 @@ refused_once words texts why other x y = line_once words texts (line_of why) (li
 -- ---- one script under one schema
 
 -- the schema that is played on is that of the schema text
+played_named : (a : Action) → IsToPlay a → NamesSchema a
+played_named checking is = tt
+played_named trying is = tt
+played_named explaining is = tt
+played_named (making device blocks) is = tt
+played_named (running device) is = tt
+played_named (inspecting device) is = tt
+played_named (working device blocks records) is = is
+
+played_there : (a : Action) (texts : Texts) (name text : List ℕ) → IsToPlay a → IsSchemaOf a texts name text → IsText texts name text
+played_there trying texts name text plays is = is
+played_there (running device) texts name text plays is = is
+played_there checking texts name text plays is = absurd plays
+played_there explaining texts name text plays is = absurd plays
+played_there (making device blocks) texts name text plays is = absurd plays
+played_there (inspecting device) texts name text plays is = absurd plays
+played_there (working device blocks records) texts name text plays is = absurd plays
+
 schema_under : (words : List (List ℕ)) (texts : Texts) (under : List ℕ) (t : Task) → IsUnder words texts under → IsTask words texts t → IsSchemaText under t.schema
 schema_under words texts under t is task =
     let asked = task.accepted.2 in
     let same = same_words words t.action is.0 asked.schema_name is.1 asked.equation_name is.2 asked.words_are is.3 in
-    subst (λ s. IsSchemaText s t.schema) (text_once texts asked.schema_name is.1 task.accepted.0 under same.schemas asked.schema_there.0 is.4) task.accepted.3.read.schema_means
+    let there = played_there t.action texts asked.schema_name task.accepted.0 task.to_play asked.schema_there in
+    subst (λ s. IsSchemaText s t.schema) (text_once texts asked.schema_name is.1 task.accepted.0 under (same.schemas (played_named t.action task.to_play)) there.0 is.4) task.accepted.3.read.schema_means
 
 text_of_play : (schema : Schema) (start : State) (script : List ℕ) (end close : End) (a b : List ℕ) (kept left : State) → IsPlayText schema start script end a kept → IsPlayText schema start script close b left → a ≡ b
 text_of_play schema start script end close a b kept left x y =

@@ -20,7 +20,7 @@ use Rattle.gx_play.specs.Endings.{unopened_ending, IsPlayEnding, IsEnded, IsFini
 use Rattle.gx_top.specs.Devices.{IsWrong, IsBefore}
 use Rattle.gx_top.specs.Ran.{StaysWrong, LeavesRun, LeavesRunBy}
 use Rattle.gx_play.specs.Say.{SameDevices}
-use Rattle.gx_requests.specs.Words.{Action, checking, trying, explaining, making, running, request_words}
+use Rattle.gx_requests.specs.Words.{Action, checking, trying, explaining, making, running, inspecting, request_words}
 use Rattle.gx_top.proofs.CompleteLemmas.{same_words}
 use Rattle.gx_top.proofs.EndLemmas.{IsStopStatus, stop_status}
 use Rattle.gx_top.proofs.StayLemmas.{devices_same}
@@ -39,7 +39,7 @@ off_name m name other named differ =
     ∙ fin.get-insert nat_list_cmp_total m.shelf.devices name m.blocks other
     ∙ ap (λ (b : Bool). cond b (Some m.blocks) (fin.get m.shelf.devices other)) off
 
-other_at : (m n : Moment) (name other : List ℕ) → m.shelf.name ≡ Some name → n.shelf ≡ m.shelf → other ≢ name → device_at n other ≡ device_at m other
+pub other_at : (m n : Moment) (name other : List ℕ) → m.shelf.name ≡ Some name → n.shelf ≡ m.shelf → other ≢ name → device_at n other ≡ device_at m other
 other_at m n name other named shelf differ =
     off_name n name other (ap (λ (s : Shelf). s.name) shelf ∙ named) differ ∙ ap (λ (s : Shelf). fin.get s.devices other) shelf ∙ sym (off_name m name other named differ)
 
@@ -92,25 +92,26 @@ played_left words device old middle opened mid new played s before blocks there 
     found_late device_why.NoDatabase late = absurd (late tt)
     found_late (device_why.OtherEquation place) late = absurd (late tt)
 
+-- a device that is as it was stays so, however it is wrong
+pub stays_itself : (device : List ℕ) (old new : Content) → device_at new.now device ≡ device_at old.now device → (wrong : DeviceWhy) → StaysWrong wrong device old new
+stays_itself device old new same (device_why.OtherEquation place) = λ blocks there. (blocks, same ∙ there, (recovery_itself blocks, alike_itself blocks))
+stays_itself device old new same (device_why.Damaged block) = tt
+stays_itself device old new same device_why.Missing = same
+stays_itself device old new same device_why.Exists = same
+stays_itself device old new same device_why.Size = same
+stays_itself device old new same device_why.NoDatabase = same
+
 -- nothing was attached
 pub unprepared_ran : (words : List (List ℕ)) (device : List ℕ) (old mid new : Content) (s : Status) → mid.now ≡ old.now → SameDevices mid new → LeavesRun words device old new s
 unprepared_ran words device old mid new s before same = record {
   refused = λ e. record { blocks = same.blocks ∙ ap (λ n. n.blocks) before; shelf = same.shelf ∙ ap (λ n. n.shelf) before };
-  wrong = λ e wrong is. stays wrong;
+  wrong = λ e wrong is. stays_itself device old new (stays_at device) wrong;
   missing = λ none. stays_at device ∙ none;
   others = λ other differ. stays_at other;
 }
   where
     stays_at : (name : List ℕ) → device_at new.now name ≡ device_at old.now name
     stays_at name = devices_same mid new same name ∙ ap (λ n. device_at n name) before
-
-    stays : (wrong : DeviceWhy) → StaysWrong wrong device old new
-    stays (device_why.OtherEquation place) = λ blocks there. (blocks, stays_at device ∙ there, (recovery_itself blocks, alike_itself blocks))
-    stays (device_why.Damaged block) = tt
-    stays device_why.Missing = stays_at device
-    stays device_why.Exists = stays_at device
-    stays device_why.Size = stays_at device
-    stays device_why.NoDatabase = stays_at device
 
 -- ---- of the words
 
@@ -137,6 +138,9 @@ try_is_no_run device e = cc
 
 pub explain_is_no_run : (device : List ℕ) → explaining ≡ running device → ⊥
 explain_is_no_run device e = cc
+
+pub inspect_is_no_run : (name device : List ℕ) → inspecting name ≡ running device → ⊥
+inspect_is_no_run name device e = cc
 
 pub make_is_no_run : (name digits device : List ℕ) → making name digits ≡ running device → ⊥
 make_is_no_run name digits device e = cc

@@ -1,6 +1,5 @@
 -- The states from which a script is played, where its device reads as before.
-use Rattle.std.proofs.Common.{◌≡◌, ◌∙◌, ℕ, List, length, Option, Some, None, refl, sym, ap, subst}
-use Rattle.std.specs.Prelude.{◌↔◌}
+use Rattle.std.proofs.Common.{◌≡◌, ◌∙◌, ℕ, List, Option, Some, None, refl, sym, ap, subst}
 use Rattle.std.specs.FinMap.{get}
 use Rattle.gx_device.specs.Content.{Content, device_at, with_named}
 use Rattle.gx_ports.specs.LeafMaps.{Limits}
@@ -11,7 +10,7 @@ use Rattle.gx_store.specs.Device.{ReadAlike}
 use Rattle.gx_store.specs.Store.{OfBlocks}
 use Rattle.gx_store.proofs.AlikeLemmas.{alike_itself, alike_back, reopens_alike}
 use Rattle.gx_play.specs.Say.{SameDevices}
-use Rattle.gx_requests.specs.Words.{Action, checking, trying, explaining, making, running}
+use Rattle.gx_requests.specs.Words.{Action, checking, trying, explaining, making, running, inspecting, working}
 use Rattle.gx_top.specs.Tasks.{Task, IsHeldOn, IsStart, StartsAlike, limits_on}
 
 -- what is said changes no device
@@ -64,7 +63,7 @@ reads_back device old new reads = record {
         absurd (let wrong : ◌≡◌ {A = _} None (Some is.0) = sym none ∙ is.1 in cc)
 
 -- a state that it held
-held_still : (t : Task) (device : List ℕ) (old new : Content) (limit : Option Limits) (s : State) → ReadsAlike device old new → IsHeldOn t device old limit s → IsHeldOn t device new limit s
+pub held_still : (t : Task) (device : List ℕ) (old new : Content) (limit : Option Limits) (s : State) → ReadsAlike device old new → IsHeldOn t device old limit s → IsHeldOn t device new limit s
 held_still t device old new limit s reads held =
     let is = reads.alike held.blocks held.there in
     record {
@@ -81,6 +80,8 @@ start_still checking t old new limit s reads is = is
 start_still trying t old new limit s reads is = is
 start_still explaining t old new limit s reads is = is
 start_still (making device blocks) t old new limit s reads is = is
+start_still (inspecting device) t old new limit s reads is = is
+start_still (working device blocks records) t old new limit s reads is = is
 start_still (running device) t old new limit s reads is = held_still t device old new limit s (reads device refl) is
 
 pub starts_alike : (t : Task) (old new : Content) → ((device : List ℕ) → t.action ≡ running device → ReadsAlike device old new) → StartsAlike t old new

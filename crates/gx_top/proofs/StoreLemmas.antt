@@ -14,7 +14,7 @@ use Rattle.gx_store.specs.Device.{IsHeadOf, IsSettled, ground_on}
 use Rattle.gx_store.specs.Store.{OfBlocks}
 use Rattle.gx_types.specs.declared.built.Built.{Built}
 use Rattle.gx_model.specs.States.{State}
-use Rattle.gx_engine.specs.Internal.{AreInternal}
+use Rattle.gx_states.specs.Internal.{AreInternal}
 use Rattle.gx_top.specs.Tasks.{IsSettledIn, limits_on}
 
 -- the same head tells which database it is
@@ -29,6 +29,14 @@ settled_from schema built schema_text equation_text old new kept blocks s same i
   subst (λ (h : Head). IsSettled schema_text equation_text h.leaves kept blocks) same (settled (head_kept schema_text equation_text old new same is)),
   internal,
 )
+
+-- the same where the leaves were only read
+pub settled_read : (schema_text equation_text : List ℕ) (old new : Head) (was kept : List LeafMap) (blocks : List (List ℕ)) → new ≡ old → kept ≡ was → IsHeadOf schema_text equation_text old.leaves old
+    → (IsHeadOf schema_text equation_text new.leaves new → IsSettled schema_text equation_text new.leaves kept blocks)
+    → IsSettled schema_text equation_text old.leaves was blocks
+settled_read schema_text equation_text old new was kept blocks same maps_same is settled =
+    subst (λ (ms : List LeafMap). IsSettled schema_text equation_text old.leaves ms blocks) maps_same
+    (subst (λ (h : Head). IsSettled schema_text equation_text h.leaves kept blocks) same (settled (head_kept schema_text equation_text old new same is)))
 
 -- ---- the limit of the leaves of a store
 

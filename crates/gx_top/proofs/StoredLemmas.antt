@@ -31,7 +31,7 @@ use Rattle.gx_types.specs.Nodes.{tree_at}
 use Rattle.gx_linksets.specs.Stored.{rows_of, IsHeldAt}
 use Rattle.gx_model.specs.States.{State, file_in, link_in}
 use Rattle.gx_scan.specs.Files.{records_of}
-use Rattle.gx_engine.specs.Internal.{AreInternal}
+use Rattle.gx_states.specs.Internal.{AreInternal}
 use Rattle.gx_play.specs.Built.{IsBuiltOf}
 
 -- the number of a leaf

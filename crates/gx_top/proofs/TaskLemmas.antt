@@ -10,7 +10,7 @@ use Rattle.gx_schema.specs.Printing.{schema_text}
 use Rattle.gx_equation.specs.Printing.{equation_text}
 use Rattle.gx_types.specs.declared.built.Built.{Built}
 use Rattle.gx_model.specs.States.{State, empty_state}
-use Rattle.gx_engine.specs.Internal.{AreInternal}
+use Rattle.gx_states.specs.Internal.{AreInternal}
 use Rattle.gx_store.specs.Device.{Reopens, IsSize, IsSettled, HasTexts}
 use Rattle.gx_store.proofs.ShelfLemmas.{named_at}
 use Rattle.gx_store.specs.Opening.{AreOpened, IsUnopened}

@@ -83,6 +83,45 @@ failed_not unopened.NoDatabase device = refl
 failed_not (unopened.OtherTexts place) device = refl
 failed_not unopened.NoMemory device = refl
 
+-- ---- a device that is wrong
+
+module _ (t : Task) (device : List ℕ) (old middle mid new : Content) (why : Unopened) (same : middle.now ≡ old.now) (tried : IsTried device middle mid why) (devices : SameDevices mid new) (is : IsUnopened device (schema_text t.schema) (equation_text t.definitions) t.typing.specs middle why) where
+  before : (blocks : List (List ℕ)) → device_at old.now device ≡ Some blocks → device_at middle.now device ≡ Some blocks
+  before blocks there = ap (λ n. device_at n device) same ∙ there
+
+  pub gone : device_at old.now device ≡ None → device_at new.now device ≡ None
+  gone none = devices_same mid new devices device ∙ tried.absent (ap (λ n. device_at n device) same ∙ none)
+
+  as_it_was : is_untouched why ≡ true → device_at new.now device ≡ device_at old.now device
+  as_it_was none = devices_same mid new devices device ∙ tried.untouched none ∙ ap (λ n. device_at n device) same
+
+  -- what other texts tell of the blocks
+  had_size : (blocks : List (List ℕ)) → device_at old.now device ≡ Some blocks → (place : ℕ) → why ≡ unopened.OtherTexts place → IsSize t.typing.specs (length blocks) × HasMagic (get_or blocks 0 [])
+  had_size blocks there place other =
+      let had = subst (λ (w : Unopened). IsUnopened device (schema_text t.schema) (equation_text t.definitions) t.typing.specs middle w) other is in
+      subst (λ (b : List (List ℕ)). IsSize t.typing.specs (length b) × HasMagic (get_or b 0 [])) (same_blocks had.0 blocks (sym had.1 ∙ before blocks there)) (had.2.0, had.2.1)
+
+  pub stays : status_of (unopened_ending why) ≡ status.Device → (wrong : DeviceWhy) → IsWrongOn device t old wrong → StaysWrong wrong device old new
+  stays ended device_why.Missing none = gone none ∙ sym none
+  stays ended device_why.Exists never = absurd never
+  stays ended device_why.Size (blocks, there, no_size) = as_it_was (untouched_then why ended (λ place other. no_size (had_size blocks there place other).0))
+  stays ended device_why.NoDatabase (blocks, there, none) = as_it_was (untouched_then why ended (λ place other. none.1 (had_size blocks there place other).1))
+  stays ended (device_why.OtherEquation place) other = λ blocks there.
+      let after = tried.recovered blocks (before blocks there) in
+      let alike = tried.kept (failed_not why ended) blocks (before blocks there) in
+      (after.0, devices_same mid new devices device ∙ after.1, (after.2, subst (ReadAlike blocks) (same_blocks alike.0 after.0 (sym alike.1 ∙ after.1)) alike.2))
+  stays ended (device_why.Damaged block) found = tt
+
+-- the ending of a request that ended so
+pub device_ended : (why : Unopened) (t : Status) → t ≡ status.Device → ((t ≡ status.Outside → ⊥) → (t ≡ status.Memory → ⊥) → t ≡ status_of (unopened_ending why)) → status_of (unopened_ending why) ≡ status.Device
+device_ended why t e status_is = sym (status_is (λ f. not_outside (sym e ∙ f)) (λ f. not_memory (sym e ∙ f))) ∙ e
+  where
+    not_outside : status.Device ≡ status.Outside → ⊥
+    not_outside f = cc
+
+    not_memory : status.Device ≡ status.Memory → ⊥
+    not_memory f = cc
+
 module _ (words : List (List ℕ)) (device : List ℕ) (x : Stored) (old middle : Content) (p : IsStoredFor words old.aside.texts (running device) x) (same : SameContent old middle) where
   abbrev Asked : Task
   Asked = Run words device x old middle p same
@@ -99,8 +138,6 @@ module _ (words : List (List ℕ)) (device : List ℕ) (x : Stored) (old middle 
           subst (λ d. ReadsAlike d old new) (device_once device other (ap (λ (u : Task). u.action) (one_task words old.aside.texts Asked t (run_is_task words device x old middle p same) task) ∙ is))
           (reads_between device old middle mid new (ap (λ n. device_at n device) same.now) (devices_same mid new devices device) reads)
 
-  -- ---- a device that is wrong
-
   wrong_here : (wrong : DeviceWhy) → IsWrong words old wrong → IsWrongOn device Asked old wrong
   wrong_here wrong (inl run) =
       let same_task = one_task words old.aside.texts run.task Asked run.is (run_is_task words device x old middle p same) in
@@ -108,46 +145,12 @@ module _ (words : List (List ℕ)) (device : List ℕ) (x : Stored) (old middle 
       (subst (λ u. IsWrongOn run.device u old wrong) same_task run.wrong)
   wrong_here wrong (inr make) = absurd (made_no_task words old.aside.texts Asked make.0 (run_is_task words device x old middle p same) make.1)
 
-  module _ (mid new : Content) (why : Unopened) (tried : IsTried device middle mid why) (devices : SameDevices mid new) (is : IsUnopened device x.schema_text x.equation_text x.built.specs middle why) where
-    before : (blocks : List (List ℕ)) → device_at old.now device ≡ Some blocks → device_at middle.now device ≡ Some blocks
-    before blocks there = ap (λ n. device_at n device) same.now ∙ there
-
-    gone : device_at old.now device ≡ None → device_at new.now device ≡ None
-    gone none = devices_same mid new devices device ∙ tried.absent (ap (λ n. device_at n device) same.now ∙ none)
-
-    as_it_was : is_untouched why ≡ true → device_at new.now device ≡ device_at old.now device
-    as_it_was none = devices_same mid new devices device ∙ tried.untouched none ∙ ap (λ n. device_at n device) same.now
-
-    -- what other texts tell of the blocks
-    had_size : (blocks : List (List ℕ)) → device_at old.now device ≡ Some blocks → (place : ℕ) → why ≡ unopened.OtherTexts place → IsSize Asked.typing.specs (length blocks) × HasMagic (get_or blocks 0 [])
-    had_size blocks there place other =
-        let had = subst (λ (w : Unopened). IsUnopened device (schema_text Asked.schema) (equation_text Asked.definitions) Asked.typing.specs middle w) other (unopened_texts words device x old middle p same why is) in
-        subst (λ (b : List (List ℕ)). IsSize Asked.typing.specs (length b) × HasMagic (get_or b 0 [])) (same_blocks had.0 blocks (sym had.1 ∙ before blocks there)) (had.2.0, had.2.1)
-
-    stays : status_of (unopened_ending why) ≡ status.Device → (wrong : DeviceWhy) → IsWrongOn device Asked old wrong → StaysWrong wrong device old new
-    stays ended device_why.Missing none = gone none ∙ sym none
-    stays ended device_why.Exists never = absurd never
-    stays ended device_why.Size (blocks, there, no_size) = as_it_was (untouched_then why ended (λ place other. no_size (had_size blocks there place other).0))
-    stays ended device_why.NoDatabase (blocks, there, none) = as_it_was (untouched_then why ended (λ place other. none.1 (had_size blocks there place other).1))
-    stays ended (device_why.OtherEquation place) other = λ blocks there.
-        let after = tried.recovered blocks (before blocks there) in
-        let alike = tried.kept (failed_not why ended) blocks (before blocks there) in
-        (after.0, devices_same mid new devices device ∙ after.1, (after.2, subst (ReadAlike blocks) (same_blocks alike.0 after.0 (sym alike.1 ∙ after.1)) alike.2))
-    stays ended (device_why.Damaged block) found = tt
-
-    pub unopened_left : (s : Status) → IsEnded (unopened_ending why) mid new s → LeavesRun words device old new s
-    unopened_left s ended = record {
-      refused = λ e. absurd (unopened_unrefused why mid new (subst (IsEnded (unopened_ending why) mid new) e ended));
-      wrong = λ e wrong is_wrong. stays (device_ended s e ended.status_is) wrong (wrong_here wrong is_wrong);
-      missing = gone;
-      others = λ other differ. devices_same mid new devices other ∙ tried.attaches.others other differ ∙ ap (λ n. device_at n other) same.now;
-    }
-      where
-        device_ended : (t : Status) → t ≡ status.Device → ((t ≡ status.Outside → ⊥) → (t ≡ status.Memory → ⊥) → t ≡ status_of (unopened_ending why)) → status_of (unopened_ending why) ≡ status.Device
-        device_ended t e status_is = sym (status_is (λ f. not_outside (sym e ∙ f)) (λ f. not_memory (sym e ∙ f))) ∙ e
-          where
-            not_outside : status.Device ≡ status.Outside → ⊥
-            not_outside f = cc
-
-            not_memory : status.Device ≡ status.Memory → ⊥
-            not_memory f = cc
+  pub unopened_left : (mid new : Content) (why : Unopened) → IsTried device middle mid why → SameDevices mid new → IsUnopened device x.schema_text x.equation_text x.built.specs middle why → (s : Status) → IsEnded (unopened_ending why) mid new s → LeavesRun words device old new s
+  unopened_left mid new why tried devices is s ended =
+      let typed = unopened_texts words device x old middle p same why is in
+      record {
+        refused = λ e. absurd (unopened_unrefused why mid new (subst (IsEnded (unopened_ending why) mid new) e ended));
+        wrong = λ e wrong is_wrong. stays Asked device old middle mid new why same.now tried devices typed (device_ended why s e ended.status_is) wrong (wrong_here wrong is_wrong);
+        missing = gone Asked device old middle mid new why same.now tried devices typed;
+        others = λ other differ. devices_same mid new devices other ∙ tried.attaches.others other differ ∙ ap (λ n. device_at n other) same.now;
+      }

@@ -5,4 +5,8 @@ pub mod Tasks
 pub mod Devices
 pub mod Made
 pub mod Ran
+pub mod Inspected
+pub mod Found
+pub mod Worked
+pub mod Working
 pub mod Tries

@@ -12,10 +12,10 @@ use Rattle.gx_typing.specs.declared.typing.Typing.{Typing}
 use Rattle.gx_types.specs.declared.built.Built.{Built}
 use Rattle.gx_play.specs.Built.{IsBuiltOf}
 use Rattle.gx_model.specs.States.{State, empty_state}
-use Rattle.gx_engine.specs.Internal.{AreInternal}
+use Rattle.gx_states.specs.Internal.{AreInternal}
 use Rattle.gx_layout.specs.Layout.{pages_of}
 use Rattle.gx_store.specs.Device.{Reopens, IsSettled}
-use Rattle.gx_requests.specs.Words.{Action, checking, trying, explaining, making, running}
+use Rattle.gx_requests.specs.Words.{Action, checking, trying, explaining, making, running, inspecting, working}
 use Rattle.gx_requests.specs.Requests.{IsAccepted}
 
 -- a script that is to be played, and what the texts mean under which it is
@@ -32,6 +32,8 @@ IsToPlay trying = Unit {0}
 IsToPlay explaining = ⊥
 IsToPlay (making device blocks) = ⊥
 IsToPlay (running device) = Unit {0}
+IsToPlay (inspecting device) = ⊥
+IsToPlay (working device blocks records) = ⊥
 
 -- the words ask for it, and the request isn't refused
 pub record IsTask (words : List (List ℕ)) (texts : Texts) (t : Task) : Type 0 where
@@ -68,6 +70,8 @@ IsStart trying t before limit s = (limit ≡ None) × (s ≡ empty_state t.schem
 IsStart explaining t before limit s = ⊥
 IsStart (making device blocks) t before limit s = ⊥
 IsStart (running device) t before limit s = IsHeldOn t device before limit s
+IsStart (inspecting device) t before limit s = ⊥
+IsStart (working device blocks records) t before limit s = ⊥
 
 abbrev pub IsFrom : Task → Content → Option Limits → State → Type 0
 IsFrom t before limit s = IsStart t.action t before limit s
@@ -98,6 +102,8 @@ IsLeftBy trying t after s = Unit {0}
 IsLeftBy explaining t after s = Unit {0}
 IsLeftBy (making device blocks) t after s = Unit {0}
 IsLeftBy (running device) t after s = IsSettledOn t device after s
+IsLeftBy (inspecting device) t after s = Unit {0}
+IsLeftBy (working device blocks records) t after s = Unit {0}
 
 abbrev pub IsLeft : Task → Content → State → Type 0
 IsLeft t after s = IsLeftBy t.action t after s

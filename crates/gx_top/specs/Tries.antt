@@ -1,4 +1,4 @@
--- What the program says of a request: the play of the script, what the checker says, what was made, why the request is refused or
+-- What the program says of a request: the play of the script, what the checker says, what was made or found, why the request is refused or
 -- its device is wrong, or as much of it as can be said.
 use Rattle.std.specs.Prelude.{◌≡◌, ◌≢◌, ◌⊎◌, ℕ, ◌≤◌, List, [], ◌++◌, Option, Some}
 use Rattle.std.specs.FinMap.{get}
@@ -20,6 +20,8 @@ use Rattle.gx_play.specs.Summaries.{summary_of, accepted_line}
 use Rattle.gx_play.specs.Played.{Says, SaysFront, SaysKeeping, IsPlay, IsPlayText, IsStoppedText, IsShortText, IsFull, IsFullText, IsPlayedText}
 use Rattle.gx_top.specs.Tasks.{Task, IsTask, IsFrom, IsLeft, StartsAlike}
 use Rattle.gx_top.specs.Explained.{IsToExplain, Explains, IsExplainable}
+use Rattle.gx_top.specs.Inspected.{Inspects, IsSoundDevice, IsUnsoundDevice}
+use Rattle.gx_top.specs.Worked.{Works, CanWork, IsUnworkable}
 use Rattle.gx_play.specs.declared.ending.DeviceWhy.{DeviceWhy}
 use Rattle.gx_top.specs.Devices.{IsMadeText, IsDeviceText, IsWrong, SaysWrong, CanMake, IsWrongDevice}
 use Rattle.gx_requests.specs.Words.{Action, checking, request_words}
@@ -70,13 +72,13 @@ pub record SaysMemory (words : List (List ℕ)) (old new : Content) : Type 0 whe
 
 -- what was said, by the status
 abbrev pub IsSaid : List (List ℕ) → Content → Content → Status → Type 0
-IsSaid words old new status.Done = Says (IsDoneText words old) old new ⊎ Plays (λ t limit s. IsPlayText t.schema s old.script good) words old new ⊎ Explains words old new status.Done
+IsSaid words old new status.Done = Says (IsDoneText words old) old new ⊎ Plays (λ t limit s. IsPlayText t.schema s old.script good) words old new ⊎ Explains words old new status.Done ⊎ Inspects words old new status.Done ⊎ Works words old new status.Done
 IsSaid words old new status.Script = Plays (λ t limit s. IsStoppedText t.schema s old.script) words old new ⊎ Explains words old new status.Script
 IsSaid words old new status.Refused = Says (IsRefusalText words old) old new
 IsSaid words old new status.Memory = SaysMemory words old new ⊎ Plays (λ t limit s. IsShortText t.schema s old.script) words old new ⊎ Explains words old new status.Memory
-IsSaid words old new status.Full = Plays (λ t limit s. IsFullText t.schema t.definitions limit s old.script) words old new
-IsSaid words old new status.Device = (why : DeviceWhy) × IsWrong words old why × SaysWrong why old new
-IsSaid words old new status.Outside = SaysFront (IsOtherText words old) old new ⊎ PlaysFront words old new ⊎ Explains words old new status.Outside
+IsSaid words old new status.Full = Plays (λ t limit s. IsFullText t.schema t.definitions limit s old.script) words old new ⊎ Works words old new status.Full
+IsSaid words old new status.Device = ((why : DeviceWhy) × IsWrong words old why × SaysWrong why old new) ⊎ Inspects words old new status.Device ⊎ Works words old new status.Device
+IsSaid words old new status.Outside = SaysFront (IsOtherText words old) old new ⊎ PlaysFront words old new ⊎ Explains words old new status.Outside ⊎ Inspects words old new status.Outside ⊎ Works words old new status.Outside
 
 -- the same, and what was heard: the script to its end where all of it was played or explained, and none of it where none is to be
 pub record IsEnd (words : List (List ℕ)) (old new : Content) (s : Status) : Type 0 where
@@ -106,9 +108,9 @@ IsCheckable words before = (schema : Schema) × (ds : List DefinitionTree) × (t
 
 -- the status that a request is due
 abbrev pub IsDueStatus : List (List ℕ) → Content → Status → Type 0
-IsDueStatus words before status.Done = IsPlayable words before good ⊎ IsCheckable words before ⊎ CanMake words before ⊎ IsExplainable words before good
+IsDueStatus words before status.Done = IsPlayable words before good ⊎ IsCheckable words before ⊎ CanMake words before ⊎ IsExplainable words before good ⊎ IsSoundDevice words before ⊎ CanWork words before
 IsDueStatus words before status.Script = (number : ℕ) × (why : LineWhy) × (IsPlayable words before (stopped number why) ⊎ IsExplainable words before (stopped number why))
-IsDueStatus words before status.Device = IsWrongDevice words before
+IsDueStatus words before status.Device = IsWrongDevice words before ⊎ IsUnsoundDevice words before ⊎ IsUnworkable words before
 IsDueStatus words before status.Refused = (why : Ending) × IsRefused words before.aside.texts why
 IsDueStatus words before other = ⊥
 

@@ -1,11 +1,9 @@
 // What is said of a script that is explained: how each `find` looks for its records.
 ghost use Rattle.std.specs.Prelude.{◌≡◌, ◌≤◌, ◌<◌, ◌^◌, ℕ, Err, length, false, IsTrue, IfOk, IfErr};
-ghost use Rattle.gx_schema.specs.Lookups.{file_at};
 ghost use Rattle.gx_schema.specs.WellFormed.{IsWellFormed};
 ghost use Rattle.gx_commands.specs.Commands.{IsOfSchema, IsFindOf, conds_of, inside_after};
 ghost use Rattle.gx_commands.specs.Lines.{longest_line, script_lines};
-ghost use Rattle.gx_stack.specs.Seen.{tree_of};
-ghost use Rattle.gx_types.specs.Nodes.{AreNodes, tree_at};
+ghost use Rattle.gx_types.specs.Nodes.{AreNodes};
 ghost use Rattle.gx_planner.specs.Plans.{least_plan};
 ghost use Rattle.gx_planner.specs.Texts.{plan_text};
 ghost use Rattle.gx_commands.specs.declared.command.LineWhy.{LineWhy};
@@ -20,9 +18,9 @@ use gx_finds::indexed_fields;
 use gx_planner::{plan, plan_line};
 use gx_play::{PlayEnd, next_line, placed_command, say_all};
 use gx_ports::Stop;
-use gx_schema::{FileDef, Schema};
-use gx_stack::Node;
-use gx_types::{AnyMapping, Built};
+use gx_schema::Schema;
+use gx_states::{file_def, file_node};
+use gx_types::Built;
 use gx_values::{NoMemory, Octets};
 use std::alloc::Global;
 
@@ -135,20 +133,6 @@ fn find_line(
     let file = file_def(schema, find.file);
     let indexed = indexed_fields(alloc, file, file_node(built, find.file))?;
     plan_line(alloc, schema, number, find, plan(find, &indexed))
-}
-
-fn file_def(schema: &Schema, file: u16) -> &FileDef
-    requires { file < length schema.now.files }
-    ensures { result.now ≡ file_at schema.now file }
-{
-    &schema.files.0[usize::from(file)]
-}
-
-fn file_node(built: &Built, file: u16) -> &Node<AnyMapping>
-    requires { file < length built.now.files }
-    ensures { tree_of result.now ≡ tree_at built.now.files file }
-{
-    &built.files.0[usize::from(file)]
 }
 
 // Whether a transaction is open behind the command.

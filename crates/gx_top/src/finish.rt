@@ -1,11 +1,13 @@
-// How a script that was played ends for the request.
-ghost use Rattle.std.specs.Prelude.{◌≡◌, ◌≢◌, ◌≤◌, ◌⊎◌, false, IsTrue, IsErrOf};
+// How a script that was played, or leaves that were examined, end for the request.
+ghost use Rattle.std.specs.Prelude.{◌≡◌, ◌≢◌, ◌≤◌, ◌⊎◌, Ok, false, IsTrue, IsErrOf};
 ghost use Rattle.gx_device.specs.Faults.{Rose};
-ghost use Rattle.gx_play.specs.Say.{SameDevices};
+ghost use Rattle.gx_play.specs.Say.{OnlySays, SameDevices};
 ghost use Rattle.gx_play.specs.Endings.{IsFinished, is_fault};
+ghost use Rattle.gx_top.specs.Found.{IsTold};
 
-use gx_device::Machine;
-use gx_play::{Ending, Status, end};
+use gx_device::{Failed, Machine};
+use gx_play::{Ending, Status, end, say_all};
+use gx_values::Octets;
 use std::alloc::Global;
 
 /// Says the line of the end of a play, where it has one, and answers the status. After a failed call
@@ -23,5 +25,40 @@ pub fn finish<M: Machine>(alloc: Global, played: Result<(), Ending<'_>>, machine
     match played {
         Ok(()) => Status::Done,
         Err(ending) => end(alloc, ending, machine),
+    }
+}
+
+/// Says a text that was found whole, or the line of the ending in its place, and answers the status.
+pub fn tell<M: Machine>(alloc: Global, found: Result<Octets, Ending<'_>>, machine: &mut M) -> Status
+    ensures told { IsTrue M.tells →
+        IsTold found.entry (M.content machine.old) (M.content machine.new) result }
+    ensures outside { result ≡ Status.Outside →
+        IsErrOf found.entry Ending.Fault ⊎ Rose (M.faults machine.old) (M.faults machine.new) }
+    ensures no_fault { result ≢ Status.Outside → is_fault found.entry ≡ false }
+    ensures rest { OnlySays (M.content machine.old) (M.content machine.new) }
+    ensures devices { SameDevices (M.content machine.old) (M.content machine.new) }
+    ensures counted { result ≢ Status.Outside → M.faults machine.new ≡ M.faults machine.old }
+    ensures later { M.faults machine.old ≤ M.faults machine.new }
+{
+    match found {
+        Ok(text) => say_text(&text, machine),
+        Err(ending) => end(alloc, ending, machine),
+    }
+}
+
+// Says a text whole.
+fn say_text<M: Machine>(text: &Octets, machine: &mut M) -> Status
+    ensures told { IsTrue M.tells →
+        IsTold (Ok text.now) (M.content machine.old) (M.content machine.new) result }
+    ensures outside { result ≡ Status.Outside →
+        Rose (M.faults machine.old) (M.faults machine.new) }
+    ensures rest { OnlySays (M.content machine.old) (M.content machine.new) }
+    ensures devices { SameDevices (M.content machine.old) (M.content machine.new) }
+    ensures counted { result ≢ Status.Outside → M.faults machine.new ≡ M.faults machine.old }
+    ensures later { M.faults machine.old ≤ M.faults machine.new }
+{
+    match say_all(machine, text.as_slice()) {
+        Ok(()) => Status::Done,
+        Err(Failed) => Status::Outside,
     }
 }

@@ -6,11 +6,13 @@ mod check;
 mod explain;
 mod explanation;
 mod finish;
+mod inspect;
 mod laws;
 mod make_database;
 mod request;
 mod run_script;
 mod try_script;
+mod work;
 
 pub use laws::{one_list_of_maps, one_reason, one_text};
 pub use request::top;

@@ -4,7 +4,7 @@ ghost use Rattle.gx_device.specs.Content.{SameContent};
 ghost use Rattle.gx_device.specs.Faults.{Rose};
 ghost use Rattle.gx_schema.specs.WellFormed.{IsWellFormed};
 ghost use Rattle.gx_model.specs.States.{empty_state};
-ghost use Rattle.gx_engine.specs.Steps.{AreFor};
+ghost use Rattle.gx_states.specs.Internal.{AreFor};
 ghost use Rattle.gx_requests.specs.Words.{trying, request_words};
 ghost use Rattle.gx_play.specs.Endings.{IsPlayEnding, is_fault};
 ghost use Rattle.gx_play.specs.Plays.{IsPlayedAs};

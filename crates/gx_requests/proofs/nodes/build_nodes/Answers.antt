@@ -1,5 +1,5 @@
 use Rattle.std.proofs.Common.{refl}
-use Rattle.gx_engine.proofs.StartLemmas.{are_storable}
+use Rattle.gx_states.proofs.StartLemmas.{are_storable}
 use Rattle.gx_requests.proofs.nodes.build_nodes.Goals as goal
 
 pub returns-clause-built : goal.returns-clause-built

@@ -1,9 +1,9 @@
-use Rattle.std.proofs.Common.{◌≡◌, true, refl, sym, ap, subst, ◌∙◌, arith, length}
+use Rattle.std.proofs.Common.{◌≡◌, true, refl, sym, ap, subst, ◌∙◌, ◌<◌, arith, length}
 use Rattle.gx_equation.specs.Seen.{definitions_of}
 use Rattle.gx_typing.specs.declared.typing.Typing.{Typing}
-use Rattle.gx_engine.proofs.StartLemmas.{are_storable}
+use Rattle.gx_states.proofs.StartLemmas.{are_storable}
 use Rattle.gx_leaves.specs.Kinds.{are_built}
-use Rattle.gx_requests.proofs.LeafLemmas.{leaves_built}
+use Rattle.gx_requests.proofs.LeafLemmas.{leaves_built, some_leaves}
 use Rattle.gx_requests.proofs.opened.build_stored.Goals as goal
 
 pub returns-clause-built : goal.returns-clause-built
@@ -31,5 +31,6 @@ returns-clause-stored c =
         c.requires.well_formed,
       );
       short = omega (arith, c.requires.short, ap (λ t. length t) c.in_ok-schema_text.ensures.exact, ap (λ t. length t) c.in_ok-equation_text.ensures.text);
+      some = subst (λ ks. 0 < length ks) (ap (λ (t : Typing). t.specs) (sym c.requires.leaves_are ∙ c.in_ok-built.ensures.leaves)) (some_leaves schema ds c.requires.rules c.requires.written c.requires.typed);
       kinds = subst (λ ks. are_built ks ≡ true) (ap (λ (t : Typing). t.specs) (sym c.requires.leaves_are ∙ c.in_ok-built.ensures.leaves)) (leaves_built schema ds c.requires.written);
     }

@@ -1,7 +1,7 @@
 use Rattle.std.proofs.Common.{refl, sym, subst, List, ℕ}
 use Rattle.gx_requests.specs.Requests.{IsText, IsAsked}
 use Rattle.gx_requests.specs.Words.{request_words}
-use Rattle.gx_requests.proofs.RequestLemmas.{all_accepted, all_unaccepted}
+use Rattle.gx_requests.proofs.RequestLemmas.{all_accepted, all_unaccepted, two_counted, two_there}
 use Rattle.gx_requests.proofs.reading.read_texts.Goals as goal
 
 pub returns-clause-accepted : goal.returns-clause-accepted
@@ -12,8 +12,8 @@ returns-clause-accepted g c = λ told a counted.
       schema_name = c.args.schema.now;
       equation_name = c.args.equation.now;
       words_are = refl;
-      counted = counted;
-      schema_there = subst (λ (text : List ℕ). IsText texts c.args.schema.now text) (sym c.deref.ensures.value) (c.in_ok-schema_text.ensures.text told);
+      counted = two_counted a counted;
+      schema_there = two_there a texts c.args.schema.now c.deref.result.now counted (subst (λ (text : List ℕ). IsText texts c.args.schema.now text) (sym c.deref.ensures.value) (c.in_ok-schema_text.ensures.text told));
       equation_there =
           subst (λ (text : List ℕ). IsText texts c.args.equation.now text) (sym c.deref-2.ensures.value)
           (subst (λ aside. IsText aside.texts c.args.equation.now c.in_ok-equation_text.equation_text.items) c.in_ok-schema_text.ensures.content.aside (c.in_ok-equation_text.ensures.text told));
@@ -28,8 +28,8 @@ returns-clause-unaccepted g c = λ told a counted.
       schema_name = c.args.schema.now;
       equation_name = c.args.equation.now;
       words_are = refl;
-      counted = counted;
-      schema_there = subst (λ (text : List ℕ). IsText texts c.args.schema.now text) (sym c.deref.ensures.value) (c.in_ok-schema_text.ensures.text told);
+      counted = two_counted a counted;
+      schema_there = two_there a texts c.args.schema.now c.deref.result.now counted (subst (λ (text : List ℕ). IsText texts c.args.schema.now text) (sym c.deref.ensures.value) (c.in_ok-schema_text.ensures.text told));
       equation_there =
           subst (λ (text : List ℕ). IsText texts c.args.equation.now text) (sym c.deref-2.ensures.value)
           (subst (λ aside. IsText aside.texts c.args.equation.now c.in_ok-equation_text.equation_text.items) c.in_ok-schema_text.ensures.content.aside (c.in_ok-equation_text.ensures.text told));

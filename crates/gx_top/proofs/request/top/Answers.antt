@@ -1,10 +1,13 @@
-use Rattle.std.proofs.Common.{refl, sym, subst, inl}
+use Rattle.std.proofs.Common.{[], refl, sym, subst, inl}
 use Rattle.gx_top.specs.Tries.{IsEnd, IsAsDue}
-use Rattle.gx_requests.specs.Words.{texts_of, checking, trying, explaining, making, running, IsRequest}
+use Rattle.gx_requests.specs.Words.{texts_of, checking, trying, explaining, making, running, inspecting, working, IsRequest}
 use Rattle.gx_play.specs.declared.ending.Ending.TheVariants as ending
 use Rattle.gx_top.proofs.EndLemmas.{unprepared_end, unprepared_due}
-use Rattle.gx_top.proofs.MakeLemmas.{made_by_words, not_made_too, not_checking, not_trying, not_explaining, not_running}
-use Rattle.gx_top.proofs.RanLemmas.{not_ran, ran_by_words, check_is_no_run, try_is_no_run, explain_is_no_run, make_is_no_run}
+use Rattle.gx_top.proofs.MakeLemmas.{made_by_words, not_made_too, not_checking, not_trying, not_explaining, not_running, not_inspecting}
+use Rattle.gx_top.proofs.RanLemmas.{not_ran, ran_by_words, check_is_no_run, try_is_no_run, explain_is_no_run, make_is_no_run, inspect_is_no_run}
+use Rattle.gx_top.proofs.ExamineLemmas.{inspected_by_words, not_inspected}
+use Rattle.gx_top.proofs.WorkLemmas.{worked_by_words, not_worked}
+use Rattle.gx_top.proofs.CompleteLemmas.{checking_not_inspecting, trying_not_inspecting, explaining_not_inspecting, making_not_inspecting, running_not_inspecting, checking_not_working, trying_not_working, explaining_not_working, making_not_working, running_not_working, inspecting_not_working, working_not_making, working_not_running, working_not_inspecting}
 use Rattle.gx_top.proofs.request.top.Goals as goal
 
 pub returns-in-Some-Check-clause-said : goal.returns-in-Some-Check-clause-said
@@ -133,3 +136,114 @@ returns-in-Some-Run-clause-ran g c = λ told device schema equation too free.
 
 pub returns-in-None-clause-ran : goal.returns-in-None-clause-ran
 returns-in-None-clause-ran g c = λ told device schema equation too free. absurd (c.in-None.ensures.none refl (running device) schema equation tt too)
+
+pub returns-in-Some-Inspect-clause-said : goal.returns-in-Some-Inspect-clause-said
+returns-in-Some-Inspect-clause-said g c = λ told free.
+    let is = subst (IsRequest (texts_of c.args.words.now)) c.in-Some-Inspect.field-0-is c.in-Some-Inspect.ensures.some in
+    subst (λ w. IsEnd w (g.M.Device.content c.args.machine) (g.M.Device.content c.inspect.result.1) c.inspect.result.0) (sym is)
+    (c.inspect.ensures.said (record { told = told; free = free (inspecting _) _ _ tt is }))
+
+pub returns-in-Some-Inspect-clause-due : goal.returns-in-Some-Inspect-clause-due
+returns-in-Some-Inspect-clause-due g c = λ told free.
+    let is = subst (IsRequest (texts_of c.args.words.now)) c.in-Some-Inspect.field-0-is c.in-Some-Inspect.ensures.some in
+    subst (λ w. IsAsDue w (g.M.Device.content c.args.machine) c.inspect.result.0) (sym is)
+    (c.inspect.ensures.due (record { told = told; free = free (inspecting _) _ _ tt is }))
+
+pub returns-in-Some-Inspect-clause-made : goal.returns-in-Some-Inspect-clause-made
+returns-in-Some-Inspect-clause-made g c = λ told.
+    not_made_too (texts_of c.args.words.now) (inspecting _) _ _ (g.M.Device.content c.args.machine) (g.M.Device.content c.inspect.result.1) c.inspect.result.0 (subst (IsRequest (texts_of c.args.words.now)) c.in-Some-Inspect.field-0-is c.in-Some-Inspect.ensures.some) (not_inspecting _)
+
+pub returns-in-Some-Inspect-clause-ran : goal.returns-in-Some-Inspect-clause-ran
+returns-in-Some-Inspect-clause-ran g c = λ told.
+    not_ran (texts_of c.args.words.now) (inspecting _) _ _ (g.M.Device.content c.args.machine) (g.M.Device.content c.inspect.result.1) c.inspect.result.0 (subst (IsRequest (texts_of c.args.words.now)) c.in-Some-Inspect.field-0-is c.in-Some-Inspect.ensures.some) (inspect_is_no_run _)
+
+pub returns-in-Some-Inspect-clause-inspected : goal.returns-in-Some-Inspect-clause-inspected
+returns-in-Some-Inspect-clause-inspected g c = λ told device schema equation too free.
+    let is = subst (IsRequest (texts_of c.args.words.now)) c.in-Some-Inspect.field-0-is c.in-Some-Inspect.ensures.some in
+    inspected_by_words (texts_of c.args.words.now) _ device _ schema _ equation (g.M.Device.content c.args.machine) (g.M.Device.content c.inspect.result.1) c.inspect.result.0 is too
+    (c.inspect.ensures.left (record { told = told; free = free }))
+
+pub returns-in-None-clause-inspected : goal.returns-in-None-clause-inspected
+returns-in-None-clause-inspected g c = λ told device schema equation too free. absurd (c.in-None.ensures.none refl (inspecting device) schema equation tt too)
+
+pub returns-in-Some-Check-clause-inspected : goal.returns-in-Some-Check-clause-inspected
+returns-in-Some-Check-clause-inspected g c = λ told.
+    not_inspected (texts_of c.args.words.now) checking _ _ (g.M.Device.content c.args.machine) (g.M.Device.content c.check-status.new.machine) c.check-status.result (subst (IsRequest (texts_of c.args.words.now)) c.in-Some-Check.field-0-is c.in-Some-Check.ensures.some) checking_not_inspecting
+
+pub returns-in-Some-Try-clause-inspected : goal.returns-in-Some-Try-clause-inspected
+returns-in-Some-Try-clause-inspected g c = λ told.
+    not_inspected (texts_of c.args.words.now) trying _ _ (g.M.Device.content c.args.machine) (g.M.Device.content c.try_script.result.1) c.try_script.result.0 (subst (IsRequest (texts_of c.args.words.now)) c.in-Some-Try.field-0-is c.in-Some-Try.ensures.some) trying_not_inspecting
+
+pub returns-in-Some-Explain-clause-inspected : goal.returns-in-Some-Explain-clause-inspected
+returns-in-Some-Explain-clause-inspected g c = λ told.
+    not_inspected (texts_of c.args.words.now) explaining _ _ (g.M.Device.content c.args.machine) (g.M.Device.content c.explain-status.new.machine) c.explain-status.result (subst (IsRequest (texts_of c.args.words.now)) c.in-Some-Explain.field-0-is c.in-Some-Explain.ensures.some) explaining_not_inspecting
+
+pub returns-in-Some-Run-clause-inspected : goal.returns-in-Some-Run-clause-inspected
+returns-in-Some-Run-clause-inspected g c = λ told.
+    not_inspected (texts_of c.args.words.now) (running _) _ _ (g.M.Device.content c.args.machine) (g.M.Device.content c.run_script.result.1) c.run_script.result.0 (subst (IsRequest (texts_of c.args.words.now)) c.in-Some-Run.field-0-is c.in-Some-Run.ensures.some) (running_not_inspecting _)
+
+pub returns-in-Some-Make-clause-inspected : goal.returns-in-Some-Make-clause-inspected
+returns-in-Some-Make-clause-inspected g c = λ told.
+    let is = subst (IsRequest (texts_of c.args.words.now)) c.in-Some-Make.field-0-is c.in-Some-Make.ensures.some in
+    not_inspected (texts_of c.args.words.now) (making _ is.0) _ _ (g.M.Device.content c.args.machine) (g.M.Device.content c.make_database.result.1) c.make_database.result.0 is.2 (making_not_inspecting _ is.0)
+
+pub returns-in-Some-Work-clause-said : goal.returns-in-Some-Work-clause-said
+returns-in-Some-Work-clause-said g c = λ told free.
+    let is = subst (IsRequest (texts_of c.args.words.now)) c.in-Some-Work.field-0-is c.in-Some-Work.ensures.some in
+    subst (λ w. IsEnd w (g.M.Device.content c.args.machine) (g.M.Device.content c.work.result.1) c.work.result.0) (sym is.4)
+    (c.work.ensures.said (record { told = told; free = free (working _ is.0 is.1) [] _ tt is.4 }) is.0 is.1 is.2 is.3)
+
+pub returns-in-Some-Work-clause-due : goal.returns-in-Some-Work-clause-due
+returns-in-Some-Work-clause-due g c = λ told free.
+    let is = subst (IsRequest (texts_of c.args.words.now)) c.in-Some-Work.field-0-is c.in-Some-Work.ensures.some in
+    subst (λ w. IsAsDue w (g.M.Device.content c.args.machine) c.work.result.0) (sym is.4)
+    (c.work.ensures.due (record { told = told; free = free (working _ is.0 is.1) [] _ tt is.4 }) is.0 is.1 is.2 is.3)
+
+pub returns-in-Some-Work-clause-made : goal.returns-in-Some-Work-clause-made
+returns-in-Some-Work-clause-made g c = λ told.
+    let is = subst (IsRequest (texts_of c.args.words.now)) c.in-Some-Work.field-0-is c.in-Some-Work.ensures.some in
+    not_made_too (texts_of c.args.words.now) (working _ is.0 is.1) [] _ (g.M.Device.content c.args.machine) (g.M.Device.content c.work.result.1) c.work.result.0 is.4 (working_not_making _ is.0 is.1)
+
+pub returns-in-Some-Work-clause-ran : goal.returns-in-Some-Work-clause-ran
+returns-in-Some-Work-clause-ran g c = λ told.
+    let is = subst (IsRequest (texts_of c.args.words.now)) c.in-Some-Work.field-0-is c.in-Some-Work.ensures.some in
+    not_ran (texts_of c.args.words.now) (working _ is.0 is.1) [] _ (g.M.Device.content c.args.machine) (g.M.Device.content c.work.result.1) c.work.result.0 is.4 (working_not_running _ is.0 is.1)
+
+pub returns-in-Some-Work-clause-inspected : goal.returns-in-Some-Work-clause-inspected
+returns-in-Some-Work-clause-inspected g c = λ told.
+    let is = subst (IsRequest (texts_of c.args.words.now)) c.in-Some-Work.field-0-is c.in-Some-Work.ensures.some in
+    not_inspected (texts_of c.args.words.now) (working _ is.0 is.1) [] _ (g.M.Device.content c.args.machine) (g.M.Device.content c.work.result.1) c.work.result.0 is.4 (working_not_inspecting _ is.0 is.1)
+
+pub returns-in-Some-Work-clause-worked : goal.returns-in-Some-Work-clause-worked
+returns-in-Some-Work-clause-worked g c = λ told device digits number schema equation counted too free.
+    let is = subst (IsRequest (texts_of c.args.words.now)) c.in-Some-Work.field-0-is c.in-Some-Work.ensures.some in
+    worked_by_words (texts_of c.args.words.now) _ is.0 is.1 device digits number [] schema _ equation (g.M.Device.content c.args.machine) (g.M.Device.content c.work.result.1) c.work.result.0 is.4 too
+    (c.work.ensures.left (record { told = told; free = free }))
+
+pub returns-in-None-clause-worked : goal.returns-in-None-clause-worked
+returns-in-None-clause-worked g c = λ told device digits number schema equation counted too free. absurd (c.in-None.ensures.none refl (working device digits number) schema equation counted too)
+
+pub returns-in-Some-Check-clause-worked : goal.returns-in-Some-Check-clause-worked
+returns-in-Some-Check-clause-worked g c = λ told.
+    not_worked (texts_of c.args.words.now) checking _ _ (g.M.Device.content c.args.machine) (g.M.Device.content c.check-status.new.machine) c.check-status.result (subst (IsRequest (texts_of c.args.words.now)) c.in-Some-Check.field-0-is c.in-Some-Check.ensures.some) checking_not_working
+
+pub returns-in-Some-Try-clause-worked : goal.returns-in-Some-Try-clause-worked
+returns-in-Some-Try-clause-worked g c = λ told.
+    not_worked (texts_of c.args.words.now) trying _ _ (g.M.Device.content c.args.machine) (g.M.Device.content c.try_script.result.1) c.try_script.result.0 (subst (IsRequest (texts_of c.args.words.now)) c.in-Some-Try.field-0-is c.in-Some-Try.ensures.some) trying_not_working
+
+pub returns-in-Some-Explain-clause-worked : goal.returns-in-Some-Explain-clause-worked
+returns-in-Some-Explain-clause-worked g c = λ told.
+    not_worked (texts_of c.args.words.now) explaining _ _ (g.M.Device.content c.args.machine) (g.M.Device.content c.explain-status.new.machine) c.explain-status.result (subst (IsRequest (texts_of c.args.words.now)) c.in-Some-Explain.field-0-is c.in-Some-Explain.ensures.some) explaining_not_working
+
+pub returns-in-Some-Run-clause-worked : goal.returns-in-Some-Run-clause-worked
+returns-in-Some-Run-clause-worked g c = λ told.
+    not_worked (texts_of c.args.words.now) (running _) _ _ (g.M.Device.content c.args.machine) (g.M.Device.content c.run_script.result.1) c.run_script.result.0 (subst (IsRequest (texts_of c.args.words.now)) c.in-Some-Run.field-0-is c.in-Some-Run.ensures.some) (running_not_working _)
+
+pub returns-in-Some-Inspect-clause-worked : goal.returns-in-Some-Inspect-clause-worked
+returns-in-Some-Inspect-clause-worked g c = λ told.
+    not_worked (texts_of c.args.words.now) (inspecting _) _ _ (g.M.Device.content c.args.machine) (g.M.Device.content c.inspect.result.1) c.inspect.result.0 (subst (IsRequest (texts_of c.args.words.now)) c.in-Some-Inspect.field-0-is c.in-Some-Inspect.ensures.some) (inspecting_not_working _)
+
+pub returns-in-Some-Make-clause-worked : goal.returns-in-Some-Make-clause-worked
+returns-in-Some-Make-clause-worked g c = λ told.
+    let is = subst (IsRequest (texts_of c.args.words.now)) c.in-Some-Make.field-0-is c.in-Some-Make.ensures.some in
+    not_worked (texts_of c.args.words.now) (making _ is.0) _ _ (g.M.Device.content c.args.machine) (g.M.Device.content c.make_database.result.1) c.make_database.result.0 is.2 (making_not_working _ is.0)

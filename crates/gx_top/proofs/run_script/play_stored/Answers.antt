@@ -8,7 +8,7 @@ use Rattle.gx_pages.specs.Paged.{ground_of}
 use Rattle.gx_pages.specs.View.{journal_of}
 use Rattle.gx_store.specs.Store.{machine_of}
 use Rattle.gx_model.specs.States.{State}
-use Rattle.gx_engine.specs.Internal.{AreInternal}
+use Rattle.gx_states.specs.Internal.{AreInternal}
 use Rattle.gx_play.specs.Plays.{IsPlayedAs}
 use Rattle.gx_top.specs.Tasks.{IsSettledIn}
 use Rattle.gx_top.proofs.StoreLemmas.{settled_from}

@@ -1,10 +1,10 @@
 use Rattle.std.proofs.Common.{rules, None, sym, ap, subst, ◌∙◌, arith}
 use Rattle.gx_device.specs.Faults.{Rose}
 use Rattle.gx_memory_leaves.specs.Plain.{kept_of}
-use Rattle.gx_engine.specs.Internal.{AreInternal}
+use Rattle.gx_states.specs.Internal.{AreInternal}
 use Rattle.gx_model.specs.States.{State, empty_state}
 use Rattle.gx_play.specs.Plays.{IsPlayedAs}
-use Rattle.gx_engine.proofs.StartLemmas.{start_state}
+use Rattle.gx_states.proofs.StartLemmas.{start_state}
 use Rattle.gx_play.proofs.OverLemmas.{held_as, unheard}
 use Rattle.gx_play.specs.declared.ending.Ending.TheVariants as ending
 use Rattle.gx_top.proofs.try_script.play_script.Goals as goal

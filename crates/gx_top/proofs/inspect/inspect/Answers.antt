@@ -1,0 +1,61 @@
+use Rattle.std.proofs.Common.{ap, ◌∙◌}
+use Rattle.gx_store.specs.Store.{CanAttach}
+use Rattle.gx_requests.specs.Words.{inspecting, request_words}
+use Rattle.gx_top.proofs.EndLemmas.{unprepared_end, unprepared_due}
+use Rattle.gx_top.proofs.ExamineLemmas.{unprepared_inspected}
+use Rattle.gx_top.proofs.inspect.inspect.Goals as goal
+
+pub returns-in-Ok-clause-said : goal.returns-in-Ok-clause-said
+returns-in-Ok-clause-said g c = λ can.
+    let words = request_words (inspecting c.args.device.now) c.args.schema.now c.args.equation.now in
+    let mid = g.M.Device.content c.prepare_stored.new.machine in
+    let free : CanAttach g.M.Device.tells mid = record { told = can.told; free = ap (λ n. n.shelf.name) c.in-Ok.ensures.content.now ∙ can.free } in
+    c.inspect_stored.ensures.said free words (g.M.Device.content c.args.machine) c.in-Ok.ensures.content (c.in-Ok.ensures.ready can.told (inspecting c.args.device.now) tt)
+
+pub returns-in-Ok-clause-due : goal.returns-in-Ok-clause-due
+returns-in-Ok-clause-due g c = λ can.
+    let words = request_words (inspecting c.args.device.now) c.args.schema.now c.args.equation.now in
+    let mid = g.M.Device.content c.prepare_stored.new.machine in
+    let free : CanAttach g.M.Device.tells mid = record { told = can.told; free = ap (λ n. n.shelf.name) c.in-Ok.ensures.content.now ∙ can.free } in
+    c.inspect_stored.ensures.due free words (g.M.Device.content c.args.machine) c.in-Ok.ensures.content (c.in-Ok.ensures.ready can.told (inspecting c.args.device.now) tt)
+
+pub returns-in-Err-clause-said : goal.returns-in-Err-clause-said
+returns-in-Err-clause-said g c = λ can.
+    let words = request_words (inspecting c.args.device.now) c.args.schema.now c.args.equation.now in
+    unprepared_end words (g.M.Device.content c.args.machine) (g.M.Device.content c.prepare_stored.new.machine) (g.M.Device.content c.end-status.new.machine) _ _ c.in-Err.ending c.end-status.result
+    (c.in-Err.ensures.unprepared can.told (inspecting c.args.device.now) tt) c.in-Err.ensures.content c.end-status.ensures.devices
+    (record {
+      status_is = c.end-status.ensures.status;
+      said = c.end-status.ensures.said can.told;
+      memory = c.end-status.ensures.memory can.told;
+      cut = c.end-status.ensures.cut can.told;
+      fault = c.end-status.ensures.fault;
+      silent = c.end-status.ensures.silent can.told;
+      script = c.end-status.ensures.rest.script;
+    })
+
+pub returns-in-Err-clause-due : goal.returns-in-Err-clause-due
+returns-in-Err-clause-due g c = λ can.
+    let words = request_words (inspecting c.args.device.now) c.args.schema.now c.args.equation.now in
+    unprepared_due words (g.M.Device.content c.args.machine) (g.M.Device.content c.prepare_stored.new.machine) (g.M.Device.content c.end-status.new.machine) _ _ c.in-Err.ending c.end-status.result
+    (c.in-Err.ensures.unprepared can.told (inspecting c.args.device.now) tt)
+    (record {
+      status_is = c.end-status.ensures.status;
+      said = c.end-status.ensures.said can.told;
+      memory = c.end-status.ensures.memory can.told;
+      cut = c.end-status.ensures.cut can.told;
+      fault = c.end-status.ensures.fault;
+      silent = c.end-status.ensures.silent can.told;
+      script = c.end-status.ensures.rest.script;
+    })
+
+pub returns-in-Ok-clause-left : goal.returns-in-Ok-clause-left
+returns-in-Ok-clause-left g c = λ can.
+    let words = request_words (inspecting c.args.device.now) c.args.schema.now c.args.equation.now in
+    let mid = g.M.Device.content c.prepare_stored.new.machine in
+    let free : CanAttach g.M.Device.tells mid = record { told = can.told; free = ap (λ n. n.shelf.name) c.in-Ok.ensures.content.now ∙ can.free } in
+    c.inspect_stored.ensures.left free words (g.M.Device.content c.args.machine) c.in-Ok.ensures.content (c.in-Ok.ensures.ready can.told (inspecting c.args.device.now) tt)
+
+pub returns-in-Err-clause-left : goal.returns-in-Err-clause-left
+returns-in-Err-clause-left g c = λ can.
+    unprepared_inspected (request_words (inspecting c.args.device.now) c.args.schema.now c.args.equation.now) c.args.device.now (g.M.Device.content c.args.machine) (g.M.Device.content c.prepare_stored.new.machine) (g.M.Device.content c.end-status.new.machine) c.end-status.result c.in-Err.ensures.content.now c.end-status.ensures.devices
