@@ -2,6 +2,7 @@
 use gx_device::{Device, Failed, FetchStop, Machine};
 use gx_memory_machine::MemoryMachine;
 use std::alloc::Global;
+use std::process::Abort;
 use std::test::Fail;
 
 fn machine(alloc: Global, calls: u32, bytes: u32) -> Result<MemoryMachine, Fail> {
@@ -26,28 +27,55 @@ fn a_script_is_heard_in_pieces(rt: HostRuntime) -> Result<(), Fail> {
     Ok(())
 }
 
-// Each row: the calls with room, the bytes with room, the call that fails, and what is said.
+// A machine with room for so many calls and bytes, of which this call fails.
+fn failing_machine(
+    alloc: Global,
+    (calls, bytes): (u32, u32),
+    failing: u32,
+) -> Result<MemoryMachine, Fail> {
+    let mut machine = machine(alloc, calls, 2)?;
+    machine.reserve(alloc, 0, bytes)?;
+    machine.fail_at(alloc, failing)?;
+    Ok(machine)
+}
+
+// Says three pieces, each of which is taken whole or not at all.
+fn say_pieces(rt: &impl Abort, machine: &mut MemoryMachine) {
+    for piece in ["one", "three", "two"] {
+        let answer = machine.say(piece.as_bytes());
+        assert!(rt; answer == Ok(piece.len()) || answer == Err(Failed));
+    }
+}
+
+// Each row: the calls and the bytes with room, the call that fails, and what is said.
 #[test]
 fn calls_fail_by_number_and_by_room(rt: HostRuntime) -> Result<(), Fail> {
-    for (calls, bytes, failing, said) in [
-        (4, 11, 9, "onethreetwo"),
-        (4, 11, 1, "onetwo"),
-        (2, 11, 9, "onethree"),
-        (0, 11, 9, ""),
-        (4, 10, 9, "onethree"),
-        (4, 6, 2, "onetwo"),
-        (4, 6, 1, "one"),
+    for (room, failing, said) in [
+        ((4, 11), 9, "onethreetwo"),
+        ((4, 11), 1, "onetwo"),
+        ((2, 11), 9, "onethree"),
+        ((0, 11), 9, ""),
+        ((4, 10), 9, "onethree"),
+        ((4, 6), 2, "onetwo"),
+        ((4, 6), 1, "one"),
     ] {
-        let mut machine = machine(rt.alloc(), calls, 2)?;
-        machine.reserve(rt.alloc(), 0, bytes)?;
-        machine.fail_at(rt.alloc(), failing)?;
-        for piece in ["one", "three", "two"] {
-            let answer = machine.say(piece.as_bytes());
-            assert!(rt; answer == Ok(piece.len()) || answer == Err(Failed));
-        }
+        let mut machine = failing_machine(rt.alloc(), room, failing)?;
+        say_pieces(&rt, &mut machine);
         assert!(rt; machine.said() == said.as_bytes());
     }
     Ok(())
+}
+
+// Expects a text of this name, of at most so many bytes.
+fn expect_text(
+    rt: &impl Abort,
+    alloc: Global,
+    machine: &mut MemoryMachine,
+    (name, limit): (&str, u32),
+    bytes: &[u8],
+) {
+    let text = machine.fetch(alloc, name, limit).expect(rt, "a text");
+    assert!(rt; text.as_slice() == bytes);
 }
 
 #[test]
@@ -55,8 +83,7 @@ fn texts_are_fetched(rt: HostRuntime) -> Result<(), Fail> {
     let alloc = rt.alloc();
     let mut machine = machine(alloc, 0, 0)?;
     machine.fail_at(alloc, 3)?;
-    let text = machine.fetch(alloc, "S", 7).expect(&rt, "a text");
-    assert!(rt; text.as_slice() == b"new one".as_slice());
+    expect_text(&rt, alloc, &mut machine, ("S", 7), b"new one");
     for (name, limit, stop) in [
         ("E", 4, FetchStop::TooLong),
         ("D", 4, FetchStop::Missing),
@@ -64,7 +91,6 @@ fn texts_are_fetched(rt: HostRuntime) -> Result<(), Fail> {
     ] {
         assert!(rt; machine.fetch(alloc, name, limit).err() == Some(stop));
     }
-    let text = machine.fetch(alloc, "E", 5).expect(&rt, "a text");
-    assert!(rt; text.as_slice() == b"12345".as_slice());
+    expect_text(&rt, alloc, &mut machine, ("E", 5), b"12345");
     Ok(())
 }

@@ -5,6 +5,7 @@ use gx_memory_machine::MemoryMachine;
 use gx_ports::{Entries, Leaves};
 use gx_values::{KeyBuf, Span};
 use std::alloc::Global;
+use std::process;
 use std::test::Fail;
 
 #[derive(Clone, Copy)]
@@ -86,36 +87,50 @@ fn carry_out(
     Ok(())
 }
 
-// The entries of one of two leaves inside a span.
-fn selected(
+// Whether these are the entries of one of two leaves inside a span.
+fn has_entries(
     alloc: Global,
     leaves: &mut PlainLeaves<MemoryMachine>,
     leaf: u32,
     (lo, hi): (&str, &str),
-) -> Result<Vec<u8>, Fail> {
+    stated: &str,
+) -> Result<bool, Fail> {
     if leaves.leaves() != 2 || leaf >= 2 {
         return Err("two leaves".into());
     }
     let mut found = Entries::new(alloc);
-    let span = span(lo.as_bytes(), hi.as_bytes());
-    leaves.select(alloc, leaf, &span, &mut found)?;
-    text(alloc, &found)
+    leaves.select(alloc, leaf, &span(lo.as_bytes(), hi.as_bytes()), &mut found)?;
+    Ok(text(alloc, &found)?.as_slice() == stated.as_bytes())
+}
+
+// Two leaves on the second of which these steps were carried out.
+fn changed(alloc: Global, steps: &[Step]) -> Result<PlainLeaves<MemoryMachine>, Fail> {
+    let mut leaves = made(alloc, MemoryMachine::new(alloc)?)?;
+    for step in steps {
+        carry_out(alloc, &mut leaves, *step)?;
+    }
+    Ok(leaves)
+}
+
+// Expects an empty leaf, and these entries in the second one after it is laid out anew.
+fn expect_second(
+    rt: &impl process::Abort,
+    alloc: Global,
+    leaves: &mut PlainLeaves<MemoryMachine>,
+    stated: &str,
+) -> Result<(), Fail> {
+    assert!(rt; has_entries(alloc, leaves, 0, ("", ""), "")?);
+    assert!(rt; leaves.leaves() == 2);
+    leaves.reorganize(alloc, 1)?;
+    assert!(rt; has_entries(alloc, leaves, 1, ("", ""), stated)?);
+    Ok(())
 }
 
 #[test]
 fn changes_are_kept_or_given_up(rt: HostRuntime) -> Result<(), Fail> {
-    let alloc = rt.alloc();
     for (steps, after) in CHANGES {
-        let mut leaves = made(alloc, MemoryMachine::new(alloc)?)?;
-        for step in steps {
-            carry_out(alloc, &mut leaves, *step)?;
-        }
-        let other = selected(alloc, &mut leaves, 0, ("", ""))?;
-        assert!(rt; other.is_empty());
-        assert!(rt; leaves.leaves() == 2);
-        leaves.reorganize(alloc, 1)?;
-        let changed = selected(alloc, &mut leaves, 1, ("", ""))?;
-        assert!(rt; changed.as_slice() == after.as_bytes());
+        let mut leaves = changed(rt.alloc(), steps)?;
+        expect_second(&rt, rt.alloc(), &mut leaves, after)?;
     }
     Ok(())
 }
@@ -133,29 +148,41 @@ const SPANS: [((&str, &str), &str); 9] = [
     (("c", "c"), ""),
 ];
 
-#[test]
-fn spans_select_in_order(rt: HostRuntime) -> Result<(), Fail> {
-    let alloc = rt.alloc();
-    let mut leaves = made(alloc, MemoryMachine::new(alloc)?)?;
+// Puts keys out of order into the first of two leaves.
+fn put_keys(alloc: Global, leaves: &mut PlainLeaves<MemoryMachine>) -> Result<(), Fail> {
     for key in ["ba", "a", "abc", "", "b", "ab"] {
-        assert!(rt; leaves.leaves() == 2);
+        if leaves.leaves() != 2 {
+            return Err("two leaves".into());
+        }
         let key = key.as_bytes();
         leaves.put(alloc, 0, &key[..key.len().min(3)], b"")?;
-    }
-    for (ends, inside) in SPANS {
-        let found = selected(alloc, &mut leaves, 0, ends)?;
-        assert!(rt; found.as_slice() == inside.as_bytes());
     }
     Ok(())
 }
 
 #[test]
-fn a_device_is_kept(rt: HostRuntime) -> Result<(), Fail> {
+fn spans_select_in_order(rt: HostRuntime) -> Result<(), Fail> {
     let alloc = rt.alloc();
+    let mut leaves = made(alloc, MemoryMachine::new(alloc)?)?;
+    put_keys(alloc, &mut leaves)?;
+    for (ends, inside) in SPANS {
+        assert!(rt; has_entries(alloc, &mut leaves, 0, ends, inside)?);
+    }
+    Ok(())
+}
+
+// A machine with a script, and room to say four bytes.
+fn heard_machine(alloc: Global) -> Result<MemoryMachine, Fail> {
     let mut machine = MemoryMachine::new(alloc)?;
     machine.set_script(alloc, b"heard")?;
     machine.reserve(alloc, 2, 4)?;
-    let mut leaves = made(alloc, machine)?;
+    Ok(machine)
+}
+
+#[test]
+fn a_device_is_kept(rt: HostRuntime) -> Result<(), Fail> {
+    let alloc = rt.alloc();
+    let mut leaves = made(alloc, heard_machine(alloc)?)?;
     let mut into = [0; 8];
     let heard = leaves.hear(&mut into)?;
     assert!(rt; &into[..heard] == b"heard".as_slice());

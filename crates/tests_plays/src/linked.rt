@@ -1,7 +1,7 @@
 // Plays of scripts on links, which are drawn by a seed: the program beside the plain one.
-ghost use Rattle.std.specs.Prelude.{◌<◌};
+ghost use Rattle.std.specs.Prelude.{◌<◌, ◌≤◌, length};
 
-use crate::plays::{LINKED, plain, tried};
+use crate::plays::{LINKED, plain, says};
 use crate::row::check_row;
 use std::alloc::Global;
 use std::test::Fail;
@@ -55,77 +55,106 @@ impl Numbers {
             .wrapping_add(1442695040888963407);
         (self.0 >> 33) % count
     }
+
+    // The digit of a number below this one.
+    fn digit(&mut self, count: u64) -> u8
+        requires some { 0 < count }
+        requires few { count ≤ 10 }
+    {
+        b'0' + self.below(count) as u8
+    }
+
+    fn one_of<'a>(&mut self, lines: &[&'a str]) -> &'a str
+        requires { 0 < length lines.now }
+    {
+        lines[self.below(lines.len() as u64) as usize]
+    }
 }
 
-// A line that changes a few departments and people, and the links between them.
-fn edit(alloc: Global, numbers: &mut Numbers) -> Result<String, Fail> {
-    let dept = numbers.below(4);
-    let emp = numbers.below(8);
-    let other = numbers.below(8);
-    Ok(match numbers.below(12) {
-        0 => format!(in alloc; "insert dept {dept} \"d\"\n")?,
-        1 | 2 => format!(in alloc; "insert emp {emp} \"n\" {other} \"r\"\n")?,
-        3 | 4 => format!(in alloc; "connect works {dept} {emp}\n")?,
-        5 | 6 => format!(in alloc; "connect boss {other} {emp}\n")?,
-        7 => format!(in alloc; "disconnect works {emp}\n")?,
-        8 => format!(in alloc; "disconnect boss {emp}\n")?,
-        9 => format!(in alloc; "update emp {emp} pay {other}\n")?,
-        10 => format!(in alloc; "delete emp {emp}\n")?,
-        _ => format!(in alloc; "delete dept {dept}\n")?,
-    })
+// Lines that change a few departments and people, and the links between them. D stands for a
+// department, and E and O for people.
+const EDITS: [&str; 12] = [
+    "insert dept D \"d\"\n",
+    "insert emp E \"n\" O \"r\"\n",
+    "insert emp E \"n\" O \"r\"\n",
+    "connect works D E\n",
+    "connect works D E\n",
+    "connect boss O E\n",
+    "connect boss O E\n",
+    "disconnect works E\n",
+    "disconnect boss E\n",
+    "update emp E pay O\n",
+    "delete emp E\n",
+    "delete dept D\n",
+];
+
+// Lines that ask.
+const QUESTIONS: [&str; 9] = [
+    "members works D order pay desc\n",
+    "members boss E\n",
+    "owner works E\n",
+    "owner boss E\n",
+    "find emp where eno = E of works D\n",
+    "find emp where pay > 3 and pay <> 5 of boss E\n",
+    "find emp where eno = E and pay < O of boss O\n",
+    "find emp of works D order pay\n",
+    "reorganize works\nreorganize boss\nfind emp order name\n",
+];
+
+// Appends one of the lines, with one of four departments and two of eight people.
+fn push_line(text: &mut Vec<u8>, numbers: &mut Numbers, lines: &[&str]) -> Result<(), Fail>
+    requires { 0 < length lines.now }
+{
+    let (dept, emp, other) = (numbers.digit(4), numbers.digit(8), numbers.digit(8));
+    for byte in numbers.one_of(lines).bytes() {
+        text.push(match byte {
+            b'D' => dept,
+            b'E' => emp,
+            b'O' => other,
+            _ => byte,
+        })?;
+    }
+    Ok(())
 }
 
-// A line that asks.
-fn question(alloc: Global, numbers: &mut Numbers) -> Result<String, Fail> {
-    let dept = numbers.below(4);
-    let emp = numbers.below(8);
-    let other = numbers.below(8);
-    Ok(match numbers.below(9) {
-        0 => format!(in alloc; "members works {dept} order pay desc\n")?,
-        1 => format!(in alloc; "members boss {emp}\n")?,
-        2 => format!(in alloc; "owner works {emp}\n")?,
-        3 => format!(in alloc; "owner boss {emp}\n")?,
-        4 => format!(in alloc; "find emp where eno = {emp} of works {dept}\n")?,
-        5 => format!(in alloc; "find emp where pay > 3 and pay <> 5 of boss {emp}\n")?,
-        6 => format!(in alloc; "find emp where eno = {emp} and pay < {other} of boss {other}\n")?,
-        7 => format!(in alloc; "find emp of works {dept} order pay\n")?,
-        _ => String::from_str(
-            alloc,
-            "reorganize works\nreorganize boss\nfind emp order name\n",
-        )?,
-    })
+// Appends a transaction with edits and questions, which is given up or not.
+fn push_transaction(text: &mut Vec<u8>, numbers: &mut Numbers) -> Result<(), Fail> {
+    text.extend_from_slice(b"begin\n")?;
+    for _ in 0..24 {
+        push_line(text, numbers, &EDITS)?;
+        push_line(text, numbers, &QUESTIONS)?;
+    }
+    let end = if numbers.below(4) == 0 {
+        "abort\n"
+    } else {
+        "commit\n"
+    };
+    text.extend_from_slice(end.as_bytes())?;
+    text.extend_from_slice(b"find emp\nfind dept\n")?;
+    Ok(())
 }
 
-// A script of eight transactions, of which some are given up, each with edits and questions.
-fn script(alloc: Global, seed: u64) -> Result<String, Fail> {
+// A script of eight transactions.
+fn script(alloc: Global, seed: u64) -> Result<Vec<u8>, Fail> {
     let mut numbers = Numbers(seed);
-    let mut text = String::new(alloc);
+    let mut text = Vec::new(alloc);
     for _ in 0..8 {
-        text.push_str("begin\n")?;
-        for _ in 0..24 {
-            text.push_str(edit(alloc, &mut numbers)?.as_str())?;
-            text.push_str(question(alloc, &mut numbers)?.as_str())?;
-        }
-        let end = if numbers.below(4) == 0 {
-            "abort\n"
-        } else {
-            "commit\n"
-        };
-        text.push_str(end)?;
-        text.push_str("find emp\nfind dept\n")?;
+        push_transaction(&mut text, &mut numbers)?;
     }
     Ok(text)
 }
 
 #[test]
 fn links_say_the_same_under_each_linkset(rt: HostRuntime) -> Result<(), Fail> {
-    let alloc = rt.alloc();
     for seed in 0..4 {
-        let script = script(alloc, seed)?;
-        let said = plain(alloc, LINKED, script.as_bytes())?;
+        let script = script(rt.alloc(), seed)?;
+        let said = plain(rt.alloc(), LINKED, &script)?;
         for equation in LINKED_EQUATIONS {
-            let machine = tried(alloc, LINKED, equation, script.as_bytes())?;
-            check_row(&rt, equation, machine.said() == said.as_slice());
+            check_row(
+                &rt,
+                equation,
+                says(rt.alloc(), (LINKED, equation), &script, &said)?,
+            );
         }
     }
     Ok(())

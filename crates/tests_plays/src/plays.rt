@@ -51,11 +51,10 @@ pub(crate) fn plain(alloc: Global, schema: &str, script: &[u8]) -> Result<Vec<u8
     Ok(text.0)
 }
 
-// A machine on which `try` played a script.
-pub(crate) fn tried(
+// A machine with two texts and a script, and room for what is said.
+fn machine(
     alloc: Global,
-    schema: &str,
-    equation: &str,
+    (schema, equation): (&str, &str),
     script: &[u8],
 ) -> Result<MemoryMachine, Fail> {
     let mut machine = MemoryMachine::new(alloc)?;
@@ -63,12 +62,33 @@ pub(crate) fn tried(
     machine.add_text(alloc, "E", equation.as_bytes())?;
     machine.set_script(alloc, script)?;
     machine.reserve(alloc, 1000, 60000)?;
+    Ok(machine)
+}
+
+// The words of a request to try the script.
+fn words(alloc: Global) -> Result<Vec<String>, Fail> {
     let mut words = Vec::new(alloc);
     for word in "try S E".split(' ') {
         words.push(String::from_str(alloc, word)?)?;
     }
-    let (_, machine) = top(alloc, &words, machine);
-    Ok(machine)
+    Ok(words)
+}
+
+// A machine on which `try` played a script.
+fn tried(alloc: Global, texts: (&str, &str), script: &[u8]) -> Result<MemoryMachine, Fail> {
+    let machine = machine(alloc, texts, script)?;
+    Ok(top(alloc, &words(alloc)?, machine).1)
+}
+
+// Whether the program says this of a script.
+pub(crate) fn says(
+    alloc: Global,
+    texts: (&str, &str),
+    script: &[u8],
+    said: &[u8],
+) -> Result<bool, Fail> {
+    let machine = tried(alloc, texts, script)?;
+    Ok(machine.said() == said)
 }
 
 // A script, and what is said of it.
@@ -307,16 +327,25 @@ stopped at line 2: no transaction
 ];
 
 // Commands, refusals and orders on links, and some on records.
+// Expects that the plain program says this of a script, and so does the program under each linkset.
+fn expect_case(rt: &impl Abort, alloc: Global, case: Case) -> Result<(), Fail> {
+    let said = plain(alloc, LINKED, case.script.as_bytes())?;
+    check_row(rt, case.script, said.as_slice() == case.said.as_bytes());
+    for equation in LINKED_EQUATIONS {
+        let script = case.script.as_bytes();
+        check_row(
+            rt,
+            case.script,
+            says(alloc, (LINKED, equation), script, &said)?,
+        );
+    }
+    Ok(())
+}
+
 #[test]
 fn plays_say_what_was_worked_out(rt: HostRuntime) -> Result<(), Fail> {
-    let alloc = rt.alloc();
     for case in PLAIN_CASES {
-        let said = plain(alloc, LINKED, case.script.as_bytes())?;
-        check_row(&rt, case.script, said.as_slice() == case.said.as_bytes());
-        for equation in LINKED_EQUATIONS {
-            let machine = tried(alloc, LINKED, equation, case.script.as_bytes())?;
-            check_row(&rt, case.script, machine.said() == case.said.as_bytes());
-        }
+        expect_case(&rt, rt.alloc(), case)?;
     }
     Ok(())
 }
@@ -520,15 +549,23 @@ find emp where room > "7"
 "#,
 ];
 
+// Expects that the program says the same of a script under each equation as the plain one.
+fn expect_alike(rt: &impl Abort, alloc: Global, script: &str) -> Result<(), Fail> {
+    let said = plain(alloc, FILES, script.as_bytes())?;
+    for equation in EQUATIONS {
+        check_row(
+            rt,
+            script,
+            says(alloc, (FILES, equation), script.as_bytes(), &said)?,
+        );
+    }
+    Ok(())
+}
+
 #[test]
 fn the_program_says_what_the_plain_one_does(rt: HostRuntime) -> Result<(), Fail> {
-    let alloc = rt.alloc();
     for script in SCRIPTS {
-        let said = plain(alloc, FILES, script.as_bytes())?;
-        for equation in EQUATIONS {
-            let machine = tried(alloc, FILES, equation, script.as_bytes())?;
-            check_row(&rt, script, machine.said() == said.as_slice());
-        }
+        expect_alike(&rt, rt.alloc(), script)?;
     }
     Ok(())
 }
@@ -541,10 +578,9 @@ fn commented(alloc: Global, letters: usize) -> Result<Vec<u8>, Fail> {
     Ok(script)
 }
 
-// Plays a script with the program and with the plain one, and expects both to say the same.
-fn expect_alike(rt: &impl Abort, alloc: Global, script: &[u8], said: &str) -> Result<(), Fail> {
-    let machine = tried(alloc, FILES, EQUATIONS[0], script)?;
-    assert!(rt; machine.said() == said.as_bytes());
+// Expects that both the program and the plain one say this of a script.
+fn expect_both(rt: &impl Abort, alloc: Global, script: &[u8], said: &str) -> Result<(), Fail> {
+    assert!(rt; says(alloc, (FILES, EQUATIONS[0]), script, said.as_bytes())?);
     let plain = plain(alloc, FILES, script)?;
     assert!(rt; plain.as_slice() == said.as_bytes());
     Ok(())
@@ -555,7 +591,7 @@ fn expect_alike(rt: &impl Abort, alloc: Global, script: &[u8], said: &str) -> Re
 fn a_line_of_full_length_is_read(rt: HostRuntime) -> Result<(), Fail> {
     let script = commented(rt.alloc(), 4095)?;
     let said = "begun\nok\ncommitted 1\ndept 1 \"a\"\n";
-    expect_alike(&rt, rt.alloc(), &script, said)
+    expect_both(&rt, rt.alloc(), &script, said)
 }
 
 // A line of 4,097 bytes.
@@ -563,7 +599,7 @@ fn a_line_of_full_length_is_read(rt: HostRuntime) -> Result<(), Fail> {
 fn a_longer_line_stops_a_script(rt: HostRuntime) -> Result<(), Fail> {
     let script = commented(rt.alloc(), 4096)?;
     let said = "begun\nok\ncommitted 1\nstopped at line 4: too long\n";
-    expect_alike(&rt, rt.alloc(), &script, said)
+    expect_both(&rt, rt.alloc(), &script, said)
 }
 
 // A script that ends in a quoted text.
@@ -571,5 +607,5 @@ fn a_longer_line_stops_a_script(rt: HostRuntime) -> Result<(), Fail> {
 fn a_cut_script_is_told_alike(rt: HostRuntime) -> Result<(), Fail> {
     let script = b"get dept 1\nget word \"a".as_slice();
     let said = "none\nstopped at line 2: quote\n";
-    expect_alike(&rt, rt.alloc(), script, said)
+    expect_both(&rt, rt.alloc(), script, said)
 }

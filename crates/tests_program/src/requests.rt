@@ -4,6 +4,7 @@ use gx_memory_machine::MemoryMachine;
 use gx_play::Status;
 use gx_top::top;
 use std::alloc::Global;
+use std::process::Abort;
 use std::test::Fail;
 
 const SCHEMA: &str = "file f (k int, t text 5)\n";
@@ -41,9 +42,34 @@ fn words(alloc: Global, line: &str) -> Result<Vec<String>, Fail> {
     Ok(words)
 }
 
-fn play(alloc: Global, script: &[u8]) -> Result<(Status, MemoryMachine), Fail> {
-    let machine = machine(alloc, script)?;
-    Ok(top(alloc, &words(alloc, "try S1 E1")?, machine))
+// What a request answers on a machine, beside what it says.
+fn ask(alloc: Global, line: &str, machine: MemoryMachine) -> Result<(Status, MemoryMachine), Fail> {
+    Ok(top(alloc, &words(alloc, line)?, machine))
+}
+
+// Expects that a request on a machine says this, and ends with this status.
+fn expect(
+    rt: &impl Abort,
+    alloc: Global,
+    (line, machine): (&str, MemoryMachine),
+    row: &str,
+    (said, wanted): (&str, Status),
+) -> Result<(), Fail> {
+    let (status, machine) = ask(alloc, line, machine)?;
+    check_row(rt, row, machine.said() == said.as_bytes());
+    check_row(rt, row, status == wanted);
+    Ok(())
+}
+
+// Expects that a script under `try` says this, and ends with this status.
+fn expect_played(
+    rt: &impl Abort,
+    alloc: Global,
+    script: &str,
+    (said, wanted): (&str, Status),
+) -> Result<(), Fail> {
+    let machine = machine(alloc, script.as_bytes())?;
+    expect(rt, alloc, ("try S1 E1", machine), script, (said, wanted))
 }
 
 // A script, and what is said of it.
@@ -160,11 +186,8 @@ found 1
 
 #[test]
 fn scripts_are_played(rt: HostRuntime) -> Result<(), Fail> {
-    let alloc = rt.alloc();
     for case in PLAYED {
-        let (status, machine) = play(alloc, case.script.as_bytes())?;
-        check_row(&rt, case.script, machine.said() == case.said.as_bytes());
-        assert!(rt; status == Status::Done);
+        expect_played(&rt, rt.alloc(), case.script, (case.said, Status::Done))?;
     }
     Ok(())
 }
@@ -220,11 +243,8 @@ stopped at line 2: in transaction
 
 #[test]
 fn scripts_stop(rt: HostRuntime) -> Result<(), Fail> {
-    let alloc = rt.alloc();
     for case in STOPPED {
-        let (status, machine) = play(alloc, case.script.as_bytes())?;
-        check_row(&rt, case.script, machine.said() == case.said.as_bytes());
-        assert!(rt; status == Status::Script);
+        expect_played(&rt, rt.alloc(), case.script, (case.said, Status::Script))?;
     }
     Ok(())
 }
@@ -245,24 +265,45 @@ fn lines_are_short(rt: HostRuntime) -> Result<(), Fail> {
         (4096, "", Status::Done),
         (4097, "stopped at line 1: too long\n", Status::Script),
     ] {
-        let (status, machine) = play(alloc, &comment(alloc, len)?)?;
-        assert!(rt; machine.said() == said.as_bytes());
-        assert!(rt; status == wanted);
+        let machine = machine(alloc, &comment(alloc, len)?)?;
+        expect(
+            &rt,
+            alloc,
+            ("try S1 E1", machine),
+            "a comment",
+            (said, wanted),
+        )?;
     }
     Ok(())
+}
+
+// A machine of which this call fails.
+fn failing_machine(alloc: Global, call: u32) -> Result<MemoryMachine, Fail> {
+    let mut machine = machine(alloc, SCRIPT.as_bytes())?;
+    machine.fail_at(alloc, call)?;
+    Ok(machine)
 }
 
 // A call of the machine that fails ends the play, and what was said before stays.
 #[test]
 fn calls_fail(rt: HostRuntime) -> Result<(), Fail> {
-    let alloc = rt.alloc();
     // two texts are fetched, and the script is heard in two calls
-    for (call, said) in [(0, ""), (1, ""), (2, ""), (3, ""), (4, ""), (5, "begun\n")] {
-        let mut machine = machine(alloc, SCRIPT.as_bytes())?;
-        machine.fail_at(alloc, call)?;
-        let (status, machine) = top(alloc, &words(alloc, "try S1 E1")?, machine);
-        assert!(rt; machine.said() == said.as_bytes(), "call {call}");
-        assert!(rt; status == Status::Outside);
+    for (call, row, said) in [
+        (0, "call 0", ""),
+        (1, "call 1", ""),
+        (2, "call 2", ""),
+        (3, "call 3", ""),
+        (4, "call 4", ""),
+        (5, "call 5", "begun\n"),
+    ] {
+        let machine = failing_machine(rt.alloc(), call)?;
+        expect(
+            &rt,
+            rt.alloc(),
+            ("try S1 E1", machine),
+            row,
+            (said, Status::Outside),
+        )?;
     }
     Ok(())
 }
@@ -320,12 +361,15 @@ const REFUSED: [(&str, &str); 21] = [
 
 #[test]
 fn requests_are_refused(rt: HostRuntime) -> Result<(), Fail> {
-    let alloc = rt.alloc();
     for (line, said) in REFUSED {
-        let machine = with_texts(alloc)?;
-        let (status, machine) = top(alloc, &words(alloc, line)?, machine);
-        check_row(&rt, line, machine.said() == said.as_bytes());
-        assert!(rt; status == Status::Refused);
+        let machine = with_texts(rt.alloc())?;
+        expect(
+            &rt,
+            rt.alloc(),
+            (line, machine),
+            line,
+            (said, Status::Refused),
+        )?;
     }
     Ok(())
 }
@@ -361,18 +405,21 @@ line 8: link l
 line 9: key k
 ";
 
+// A machine with these texts and the script on a link.
+fn linked_machine(alloc: Global) -> Result<MemoryMachine, Fail> {
+    let mut machine = with_texts(alloc)?;
+    machine.set_script(alloc, LINKED_SCRIPT.as_bytes())?;
+    Ok(machine)
+}
+
 #[test]
 fn links_are_carried_out(rt: HostRuntime) -> Result<(), Fail> {
-    let alloc = rt.alloc();
     for (line, said) in [
         ("try linked ring", LINKED_SAID),
         ("explain linked ring", LINKED_PLANS),
     ] {
-        let mut machine = with_texts(alloc)?;
-        machine.set_script(alloc, LINKED_SCRIPT.as_bytes())?;
-        let (status, machine) = top(alloc, &words(alloc, line)?, machine);
-        check_row(&rt, line, machine.said() == said.as_bytes());
-        assert!(rt; status == Status::Done);
+        let machine = linked_machine(rt.alloc())?;
+        expect(&rt, rt.alloc(), (line, machine), line, (said, Status::Done))?;
     }
     Ok(())
 }
@@ -388,10 +435,13 @@ f = partition(k 10,
     let said = "accepted: 2 leaves, 9 root pages, smallest device 57 blocks\n";
     let mut machine = machine(alloc, b"")?;
     machine.add_text(alloc, "E", equation.as_bytes())?;
-    let (status, machine) = top(alloc, &words(alloc, "check S1 E")?, machine);
-    assert!(rt; machine.said() == said.as_bytes());
-    assert!(rt; status == Status::Done);
-    Ok(())
+    expect(
+        &rt,
+        alloc,
+        ("check S1 E", machine),
+        equation,
+        (said, Status::Done),
+    )
 }
 
 // Scripts that are explained, and how that ends: to their end, also inside a transaction, or at a
@@ -427,16 +477,25 @@ const EXPLAINED: [(Case, Status); 4] = [
     ),
 ];
 
+// A machine with a script and the texts of a file with an index.
+fn indexed_machine(alloc: Global, script: &str) -> Result<MemoryMachine, Fail> {
+    let mut machine = machine(alloc, script.as_bytes())?;
+    machine.add_text(alloc, "S2", b"file f (k int, v int)\n")?;
+    machine.add_text(alloc, "E2", b"f = index(v, actual(heap), heap)\n")?;
+    Ok(machine)
+}
+
 #[test]
 fn scripts_are_explained(rt: HostRuntime) -> Result<(), Fail> {
-    let alloc = rt.alloc();
     for (case, wanted) in EXPLAINED {
-        let mut machine = machine(alloc, case.script.as_bytes())?;
-        machine.add_text(alloc, "S2", b"file f (k int, v int)\n")?;
-        machine.add_text(alloc, "E2", b"f = index(v, actual(heap), heap)\n")?;
-        let (status, machine) = top(alloc, &words(alloc, "explain S2 E2")?, machine);
-        check_row(&rt, case.script, machine.said() == case.said.as_bytes());
-        assert!(rt; status == wanted);
+        let machine = indexed_machine(rt.alloc(), case.script)?;
+        expect(
+            &rt,
+            rt.alloc(),
+            ("explain S2 E2", machine),
+            case.script,
+            (case.said, wanted),
+        )?;
     }
     Ok(())
 }

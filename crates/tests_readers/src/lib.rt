@@ -14,3 +14,5 @@ mod scripts;
 mod tokens;
 #[cfg(test)]
 mod values;
+#[cfg(test)]
+mod workload;

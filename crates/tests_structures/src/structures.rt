@@ -2,7 +2,8 @@
 ghost use Rattle.std.specs.Prelude.{◌≡◌, length, IfOk};
 ghost use Rattle.gx_schema.specs.WellFormed.{IsWellFormed};
 ghost use Rattle.gx_memory_leaves.specs.Plain.{working_of};
-ghost use Rattle.gx_engine.specs.Steps.{AreFor, IsReady, schema_of, built_of, leaves_of};
+ghost use Rattle.gx_states.specs.Internal.{AreFor};
+ghost use Rattle.gx_engine.specs.Steps.{IsReady, schema_of, built_of, leaves_of};
 
 use crate::row::check_row;
 use gx_commands::{LONGEST_LINE, LineWhy, allowed};

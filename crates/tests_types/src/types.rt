@@ -1,41 +1,31 @@
 // Worked equations: their leaves, and the nodes that are built of them.
-ghost use Rattle.std.specs.Prelude.{◌≡◌, ◌≤◌, ◌∷◌, [], length, IfOk};
+ghost use Rattle.std.specs.Prelude.{◌≡◌, ◌∷◌, [], IfOk};
 ghost use Rattle.gx_values.specs.declared.values.Kind.TheVariants as kind;
 ghost use Rattle.gx_values.specs.declared.values.Value.TheVariants as value;
 ghost use Rattle.gx_mapping.specs.Rule.{IsOf};
-ghost use Rattle.gx_schema.specs.Rules.{IsSchema};
-ghost use Rattle.gx_equation.specs.Printing.{AreWritten};
-ghost use Rattle.gx_equation.specs.Seen.{definitions_of};
+ghost use Rattle.gx_types.specs.Any.{any_rule};
 
 use crate::row::check_row;
-use crate::texts::{build_texts, read_texts};
+use crate::texts::{build_texts, type_texts};
 use gx_actual::actual;
-use gx_equation::{Equation, read_equation};
 use gx_mapping::Mapping;
-use gx_schema::{Schema, read_schema};
 use gx_stack::Node;
 use gx_types::{AnyMapping, Built, LinkTree};
-use gx_typing::{TypeWhy, Typing, Untyped, root_pages, smallest_device, typed};
+use gx_typing::{TypeWhy, Typing, Untyped, root_pages, smallest_device};
 use gx_values::{Field, Fields, Form, Kind, Name, NoMemory, Rec, Value, Values};
 use std::alloc::Global;
+use std::process::Abort;
 use std::test::Fail;
 
-// The leaves of an equation under a schema, each a line: the number of its definition, its kind,
-// the kind of its first key field and the width of its key.
-fn leaves(alloc: Global, typing: &Typing) -> Result<String, Fail> {
+// Whether these are the leaves of an equation under a schema, each a line: the number of its
+// definition, its kind, the kind of its first key field and the width of its key.
+fn has_leaves(alloc: Global, typing: &Typing, leaves: &str) -> Result<bool, Fail> {
     let mut text = String::new(alloc);
     for (owner, spec) in typing.owners.0.iter().zip(typing.specs.0.iter()) {
         let (kind, first, width) = (spec.kind, spec.first, spec.key_width);
         text.push_str(format!(in alloc; "{owner} {kind:?} {first:?} {width}\n")?.as_str())?;
     }
-    Ok(text)
-}
-
-fn type_texts(alloc: Global, schema: &[u8], equation: &[u8]) -> Result<Typing, Untyped>
-    ensures { IfOk result (λ typing. length typing.specs ≤ 255) }
-{
-    let (schema, equation) = read_texts(alloc, schema, equation)?;
-    typed(alloc, &schema, &equation)
+    Ok(text.as_str() == leaves)
 }
 
 const DEPARTMENTS: &str = "file dept (dno int, dname text 12)
@@ -228,13 +218,16 @@ l = array(actual(actual(divide(16000, partition(owner "a", divide(800, heap),
     },
 ];
 
+// Whether an equation under a schema has the leaves that are stated.
+fn is_as_stated(alloc: Global, case: Case) -> Result<bool, Fail> {
+    let typing = type_texts(alloc, case.schema.as_bytes(), case.equation.as_bytes())?;
+    has_leaves(alloc, &typing, case.leaves)
+}
+
 #[test]
 fn gives_leaves(rt: HostRuntime) -> Result<(), Fail> {
-    let alloc = rt.alloc();
     for case in CASES {
-        let typing = type_texts(alloc, case.schema.as_bytes(), case.equation.as_bytes())?;
-        let found = leaves(alloc, &typing)?;
-        check_row(&rt, case.equation, found.as_str() == case.leaves);
+        check_row(&rt, case.equation, is_as_stated(rt.alloc(), case)?);
     }
     Ok(())
 }
@@ -267,34 +260,58 @@ fn push_leaves(node: &AnyNode, numbers: &mut Vec<u32>) -> Result<(), Fail> {
     Ok(())
 }
 
-#[test]
-fn builds_a_node_for_each_file(rt: HostRuntime) -> Result<(), Fail> {
-    let alloc = rt.alloc();
-    let built = build_texts(
-        alloc,
-        b"file f (k int, v int) file g (k text 7)",
-        b"f = index(v, actual(heap), heap) g = bplus",
-    )?;
-    let mut leaves = Vec::new(alloc);
-    for node in &built.files.0 {
-        let mut numbers = Vec::new(alloc);
-        push_leaves(node, &mut numbers)?;
-        leaves.push(numbers)?;
-    }
-    assert!(rt; leaves.len() == 2);
-    assert!(rt; leaves[0].as_slice() == [0, 1].as_slice());
-    assert!(rt; leaves[1].as_slice() == [2].as_slice());
+// Whether these are the numbers of the leaves in the order in which they stand in the node.
+fn has_numbers(alloc: Global, node: &AnyNode, numbers: &[u32]) -> Result<bool, Fail> {
+    let mut found = Vec::new(alloc);
+    push_leaves(node, &mut found)?;
+    Ok(found.as_slice() == numbers)
+}
+
+// Expects the nodes of two files, of which the first has an index.
+fn expect_files(rt: &impl Abort, alloc: Global, built: &Built) -> Result<(), Fail> {
+    let files = built.files.0.as_slice();
+    assert!(rt; files.len() == 2);
+    assert!(rt; has_numbers(alloc, &files[0], &[0, 1])?);
+    assert!(rt; has_numbers(alloc, &files[1], &[2])?);
     assert!(rt; built.owners.0.as_slice() == [0, 0, 1].as_slice());
     assert!(rt; built.specs.0.len() == 3);
     Ok(())
 }
 
-// The nodes of two links, of which the first is a ring and the second an array.
-fn ring_and_array(built: &Built) -> Option<(&AnyNode, &AnyNode, &AnyNode)> {
-    match built.links.0.as_slice() {
-        [LinkTree::Ring(first, next), LinkTree::Array(lists)] => Some((first, next, lists)),
-        _ => None,
+#[test]
+fn builds_a_node_for_each_file(rt: HostRuntime) -> Result<(), Fail> {
+    let alloc = rt.alloc();
+    let schema = b"file f (k int, v int) file g (k text 7)".as_slice();
+    let built = build_texts(alloc, schema, b"f = index(v, actual(heap), heap) g = bplus")?;
+    expect_files(&rt, alloc, &built)
+}
+
+// Whether these are the leaves of the two nodes of a ring.
+fn is_ring(alloc: Global, tree: &LinkTree, first: &[u32], next: &[u32]) -> Result<bool, Fail> {
+    match tree {
+        LinkTree::Ring(firsts, nexts) => {
+            Ok(has_numbers(alloc, firsts, first)? && has_numbers(alloc, nexts, next)?)
+        }
+        _ => Ok(false),
     }
+}
+
+// Whether these are the leaves of the node of an array.
+fn is_array(alloc: Global, tree: &LinkTree, lists: &[u32]) -> Result<bool, Fail> {
+    match tree {
+        LinkTree::Array(node) => has_numbers(alloc, node, lists),
+        _ => Ok(false),
+    }
+}
+
+// Expects the nodes of a ring and of an array.
+fn expect_links(rt: &impl Abort, alloc: Global, built: &Built) -> Result<(), Fail> {
+    let links = built.links.0.as_slice();
+    assert!(rt; links.len() == 2);
+    assert!(rt; is_ring(alloc, &links[0], &[1], &[2, 3, 4])?);
+    assert!(rt; is_array(alloc, &links[1], &[5])?);
+    assert!(rt; built.owners.0.as_slice() == [0, 1, 1, 1, 1, 2].as_slice());
+    Ok(())
 }
 
 #[test]
@@ -306,28 +323,15 @@ fn builds_the_nodes_of_links(rt: HostRuntime) -> Result<(), Fail> {
         b"f = heap l = ring(actual(heap), transpose(actual(heap), heap, actual(heap)))
 m = array(divide(800, heap))",
     )?;
-    let (first, next, lists) = ring_and_array(&built).ok_or("a ring and an array")?;
-    let mut firsts = Vec::new(alloc);
-    let mut nexts = Vec::new(alloc);
-    let mut members = Vec::new(alloc);
-    push_leaves(first, &mut firsts)?;
-    push_leaves(next, &mut nexts)?;
-    push_leaves(lists, &mut members)?;
-    assert!(rt; firsts.as_slice() == [1].as_slice());
-    assert!(rt; nexts.as_slice() == [2, 3, 4].as_slice());
-    assert!(rt; members.as_slice() == [5].as_slice());
-    assert!(rt; built.owners.0.as_slice() == [0, 1, 1, 1, 1, 2].as_slice());
-    Ok(())
+    expect_links(&rt, alloc, &built)
 }
 
 #[test]
 fn refuses_a_leaf_of_several_fields(rt: HostRuntime) -> Result<(), Fail> {
     let alloc = rt.alloc();
     let schema = b"file f (k int, v int)".as_slice();
-    let error = build_texts(alloc, schema, b"f = partition(v 10, actual(heap), heap)")
-        .err()
-        .ok_or("an error")?;
-    assert!(rt; error == Untyped::Mistyped(1, TypeWhy::LeafForm));
+    let error = build_texts(alloc, schema, b"f = partition(v 10, actual(heap), heap)").err();
+    assert!(rt; error == Some(Untyped::Mistyped(1, TypeWhy::LeafForm)));
     assert!(rt; TypeWhy::LeafForm.words() == "leaf");
     Ok(())
 }
@@ -367,12 +371,29 @@ fn key_rec(alloc: Global, key: i64) -> Result<Rec, NoMemory>
     })
 }
 
+// The layer `actual` of records of a key alone.
+fn key_layer(alloc: Global) -> Result<AnyMapping, NoMemory>
+    ensures keys { IfOk result (λ layer. (any_rule layer).form.keys
+        ≡ record { name = 107 ∷ []; kind = kind.Int } ∷ []) }
+    ensures fields { IfOk result (λ layer. (any_rule layer).form.fields ≡ []) }
+{
+    let form = key_form(alloc)?;
+    Ok(AnyMapping::Actual(actual(alloc, &form)?))
+}
+
+// The child that a record of a key alone goes to.
+fn child_of_key<M: Mapping + Drop>(alloc: Global, mapping: M) -> Result<Option<u16>, NoMemory>
+    requires keys { (M.rule mapping).form.keys
+        ≡ record { name = 107 ∷ []; kind = kind.Int } ∷ [] }
+    requires fields { (M.rule mapping).form.fields ≡ [] }
+{
+    let rec = key_rec(alloc, 7)?;
+    child_of(alloc, &mapping, &rec)
+}
+
 #[test]
 fn records_go_through_layers(rt: HostRuntime) -> Result<(), Fail> {
     let alloc = rt.alloc();
-    let form = key_form(alloc)?;
-    let layer = AnyMapping::Actual(actual(alloc, &form)?);
-    let rec = key_rec(alloc, 7)?;
-    assert!(rt; child_of(alloc, &layer, &rec)? == Some(0));
+    assert!(rt; child_of_key(alloc, key_layer(alloc)?)? == Some(0));
     Ok(())
 }

@@ -1,4 +1,4 @@
-use Rattle.gx_engine.proofs.StartLemmas.{are_storable}
+use Rattle.gx_states.proofs.StartLemmas.{are_storable}
 use Rattle.tests_structures.proofs.structures.built.Goals as goal
 
 pub returns-clause-stored : goal.returns-clause-stored
