@@ -4,10 +4,10 @@ _genesis() {
     local word=${COMP_WORDS[COMP_CWORD]}
     COMPREPLY=()
     case $COMP_CWORD in
-        1) mapfile -t COMPREPLY < <(compgen -W 'check try explain make run --prove --version --help' -- "$word") ;;
-        2 | 3) [[ ${COMP_WORDS[1]} == @(check|try|explain|make|run) ]] &&
+        1) mapfile -t COMPREPLY < <(compgen -W 'check try explain make run inspect work --prove --which --version --help' -- "$word") ;;
+        2 | 3) [[ ${COMP_WORDS[1]} == @(check|try|explain|make|run|inspect|work) ]] &&
             mapfile -t COMPREPLY < <(compgen -f -- "$word") ;;
-        4) [[ ${COMP_WORDS[1]} == @(make|run) ]] &&
+        4) [[ ${COMP_WORDS[1]} == @(make|run|inspect) ]] &&
             mapfile -t COMPREPLY < <(compgen -f -- "$word") ;;
     esac
 }
