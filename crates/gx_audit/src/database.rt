@@ -1,13 +1,12 @@
 // The audit of a database.
-ghost use Rattle.std.specs.Prelude.{◌≡◌, ◌<◌, true, false, Ok, length, IsTrue, IfSome, IfOk, OnOk, IsErrOf};
-ghost use Rattle.gx_ports.specs.Calls.{Reads, Ends};
+ghost use Rattle.std.specs.Prelude.{◌≡◌, ◌<◌, true, false, Ok, length, IsTrue, IfSome, IfOk, OnOk};
+ghost use Rattle.gx_ports.specs.Calls.{OnlyReads};
 ghost use Rattle.gx_states.specs.Internal.{AreFor, HaveState};
 ghost use Rattle.gx_audit.specs.Audits.{IsAnswer, HasAsMany, IsSound};
 
 use crate::files::{FileKeys, file_keys};
 use crate::links::{PairCounts, pair_counts};
 use crate::texts::inspect_text;
-use gx_leaves::CheckLeaves;
 use gx_ports::{Leaves, Stop};
 use gx_schema::Schema;
 use gx_types::Built;
@@ -21,7 +20,7 @@ use std::alloc::Global;
 /// `Damaged`: some leaf's stored form isn't whole. `Fault`: the count of faults rose; with any
 /// other answer it stays. `NoMemory`: there was none. It never answers `Full`. The maps stay, and
 /// `out` too where it doesn't answer `true`.
-pub fn audit<B: CheckLeaves>(
+pub fn audit<B: Leaves>(
     alloc: Global,
     schema: &Schema,
     built: &Built,
@@ -46,9 +45,7 @@ pub fn audit<B: CheckLeaves>(
         ¬ B.whole leaves.old → B.stored leaves.new ≡ B.stored leaves.old }
 
     ensures unsaid { ¬ (result ≡ Ok true) → out.new ≡ out.old }
-    ensures reads { Reads B.View leaves.old leaves.new }
-    ensures ends { Ends B.View (B.whole leaves.old) leaves.old leaves.new result }
-    ensures not_full { ¬ IsErrOf result Stop.Full }
+    ensures reads { OnlyReads B.View (B.whole leaves.old) leaves.old leaves.new result }
 {
     check_leaves(alloc, leaves)?;
     let Some(found) = found_state(alloc, schema, built, leaves)? else {
@@ -60,13 +57,11 @@ pub fn audit<B: CheckLeaves>(
 }
 
 // Examines the stored form of every leaf.
-fn check_leaves<B: CheckLeaves>(alloc: Global, leaves: &mut B) -> Result<(), Stop>
+fn check_leaves<B: Leaves>(alloc: Global, leaves: &mut B) -> Result<(), Stop>
     ensures whole { IsTrue B.tells → B.steady leaves.old → 0 < length (B.working leaves.old) →
         OnOk result (B.whole leaves.old) }
     ensures stored { B.stored leaves.new ≡ B.stored leaves.old }
-    ensures reads { Reads B.View leaves.old leaves.new }
-    ensures ends { Ends B.View (B.whole leaves.old) leaves.old leaves.new result }
-    ensures not_full { ¬ IsErrOf result Stop.Full }
+    ensures reads { OnlyReads B.View (B.whole leaves.old) leaves.old leaves.new result }
 {
     for leaf in 0..leaves.leaves() {
         leaves.check(alloc, leaf)?;
@@ -92,9 +87,7 @@ fn found_state<B: Leaves>(
     ensures found { IfOk result
         (IsAnswer schema.now built.now (B.whole leaves.old) (B.working leaves.old)) }
     ensures many { IfOk result (λ answer. IfSome answer (HasAsMany schema.now)) }
-    ensures reads { Reads B.View leaves.old leaves.new }
-    ensures ends { Ends B.View (B.whole leaves.old) leaves.old leaves.new result }
-    ensures not_full { ¬ IsErrOf result Stop.Full }
+    ensures reads { OnlyReads B.View (B.whole leaves.old) leaves.old leaves.new result }
 {
     let Some(keys) = file_keys(alloc, schema, built, leaves)? else {
         return Ok(None);

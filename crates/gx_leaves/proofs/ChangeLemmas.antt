@@ -10,7 +10,7 @@ use Rattle.gx_ports.specs.declared.stop.Stop.TheVariants.{Fault, Full, Damaged}
 use Rattle.gx_ports.specs.Stops.{is_outside, HasStopCause}
 use Rattle.gx_ports.specs.LeafMaps.{LeafMap, map_at, entry_count, SameElsewhere}
 use Rattle.gx_ports.specs.PageCalls.{KeepsPages}
-use Rattle.gx_ports.specs.Files.{Holds, IsWhole, SparesOthers, IsFull}
+use Rattle.gx_ports.specs.Files.{Holds, IsWhole, SparesOthers, IsFull, EndsFile}
 use Rattle.gx_leaves.specs.Kinds.{IsFileAt, IsFreshOf, map_in}
 use Rattle.gx_leaves.specs.Places.{IsLaidOut}
 use Rattle.gx_leaves.specs.Wholeness.{maps_of, limits_of, AreWhole, AreLaid, IsFreshAt}
@@ -90,6 +90,12 @@ same_cause {T} {U} before now sound (Err s) why cause err = record {
   counted = λ c. cause.counted (ap is_outside (sym err) ∙ c);
   damaged = λ block f whole. let same : s ≡ Damaged block = cc in cause.damaged block (ap Err (sym err ∙ same)) whole;
 }
+
+-- at the same block
+pub same_block : {S T U : Type 0} (g : Ghosts S) (sound : Type 0) (old new : S) (result : Result U Stop) (why : Stop) → EndsFile {T = T} g sound old new (Err why) → IsErrAnd result (λ s. s ≡ why)
+    → (block : ℕ) → IsErrOf result (Damaged block) → block < (g.ground old).blocks
+same_block g sound old new (Ok x) why ends err = absurd err
+same_block g sound old new (Err s) why ends err = λ block f. let same : s ≡ Damaged block = cc in ends.bound block (ap Err (sym err ∙ same))
 
 pub not_ok : {T : Type 0} (result : Result T Stop) (P : Stop → Type 0) (A : Type 0) → IsErrAnd result P → OnOk result A
 not_ok (Ok x) P A err = absurd err

@@ -44,7 +44,7 @@ pub record IsWholeAt (tells : Bool) (base : Ground) (places : List Place) (sheet
   pub held : (place : Place) → slice_get places leaf ≡ Some place → IsHeld base place sheets
 
 abbrev pub limits_of : Ground → List Place → Limits
-limits_of base places = record { pages = base.size; fixed = base.tables + root_pages (specs_of places) }
+limits_of base places = record { pages = base.size; fixed = base.tables + root_pages (specs_of places); blocks = base.blocks }
 
 -- the leaf at this number is fresh
 abbrev pub IsFreshAt : Ground → List Place → Sheets → ℕ → Type 0

@@ -6,5 +6,4 @@ mod files;
 mod making;
 mod paged;
 
-pub use checking::CheckLeaves;
 pub use paged::PagedLeaves;

@@ -6,7 +6,7 @@ ghost use Rattle.gx_ports.specs.PageCalls.{KeepsPages};
 ghost use Rattle.gx_leaves.specs.Kinds.{is_built};
 ghost use Rattle.gx_leaves.specs.Places.{IsLaidOut};
 
-use crate::checking::{CheckLeaves, check_table};
+use crate::checking::check_table;
 use crate::files::{check_file, put_in_file, remove_from_file, reorganize_file, select_in_file};
 use crate::making::{lay_out, make_files};
 use gx_device::Failed;
@@ -124,6 +124,8 @@ impl<P: Pages + Drop> View for PagedLeaves<P> {
 
     ghost limit = { λ l. Some (limits_of (P.ground l.pages) l.places.items) };
 
+    ghost stored = { λ l. Some (record { ground = P.ground l.pages; sheets = P.kept l.pages }) };
+
     ghost whole = { IsWhole };
 
     ghost kept_whole = { WasWhole };
@@ -185,6 +187,12 @@ impl<P: Pages + Drop> Leaves for PagedLeaves<P> {
         reorganize_file(alloc, &mut self.pages, &place)
     }
 
+    fn check(&mut self, alloc: Global, leaf: u32) -> Result<(), Stop> {
+        let place = self.place(leaf);
+        check_table(&mut self.pages, self.places.len() as u16)?;
+        check_file(alloc, &mut self.pages, &place)
+    }
+
     fn commit(&mut self) -> Result<(), Failed> {
         self.pages.commit()
     }
@@ -217,14 +225,4 @@ impl<P: Pages + Drop> Leaves for PagedLeaves<P> {
         record { begun = (P.calm_means l.pages s told calm).begun } };
 
     ghost calm_now = { λ l s calm. P.calm_now l.pages s calm };
-}
-
-impl<P: Pages + Drop> CheckLeaves for PagedLeaves<P> {
-    ghost stored = { λ l. record { ground = P.ground l.pages; sheets = P.kept l.pages } };
-
-    fn check(&mut self, alloc: Global, leaf: u32) -> Result<(), Stop> {
-        let place = self.place(leaf);
-        check_table(&mut self.pages, self.places.len() as u16)?;
-        check_file(alloc, &mut self.pages, &place)
-    }
 }

@@ -1,11 +1,14 @@
 // The owners of pages, read off the table and written there.
-ghost use Rattle.std.specs.Prelude.{◌≡◌, ◌<◌, ◌≤◌, ◌+◌, ℕ, slice_get, IsTrue, IfOk, IfSome, OnOk};
+ghost use Rattle.std.specs.Prelude.{◌≡◌, ◌<◌, ◌≤◌, ◌+◌, ◌*◌, ℕ, Some, length, slice_get, IsTrue, IfOk, IfSome, OnOk};
+ghost use Rattle.gx_ports.specs.declared.pages.TheConstants.{OWNERS};
 ghost use Rattle.gx_ports.specs.Sheets.{IsPast, IsOwnedAnew};
 ghost use Rattle.gx_journal.specs.Journal.{size_of, working_of};
 ghost use Rattle.gx_pages.specs.Owners.{owner_at, IsFoundFree, IsAllFree};
 ghost use Rattle.gx_pages.specs.Paged.{ground_of, working_sheets, KeepsJournal};
 
-use crate::table::{NUMBERS, TABLE_PAGES, clear_page, free_between, number, set_number};
+use crate::table::{
+    NUMBERS, TABLE_PAGES, clear_page, free_between, number, read_numbers, set_number,
+};
 use gx_device::{Device, Failed};
 use gx_journal::Journal;
 use gx_ports::PAGE_LEN;
@@ -21,6 +24,26 @@ pub(crate) fn owner<D: Device>(journal: &mut Journal<D>, page: u32) -> Result<u1
     let mut table = [0; PAGE_LEN];
     journal.read_page(page / NUMBERS, &mut table)?;
     Ok(number(&table, page))
+}
+
+/// Reads the owners that stand on one page of the table.
+pub(crate) fn owners_on<D: Device>(
+    journal: &mut Journal<D>,
+    table: u32,
+    into: &mut [u16],
+) -> Result<(), Failed>
+    requires table { table < size_of journal.old }
+    requires count { length into.old ≡ OWNERS }
+    ensures owners { IsTrue D.tells → OnOk result ((i : ℕ) → i < OWNERS →
+        slice_get into.new i ≡ Some (owner_at (working_of journal.old) (OWNERS * table + i))) }
+    ensures count { length into.new ≡ OWNERS }
+    ensures working { working_of journal.new ≡ working_of journal.old }
+    ensures keeps { KeepsJournal journal.old journal.new result }
+{
+    let mut numbers = [0; PAGE_LEN];
+    journal.read_page(table, &mut numbers)?;
+    read_numbers(&numbers, into);
+    Ok(())
 }
 
 /// Gives a page past the table to an owner.

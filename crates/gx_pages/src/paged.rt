@@ -1,7 +1,7 @@
 // Pages with owners.
 ghost use Rattle.std.specs.Prelude.{◌≡◌, ◌≤◌, ℕ, slice_get, IsTrue, IfOk};
 
-use crate::owners::{clear_owners, find_free, owner, set_owner};
+use crate::owners::{clear_owners, find_free, owner, owners_on, set_owner};
 use crate::table::{FREE, TABLE_PAGES};
 use gx_device::{Device, Failed};
 use gx_journal::Journal;
@@ -113,6 +113,10 @@ impl<D: Device> Pages for Paged<D> {
 
     fn owner(&mut self, page: u32) -> Result<u16, Failed> {
         owner(&mut self.journal, page)
+    }
+
+    fn owners(&mut self, table: u32, into: &mut [u16]) -> Result<(), Failed> {
+        owners_on(&mut self.journal, table, into)
     }
 
     fn block(&self, page: u32) -> u32 {

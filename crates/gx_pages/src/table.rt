@@ -1,12 +1,12 @@
 // The numbers on a page of the table of owners.
-ghost use Rattle.std.specs.Prelude.{◌≡◌, ◌*◌, ◌%◌, ◌≤◌, length};
+ghost use Rattle.std.specs.Prelude.{◌≡◌, ◌*◌, ◌%◌, ◌≤◌, ◌<◌, ℕ, Some, length, slice_get};
 ghost use Rattle.std.specs.Int.{w16, to_be_bytes};
 ghost use Rattle.gx_bytes.specs.Parts.{overwritten};
-ghost use Rattle.gx_ports.specs.declared.pages.TheConstants.{PAGE_LEN};
+ghost use Rattle.gx_ports.specs.declared.pages.TheConstants.{PAGE_LEN, OWNERS};
 ghost use Rattle.gx_pages.specs.Owners.{number_of, IsFreeBetween, IsClear};
 
 use gx_bytes::overwrite;
-use gx_ports::PAGE_LEN;
+use gx_ports::{OWNERS, PAGE_LEN};
 
 /// How many pages the table has.
 pub(crate) const TABLE_PAGES: u32 = 16;
@@ -18,7 +18,7 @@ pub(crate) const TABLE: u16 = 65535;
 pub(crate) const FREE: u16 = 0;
 
 /// How many numbers a page of the table has.
-pub(crate) const NUMBERS: u32 = 2048;
+pub(crate) const NUMBERS: u32 = OWNERS as u32;
 
 const NUMBER_LEN: usize = 2;
 
@@ -36,6 +36,18 @@ pub(crate) fn number(table: &[u8], page: u32) -> u16
 {
     let place = place_of(page);
     u16::from_be_bytes([table[place], table[place + 1]])
+}
+
+/// Reads all numbers on a page of the table.
+pub(crate) fn read_numbers(table: &[u8], into: &mut [u16])
+    requires table { length table.now ≡ PAGE_LEN }
+    requires count { length into.old ≡ OWNERS }
+    ensures numbers { (i : ℕ) → i < OWNERS → slice_get into.new i ≡ Some (number_of table.now i) }
+    ensures count { length into.new ≡ OWNERS }
+{
+    for page in 0..NUMBERS {
+        into[page as usize] = number(table, page);
+    }
 }
 
 /// Writes the number of a page.

@@ -1,5 +1,6 @@
 -- Pages and their owners.
-use Rattle.std.specs.Prelude.{◌≡◌, ◌≢◌, ℕ, ◌<◌, ◌≤◌, List, slice_set, slice_get, Some}
+use Rattle.std.specs.Prelude.{◌≡◌, ◌≢◌, ℕ, ◌+◌, ◌*◌, ◌<◌, ◌≤◌, List, length, slice_set, slice_get, Some}
+use Rattle.gx_ports.specs.declared.pages.TheConstants.{OWNERS}
 
 -- for each page the number of its owner, 0 where it is free, and its bytes
 pub record Sheets : Type 0 where
@@ -11,10 +12,15 @@ pub record Ground : Type 0 where
   -- how many pages there are, and how many of them are the table of the owners
   pub size : ℕ
   pub tables : ℕ
-  -- how many blocks of the device hold them, from the first one on
+  -- how many blocks the device has on which they lie
   pub blocks : ℕ
   -- the blocks that tell which database it is
   pub head : List (List ℕ)
+
+-- what is stored: the pages as they were last committed, and on which device
+pub record Stored : Type 0 where
+  pub ground : Ground
+  pub sheets : Sheets
 
 -- a page past the table
 pub record IsPast (ground : Ground) (page : ℕ) : Type 0 where
@@ -32,6 +38,10 @@ pub record IsClaimed (page owner : ℕ) (ground : Ground) (old new : Sheets) : T
   pub past : IsPast ground page
   pub was_free : slice_get old.owners page ≡ Some 0
   pub owned : IsOwnedAnew page owner ground old new
+
+-- these are the owners that stand on one page of the table
+abbrev pub AreOwnersOn : List ℕ → ℕ → List ℕ → Type 0
+AreOwnersOn owners table part = (i : ℕ) → i < OWNERS → OWNERS * table + i < length owners → slice_get part i ≡ slice_get owners (OWNERS * table + i)
 
 -- no page past the table is free
 abbrev pub HasNone : Ground → Sheets → Type 0

@@ -1,11 +1,11 @@
 // Pages: each has 4,096 bytes and an owner, as it is and as it was last committed.
-ghost use Rattle.std.specs.Prelude.{◌≡◌, ◌↔◌, ℕ, ◌≤◌, ◌<◌, length, slice_get, slice_set, Some, IsTrue, IfOk, OnOk, IsErrOf};
+ghost use Rattle.std.specs.Prelude.{◌≡◌, ◌↔◌, ℕ, ◌*◌, ◌≤◌, ◌<◌, length, slice_get, slice_set, Some, IsTrue, IfOk, OnOk, IsErrOf};
 ghost use Rattle.gx_device.specs.Content.{Content};
-ghost use Rattle.gx_ports.specs.Sheets.{Sheets, IsPast, IsClaimed, IsOwnedAnew, HasNone};
+ghost use Rattle.gx_ports.specs.Sheets.{Sheets, IsPast, IsClaimed, IsOwnedAnew, AreOwnersOn, HasNone};
 ghost use Rattle.gx_ports.specs.PageCalls.{KeepsPages, ReadsPages, TalksPages, SettlesPages, CountsPageFaults, PagesHear, PagesSay};
 ghost use Rattle.gx_ports.specs.Stops.{HasStopCause};
 ghost use Rattle.gx_device.specs.Quiet.{QuietSince};
-ghost use Rattle.gx_ports.specs.declared.pages.TheConstants.{PAGE_LEN, MAX_OWNER};
+ghost use Rattle.gx_ports.specs.declared.pages.TheConstants.{PAGE_LEN, MAX_OWNER, OWNERS};
 
 use crate::{LeafSpec, PageView, Stop};
 use gx_device::Failed;
@@ -15,6 +15,9 @@ pub const PAGE_LEN: usize = 4096;
 
 /// The greatest owner of a page past the table. The least is 1; a page of the owner 0 is free.
 pub const MAX_OWNER: u16 = 65534;
+
+/// How many owners stand on a page of the table.
+pub const OWNERS: usize = 2048;
 
 /// Where a leaf lies in pages.
 #[derive(Clone, Copy, Debug, PartialEq, Eq)]
@@ -80,6 +83,17 @@ pub trait Pages: PageView {
         requires page { page < (Self.ground self.old).size }
         ensures owner { IsTrue Self.tells →
             IfOk result (λ owner. slice_get (Self.working self.old).owners page ≡ Some owner) }
+        ensures reads { ReadsPages Self.PageView self.old self.new }
+        ensures faults { CountsPageFaults Self.PageView self.old self.new result };
+
+    /// Reads the owners that stand on one page of the table: those of `OWNERS` pages, from page
+    /// `OWNERS * table` on. After `Failed` the slice may hold anything.
+    fn owners(&mut self, table: u32, into: &mut [u16]) -> Result<(), Failed>
+        requires table { OWNERS * table < (Self.ground self.old).size }
+        requires count { length into.old ≡ OWNERS }
+        ensures owners { IsTrue Self.tells →
+            OnOk result (AreOwnersOn (Self.working self.old).owners table into.new) }
+        ensures count { length into.new ≡ OWNERS }
         ensures reads { ReadsPages Self.PageView self.old self.new }
         ensures faults { CountsPageFaults Self.PageView self.old self.new result };
 

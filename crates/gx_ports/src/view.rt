@@ -3,6 +3,7 @@ ghost use Rattle.std.specs.Prelude.{Bool, List, ℕ, Option};
 ghost use Rattle.gx_device.specs.Content.{Content};
 ghost use Rattle.gx_ports.specs.LeafMaps.{LeafMap, Limits};
 ghost use Rattle.gx_ports.specs.Heads.{Head};
+ghost use Rattle.gx_ports.specs.Sheets.{Stored};
 
 /// What contracts see of leaves. It has no code: it stands apart from `Leaves`, so that a clause can name
 /// all of it at once.
@@ -27,8 +28,12 @@ pub trait View {
     /// that it gave. It stays at 2 ^ 64 - 1 once it is there.
     ghost work: { Self → ℕ };
 
-    /// The pages that limit the entries, where there is such a limit.
+    /// The pages that limit the entries, and the blocks of the device on which they lie, where there is
+    /// such a limit.
     ghost limit: { Self → Option Limits };
+
+    /// What is stored on pages: those of the last commit, where leaves lie on pages.
+    ghost stored: { Self → Option Stored };
 
     /// The stored form of each leaf is whole.
     ghost whole: { Self → Type 0 };

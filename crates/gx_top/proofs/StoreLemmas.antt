@@ -51,4 +51,4 @@ some_blocks a b e = ap (λ (o : Option (List (List ℕ))). blocks_or a o) e
 pub limit_on : (device : List ℕ) (before : Content) (blocks : List (List ℕ)) (base : Ground) (places : List Place) (specs : List LeafSpec) → device_at before.now device ≡ Some blocks → OfBlocks device before (λ b. base ≡ ground_on b) → specs_of places ≡ specs → limits_of base places ≡ limits_on specs (length blocks)
 limit_on device before blocks base places specs there is specs_are =
     let same : base ≡ ground_on blocks = is.2 ∙ ap ground_on (some_blocks is.0 blocks (sym is.1 ∙ there)) in
-    λ i. record { pages = (same i).size; fixed = (same i).tables + root_pages (specs_are i) }
+    λ i. record { pages = (same i).size; fixed = (same i).tables + root_pages (specs_are i); blocks = (same i).blocks }

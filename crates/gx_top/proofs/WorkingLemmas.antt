@@ -147,7 +147,7 @@ told_unopened x schema equation specs blocks why a b c is =
 
 -- the limit of the leaves on these blocks
 pub limit_of : (blocks : List (List ℕ)) (base : Ground) (places : List Place) (specs : List LeafSpec) → base ≡ ground_on blocks → specs_of places ≡ specs → Some (limits_of base places) ≡ Some (limits_on specs (length blocks))
-limit_of blocks base places specs same specs_are = λ i. Some (record { pages = (same i).size; fixed = (same i).tables + root_pages (specs_are i) })
+limit_of blocks base places specs same specs_are = λ i. Some (record { pages = (same i).size; fixed = (same i).tables + root_pages (specs_are i); blocks = (same i).blocks })
 
 -- ---- the device that was made stays attached
 

@@ -50,7 +50,7 @@ pub record IsInternalOf (schema : Schema) (ds : List DefinitionTree) (maps : Lis
 
 -- the pages of a device of so many blocks, and those that the leaves take from the start on
 abbrev pub limits_on : List LeafSpec → ℕ → Limits
-limits_on specs blocks = record { pages = pages_of blocks; fixed = 16 + root_pages specs }
+limits_on specs blocks = record { pages = pages_of blocks; fixed = 16 + root_pages specs; blocks = blocks }
 
 -- the blocks of the device of that name reopen to the internal form of the state
 pub record IsHeldOn (t : Task) (device : List ℕ) (before : Content) (limit : Option Limits) (s : State) : Type 0 where

@@ -20,8 +20,8 @@ ghost use Rattle.gx_top.specs.Tries.{IsEnd, IsAsDue};
 use crate::finish::tell;
 use gx_audit::audit;
 use gx_device::Machine;
-use gx_leaves::CheckLeaves;
 use gx_play::{DeviceWhy, Ending, PlayEnd, Status, end};
+use gx_ports::Leaves;
 use gx_requests::{Stored, prepare_stored, unopened_ending};
 use gx_schema::Schema;
 use gx_store::{Store, close, open};
@@ -142,7 +142,7 @@ fn examine_store<'a, M: Machine + Drop>(
 }
 
 // The text of what leaves hold, where they are whole and hold a valid state.
-fn examine<'a, B: CheckLeaves>(
+fn examine<'a, B: Leaves>(
     alloc: Global,
     schema: &Schema,
     built: &Built,

@@ -67,7 +67,7 @@ loop-file-preserved g c =
             c.in_ok-push.ensures.items ∙ (λ i. fs.2 i ++ f.2 i ∷ []) ∙ sym (map-append keys_of fs.0 (f.0 ∷ [])),
           );
       many = search rules;
-      reads = reads_joined b inv.reads e.reads;
-      whole = λ h. e.ends.whole (inv.whole h);
-      counted = e.ends.counted refl ∙ inv.counted;
+      reads = reads_joined b inv.reads e.reads.reads;
+      whole = λ h. e.reads.ends.whole (inv.whole h);
+      counted = e.reads.ends.counted refl ∙ inv.counted;
     }

@@ -25,7 +25,7 @@ loop-link-preserved g c =
             c.in_ok-push.ensures.items ∙ (λ i. ls.2 i ++ here.2 i ∷ []) ∙ sym (map-append fin.len ls.0 (here.0 ∷ [])),
           );
       many = search rules;
-      reads = reads_joined b inv.reads e.reads;
-      whole = λ h. e.ends.whole (inv.whole h);
-      counted = e.ends.counted refl ∙ inv.counted;
+      reads = reads_joined b inv.reads e.reads.reads;
+      whole = λ h. e.reads.ends.whole (inv.whole h);
+      counted = e.reads.ends.counted refl ∙ inv.counted;
     }

@@ -33,7 +33,7 @@ loop-leaf-preserved g c =
       lines = λ w.
           let count : c.in_ok-entries.entries ≡ len (map_at maps n) = e.count (inv.whole w) ∙ ap (λ (ms : List LeafMap). len (map_at ms n)) inv.reads.working in
           c.in_ok-push_leaf.ensures ∙ (λ i. inv.lines w i ++ leaf_text n (name i) (kind i) (count i)) ∙ append_assoc old (lines_below line n) (line n) ∙ ap (λ (lines : List ℕ). old ++ lines) (sym (lines_more line n));
-      reads = reads_joined b inv.reads e.reads;
-      whole = λ h. e.ends.whole (inv.whole h);
-      counted = e.ends.counted refl ∙ inv.counted;
+      reads = reads_joined b inv.reads e.reads.reads;
+      whole = λ h. e.reads.ends.whole (inv.whole h);
+      counted = e.reads.ends.counted refl ∙ inv.counted;
     }

@@ -1,62 +1,57 @@
-use Rattle.std.proofs.Common.{◌<◌, refl, sym, ap, subst, ◌∙◌, arith}
-use Rattle.std.proofs.lemmas.Bool.{false≢true}
-use Rattle.gx_chain.proofs.CheckLemmas.{ends_shown, ends_well, ends_failed}
-use Rattle.gx_ports.specs.Sheets.{Ground}
+use Rattle.std.proofs.Common.{◌≡◌, ◌<◌, ◌≤◌, ℕ, ◌+◌, ◌*◌, refl, sym, ap, subst, ◌∙◌, arith}
+use Rattle.std.proofs.lemmas.Grind.{div_ceil_times}
+use Rattle.gx_chain.proofs.CheckLemmas.{ends_shown}
+use Rattle.gx_ports.specs.Sheets.{Sheets, Ground, AreOwnersOn}
 use Rattle.gx_ports.proofs.PageLemmas.{pages_read_themselves, read_pages_joined}
-use Rattle.gx_leaves.specs.Checks.{HasTable}
-use Rattle.gx_leaves.proofs.TableLemmas.{due_more, table_due, due_table, due_across, due_back}
+use Rattle.gx_leaves.specs.Checks.{HasTable, IsDueOwner}
+use Rattle.gx_leaves.proofs.TableLemmas.{due_more, undue, table_due}
 use Rattle.gx_leaves.proofs.checking.check_table.Goals as goal
 
-pub loop-page-init : goal.loop-page-init
-loop-page-init g c = record { reads = pages_read_themselves g.P.PageView c.args.pages.now; faults = refl; due = λ told q less. absurd (omega (arith, less)) }
+pub loop-table-init : goal.loop-table-init
+loop-table-init g c = (record { reads = pages_read_themselves g.P.PageView c.args.pages.now; faults = refl; due = λ told q o less. absurd (omega (arith, less)) }, refl)
 
-pub has_due_owner-requires : goal.has_due_owner-requires
-has_due_owner-requires g c = let same = ap (λ (x : Ground). x.size) c.loop-page.invariant.reads.keeps.ground in omega (arith, c.loop-page-test.true, c.pages-page-end.ensures, same)
+pub returns-in-Some-clause-ends : goal.returns-in-Some-clause-ends
+returns-in-Some-clause-ends g c =
+    let i = c.loop-table.invariant.0 in
+    let reads = read_pages_joined g.P.PageView i.reads c.owners.ensures.reads in
+    let base = g.P.PageView.ground c.args.pages.now in
+    let sheets = g.P.PageView.working c.args.pages.now in
+    let size : c.pages-in-loop-table.result ≡ base.size = c.pages-in-loop-table.ensures ∙ ap (λ (x : Ground). x.size) reads.keeps.ground in
+    let tables : c.tables.result ≡ base.tables = c.tables.ensures ∙ ap (λ (x : Ground). x.tables) reads.keeps.ground in
+    let found = c.in-Some.ensures in
+    ends_shown g.P.PageView (HasTable g.P.PageView c.args.pages.now c.args.leaves) c.args.pages.now c.owners.new.self c.block.result
+    (c.in_ok-owners.ensures.faults.counted ∙ i.faults) (subst (λ (x : Ground). c.block.result < x.blocks) reads.keeps.ground c.block.ensures.below)
+    (λ has.
+    let on = subst (λ (s : Sheets). AreOwnersOn s.owners c.loop-table.table c.owners.new.into) i.reads.working (c.in_ok-owners.ensures.owners has.0) in
+    let due = undue base c.args.leaves sheets (g.met.P.Pages.many c.args.pages.now has.0).0 c.loop-table.table (c.loop-table.table * 2048) c.owners.new.into on (omega arith)
+    found.0 found.1 (let low = found.2 in omega (arith, low, c.min-count.ensures)) (let low = found.2 in omega (arith, low, c.min-count.ensures, size)) found.4 has.1 in
+    found.5 (subst (λ (n : ℕ). IsDueOwner n c.args.leaves c.in-Some.page found.1) (sym tables)
+    (subst (λ (n : ℕ). IsDueOwner base.tables c.args.leaves n found.1) (sym found.3) due)))
 
-pub returns-in_err-has_due_owner-clause-reads : goal.returns-in_err-has_due_owner-clause-reads
-returns-in_err-has_due_owner-clause-reads g c = read_pages_joined g.P.PageView c.loop-page.invariant.reads c.has_due_owner.ensures.reads
-
-pub returns-in_err-has_due_owner-clause-ends : goal.returns-in_err-has_due_owner-clause-ends
-returns-in_err-has_due_owner-clause-ends g c =
-    ends_failed g.P.PageView (HasTable g.P.PageView c.args.pages.now c.args.leaves) c.args.pages.now c.loop-page.pages c.has_due_owner.new.pages c.from_residual.result
-    c.loop-page.invariant.faults c.in_err-has_due_owner.ensures.faults.later c.in_err-has_due_owner.ensures.faults.failed c.from_residual.ensures.1
-
-pub block-requires : goal.block-requires
-block-requires g c =
-    let reads = read_pages_joined g.P.PageView c.loop-page.invariant.reads c.has_due_owner.ensures.reads in
-    let same = ap (λ (x : Ground). x.size) reads.keeps.ground in
-    record { page = omega (arith, c.loop-page-test.true, c.pages-page-end.ensures, same) }
-
-pub returns-then-not-branch-clause-reads : goal.returns-then-not-branch-clause-reads
-returns-then-not-branch-clause-reads g c = read_pages_joined g.P.PageView c.loop-page.invariant.reads c.has_due_owner.ensures.reads
-
-pub returns-then-not-branch-clause-ends : goal.returns-then-not-branch-clause-ends
-returns-then-not-branch-clause-ends g c =
-    let i = c.loop-page.invariant in
-    let reads = read_pages_joined g.P.PageView i.reads c.has_due_owner.ensures.reads in
-    ends_shown g.P.PageView (HasTable g.P.PageView c.args.pages.now c.args.leaves) c.args.pages.now c.has_due_owner.new.pages c.block.result
-    (c.in_ok-has_due_owner.ensures.faults.counted ∙ i.faults) (subst (λ (x : Ground). c.block.result < x.blocks) reads.keeps.ground c.block.ensures.below)
-    (λ has. false≢true (sym c.if-not-branch.true ∙ (c.in_ok-has_due_owner.ensures.due has.0).1
-    (due_across g.P.PageView c.args.leaves c.args.pages.now c.loop-page.pages i.reads c.loop-page.page (due_table (g.P.PageView.ground c.args.pages.now) c.args.leaves (g.P.PageView.working c.args.pages.now) has.1 c.loop-page.page))))
-
-pub loop-page-preserved : goal.loop-page-preserved
-loop-page-preserved g c =
-    let i = c.loop-page.invariant in
-    record {
-      reads = read_pages_joined g.P.PageView i.reads c.has_due_owner.ensures.reads;
-      faults = c.in_ok-has_due_owner.ensures.faults.counted ∙ i.faults;
-      due = λ told. due_more (g.P.PageView.ground c.args.pages.now) c.args.leaves (g.P.PageView.working c.args.pages.now) c.loop-page.page
-          (due_back g.P.PageView c.args.leaves c.args.pages.now c.loop-page.pages i.reads c.loop-page.page ((c.in_ok-has_due_owner.ensures.due told).0 c.if-not-branch.false))
-          (i.due told);
-    }
+pub loop-table-preserved : goal.loop-table-preserved
+loop-table-preserved g c =
+    let i = c.loop-table.invariant.0 in
+    let reads = read_pages_joined g.P.PageView i.reads c.owners.ensures.reads in
+    let base = g.P.PageView.ground c.args.pages.now in
+    let sheets = g.P.PageView.working c.args.pages.now in
+    let size : c.pages-in-loop-table.result ≡ base.size = c.pages-in-loop-table.ensures ∙ ap (λ (x : Ground). x.size) reads.keeps.ground in
+    let tables : c.tables.result ≡ base.tables = c.tables.ensures ∙ ap (λ (x : Ground). x.tables) reads.keeps.ground in (
+      record {
+        reads = reads;
+        faults = c.in_ok-owners.ensures.faults.counted ∙ i.faults;
+        due = λ told.
+            let on = subst (λ (s : Sheets). AreOwnersOn s.owners c.loop-table.table c.owners.new.into) i.reads.working (c.in_ok-owners.ensures.owners told) in
+            due_more base c.args.leaves sheets (g.met.P.Pages.many c.args.pages.now told).0 c.loop-table.table (c.loop-table.table * 2048) c.owners.new.into on (omega arith) c.min-count.result
+            (λ k low below. omega (arith, low, below, c.min-count.ensures, size))
+            (λ k owner low at. subst (λ (n : ℕ). IsDueOwner n c.args.leaves (c.loop-table.table * 2048 + k) owner) tables (c.in_default.ensures k owner low at))
+            (i.due told);
+      },
+      c.owners.ensures.count,
+    )
 
 pub returns-clause-table : goal.returns-clause-table
-returns-clause-table g c told =
-    table_due (g.P.PageView.ground c.args.pages.now) c.args.leaves (g.P.PageView.working c.args.pages.now) c.loop-page.page c.requires
-    (omega (arith, c.loop-page-test.false, c.pages-page-end.ensures)) (c.loop-page.invariant.due told)
-
-pub returns-clause-reads : goal.returns-clause-reads
-returns-clause-reads g c = c.loop-page.invariant.reads
-
-pub returns-clause-ends : goal.returns-clause-ends
-returns-clause-ends g c = ends_well g.P.PageView (HasTable g.P.PageView c.args.pages.now c.args.leaves) c.args.pages.now c.loop-page.pages tt c.loop-page.invariant.faults
+returns-clause-table g c =
+    let i = c.loop-table.invariant.0 in
+    let size = (g.P.PageView.ground c.args.pages.now).size in
+    let over : size ≤ 2048 * c.loop-table.table = let all = (div_ceil_times c.pages.result 2048 (omega arith)).0 in omega (arith, all, c.pages.ensures, c.div_ceil-table-end.ensures, c.loop-table-test.false) in
+    λ told. table_due (g.P.PageView.ground c.args.pages.now) c.args.leaves (g.P.PageView.working c.args.pages.now) (g.met.P.Pages.many c.args.pages.now told).0 (2048 * c.loop-table.table) c.requires over (i.due told)

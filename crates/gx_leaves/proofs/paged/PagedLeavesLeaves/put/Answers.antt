@@ -32,3 +32,6 @@ pub returns-clause-full : goal.returns-clause-full
 returns-clause-full g c =
     let l = c.args.self.now in
     full g.P.PageView l.places.items l.pages l.laid_out c.args.leaf c.place-place.result c.place-place.ensures.at c.put_in_file.new.pages c.put_in_file.ensures.keeps c.put_in_file.result c.put_in_file.ensures.others c.put_in_file.ensures.full (λ told. (g.met.P.Pages.many c.put_in_file.new.pages told).0)
+
+pub returns-clause-block : goal.returns-clause-block
+returns-clause-block g c = c.put_in_file.ensures.ends.bound

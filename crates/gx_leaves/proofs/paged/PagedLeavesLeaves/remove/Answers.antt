@@ -27,3 +27,6 @@ returns-clause-ends g c =
       counted = cause.counted;
       damaged = λ block is whole. cause.damaged block is (file_whole g.P.PageView l.places.items l.pages l.laid_out c.args.leaf c.place-place.result c.place-place.ensures.at whole);
     }
+
+pub returns-clause-block : goal.returns-clause-block
+returns-clause-block g c = c.remove_from_file.ensures.ends.bound

@@ -43,3 +43,6 @@ pub returns-clause-fresh_others : goal.returns-clause-fresh_others
 returns-clause-fresh_others g c = λ whole.
     let l = c.args.self.now in
     fresh_stays g.P.PageView l.places.items l.pages l.laid_out c.args.leaf c.place-place.result c.place-place.ensures.at c.reorganize_file.new.pages c.reorganize_file.ensures.keeps c.reorganize_file.result c.reorganize_file.ensures.others whole
+
+pub returns-clause-block : goal.returns-clause-block
+returns-clause-block g c = c.reorganize_file.ensures.ends.bound

@@ -1,7 +1,7 @@
 use Rattle.gx_ports.specs.Files.{IsWhole}
 use Rattle.gx_ports.specs.LeafMaps.{map_at}
 use Rattle.gx_leaves.specs.Kinds.{IsFileAt}
-use Rattle.gx_leaves.proofs.ChangeLemmas.{maps, holds, file_whole, same_cause, not_ok}
+use Rattle.gx_leaves.proofs.ChangeLemmas.{maps, holds, file_whole, same_cause, same_block, not_ok}
 use Rattle.gx_leaves.proofs.paged.PagedLeavesLeaves.select.Goals as goal
 
 pub returns-in_err-select_in_file-clause-ends : goal.returns-in_err-select_in_file-clause-ends
@@ -19,3 +19,8 @@ pub returns-clause-ok : goal.returns-clause-ok
 returns-clause-ok g c = λ whole.
     let l = c.args.self.now in
     c.in_ok-select_in_file.ensures.ok (map_at (maps g.P.PageView l.places.items l.pages) c.args.leaf) (holds g.P.PageView l.places.items l.pages l.laid_out c.args.leaf c.place-place.result c.place-place.ensures.at whole)
+
+pub returns-in_err-select_in_file-clause-block : goal.returns-in_err-select_in_file-clause-block
+returns-in_err-select_in_file-clause-block g c =
+    let l = c.args.self.now in
+    same_block g.P.PageView (IsWhole g.P.PageView (IsFileAt (g.P.PageView.ground l.pages) c.place-place.result) l.pages) l.pages c.select_in_file.new.pages c.from_residual.result c.in_err-select_in_file.field-0.0 c.in_err-select_in_file.ensures.ends c.from_residual.ensures.1

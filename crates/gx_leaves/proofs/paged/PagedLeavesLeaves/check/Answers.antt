@@ -1,9 +1,10 @@
-use Rattle.std.proofs.Common.{false, refl, subst, ◌∙◌, arith, rules}
+use Rattle.std.proofs.Common.{◌<◌, false, refl, subst, ◌∙◌, arith, rules}
 use Rattle.std.proofs.lemmas.Result.{on_ok_weaker}
 use Rattle.gx_device.specs.Faults.{Rose}
 use Rattle.gx_ports.proofs.PageLemmas.{read_pages_joined}
+use Rattle.gx_ports.specs.Sheets.{Ground}
 use Rattle.gx_leaves.proofs.ExamineLemmas.{whole_by, file_of, whole_read}
-use Rattle.gx_leaves.proofs.paged.PagedLeavesCheckLeaves.check.Goals as goal
+use Rattle.gx_leaves.proofs.paged.PagedLeavesLeaves.check.Goals as goal
 
 pub returns-clause-whole : goal.returns-clause-whole
 returns-clause-whole g c told =
@@ -26,3 +27,6 @@ returns-clause-ends g c =
       damaged = λ block is whole. cause.damaged block is
           (file_of g.P.PageView l.places.items l.pages c.check_table.new.pages c.check_table.ensures.reads c.args.leaf c.place-place.result c.place-place.ensures.at whole);
     }
+
+pub returns-clause-block : goal.returns-clause-block
+returns-clause-block g c = λ block is. subst (λ (x : Ground). block < x.blocks) c.check_table.ensures.reads.keeps.ground (c.check_file.ensures.ends.bound block is)
