@@ -1,11 +1,41 @@
 -- The first line of a script.
-use Rattle.std.proofs.Common.{◌≡◌, ◌≢◌, ℕ, zero, suc, ◌+◌, ◌-◌, ◌<◌, ◌≤◌, min, Bool, true, false, eqb, ltb, List, [], ◌∷◌, length, take, drop, get_or, refl, sym, ap, subst, ◌∙◌, inl, inr, arith, add-one}
+use Rattle.std.proofs.Common.{◌≡◌, ◌≢◌, ℕ, zero, suc, ◌+◌, ◌-◌, ◌<◌, ◌≤◌, min, Bool, true, false, eqb, ltb, List, [], ◌∷◌, Option, Some, None, length, take, drop, get_or, refl, sym, ap, subst, ◌∙◌, inl, inr, arith, add-one}
+use Rattle.std.specs.Prelude.{slice_index, ◌==◌}
+use Rattle.std.specs.Option.{unwrap_or}
 use Rattle.std.specs.List.{AllByRecursion}
+use Rattle.memchr.specs.Find.{IsFirstByte, is_byte}
 use Rattle.std.proofs.lemmas.Bool.{cond-true, cond-false, cases_lt, lt-ltb, le-ltb, eq-eqb, ne_eqb, eqb-true, eqb-false, cases_Bool}
 use Rattle.std.proofs.lemmas.List.{take_all, take_min, drop-take, length-drop, length-take}
 use Rattle.std.proofs.Math.Seq.{take-nil}
 use Rattle.gx_commands.specs.declared.command.LineWhy.TheVariants as why
 use Rattle.gx_commands.specs.Lines.{longest_line, Parts, ArePartsOf, with_byte, parts_of, without_cr, Lines, with_line, stopped, last_line, up_to_limit, lines_within, no_lines}
+
+-- ---- the first LF
+
+none_before : (text : List ℕ) (n : ℕ) → ((k : ℕ) → k < n → k < length text → (slice_index text k == 10) ≡ true → ⊥) → AllByRecursion (λ b. (b == 10) ≡ false) (take n text)
+none_before text zero none = tt
+none_before [] (suc n) none = tt
+none_before (b ∷ bs) (suc n) none = (
+  elim (b == 10) as (λ t. (b == 10) ≡ t → t ≡ false) [
+    | true ↦ λ is. absurd (none 0 (omega arith) (omega arith) is)
+    | false ↦ λ _. refl
+  ] refl,
+  none_before bs n (λ k lt within. none (suc k) (omega arith) (omega arith)),
+)
+
+-- of a search that found one
+pub ended_at : (text : List ℕ) (found : Option ℕ) (at : ℕ) → IsFirstByte (is_byte 10) text found → found ≡ Some at
+    → AllByRecursion (λ b. (b == 10) ≡ false) (take at text) × ((at ≤ length text) × (slice_index text at ≡ 10))
+ended_at text None at first e = cc
+ended_at text (Some k) at first e =
+    let same : k ≡ at = ap (λ o. unwrap_or o 0) e in
+    subst (λ n. AllByRecursion (λ b. (b == 10) ≡ false) (take n text) × ((n ≤ length text) × (slice_index text n ≡ 10))) same
+    (none_before text k (λ j lt _. first.0.before j (omega arith) lt), (let below : k < length text = first.0.high in omega arith, eqb-true (slice_index text k) 10 first.1))
+
+-- and of one that found none
+pub not_ended : (text : List ℕ) (found : Option ℕ) (n : ℕ) → IsFirstByte (is_byte 10) text found → found ≡ None → AllByRecursion (λ b. (b == 10) ≡ false) (take n text)
+not_ended text None n none _ = none_before text n (λ k _ lt. none k (omega arith) lt)
+not_ended text (Some k) n none e = cc
 
 -- ---- a CR at the end
 

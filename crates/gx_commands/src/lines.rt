@@ -5,6 +5,7 @@ ghost use Rattle.gx_tokens.specs.Reading.{map_ok};
 ghost use Rattle.gx_commands.specs.Lines.{longest_line, longest_script, ArePartsOf, parts_of, without_cr, script_lines, IsNext};
 
 use crate::command::LineWhy;
+use memchr::memchr;
 use std::marker::Model;
 
 /// What is left of a script, seen as its lines: without LF, and without the CR that is dropped before an LF.
@@ -34,12 +35,10 @@ fn line_len(text: &[u8]) -> usize
     ensures within { result ≤ length text.now }
     ensures ended { result < length text.now → slice_index text.now result ≡ 10 }
 {
-    for (at, byte) in text.iter().enumerate() {
-        if *byte == b'\n' {
-            return at;
-        }
+    match memchr(b'\n', text) {
+        Some(at) => at,
+        None => text.len(),
     }
-    text.len()
 }
 
 // The line without a CR at its end.

@@ -200,19 +200,19 @@ no_place o b here some none there =
 
 -- ---- the pair of maps after a call
 
-pub put_view : {A E : Type 0} (r : Result A E) (m n : Cells) (us vs : List Undo) (k b body : List ℕ) (p : LeafPair) → OnOk r (n ≡ fin.insert m k (Some b)) → undone vs n ≡ undone us m → b ≡ body → pair_of m us ≡ p → OnOk r (pair_of n vs ≡ record { working = fin.insert p.working k body; kept = p.kept })
-put_view (Ok a) m n us vs k b body p ok kept same is =
-    let working : bodies n ≡ fin.insert p.working k body = ap bodies ok ∙ put_body m k b ∙ (λ i. fin.insert (is i).working k (same i)) in
+pub put_view : {A E : Type 0} (r : Result A E) (m n : Cells) (us vs : List Undo) (j k b body : List ℕ) (p : LeafPair) → OnOk r (n ≡ fin.insert m j (Some b)) → undone vs n ≡ undone us m → j ≡ k → b ≡ body → pair_of m us ≡ p → OnOk r (pair_of n vs ≡ record { working = fin.insert p.working k body; kept = p.kept })
+put_view (Ok a) m n us vs j k b body p ok kept key same is =
+    let working : bodies n ≡ fin.insert p.working k body = ap bodies ok ∙ put_body m j b ∙ (λ i. fin.insert (is i).working (key i) (same i)) in
     let kept : bodies (undone vs n) ≡ p.kept = ap bodies kept ∙ ap (λ (l : LeafPair). l.kept) is in
     λ i. record { working = working i; kept = kept i }
-put_view (Err e) m n us vs k b body p ok kept same is = tt
+put_view (Err e) m n us vs j k b body p ok kept key same is = tt
 
-pub remove_view : {A E : Type 0} (r : Result A E) (m n : Cells) (us vs : List Undo) (k : List ℕ) (p : LeafPair) → OnOk r (n ≡ fin.insert m k None) → undone vs n ≡ undone us m → pair_of m us ≡ p → OnOk r (pair_of n vs ≡ record { working = fin.remove p.working k; kept = p.kept })
-remove_view (Ok a) m n us vs k p ok kept is =
-    let working : bodies n ≡ fin.remove p.working k = ap bodies ok ∙ remove_body m k ∙ (λ i. fin.remove (is i).working k) in
+pub remove_view : {A E : Type 0} (r : Result A E) (m n : Cells) (us vs : List Undo) (j k : List ℕ) (p : LeafPair) → OnOk r (n ≡ fin.insert m j None) → undone vs n ≡ undone us m → j ≡ k → pair_of m us ≡ p → OnOk r (pair_of n vs ≡ record { working = fin.remove p.working k; kept = p.kept })
+remove_view (Ok a) m n us vs j k p ok kept key is =
+    let working : bodies n ≡ fin.remove p.working k = ap bodies ok ∙ remove_body m j ∙ (λ i. fin.remove (is i).working (key i)) in
     let kept : bodies (undone vs n) ≡ p.kept = ap bodies kept ∙ ap (λ (l : LeafPair). l.kept) is in
     λ i. record { working = working i; kept = kept i }
-remove_view (Err e) m n us vs k p ok kept is = tt
+remove_view (Err e) m n us vs j k p ok kept key is = tt
 
 pub same_view : {A E : Type 0} (r : Result A E) (m n : Cells) (us vs : List Undo) (p : LeafPair) → OnErr r (n ≡ m) → undone vs n ≡ undone us m → pair_of m us ≡ p → OnErr r (pair_of n vs ≡ p)
 same_view (Ok a) m n us vs p err kept is = tt

@@ -1,3 +1,5 @@
+mod FrontLemmas
 mod CellLemmas
+mod MapLemmas
 mod SelectLemmas
 mod PlainLemmas

@@ -1,17 +1,14 @@
 -- The cells of a leaf in memory, what the open transaction replaced in them, and the maps that they stand for.
-use Rattle.std.specs.Prelude.{◌≡◌, ℕ, List, [], ◌∷◌, map, Bool, true, Option, Some, None, is_some, if◌then◌else◌}
-use Rattle.std.specs.Global.{Vec}
+use Rattle.std.specs.Prelude.{◌≡◌, ℕ, List, [], ◌∷◌, Bool, true, Option, Some, None, is_some, length, take, if◌then◌else◌}
 use Rattle.std.specs.List.{filter_map}
 use Rattle.std.specs.List.Sorted.{IsStrictlySortedBy}
 use Rattle.std.specs.Map.{keys_of}
 use Rattle.std.specs.Option.{option_map}
-use Rattle.std.specs.Ordering.{nat_cmp}
-use Rattle.std.specs.declared.cmp.Ordering.{Ordering}
-use Rattle.std.specs.Cmp.Lexicographic.{slice_cmp}
+use Rattle.std.specs.Ordering.{is_le}
 use Rattle.std.specs.FinMap.{FinMap, from_entries, entries, get, insert, remove}
 use Rattle.gx_values.specs.Keys.{is_inside}
 use Rattle.gx_ports.specs.LeafMaps.{LeafMap}
-use Rattle.gx_ports.specs.Keyed.{key_cmp, map_of, IsAscending}
+use Rattle.gx_ports.specs.Keyed.{key_cmp}
 use Rattle.gx_ports.specs.declared.leaves.Entry.{Entry}
 use Rattle.gx_memory_leaves.specs.declared.undo.Undo.{Undo}
 use Rattle.gx_memory_leaves.specs.declared.undo.End.{End}
@@ -26,6 +23,14 @@ Cells = FinMap key_cmp Cell
 
 abbrev pub body_entry : List ℕ × Cell → Option (List ℕ × List ℕ)
 body_entry e = option_map (λ b. (e.0, b)) e.1
+
+-- an ordered map of cells as a finite map
+abbrev pub cells_of : List (List ℕ × Cell) → Cells
+cells_of = from_entries
+
+-- the keys ascend
+abbrev pub IsAscending : List (List ℕ × Cell) → Type 0
+IsAscending es = IsStrictlySortedBy key_cmp (keys_of es)
 
 -- the cells that have a body
 abbrev pub bodies : Cells → LeafMap
@@ -55,9 +60,9 @@ CanUndo (undo ∷ undos) cells =
     (has_place undo.before (get (undone undos cells) undo.key) ≡ true) × CanUndo undos cells
 
 -- the keys ascend, and the changes can be taken back
-pub record IsOpen (es : List (Vec ℕ × Cell)) (undos : List Undo) : Type 0 where
+pub record IsOpen (es : List (List ℕ × Cell)) (undos : List Undo) : Type 0 where
   pub ascending : IsAscending es
-  pub can : CanUndo undos (map_of es)
+  pub can : CanUndo undos (cells_of es)
 
 -- one leaf, as contracts see it
 pub record LeafPair : Type 0 where
@@ -72,10 +77,14 @@ abbrev pub ended : End → LeafPair → LeafPair
 ended Commit l = record { working = l.working; kept = l.working }
 ended Abort l = record { working = l.kept; kept = l.kept }
 
+-- the first bytes of the key, as many as hi has, are at most hi
+abbrev pub is_up_to : List ℕ → List ℕ → Bool
+is_up_to hi key = is_le (key_cmp (take (length hi) key) hi)
+
 -- the entry of a body inside a span
 abbrev pub picked_body : List ℕ → List ℕ → List ℕ → Cell → List Entry
 picked_body lo hi key None = []
 picked_body lo hi key (Some body) = if is_inside lo hi key then record { key = key; body = body } ∷ [] else []
 
-abbrev pub picked : List ℕ → List ℕ → Vec ℕ × Cell → List Entry
-picked lo hi e = picked_body lo hi e.0.items e.1
+abbrev pub picked : List ℕ → List ℕ → List ℕ × Cell → List Entry
+picked lo hi e = picked_body lo hi e.0 e.1

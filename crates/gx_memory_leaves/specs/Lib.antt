@@ -1,3 +1,4 @@
+pub mod Fronts
 pub mod Cells
 pub mod Pairs
 pub mod Plain

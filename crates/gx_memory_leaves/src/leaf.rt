@@ -4,20 +4,21 @@ ghost use Rattle.std.specs.Prelude.{◌≡◌, ◌≤◌, ◌++◌, [], length, 
 ghost use Rattle.std.specs.Option.{option_and_then};
 ghost use Rattle.std.specs.FinMap.{insert, remove, get};
 ghost use Rattle.gx_ports.specs.LeafMaps.{selected, Extends};
-ghost use Rattle.gx_ports.specs.Keyed.{map_of, IsAscending};
-ghost use Rattle.gx_memory_leaves.specs.Cells.{bodies, with_cell, undone, has_place, IsOpen, ended};
+ghost use Rattle.gx_memory_leaves.specs.Cells.{cells_of, IsAscending, bodies, with_cell, undone, has_place, IsOpen, ended, is_up_to};
 ghost use Rattle.gx_memory_leaves.specs.Pairs.{empty_pair};
 
+use crate::key::Key;
 use crate::undo::{Cell, End, Undo};
+use gx_order::compare_bytes;
 use gx_ports::Entries;
-use gx_values::{NoMemory, Octets, Span, inside};
+use gx_values::{NoMemory, Octets, Span};
 use std::alloc::Global;
 use std::collections::BTreeMap;
 use std::marker::Model;
 
 #[derive(Drop)]
 pub struct Leaf {
-    cells: BTreeMap<Vec<u8>, Cell>,
+    cells: BTreeMap<Key, Cell>,
     // the changes of the open transaction, the last one last
     undos: Vec<Undo>,
 }
@@ -25,14 +26,13 @@ pub struct Leaf {
 impl Model for Leaf {
     ghost use Rattle.std.specs.Coded.{codes};
     ghost use Rattle.gx_ports.specs.LeafMaps.{coded_leaf_map};
-    ghost use Rattle.gx_ports.specs.Keyed.{map_of};
-    ghost use Rattle.gx_memory_leaves.specs.Cells.{LeafPair, pair_of, IsOpen};
+    ghost use Rattle.gx_memory_leaves.specs.Cells.{LeafPair, cells_of, pair_of, IsOpen};
 
     ghost Value = { LeafPair };
 
     ghost coded = { Prim.hlevel (codes, coded_leaf_map) };
 
-    ghost view = { λ l. pair_of (map_of l.cells.entries) l.undos.items };
+    ghost view = { λ l. pair_of (cells_of l.cells.entries) l.undos.items };
 
     ghost invariant = { λ l. IsOpen l.cells.entries l.undos.items };
 }
@@ -52,6 +52,7 @@ impl Leaf {
             (self.new ≡ record self.old { working = insert self.old.working key.now body.now }) }
         ensures err { OnErr result (self.new ≡ self.old) }
     {
+        let key = Key::from_slice(alloc, key)?;
         let body = Octets::from_slice(alloc, body)?;
         replace(alloc, &mut self.cells, &mut self.undos, key, Some(body))
     }
@@ -61,7 +62,8 @@ impl Leaf {
             (self.new ≡ record self.old { working = remove self.old.working key.now }) }
         ensures err { OnErr result (self.new ≡ self.old) }
     {
-        if !has_body(&self.cells, key) {
+        let key = Key::from_slice(alloc, key)?;
+        if !has_body(&self.cells, &key) {
             return Ok(());
         }
         replace(alloc, &mut self.cells, &mut self.undos, key, None)
@@ -85,8 +87,8 @@ impl Leaf {
     }
 }
 
-fn has_body(cells: &BTreeMap<Vec<u8>, Cell>, key: &[u8]) -> bool
-    ensures { result ≡ is_some (option_and_then (λ c. c) (get (map_of cells.now.entries) key.now)) }
+fn has_body(cells: &BTreeMap<Key, Cell>, key: &Key) -> bool
+    ensures { result ≡ is_some (option_and_then (λ c. c) (get (cells_of cells.now.entries) key.now)) }
 {
     match cells.get(key) {
         Some(cell) => cell.is_some(),
@@ -97,21 +99,20 @@ fn has_body(cells: &BTreeMap<Vec<u8>, Cell>, key: &[u8]) -> bool
 // Replaces a key's cell, and notes what stood there. After `NoMemory` all is as before.
 fn replace(
     alloc: Global,
-    cells: &mut BTreeMap<Vec<u8>, Cell>,
+    cells: &mut BTreeMap<Key, Cell>,
     undos: &mut Vec<Undo>,
-    key: &[u8],
+    key: Key,
     cell: Cell,
 ) -> Result<(), NoMemory>
     requires { IsOpen cells.old.entries undos.old.items }
     ensures ok { OnOk result
-        (map_of cells.new.entries ≡ insert (map_of cells.old.entries) key.now cell) }
-    ensures err { OnErr result (map_of cells.new.entries ≡ map_of cells.old.entries) }
-    ensures undone { undone undos.new.items (map_of cells.new.entries)
-        ≡ undone undos.old.items (map_of cells.old.entries) }
+        (cells_of cells.new.entries ≡ insert (cells_of cells.old.entries) key cell) }
+    ensures err { OnErr result (cells_of cells.new.entries ≡ cells_of cells.old.entries) }
+    ensures undone { undone undos.new.items (cells_of cells.new.entries)
+        ≡ undone undos.old.items (cells_of cells.old.entries) }
     ensures open { IsOpen cells.new.entries undos.new.items }
 {
-    let noted = Octets::from_slice(alloc, key)?;
-    let key = key.to_vec(alloc)?;
+    let noted = Key::from_slice(alloc, key.as_slice())?;
     undos.try_reserve(1)?;
     let removes = cell.is_none();
     let before = cells.insert(key, cell)?;
@@ -124,23 +125,23 @@ fn replace(
 }
 
 // Ends the transaction with its changes kept. A key whose body went then has no cell.
-fn keep(cells: &mut BTreeMap<Vec<u8>, Cell>, undos: &mut Vec<Undo>)
+fn keep(cells: &mut BTreeMap<Key, Cell>, undos: &mut Vec<Undo>)
     requires { IsOpen cells.old.entries undos.old.items }
-    ensures bodies { bodies (map_of cells.new.entries) ≡ bodies (map_of cells.old.entries) }
+    ensures bodies { bodies (cells_of cells.new.entries) ≡ bodies (cells_of cells.old.entries) }
     ensures undos { undos.new.items ≡ [] }
     ensures ascending { IsAscending cells.new.entries }
 {
     while let Some(undo) = undos.pop() {
         if undo.removes {
-            drop_removed(cells, undo.key.as_slice());
+            drop_removed(cells, &undo.key);
         }
     }
 }
 
 // Takes a key's cell away where it has no body.
-fn drop_removed(cells: &mut BTreeMap<Vec<u8>, Cell>, key: &[u8])
+fn drop_removed(cells: &mut BTreeMap<Key, Cell>, key: &Key)
     requires { IsAscending cells.old.entries }
-    ensures bodies { bodies (map_of cells.new.entries) ≡ bodies (map_of cells.old.entries) }
+    ensures bodies { bodies (cells_of cells.new.entries) ≡ bodies (cells_of cells.old.entries) }
     ensures ascending { IsAscending cells.new.entries }
 {
     if !has_body(cells, key) {
@@ -149,23 +150,23 @@ fn drop_removed(cells: &mut BTreeMap<Vec<u8>, Cell>, key: &[u8])
 }
 
 // Ends the transaction with its changes taken back.
-fn undo(cells: &mut BTreeMap<Vec<u8>, Cell>, undos: &mut Vec<Undo>)
+fn undo(cells: &mut BTreeMap<Key, Cell>, undos: &mut Vec<Undo>)
     requires { IsOpen cells.old.entries undos.old.items }
-    ensures cells { map_of cells.new.entries
-        ≡ undone undos.old.items (map_of cells.old.entries) }
+    ensures cells { cells_of cells.new.entries
+        ≡ undone undos.old.items (cells_of cells.old.entries) }
     ensures undos { undos.new.items ≡ [] }
     ensures ascending { IsAscending cells.new.entries }
 {
     while let Some(Undo { key, before, .. }) = undos.pop() {
-        put_back(cells, key.as_slice(), before);
+        put_back(cells, &key, before);
     }
 }
 
-fn put_back(cells: &mut BTreeMap<Vec<u8>, Cell>, key: &[u8], before: Option<Cell>)
-    requires place { has_place before (get (map_of cells.old.entries) key.now) ≡ true }
+fn put_back(cells: &mut BTreeMap<Key, Cell>, key: &Key, before: Option<Cell>)
+    requires place { has_place before (get (cells_of cells.old.entries) key.now) ≡ true }
     requires ascending { IsAscending cells.old.entries }
-    ensures cells { map_of cells.new.entries
-        ≡ with_cell (map_of cells.old.entries) key.now before }
+    ensures cells { cells_of cells.new.entries
+        ≡ with_cell (cells_of cells.old.entries) key.now before }
     ensures ascending { IsAscending cells.new.entries }
 {
     let Some(before) = before else {
@@ -180,22 +181,31 @@ fn put_back(cells: &mut BTreeMap<Vec<u8>, Cell>, key: &[u8], before: Option<Cell
 // Appends the entries inside the span: they stand together, from its lower end on.
 fn select_cells(
     alloc: Global,
-    cells: &BTreeMap<Vec<u8>, Cell>,
+    cells: &BTreeMap<Key, Cell>,
     span: &Span,
     out: &mut Entries,
 ) -> Result<(), NoMemory>
     ensures ok { OnOk result
-        (out.new ≡ out.old ++ selected span.now.lo span.now.hi (bodies (map_of cells.now.entries))) }
+        (out.new ≡ out.old ++ selected span.now.lo span.now.hi (bodies (cells_of cells.now.entries))) }
     ensures extends { Extends out.old out.new }
 {
-    let lo = span.lo.as_slice().to_vec(alloc)?;
+    let lo = Key::from_slice(alloc, span.lo.as_slice())?;
     for (key, cell) in cells.range(lo..) {
-        if !inside(span, key) {
+        let bytes = key.as_slice();
+        if !is_up_to(span.hi.as_slice(), bytes) {
             return Ok(());
         }
         if let Some(body) = cell {
-            out.push(key, body.as_slice())?;
+            out.push(bytes, body.as_slice())?;
         }
     }
     Ok(())
+}
+
+// Whether the first bytes of the key, as many as `hi` has, are at most `hi`.
+fn is_up_to(hi: &[u8], key: &[u8]) -> bool
+    ensures { result ≡ is_up_to hi.now key.now }
+{
+    let front = &key[..key.len().min(hi.len())];
+    compare_bytes(front, hi).is_le()
 }

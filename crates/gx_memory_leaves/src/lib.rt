@@ -1,6 +1,7 @@
 //! Leaves in memory, over any device.
 #![tactic(auto)]
 
+mod key;
 mod leaf;
 mod plain;
 mod undo;

@@ -79,6 +79,8 @@ impl<D: Device> View for PlainLeaves<D> {
 
     ghost limit = { λ _. None };
 
+    ghost stored = { λ _. None };
+
     ghost whole = { λ _. Unit {0} };
 
     ghost kept_whole = { λ _. Unit {0} };
@@ -133,6 +135,11 @@ impl<D: Device> Leaves for PlainLeaves<D> {
 
     // The entries of a leaf are in order at all times.
     fn reorganize(&mut self, _alloc: Global, _leaf: u32) -> Result<(), Stop> {
+        Ok(())
+    }
+
+    // What is in memory can't be damaged.
+    fn check(&mut self, _alloc: Global, _leaf: u32) -> Result<(), Stop> {
         Ok(())
     }
 

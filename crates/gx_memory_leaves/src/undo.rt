@@ -1,4 +1,5 @@
 // What the open transaction replaced in a leaf in memory, so that it can be put back.
+use crate::key::Key;
 use gx_values::Octets;
 
 /// What stands at a key: its body, or none where the open transaction took it away.
@@ -7,7 +8,7 @@ pub type Cell = Option<Octets>;
 /// A change of the open transaction, with what stood at its key before.
 #[derive(Drop)]
 pub struct Undo {
-    pub key: Octets,
+    pub key: Key,
     pub before: Option<Cell>,
     /// whether the change took the body away
     pub removes: bool,

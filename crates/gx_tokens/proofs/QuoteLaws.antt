@@ -1,9 +1,11 @@
 -- Quoted texts and what they mean are one to one.
-use Rattle.std.proofs.Common.{◌≡◌, ℕ, Bool, true, false, eqb, List, [], ◌∷◌, ◌++◌, ◌<◌, length, append-nil, arith, refl, sym, ap, ◌∙◌, inl, inr}
-use Rattle.std.specs.Prelude.{IsTrue}
+use Rattle.std.proofs.Common.{◌≡◌, ℕ, suc, Bool, true, false, eqb, List, [], ◌∷◌, ◌++◌, ◌<◌, Option, Some, None, Result, Ok, Err, IfOk, length, append-nil, arith, refl, sym, ap, ◌∙◌, inl, inr}
+use Rattle.std.specs.Prelude.{IsTrue, slice_index, ◌==◌, cond}
+use Rattle.std.specs.Option.{option_and_then}
 use Rattle.std.specs.List.{AllByRecursion}
 use Rattle.std.proofs.lemmas.Bool.{cond_both, eqb-true, eqb-false, ne_eqb}
-use Rattle.gx_tokens.specs.Lexemes.{is_printable}
+use Rattle.memchr.specs.Find.{IsFirstByte, is_byte}
+use Rattle.gx_tokens.specs.Lexemes.{is_printable, after_quote, after_second, after_quoted}
 use Rattle.gx_tokens.specs.Quotes.{doubled, unquoted}
 use Rattle.gx_tokens.specs.Spelling.{IsQuoted}
 
@@ -21,6 +23,23 @@ written_again false (b ∷ bs) (inr q) = let ih = written_again false bs q.2 in 
 
 pub doubled-unquoted : (text : List ℕ) → IsQuoted false text → doubled (unquoted false text) ≡ text
 doubled-unquoted text q = written_again false text q
+
+-- without a quote the bytes mean themselves
+pub unquoted_plain : (text : List ℕ) → ((k : ℕ) → k < length text → (slice_index text k == 34) ≡ true → ⊥) → unquoted false text ≡ text
+unquoted_plain [] none = refl
+unquoted_plain (b ∷ bs) none = elim (b == 34) as (λ t. (b == 34) ≡ t → b ∷ unquoted t bs ≡ b ∷ bs) [
+  | true ↦ λ is. absurd (none 0 (omega arith) is)
+  | false ↦ λ _. ap (λ (ys : List ℕ). b ∷ ys) (unquoted_plain bs (λ k lt. none (suc k) (omega arith)))
+] refl
+
+-- the same, of a search for a quote
+pub unquoted_without : (text : List ℕ) (found : Option ℕ) → IsFirstByte (is_byte 34) text found → found ≡ None → unquoted false text ≡ text
+unquoted_without text None none _ = unquoted_plain text (λ k lt. none k (omega arith) lt)
+unquoted_without text (Some at) _ e = cc
+
+pub in_ok : {A E : Type 0} {P Q : A → Type 0} (r : Result A E) → ((x : A) → P x → Q x) → IfOk r P → IfOk r Q
+in_ok (Ok x) f p = f x p
+in_ok (Err e) f p = tt
 
 -- what is read where nothing is left
 pub unquoted_whole : (second : Bool) (rest value whole : List ℕ) → length rest < 1 → value ++ unquoted second rest ≡ whole → value ≡ whole
@@ -42,3 +61,46 @@ IsQuoted-doubled (b ∷ bs) each =
     cond_both (eqb b 34) (34 ∷ 34 ∷ doubled bs) (b ∷ doubled bs) (IsQuoted false)
     (λ is. inl (refl, (refl, ih)))
     (λ no. inr (eqb-false b 34 no, each.0, ih))
+
+-- ---- the quote that ends a text
+
+-- all hangs on what follows the first quote
+pub by_first_quote : (bytes : List ℕ) → after_quoted false bytes ≡ option_and_then (after_quoted true) (after_quote bytes)
+by_first_quote [] = refl
+by_first_quote (b ∷ bs) = elim (b == 34) as (λ t. cond t (after_quoted true bs) (cond (is_printable b) (after_quoted false bs) None) ≡ option_and_then (after_quoted true) (cond t (Some bs) (cond (is_printable b) (after_quote bs) None))) [
+  | true ↦ refl
+  | false ↦ elim (is_printable b) as (λ t. cond t (after_quoted false bs) None ≡ option_and_then (after_quoted true) (cond t (after_quote bs) None)) [
+    | true ↦ by_first_quote bs
+    | false ↦ refl
+  ]
+]
+
+-- and then on a second one
+abbrev behind_second : List ℕ → Option (List ℕ) → Option (List ℕ)
+behind_second after None = Some after
+behind_second after (Some second) = after_quoted false second
+
+by_second_quote : (after : List ℕ) → after_quoted true after ≡ behind_second after (after_second after)
+by_second_quote [] = refl
+by_second_quote (b ∷ bs) = elim (b == 34) as (λ t. cond t (after_quoted false bs) (Some (b ∷ bs)) ≡ behind_second (b ∷ bs) (cond t (Some bs) None)) [
+  | true ↦ refl
+  | false ↦ refl
+]
+
+module _ (bytes rest : List ℕ) (so_far : after_quoted false rest ≡ after_quoted false bytes) where
+  seen : (after : List ℕ) (second : Option (List ℕ)) → Some after ≡ after_quote rest → second ≡ after_second after → behind_second after second ≡ after_quoted false bytes
+  seen after second first next =
+      ap (behind_second after) next
+      ∙ sym (by_second_quote after)
+      ∙ ap (option_and_then (after_quoted true)) first
+      ∙ sym (by_first_quote rest)
+      ∙ so_far
+
+  pub goes_on : (after second : List ℕ) → Some after ≡ after_quote rest → Some second ≡ after_second after → after_quoted false second ≡ after_quoted false bytes
+  goes_on after second = seen after (Some second)
+
+  pub ends_here : (after : List ℕ) → Some after ≡ after_quote rest → None ≡ after_second after → Some after ≡ after_quoted false bytes
+  ends_here after = seen after None
+
+  pub never_ends : None ≡ after_quote rest → None ≡ after_quoted false bytes
+  never_ends none = ap (option_and_then (after_quoted true)) none ∙ sym (by_first_quote rest) ∙ so_far

@@ -83,6 +83,16 @@ split_digits sign bytes =
 abbrev pub split_number : List ℕ → Option (List ℕ × List ℕ)
 split_number bytes = split_digits (sign_len bytes) bytes
 
+-- what follows the first quote, where all bytes before it are printable
+abbrev pub after_quote : List ℕ → Option (List ℕ)
+after_quote [] = None
+after_quote (b ∷ bs) = if b == 34 then Some bs else (if is_printable b then after_quote bs else None)
+
+-- what follows the second quote of a pair, where the first one stands right before
+abbrev pub after_second : List ℕ → Option (List ℕ)
+after_second [] = None
+after_second (b ∷ bs) = if b == 34 then Some bs else None
+
 -- what follows the quote that ends a quoted text; the flag says that a quote with no second one has just come
 abbrev pub after_quoted : Bool → List ℕ → Option (List ℕ)
 after_quoted true [] = Some []

@@ -3,6 +3,7 @@ ghost use Rattle.std.specs.Prelude.{◌≡◌, ◌++◌, false, IfOk, OnOk};
 ghost use Rattle.gx_tokens.specs.Quotes.{doubled, quoted_text, unquoted};
 ghost use Rattle.gx_tokens.specs.Spelling.{IsQuoted};
 
+use memchr::memchr;
 use std::alloc::{AllocError, Global};
 
 /// The text that is meant by the bytes between two quotes, in which each quote stands twice.
@@ -10,6 +11,16 @@ pub fn quoted_value(alloc: Global, text: &[u8]) -> Result<Vec<u8>, AllocError>
     // Written between quotes it is these bytes.
     ensures meant { IfOk result (λ value. IsQuoted false text.now → doubled value.items ≡ text.now) }
     ensures value { IfOk result (λ value. value.items ≡ unquoted false text.now) }
+{
+    match memchr(b'"', text) {
+        None => text.to_vec(alloc),
+        Some(_) => paired_value(alloc, text),
+    }
+}
+
+// The same, byte by byte.
+fn paired_value(alloc: Global, text: &[u8]) -> Result<Vec<u8>, AllocError>
+    ensures { IfOk result (λ value. value.items ≡ unquoted false text.now) }
 {
     let mut value = Vec::with_capacity(alloc, text.len())?;
     let mut second = false;

@@ -1,7 +1,7 @@
 // Words, numbers and quoted texts at the front of a text.
 ghost use Rattle.std.specs.Prelude.{◌≡◌, ◌<◌, ◌≤◌, length, false, option_map, IfSome};
 ghost use Rattle.std.specs.List.{prefix_len};
-ghost use Rattle.gx_tokens.specs.Lexemes.{is_word_byte, is_digit, is_printable, continues_run, after_quoted, split_word, split_number, split_quoted};
+ghost use Rattle.gx_tokens.specs.Lexemes.{is_word_byte, is_digit, is_printable, continues_run, after_quote, after_second, after_quoted, split_word, split_number, split_quoted};
 
 const LONGEST_WORD: usize = 16;
 
@@ -47,24 +47,47 @@ fn digits_len(bytes: &[u8]) -> usize
     bytes.len()
 }
 
+// What follows the first quote; none where there is none, or a byte before it isn't printable.
+fn after_quote(bytes: &[u8]) -> Option<&[u8]>
+    ensures value { option_map (λ r. r.now) result ≡ after_quote bytes.now }
+    ensures shorter { IfSome result (λ r. length r.now < length bytes.now) }
+{
+    for (at, byte) in bytes.iter().enumerate() {
+        if *byte == b'"' {
+            return Some(&bytes[at + 1..]);
+        }
+        if !is_printable(*byte) {
+            return None;
+        }
+    }
+    None
+}
+
+// What follows the second quote of a pair, where the first one stands right before; none where there
+// is no second.
+fn after_second(bytes: &[u8]) -> Option<&[u8]>
+    ensures value { option_map (λ r. r.now) result ≡ after_second bytes.now }
+    ensures shorter { IfSome result (λ r. length r.now < length bytes.now) }
+{
+    match bytes {
+        [b'"', rest @ ..] => Some(rest),
+        _ => None,
+    }
+}
+
 // What follows the quote that ends a quoted text; none where it isn't ended, or holds a byte that isn't printable.
 fn after_quoted(bytes: &[u8]) -> Option<&[u8]>
     ensures value { option_map (λ r. r.now) result ≡ after_quoted false bytes.now }
     ensures shorter { IfSome result (λ r. length r.now < length bytes.now) }
 {
-    let mut after_quote = false;
     let mut rest = bytes;
-    while let [first, after @ ..] = rest {
-        if *first == b'"' {
-            after_quote = !after_quote;
-        } else if after_quote {
-            return Some(rest);
-        } else if !is_printable(*first) {
-            return None;
+    while let Some(after) = after_quote(rest) {
+        match after_second(after) {
+            Some(second) => rest = second,
+            None => return Some(after),
         }
-        rest = after;
     }
-    if after_quote { Some(rest) } else { None }
+    None
 }
 
 // Whether a word or a number that stands right before would go on.

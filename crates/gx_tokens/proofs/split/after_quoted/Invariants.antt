@@ -1,9 +1,9 @@
-use Rattle.std.proofs.Common.{◌≡◌, ◌<◌, ◌≤◌, false, true, length}
+use Rattle.std.proofs.Common.{◌≡◌, ◌≤◌, false, length}
 use Rattle.gx_tokens.specs.Lexemes.{after_quoted}
 use Rattle.gx_tokens.proofs.split.after_quoted.Given as goal
 
-abbrev pub invariant-loop-rest : goal.invariant-loop-rest
-invariant-loop-rest l = (after_quoted l.after_quote l.rest ≡ after_quoted false l.bytes) × (length l.rest ≤ length l.bytes) × (l.after_quote ≡ true → length l.rest < length l.bytes)
+abbrev pub invariant-loop-after : goal.invariant-loop-after
+invariant-loop-after l = (after_quoted false l.rest ≡ after_quoted false l.bytes) × (length l.rest ≤ length l.bytes)
 
-abbrev pub decreases-loop-rest : goal.decreases-loop-rest
-decreases-loop-rest l = length l.rest
+abbrev pub decreases-loop-after : goal.decreases-loop-after
+decreases-loop-after l = length l.rest
