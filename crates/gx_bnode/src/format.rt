@@ -21,7 +21,7 @@ pub(crate) const MAX_BRANCH_LEN: usize = LENGTH_LEN + MAX_SEPARATOR_LEN + CHILD_
 
 /// The branch that the bytes begin with, its separator and its child, and the bytes behind it. None
 /// where the bytes begin with no branch.
-pub(crate) fn split_branch(bytes: &[u8]) -> Option<((&[u8], u32), &[u8])>
+pub fn split_branch(bytes: &[u8]) -> Option<((&[u8], u32), &[u8])>
     ensures { SplitsRecord branch_bytes IsFit lent bytes.now result }
 {
     let (len, rest) = split_u16(bytes)?;

@@ -8,10 +8,11 @@ mod page;
 mod splitting;
 mod validity;
 
-pub use format::MAX_SEPARATOR_LEN;
+pub use format::{MAX_SEPARATOR_LEN, split_branch};
 pub use iter::Branches;
 pub use page::{
-    branches, child, child_of, drop_child, has_room, insert, make_inner, separator, separators,
+    KIND, branches, child, child_of, drop_child, has_room, insert, make_inner, separator,
+    separators,
 };
 pub use splitting::split;
 pub use validity::is_inner;

@@ -17,7 +17,7 @@ use gx_bytes::{
 };
 
 /// The byte that an inner page begins with.
-pub(crate) const KIND: u8 = 0x49;
+pub const KIND: u8 = 0x49;
 
 /// Makes an inner page of one separator, of at most 400 bytes, between two children. The page has
 /// 4,096 bytes, of any values.

@@ -12,15 +12,16 @@ use Rattle.gx_ports.specs.Sheets.{Sheets, IsPast}
 use Rattle.gx_slots.specs.Page.{entries_of}
 use Rattle.gx_bnode.specs.Branches.{Branch}
 use Rattle.gx_bnode.specs.Page.{IsInnerPage, separators_in, first_of, branches_of}
+use Rattle.gx_btree.specs.declared.reading.Shape.{Shape}
 use Rattle.gx_btree.specs.declared.reading.Shape.TheVariants as shapes
-use Rattle.gx_btree.specs.Bplus.{IsBplus, IsTreePage, IsOwned, Shows, bytes_at}
+use Rattle.gx_btree.specs.Bplus.{IsBplus, IsTreePage, IsOwned, Shows, Seems, bytes_at}
 use Rattle.gx_btree.specs.Hole.{IsAtHand}
 use Rattle.gx_btree.specs.Order.{IsUnder}
 use Rattle.gx_btree.specs.Search.{IsFound}
 use Rattle.gx_btree.specs.Tree as trees
 use Rattle.gx_btree.specs.Tree.{In, Tree, Kids, leaf, node, last, more, page_of, entries, pages, kids_pages, separators, kids_separators, Stands, AllStand, ShowsInner, ShowsEntries, child_for, bound_for}
 use Rattle.gx_btree.proofs.BranchLemmas.{bound_in}
-use Rattle.gx_btree.proofs.CallLemmas.{ends_after, pages_read_itself, pages_read_joined}
+use Rattle.gx_btree.proofs.CallLemmas.{ends_after, ends_shown, pages_read_itself, pages_read_joined}
 use Rattle.gx_btree.proofs.EntryLemmas.{shows_entries, shows_inner}
 use Rattle.gx_btree.proofs.FileLemmas.{past_of, descent_ends}
 use Rattle.gx_btree.proofs.MemberLemmas.{in_left, in_right, in_cases}
@@ -88,9 +89,18 @@ module _ {S : Type 0} (g : Ghosts S) (place : Place) (key : List ℕ) (start : S
           (hand_page (g.ground start) place.owner (g.working start) place.root at key w.1.file.tree (f.way w.0 w.1).hand (past_of (g.ground start) place (g.working start) w.0 w.1.file))),
     )) e
 
-    pub finding_goes : (b : S) (page : List ℕ) (next : ℕ) (further : Option (List ℕ)) → ReadsPages g now b → g.faults b ≡ g.faults now → IsPast (g.ground now) at → IsInnerPage page → (IsTrue g.tells → bytes_at (g.working now) at ≡ page)
-        → further ≡ bound_for (branches_of page) key bound → next ≡ child_for (first_of page) (branches_of page) key → IsFinding g place key start b at next further (steps + 1)
-    finding_goes b page next further reads faults past inner told further_is goes = record {
+    -- where a tree stands, a page is what it seems
+    pub finding_shape : (page : List ℕ) (shape : Shape) → Seems shape page → (IsTrue g.tells → bytes_at (g.working now) at ≡ page) → (map : LeafMap) → Holds g (IsBplus (g.ground start) place) start map → Shows shape page
+    finding_shape page shape seems told map holds =
+        let sheets = g.working start in
+        let is : bytes_at sheets at ≡ page = subst (λ s. bytes_at s at ≡ page) f.reads.working (told holds.told) in
+        let p = hand_page (g.ground start) place.owner sheets place.root at key holds.file.tree (f.way map holds).hand (past_of (g.ground start) place sheets map holds.file) in
+        let shown : Shows p.shape page = subst (Shows p.shape) is p.shows in
+        subst (λ s. Shows s page) (seems p.shape shown) shown
+
+    pub finding_goes : (b : S) (page : List ℕ) (next : ℕ) (further : Option (List ℕ)) → ReadsPages g now b → g.faults b ≡ g.faults now → IsPast (g.ground now) at → Seems shapes.Inner page → (IsTrue g.tells → bytes_at (g.working now) at ≡ page)
+        → (IsInnerPage page → (next ≡ child_for (first_of page) (branches_of page) key) × (further ≡ bound_for (branches_of page) key bound)) → IsFinding g place key start b at next further (steps + 1)
+    finding_goes b page next further reads faults past seems told leads = record {
       reads = pages_read_joined g f.reads reads;
       faults = faults ∙ f.faults;
       from_below = (let p = past.below in let e = ap (λ x. x.size) f.reads.keeps.ground in omega (arith, p, e));
@@ -98,6 +108,9 @@ module _ {S : Type 0} (g : Ghosts S) (place : Place) (key : List ℕ) (start : S
           let w = f.way map holds in
           let sheets = g.working start in
           let tree = holds.file.tree in
+          let inner : IsInnerPage page = finding_shape page shapes.Inner seems told map holds in
+          let goes = (leads inner).0 in
+          let further_is = (leads inner).1 in
           let is : bytes_at sheets at ≡ page = subst (λ s. bytes_at s at ≡ page) f.reads.working (told holds.told) in
           let shows : ShowsInner (bytes_at sheets at) (first_of page) (branches_of page) = subst (λ x. ShowsInner x (first_of page) (branches_of page)) (sym is) (shows_inner page inner) in
           let top : In at (pages tree) = (holds.file.owned at).0 ((w.hand.owns at).1 (inl (subst (λ q. In q (pages w.hand.subtree)) w.hand.fits.page_is (top_in w.hand.subtree)))) in
@@ -113,8 +126,9 @@ module _ {S : Type 0} (g : Ghosts S) (place : Place) (key : List ℕ) (start : S
           });
     }
 
-    pub finding_found : (page : List ℕ) → Shows shapes.Entries page → (IsTrue g.tells → bytes_at (g.working now) at ≡ page) → (map : LeafMap) (holds : Holds g (IsBplus (g.ground start) place) start map) → IsFound holds.file.tree key bound (entries_of page)
-    finding_found page shown told map holds =
+    pub finding_found : (page : List ℕ) → Seems shapes.Entries page → (IsTrue g.tells → bytes_at (g.working now) at ≡ page) → (map : LeafMap) (holds : Holds g (IsBplus (g.ground start) place) start map) → IsFound holds.file.tree key bound (entries_of page)
+    finding_found page seems told map holds =
+        let shown : Shows shapes.Entries page = finding_shape page shapes.Entries seems told map holds in
         let w = f.way map holds in
         let h = w.hand in
         let sheets = g.working start in
@@ -135,6 +149,10 @@ module _ {S : Type 0} (g : Ghosts S) (place : Place) (key : List ℕ) (start : S
           to = subst (IsUnder key) (sym w.bound_is) h.to;
           separator = w.separator;
         }
+
+    -- no such page is none
+    pub finding_torn : {T : Type 0} (b : S) (page : List ℕ) (n : ℕ) → g.faults b ≡ g.faults now → n < (g.ground start).blocks → Seems shapes.Inner page → (IsTrue g.tells → bytes_at (g.working now) at ≡ page) → ¬ IsInnerPage page → EndsFile {T = T} g Whole start b (Err (Damaged n))
+    finding_torn b page n faults block seems told none = ends_shown g Whole start b n (faults ∙ f.faults) block (λ w. none (finding_shape page shapes.Inner seems told w.0 w.1))
 
     pub finding_lost : {T : Type 0} (n : ℕ) → (g.ground start).size ≤ steps → n < (g.ground start).blocks → EndsFile {T = T} g Whole start now (Err (Damaged n))
     finding_lost n over block = record {

@@ -19,3 +19,4 @@ pub mod ShapeLemmas
 pub mod SheetLemmas
 pub mod StepLemmas
 pub mod VisitLemmas
+pub mod WayLemmas

@@ -24,7 +24,7 @@ use Rattle.gx_btree.specs.Selection.{given_entry, given_from}
 use Rattle.gx_btree.specs.Tree as trees
 use Rattle.gx_btree.specs.Tree.{In, Tree, Kids, leaf, node, last, more, entries, pages, kids_pages, separators, kids_separators, Apart, AreApart, Ascending}
 use Rattle.gx_btree.proofs.BoundLemmas.{few}
-use Rattle.gx_btree.proofs.CallLemmas.{ends_after, pages_read_itself, pages_read_joined}
+use Rattle.gx_btree.proofs.CallLemmas.{ends_after, ends_shown, pages_read_itself, pages_read_joined}
 use Rattle.gx_btree.proofs.MemberLemmas.{in_cases}
 use Rattle.gx_btree.proofs.OrderLemmas.{below_or_not, not_both, up_to_itself, up_to_cases, up_to_up_to, below_is_up_to, is_below_of, not_below_of}
 use Rattle.gx_btree.proofs.SelectLemmas.{given_under, given_next, given_all}
@@ -187,15 +187,15 @@ module _ {S : Type 0} (g : Ghosts S) (place : Place) (lo hi : List ℕ) (start :
         is ∙ ap (λ (xs : List LeafEntry). xs ++ given_from key lo hi es) (s.given m holds) ∙ append_assoc before (given_under lo hi (Some key) (entries t)) (given_from key lo hi es)
         ∙ ap (λ (xs : List LeafEntry). before ++ xs) (sym (given_next lo hi key bound t es holds.file.whole.ordered up found))
 
-    pub selecting_goes : (b : S) (es : List Entry) (next : List ℕ) (new : List LeafEntry) → ReadsPages g now b → g.faults b ≡ g.faults now → Ascending es → new ≡ out ++ given_from key lo hi es
-        → ((m : LeafMap) (holds : Holds g (IsBplus (g.ground start) place) start m) → IsFound holds.file.tree key (Some next) es) → IsSelecting g place lo hi start b before new next (steps + 1)
-    selecting_goes b es next new reads faults up is found = record {
+    pub selecting_goes : (b : S) (es : List Entry) (next : List ℕ) (new : List LeafEntry) → ReadsPages g now b → g.faults b ≡ g.faults now → Extends out new
+        → ((m : LeafMap) (holds : Holds g (IsBplus (g.ground start) place) start m) → Ascending es × (new ≡ out ++ given_from key lo hi es) × IsFound holds.file.tree key (Some next) es) → IsSelecting g place lo hi start b before new next (steps + 1)
+    selecting_goes b es next new reads faults longer found = record {
       reads = pages_read_joined g s.reads reads;
       faults = faults ∙ s.faults;
-      front = (s.front.0 ++ given_from key lo hi es, is ∙ ap (λ (xs : List LeafEntry). xs ++ given_from key lo hi es) s.front.1 ∙ append_assoc before s.front.0 (given_from key lo hi es));
-      given = λ m holds. next_out m holds es (Some next) new up (found m holds) is;
+      front = (s.front.0 ++ longer.0, longer.1 ∙ ap (λ (xs : List LeafEntry). xs ++ longer.0) s.front.1 ∙ append_assoc before s.front.0 longer.0);
+      given = λ m holds. let f = found m holds in next_out m holds es (Some next) new f.0 f.2 f.1;
       seen = λ m holds.
-          let f = found m holds in
+          let f = (found m holds).2 in
           let h = s.seen m holds in
           record {
             keys = next ∷ h.keys;
@@ -220,6 +220,10 @@ module _ {S : Type 0} (g : Ghosts S) (place : Place) (lo hi : List ℕ) (start :
 
     pub selecting_front : (new : List LeafEntry) → Extends out new → Extends before new
     selecting_front new x = (s.front.0 ++ x.0, x.1 ∙ ap (λ (xs : List LeafEntry). xs ++ x.0) s.front.1 ∙ append_assoc before s.front.0 x.0)
+
+    -- a page shows that no tree stands there
+    pub selecting_torn : {T : Type 0} (b : S) (n : ℕ) → g.faults b ≡ g.faults now → n < (g.ground start).blocks → ((m : LeafMap) → Holds g (IsBplus (g.ground start) place) start m → ⊥) → EndsFile {T = T} g Whole start b (Err (Damaged n))
+    selecting_torn b n faults block none = ends_shown g Whole start b n (faults ∙ s.faults) block (λ w. none w.0 w.1)
 
     pub selecting_lost : {T : Type 0} (n : ℕ) → (g.ground start).size ≤ steps → n < (g.ground start).blocks → EndsFile {T = T} g Whole start now (Err (Damaged n))
     selecting_lost n over block = record {

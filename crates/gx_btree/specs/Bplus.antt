@@ -40,6 +40,10 @@ abbrev pub Shows : Shape → List ℕ → Type 0
 Shows shape.Entries bytes = IsAscendingPage bytes × (next_of bytes ≡ NONE)
 Shows shape.Inner bytes = IsInnerPage bytes
 
+-- the bytes are a page of a tree of no other shape
+abbrev pub Seems : Shape → List ℕ → Type 0
+Seems shape bytes = (other : Shape) → Shows other bytes → other ≡ shape
+
 -- a page past the table is a page of a tree
 pub record IsTreePage (ground : Ground) (sheets : Sheets) (page : ℕ) : Type 0 where
   pub past : IsPast ground page

@@ -1,13 +1,14 @@
 // Pages of a tree, as they are read.
-ghost use Rattle.std.specs.Prelude.{◌≡◌, ◌<◌, ◌↔◌, None, length, IsTrue, OnOk, IfOk, IsErrOf, MatchOption};
+ghost use Rattle.std.specs.Prelude.{◌≡◌, ◌<◌, ◌↔◌, None, Some, length, IsTrue, OnOk, IfOk, IsErrOf, MatchOption};
 ghost use Rattle.gx_ports.specs.Files.{EndsFile};
 ghost use Rattle.gx_ports.specs.PageCalls.{ReadsPages};
 ghost use Rattle.gx_ports.specs.Sheets.{IsPast};
 ghost use Rattle.gx_bnode.specs.Page.{IsInnerPage, first_of, branches_of};
-ghost use Rattle.gx_btree.specs.Bplus.{Shows, IsTreePage, bytes_at};
+ghost use Rattle.gx_btree.specs.Bplus.{Shows, Seems, IsTreePage, bytes_at};
 ghost use Rattle.gx_btree.specs.Tree.{child_for, bound_for};
 
 use gx_bnode::{child, child_of, is_inner, separators};
+use gx_bytes::{has_kind, page_number};
 use gx_ports::{Pages, Stop};
 use gx_slots::{NONE, is_ascending, next};
 
@@ -61,6 +62,52 @@ fn shape_of(page: &[u8]) -> Option<Shape>
         return Some(Shape::Inner);
     }
     if is_ascending(page) && next(page) == NONE {
+        return Some(Shape::Entries);
+    }
+    None
+}
+
+/// Reads a page of a tree, whose number stands on the page `from`, and tests no more than its
+/// header. `Damaged`: there is no such page past the table, or the header is that of no page of a
+/// tree.
+pub(crate) fn read_kind<P: Pages>(
+    pages: &mut P,
+    from: u32,
+    page: u32,
+    into: &mut [u8],
+) -> Result<Shape, Stop>
+    requires from { from < (P.ground pages.old).size }
+    requires bytes { length into.old ≡ 4096 }
+    ensures bytes { length into.new ≡ 4096 }
+    ensures past { OnOk result (IsPast (P.ground pages.old) page) }
+    ensures kind { IfOk result (λ shape. Seems shape into.new) }
+    ensures read { IsTrue P.tells → OnOk result (bytes_at (P.working pages.old) page ≡ into.new) }
+    ensures reads { ReadsPages P.PageView pages.old pages.new }
+    ensures ends { EndsFile P.PageView
+        (IsTrue P.tells × IsTreePage (P.ground pages.old) (P.working pages.old) page)
+        pages.old pages.new result }
+    ensures not_full { ¬ IsErrOf result Stop.Full }
+    ensures frugal { ¬ IsErrOf result Stop.NoMemory }
+{
+    if page < pages.tables() || page >= pages.pages() {
+        return Err(Stop::Damaged(pages.block(from)));
+    }
+    pages.read(page, into)?;
+    match kind_of(into) {
+        Some(shape) => Ok(shape),
+        None => Err(Stop::Damaged(pages.block(page))),
+    }
+}
+
+// What the bytes are, if they are a page of a tree, by their header alone.
+fn kind_of(page: &[u8]) -> Option<Shape>
+    requires { length page.now ≡ 4096 }
+    ensures { (shape : Shape) → Shows shape page.now → result ≡ Some shape }
+{
+    if has_kind(page, gx_bnode::KIND) {
+        return Some(Shape::Inner);
+    }
+    if has_kind(page, gx_slots::KIND) && page_number(page) == NONE {
         return Some(Shape::Entries);
     }
     None

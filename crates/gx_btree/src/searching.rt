@@ -1,36 +1,51 @@
 // The entry page on the way to a key.
-ghost use Rattle.std.specs.Prelude.{◌≡◌, length, IsTrue, OnOk, IfOk, IsErrOf};
+ghost use Rattle.std.specs.Prelude.{◌≡◌, length, IsTrue, OnOk, IfOk, IsErrOf, IsSomeAnd};
 ghost use Rattle.gx_ports.specs.Files.{IsPlace, Holds, EndsFile, IsWhole};
 ghost use Rattle.gx_ports.specs.declared.kinds.LeafKind.TheVariants as kinds;
 ghost use Rattle.gx_ports.specs.LeafMaps.{LeafMap};
 ghost use Rattle.gx_ports.specs.PageCalls.{ReadsPages};
+ghost use Rattle.gx_ports.specs.Sheets.{IsPast};
 ghost use Rattle.gx_slots.specs.Page.{entries_of};
-ghost use Rattle.gx_bnode.specs.Page.{IsInnerPage, branches_of};
+ghost use Rattle.gx_bnode.specs.Page.{IsInnerPage, first_of, branches_of};
 ghost use Rattle.gx_btree.specs.declared.reading.Shape.TheVariants as shapes;
 ghost use Rattle.gx_btree.specs.Bplus.{IsBplus, Shows};
+ghost use Rattle.gx_btree.specs.Order.{is_below};
 ghost use Rattle.gx_btree.specs.Search.{IsFound};
-ghost use Rattle.gx_btree.specs.Tree.{bound_for};
+ghost use Rattle.gx_btree.specs.Tree.{child_for, bound_for};
 
-use crate::reading::{Shape, child_for, read_page};
-use gx_bnode::{child_of, separator, separators};
+use crate::reading::{Shape, read_kind};
+use gx_bnode::split_branch;
+use gx_bytes::{page_body, page_number, record_count};
+use gx_order::compare_bytes;
 use gx_ports::{Pages, Place, Stop};
 use gx_values::KeyBuf;
 
-/// Reads the entry page on the way to a key into `page`, and gives the nearest separator behind it.
+/// A page on the way to a key, and the nearest separator behind it.
+#[derive(Debug, Drop)]
+pub(crate) struct Way {
+    pub page: u32,
+    pub bound: Option<KeyBuf>,
+}
+
+/// Reads the entry page on the way to a key into `page`. Its entries aren't tested, and of
+/// the inner pages before it only the branches up to that way.
 pub(crate) fn find<P: Pages>(
     pages: &mut P,
     place: &Place,
     key: &[u8],
     page: &mut [u8],
-) -> Result<Option<KeyBuf>, Stop>
+) -> Result<Way, Stop>
     requires kind { place.now.spec.kind ≡ kinds.Bplus }
     requires place { IsPlace (P.ground pages.old) place.now }
     requires bytes { length page.old ≡ 4096 }
     ensures bytes { length page.new ≡ 4096 }
-    ensures shown { OnOk result (Shows shapes.Entries page.new) }
+    ensures past { IfOk result (λ way. IsPast (P.ground pages.old) way.page) }
+    ensures shown { (map : LeafMap) →
+        Holds P.PageView (IsBplus (P.ground pages.old) place.now) pages.old map →
+        OnOk result (Shows shapes.Entries page.new) }
     ensures found { (map : LeafMap)
         (holds : Holds P.PageView (IsBplus (P.ground pages.old) place.now) pages.old map) →
-        IfOk result (λ bound. IsFound holds.file.tree key.now bound (entries_of page.new)) }
+        IfOk result (λ way. IsFound holds.file.tree key.now way.bound (entries_of page.new)) }
     ensures reads { ReadsPages P.PageView pages.old pages.new }
     ensures ends { EndsFile P.PageView
         (IsWhole P.PageView (IsBplus (P.ground pages.old) place.now) pages.old)
@@ -42,26 +57,48 @@ pub(crate) fn find<P: Pages>(
     let mut from = at;
     let mut bound = None;
     for _ in 0..pages.pages() {
-        match read_page(pages, from, at, page)? {
-            Shape::Entries => return Ok(bound),
+        match read_kind(pages, from, at, page)? {
+            Shape::Entries => return Ok(Way { page: at, bound }),
             Shape::Inner => {
-                bound = bound_for(page, key, bound);
+                let Some(way) = way_on(page, key, bound) else {
+                    return Err(Stop::Damaged(pages.block(at)));
+                };
+                bound = way.bound;
                 from = at;
-                at = child_for(page, key);
+                at = way.page;
             }
         }
     }
     Err(Stop::Damaged(pages.block(from)))
 }
 
-// The nearest separator behind the child on the way to a key, else the bound of the page.
-fn bound_for(page: &[u8], key: &[u8], bound: Option<KeyBuf>) -> Option<KeyBuf>
-    requires { IsInnerPage page.now }
-    ensures { result ≡ bound_for (branches_of page.now) key.now bound }
+// The child on the way to a key, and the nearest separator behind it, else the bound of the page.
+// None only where the bytes are no inner page.
+fn way_on(page: &[u8], key: &[u8], bound: Option<KeyBuf>) -> Option<Way>
+    requires { length page.now ≡ 4096 }
+    ensures { IsInnerPage page.now → IsSomeAnd result (λ way.
+        (way.page ≡ child_for (first_of page.now) (branches_of page.now) key.now)
+        × (way.bound ≡ bound_for (branches_of page.now) key.now bound)) }
 {
-    let i = child_of(page, key);
-    if i < separators(page) {
-        return Some(KeyBuf::from_slice(separator(page, i)));
+    let mut child = page_number(page);
+    let mut rest = page_body(page);
+    for _ in 0..record_count(page) {
+        let ((separator, right), behind) = split_branch(rest)?;
+        if is_below(key, separator) {
+            return Some(Way {
+                page: child,
+                bound: Some(KeyBuf::from_slice(separator)),
+            });
+        }
+        child = right;
+        rest = behind;
     }
-    bound
+    Some(Way { page: child, bound })
+}
+
+// Whether `a` stands before `b`, byte by byte, a proper front first.
+fn is_below(a: &[u8], b: &[u8]) -> bool
+    ensures { result ≡ is_below a.now b.now }
+{
+    compare_bytes(a, b).is_lt()
 }

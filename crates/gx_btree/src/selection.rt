@@ -1,21 +1,22 @@
 // The entries inside a span.
-ghost use Rattle.std.specs.Prelude.{◌≡◌, ◌++◌, ◌&&◌, length, take, OnOk, IsErrOf};
+ghost use Rattle.std.specs.Prelude.{◌≡◌, ◌++◌, [], ◌∷◌, length, take, IsTrue, OnOk, IfOk, IsErrOf};
+ghost use Rattle.std.specs.Bool.{OnFalse};
 ghost use Rattle.std.specs.Cmp.Lexicographic.{slice_cmp};
 ghost use Rattle.std.specs.Ordering.{nat_cmp, is_le, is_gt};
-ghost use Rattle.gx_values.specs.Keys.{is_inside};
 ghost use Rattle.gx_ports.specs.declared.kinds.LeafKind.TheVariants as kinds;
 ghost use Rattle.gx_ports.specs.Files.{IsPlace, Holds, EndsFile, IsWhole};
 ghost use Rattle.gx_ports.specs.LeafMaps.{LeafMap, Extends, selected};
 ghost use Rattle.gx_ports.specs.PageCalls.{ReadsPages};
-ghost use Rattle.gx_slots.specs.Page.{IsEntryPage, entries_of};
+ghost use Rattle.gx_slots.specs.Page.{IsAscendingPage, entries_of};
 ghost use Rattle.gx_btree.specs.Bplus.{IsBplus};
-ghost use Rattle.gx_btree.specs.Selection.{given_from};
+ghost use Rattle.gx_btree.specs.Selection.{given_from, IsPastSpan};
 
 use crate::searching::find;
+use gx_bytes::{page_body, record_count};
 use gx_order::compare_bytes;
 use gx_ports::{Entries, PAGE_LEN, Pages, Place, Stop};
-use gx_slots::entries;
-use gx_values::{KeyBuf, NoMemory, Span, inside};
+use gx_slots::split_entry;
+use gx_values::{KeyBuf, NoMemory, Span};
 use std::alloc::Global;
 
 /// Appends the entries inside the span, in ascending order of their keys. Each page is found from
@@ -43,8 +44,11 @@ pub fn select<P: Pages>(
     let mut page = [0; PAGE_LEN];
     let mut key = KeyBuf::from_slice(span.lo.as_slice());
     for _ in 0..pages.pages() {
-        let bound = find(pages, place, key.as_slice(), &mut page)?;
-        give(&page, key.as_slice(), span, out)?;
+        let way = find(pages, place, key.as_slice(), &mut page)?;
+        if !give(&page, key.as_slice(), span, out)? {
+            return Err(Stop::Damaged(pages.block(way.page)));
+        }
+        let bound = way.bound;
         let Some(next) = bound else {
             return Ok(());
         };
@@ -56,27 +60,52 @@ pub fn select<P: Pages>(
     Err(Stop::Damaged(pages.block(place.root)))
 }
 
-// Appends the entries of a page inside the span, from a key on.
-fn give(page: &[u8], from: &[u8], span: &Span, out: &mut Entries) -> Result<(), NoMemory>
-    requires { IsEntryPage page.now }
-    ensures ok { OnOk result (out.new
+// Appends the entries of a page inside the span, from a key on. Those behind the span aren't looked
+// at. False only where the bytes are no entry page.
+fn give(page: &[u8], from: &[u8], span: &Span, out: &mut Entries) -> Result<bool, NoMemory>
+    requires { length page.now ≡ 4096 }
+    ensures ok { IsAscendingPage page.now → OnOk result (out.new
         ≡ out.old ++ given_from from.now span.now.lo span.now.hi (entries_of page.now)) }
+    ensures sound { IsAscendingPage page.now → IfOk result (λ sound. IsTrue sound) }
     ensures extends { Extends out.old out.new }
 {
-    for (key, body) in entries(page) {
-        if is_given(from, span, key) {
-            out.push(key, body)?;
+    let mut rest = page_body(page);
+    for _ in 0..record_count(page) {
+        let Some(((key, body), behind)) = split_entry(rest) else {
+            return Ok(false);
+        };
+        if !give_entry(key, body, from, span, out)? {
+            return Ok(true);
         }
+        rest = behind;
     }
-    Ok(())
+    Ok(true)
 }
 
-// Whether a key lies inside the span, and isn't below another one.
-fn is_given(from: &[u8], span: &Span, key: &[u8]) -> bool
-    ensures { result ≡ (is_le (slice_cmp nat_cmp from.now key.now)
-        && is_inside span.now.lo span.now.hi key.now) }
+// Appends an entry where it lies inside the span and isn't below a key. False: it stands behind the
+// span.
+fn give_entry(
+    key: &[u8],
+    body: &[u8],
+    from: &[u8],
+    span: &Span,
+    out: &mut Entries,
+) -> Result<bool, NoMemory>
+    ensures ok { OnOk result (out.new ≡ out.old ++ given_from from.now span.now.lo span.now.hi
+        (record { key = key.now; body = body.now } ∷ [])) }
+    ensures past { IfOk result (λ goes. OnFalse goes (IsPastSpan span.now.hi key.now)) }
+    ensures extends { Extends out.old out.new }
 {
-    is_up_to(from, key) && inside(span, key)
+    if !is_up_to(from, key) {
+        return Ok(true);
+    }
+    if is_past(span, key) {
+        return Ok(false);
+    }
+    if is_up_to(span.lo.as_slice(), key) {
+        out.push(key, body)?;
+    }
+    Ok(true)
 }
 
 /// Whether `a` is `b` or stands before it, byte by byte, a proper front first.

@@ -1,5 +1,5 @@
 // The entries of a chain inside a span.
-ghost use Rattle.std.specs.Prelude.{◌≡◌, ◌++◌, [], ℕ, List, length, IsTrue, OnOk, IfOk, IsErrOf};
+ghost use Rattle.std.specs.Prelude.{◌≡◌, ◌++◌, [], ◌∷◌, ℕ, List, length, IsTrue, OnOk, IfOk, IsErrOf};
 ghost use Rattle.std.specs.List.Sorted.{IsPermutation, IsSortedBy};
 ghost use Rattle.std.specs.Ordering.{is_lt};
 ghost use Rattle.gx_ports.specs.declared.pages.TheConstants.{PAGE_LEN};
@@ -11,9 +11,10 @@ ghost use Rattle.gx_slots.specs.Page.{IsEntryPage, entries_of};
 ghost use Rattle.gx_chain.specs.Chain.{IsChain, HasChain};
 ghost use Rattle.gx_chain.specs.Collect.{inside_of, inside_on, entry_cmp, HasAppended, HasCollected};
 
-use crate::read::{behind, read_entries};
+use crate::read::{behind, read_kind};
+use gx_bytes::{page_body, record_count};
 use gx_ports::{Entries, Entry, PAGE_LEN, Pages, Stop};
-use gx_slots::entries;
+use gx_slots::split_entry;
 use gx_values::{NoMemory, Octets, Span, inside};
 use std::alloc::{AllocError, Global};
 
@@ -65,8 +66,10 @@ pub fn gather_from<P: Pages>(
     let mut page = [0; PAGE_LEN];
     let mut number = first;
     for _ in 0..pages.pages() {
-        read_entries(pages, number, &mut page)?;
-        copy_inside(alloc, &page, span, found)?;
+        read_kind(pages, number, &mut page)?;
+        if !copy_inside(alloc, &page, span, found)? {
+            return Err(Stop::Damaged(pages.block(number)));
+        }
         match behind(pages, number, &page)? {
             None => return Ok(()),
             Some(next) => number = next,
@@ -85,24 +88,45 @@ pub fn append_sorted(found: &mut Vec<Entry>, out: &mut Entries) -> Result<(), No
     append_all(found, out)
 }
 
-// Copies the entries of a page inside the span.
+// Copies the entries of a page inside the span. False only where the bytes are no entry page.
 fn copy_inside(
     alloc: Global,
     page: &[u8],
     span: &Span,
     found: &mut Vec<Entry>,
-) -> Result<(), NoMemory>
-    requires page { IsEntryPage page.now }
-    ensures { OnOk result (found.new.items ≡ found.old.items
+) -> Result<bool, NoMemory>
+    requires { length page.now ≡ PAGE_LEN }
+    ensures ok { IsEntryPage page.now → OnOk result (found.new.items ≡ found.old.items
         ++ inside_of span.now.lo span.now.hi (entries_of page.now)) }
+    ensures sound { IsEntryPage page.now → IfOk result (λ sound. IsTrue sound) }
 {
-    for (key, body) in entries(page) {
-        if inside(span, key) {
-            found.push(Entry {
-                key: Octets::from_slice(alloc, key)?,
-                body: Octets::from_slice(alloc, body)?,
-            })?;
-        }
+    let mut rest = page_body(page);
+    for _ in 0..record_count(page) {
+        let Some(((key, body), behind)) = split_entry(rest) else {
+            return Ok(false);
+        };
+        copy_entry(alloc, key, body, span, found)?;
+        rest = behind;
+    }
+    Ok(true)
+}
+
+// Copies an entry where it lies inside the span.
+fn copy_entry(
+    alloc: Global,
+    key: &[u8],
+    body: &[u8],
+    span: &Span,
+    found: &mut Vec<Entry>,
+) -> Result<(), NoMemory>
+    ensures { OnOk result (found.new.items ≡ found.old.items
+        ++ inside_of span.now.lo span.now.hi (record { key = key.now; body = body.now } ∷ [])) }
+{
+    if inside(span, key) {
+        found.push(Entry {
+            key: Octets::from_slice(alloc, key)?,
+            body: Octets::from_slice(alloc, body)?,
+        })?;
     }
     Ok(())
 }

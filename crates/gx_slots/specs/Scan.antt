@@ -20,7 +20,7 @@ pub record HoldsAscending (n : ℕ) (bytes : List ℕ) : Type 0 where
 
 -- a hash of a key, below 4096
 abbrev pub hash_of : List ℕ → ℕ
-hash_of key = fold (λ hash byte. (hash * 31 + byte) % 4096) 0 key
+hash_of key = fold (λ hash byte. (hash * 839 + byte) % 4096) 0 key
 
 -- the flags are set at the hashes of the keys of these entries
 abbrev pub HasSeen : List Bool → List Entry → Type 0

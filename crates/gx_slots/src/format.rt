@@ -22,7 +22,7 @@ const LENGTHS_LEN: usize = 2 * LENGTH_LEN;
 
 /// The entry that the bytes begin with, its key and its body, and the bytes behind it. None where
 /// the bytes begin with no entry.
-pub(crate) fn split_entry(bytes: &[u8]) -> Option<((&[u8], &[u8]), &[u8])>
+pub fn split_entry(bytes: &[u8]) -> Option<((&[u8], &[u8]), &[u8])>
     ensures { SplitsRecord entry_bytes IsFit lent bytes.now result }
 {
     let (key_len, body_len, rest) = split_lengths(bytes)?;

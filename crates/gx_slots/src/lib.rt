@@ -8,10 +8,10 @@ mod page;
 mod splitting;
 mod validity;
 
-pub use format::{MAX_ENTRY_LEN, MAX_KEY_LEN};
+pub use format::{MAX_ENTRY_LEN, MAX_KEY_LEN, split_entry};
 pub use gx_bytes::NONE;
 pub use iter::Entries;
 pub use order::{is_ascending, rank};
-pub use page::{add, clear, count, entries, entry, find, next, set_next, take};
+pub use page::{KIND, add, clear, count, entries, entry, find, next, set_next, take};
 pub use splitting::{middle, split};
 pub use validity::is_entries;

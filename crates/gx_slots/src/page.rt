@@ -13,7 +13,7 @@ use gx_bytes::{
 };
 
 /// The byte that an entry page begins with.
-pub(crate) const KIND: u8 = 0x44;
+pub const KIND: u8 = 0x44;
 
 /// Makes an empty entry page, with no next page. The page has 4,096 bytes, of any values.
 pub fn clear(page: &mut [u8])

@@ -13,8 +13,9 @@ use gx_bytes::{has_kind, page_body, record_count};
 /// The number of hashes of keys.
 const HASHES: usize = 4096;
 
-/// What a hash is multiplied by before the next byte is added.
-const HASH_FACTOR: usize = 31;
+/// What a hash is multiplied by before the next byte is added. Keys that are ints in a row have
+/// different hashes by it, as many as a page holds.
+const HASH_FACTOR: usize = 839;
 
 /// Whether the bytes are an entry page. The page has 4,096 bytes, of any values.
 pub fn is_entries(page: &[u8]) -> bool

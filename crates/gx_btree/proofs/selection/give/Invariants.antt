@@ -1,6 +1,6 @@
-use Rattle.gx_slots.specs.Page.{entries_of}
+use Rattle.std.proofs.Common.{drop, ◌≡◌}
 use Rattle.gx_btree.proofs.GiveLemmas.{IsGiving}
 use Rattle.gx_btree.proofs.selection.give.Given as goal
 
-abbrev pub invariant-loop-key : goal.invariant-loop-key
-invariant-loop-key l = IsGiving l.fn.out l.from l.span.lo l.span.hi (entries_of l.page) l.out l.key-iterator
+abbrev pub invariant-loop : goal.invariant-loop
+invariant-loop l = IsGiving l.fn.out l.from l.span.lo l.span.hi l.page (drop 8 l.page) l.counter l.out l.rest

@@ -1,4 +1,5 @@
 use Rattle.std.proofs.Common.{◌≡◌, ◌≤◌, ◌<◌, ℕ, List, ◌++◌, refl, sym, ap, subst, ◌∙◌, arith, append-nil}
+use Rattle.std.proofs.lemmas.Bool.{false≢true}
 use Rattle.std.proofs.lemmas.Option.{MatchOption-at_none, MatchOption-at_some}
 use Rattle.gx_bytes.specs.declared.page.TheConstants.{NONE}
 use Rattle.gx_ports.specs.Sheets.{IsPast}
@@ -28,27 +29,47 @@ loop-init g c =
       });
     }
 
-pub returns-in_err-read_entries-clause-ends : goal.returns-in_err-read_entries-clause-ends
-returns-in_err-read_entries-clause-ends g c =
+pub returns-in_err-read_kind-clause-ends : goal.returns-in_err-read_kind-clause-ends
+returns-in_err-read_kind-clause-ends g c =
     let i = c.loop.invariant in
     let now = c.loop.pages in
-    ends_handed_on {T = Unit {0}} g.P.PageView (HasChain g.P.PageView c.args.pages.now c.args.first) (IsEntryAt g.P.PageView now c.loop.number) c.args.pages.now now c.read_entries.new.pages _ c.from_residual.result
+    ends_handed_on {T = Unit {0}} g.P.PageView (HasChain g.P.PageView c.args.pages.now c.args.first) (IsEntryAt g.P.PageView now c.loop.number) c.args.pages.now now c.read_kind.new.pages _ c.from_residual.result
     i.faults i.reads.keeps.ground
     (λ has. (has.0, subst (λ x. IsEntryPage (bytes_at x c.loop.number)) (sym i.reads.working) (i.way has.0 has.1 has.2 has.3).hand.linked.1))
-    c.in_err-read_entries.ensures.ends c.from_residual.ensures.1
+    c.in_err-read_kind.ensures.ends c.from_residual.ensures.1
+
+pub returns-then-not-branch-clause-ends : goal.returns-then-not-branch-clause-ends
+returns-then-not-branch-clause-ends g c =
+    let i = c.loop.invariant in
+    let ground = g.P.PageView.ground c.args.pages.now in
+    let e = c.in_ok-read_kind.ensures in
+    let faults = e.ends.cause.counted refl ∙ i.faults in
+    let reads = read_pages_joined g.P.PageView i.reads c.read_kind.ensures.reads in
+    record {
+      cause = record {
+        later = omega (arith, faults);
+        fault = λ is. absurd (cc);
+        counted = λ is. faults;
+        damaged = λ block is has. (let n = i.way has.0 has.1 has.2 has.3 in
+            let read = e.bytes has.0 ∙ ap (λ x. bytes_at x c.loop.number) i.reads.working in
+            false≢true (sym c.if-not-branch.true ∙ c.in_ok-copy_inside.ensures.sound (subst IsEntryPage (sym read) n.hand.linked.1)));
+      };
+      bound = λ block is. (let same : c.block.result ≡ block = cc in
+          subst (λ n. n < ground.blocks) same (subst (λ x. c.block.result < x.blocks) reads.keeps.ground c.block.ensures.below));
+    }
 
 pub returns-in_err-behind-clause-ends : goal.returns-in_err-behind-clause-ends
 returns-in_err-behind-clause-ends g c =
     let i = c.loop.invariant in
-    let now = c.read_entries.new.pages in
+    let now = c.read_kind.new.pages in
     let s = g.P.PageView.working c.args.pages.now in
     let ground = g.P.PageView.ground c.args.pages.now in
-    let page = c.read_entries.new.page in
-    let reads = read_pages_joined g.P.PageView i.reads c.read_entries.ensures.reads in
+    let page = c.read_kind.new.page in
+    let reads = read_pages_joined g.P.PageView i.reads c.read_kind.ensures.reads in
     ends_handed_on g.P.PageView (HasChain g.P.PageView c.args.pages.now c.args.first) (LeadsOn (g.P.PageView.ground now) (next_of page)) c.args.pages.now now now _ c.from_residual-in_err-behind.result
-    (c.in_ok-read_entries.ensures.ends.cause.counted refl ∙ i.faults) reads.keeps.ground
+    (c.in_ok-read_kind.ensures.ends.cause.counted refl ∙ i.faults) reads.keeps.ground
     (λ has. (let n = i.way has.0 has.1 has.2 has.3 in
-    let read = c.in_ok-read_entries.ensures.bytes has.0 ∙ ap (λ x. bytes_at x c.loop.number) i.reads.working in
+    let read = c.in_ok-read_kind.ensures.bytes has.0 ∙ ap (λ x. bytes_at x c.loop.number) i.reads.working in
     subst (λ x. LeadsOn x (next_of page)) (sym reads.keeps.ground)
     (subst (LeadsOn ground) (sym (ap next_of read)) (hand_leads ground has.1 s c.args.first has.2 c.loop.counter c.loop.number has.3 n.hand))))
     c.in_err-behind.ensures.ends c.from_residual-in_err-behind.ensures.1
@@ -62,10 +83,10 @@ returns-in-None-clause-found g c told owner all chain =
     let hi = c.args.span.now.hi in
     let few_pages : ground.size ≤ NONE = omega (arith, c.pages-end.ensures) in
     let n = i.way told owner all chain in
-    let read = c.in_ok-read_entries.ensures.bytes told ∙ ap (λ x. bytes_at x c.loop.number) i.reads.working in
-    let none : next_of c.read_entries.new.page ≡ NONE = MatchOption-at_none _ _ c.in-None.is c.in_ok-behind.ensures.behind in
+    let read = c.in_ok-read_kind.ensures.bytes told ∙ ap (λ x. bytes_at x c.loop.number) i.reads.working in
+    let none : next_of c.read_kind.new.page ≡ NONE = MatchOption-at_none _ _ c.in-None.is c.in_ok-behind.ensures.behind in
     let all_is = hand_last ground owner s c.args.first all c.loop.counter c.loop.number chain few_pages n.hand (sym (ap next_of read) ∙ none) in
-    c.in_ok-copy_inside.ensures
+    c.in_ok-copy_inside.ensures.ok (subst IsEntryPage (sym read) n.hand.linked.1)
     ∙ ap (λ b. c.loop.found.items ++ inside_of lo hi (entries_of b)) read
     ∙ gathered_more s lo hi c.args.found.now.items c.loop.found.items n.hand.front c.loop.number n.gave
     ∙ ap (λ (x : List ℕ). c.args.found.now.items ++ inside_on s lo hi x) (sym all_is)
@@ -78,20 +99,20 @@ loop-preserved g c =
     let lo = c.args.span.now.lo in
     let hi = c.args.span.now.hi in
     let few_pages : ground.size ≤ NONE = omega (arith, c.pages-end.ensures) in
-    let page = c.read_entries.new.page in
-    let reads = read_pages_joined g.P.PageView i.reads c.read_entries.ensures.reads in
-    let led = MatchOption-at_some (next_of page ≡ NONE) (λ q. (next_of page ≡ q) × IsPast (g.P.PageView.ground c.read_entries.new.pages) q) c.in-Some.next c.in-Some.is c.in_ok-behind.ensures.behind in
+    let page = c.read_kind.new.page in
+    let reads = read_pages_joined g.P.PageView i.reads c.read_kind.ensures.reads in
+    let led = MatchOption-at_some (next_of page ≡ NONE) (λ q. (next_of page ≡ q) × IsPast (g.P.PageView.ground c.read_kind.new.pages) q) c.in-Some.next c.in-Some.is c.in_ok-behind.ensures.behind in
     let past_next = subst (λ x. IsPast x c.in-Some.next) reads.keeps.ground led.1 in
     record {
       reads = reads;
-      faults = c.in_ok-read_entries.ensures.ends.cause.counted refl ∙ i.faults;
+      faults = c.in_ok-read_kind.ensures.ends.cause.counted refl ∙ i.faults;
       past = past_next;
       way = λ told owner all chain. (let n = i.way told owner all chain in
-          let read = c.in_ok-read_entries.ensures.bytes told ∙ ap (λ x. bytes_at x c.loop.number) i.reads.working in
+          let read = c.in_ok-read_kind.ensures.bytes told ∙ ap (λ x. bytes_at x c.loop.number) i.reads.working in
           let h = hand_next s all c.loop.counter c.loop.number c.in-Some.next n.hand (is_some_page ground c.in-Some.next few_pages past_next) (sym (ap next_of read) ∙ led.0) in
           record {
             hand = h.0;
-            gave = c.in_ok-copy_inside.ensures
+            gave = c.in_ok-copy_inside.ensures.ok (subst IsEntryPage (sym read) n.hand.linked.1)
                 ∙ ap (λ b. c.loop.found.items ++ inside_of lo hi (entries_of b)) read
                 ∙ gathered_more s lo hi c.args.found.now.items c.loop.found.items n.hand.front c.loop.number n.gave
                 ∙ ap (λ (x : List ℕ). c.args.found.now.items ++ inside_on s lo hi x) (sym h.1);
@@ -112,6 +133,6 @@ returns-clause-ends g c =
             let over = c.loop-test.false in
             omega (arith, less, over, c.pages-end.ensures));
       };
-      bound = λ block is. (let same : c.block.result ≡ block = cc in
-          subst (λ n. n < ground.blocks) same (subst (λ x. c.block.result < x.blocks) i.reads.keeps.ground c.block.ensures.below));
+      bound = λ block is. (let same : c.block-2.result ≡ block = cc in
+          subst (λ n. n < ground.blocks) same (subst (λ x. c.block-2.result < x.blocks) i.reads.keeps.ground c.block-2.ensures.below));
     }
