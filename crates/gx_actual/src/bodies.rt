@@ -17,11 +17,25 @@ pub fn body_bytes(alloc: Global, fields: &[Field], values: &[Value]) -> Result<O
     ensures { IfOk result (λ body. body ≡ body_of values.now) }
 {
     let _fields = fields;
-    let mut body = Vec::new(alloc);
+    let mut body = Vec::with_capacity(alloc, room_for(values))?;
     for value in values {
         push_value(&mut body, value)?;
     }
     Ok(Octets(body))
+}
+
+// How many bytes the body takes, so that it never has to grow.
+fn room_for(values: &[Value]) -> usize {
+    let mut room = 0usize;
+    for value in values {
+        let width = match value {
+            Value::Int(_) => 8,
+            Value::Text(text) => text.0.len().saturating_add(1),
+            Value::Bytes(bytes) => bytes.0.len().saturating_add(2),
+        };
+        room = room.saturating_add(width);
+    }
+    room
 }
 
 fn push_value(body: &mut Vec<u8>, value: &Value) -> Result<(), AllocError>

@@ -14,7 +14,7 @@ pub fn rle_into(alloc: Global, text: &[u8]) -> Result<Octets, NoMemory>
     ensures code { IfOk result (λ code. code ≡ rle text.now) }
     ensures runs { IfOk result (IsCodeOfRuns text.now) }
 {
-    let mut code = Vec::new(alloc);
+    let mut code = Vec::with_capacity(alloc, 2 * text.len())?;
     let mut rest = text;
     while !rest.is_empty() {
         let count = push_first(&mut code, rest)?;
@@ -64,7 +64,7 @@ fn repeats(byte: u8, text: &[u8]) -> usize
 pub fn unrle(alloc: Global, bytes: &[u8], longest: u16) -> Result<Option<Octets>, NoMemory>
     ensures { IfOk result (IsUnrle longest bytes.now) }
 {
-    let mut text = Vec::new(alloc);
+    let mut text = Vec::with_capacity(alloc, usize::from(longest))?;
     let mut previous = None;
     let mut rest = bytes;
     while let [count, byte, ..] = rest {

@@ -16,7 +16,7 @@ use Rattle.gx_values.specs.Values.{values_cmp, AreFit}
 use Rattle.gx_mapping.specs.declared.parts.Part.{Part}
 use Rattle.gx_mapping.specs.Rule.{Rule, In, IsOf, data_parts, part_cmp, AreOfKey, IsGathered}
 use Rattle.gx_mapping.specs.Laws.{MappingLaws}
-use Rattle.gx_gather.specs.Gather.{rec_cmp, gather_cmp, first_front, is_next, IsDataPart, AreDataParts, AreMade, AreMadeOf, IsUnmade}
+use Rattle.gx_gather.specs.Gather.{rec_cmp, gather_cmp, first_front, is_next, AreAlike, IsDataPart, AreDataParts, AreMade, AreMadeOf, IsUnmade}
 use Rattle.gx_gather.proofs.Lists.{in_left, in_right, in_cases, from_each, in_filter, in_contains, contains_in}
 use Rattle.gx_gather.proofs.Orders.{values_total, part_total, gather_total, values_same, before_other, front_up, front_tied, not_before_itself, Ascends, ascends, sorted, ascends_append, ascends_middle, ascends_by, Rises, rises, rises_across, rises_last, rises_ascends, gather_ties}
 
@@ -54,6 +54,11 @@ next_some width (g ∷ gs) q e = omega arith
 not_is : (b : Bool) → not b ≡ false → b ≡ true
 not_is true e = refl
 not_is false e = absurd (true≢false e)
+
+-- a part that isn't of the next group begins as the first one
+pub alike_of : (width : ℕ) (group : List Part) (q : Part) → In q group → is_next width group q ≡ false → take width q.rec.key ≡ first_front width group
+alike_of width [] q h e = absurd h
+alike_of width (g ∷ gs) q h e = sym (values_same (take width g.rec.key) (take width q.rec.key) (not_is _ e))
 
 -- ---- the loop over sorted parts
 
@@ -103,6 +108,19 @@ module _ {rule : Rule} (laws : MappingLaws rule) (width : ℕ) (width_is : width
     in_order = tt;
     below = λ r p h k. absurd h;
     alike = λ p h. absurd h;
+    idle = λ e. refl;
+  }
+
+  -- all parts are one group
+  pub gathering_whole : (ps : List Part) (before : List Rec) → AreAlike width ps → IsGathering rule width ps before before ps []
+  gathering_whole ps before alike = record {
+    done = [];
+    out_is = sym (append-nil before);
+    fit = λ r h. absurd h;
+    those = sym (append-nil ps);
+    in_order = tt;
+    below = λ r p h k. absurd h;
+    alike = alike;
     idle = λ e. refl;
   }
 

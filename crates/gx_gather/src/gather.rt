@@ -1,12 +1,12 @@
 // Records gathered from the data parts that the children of a layer hold.
-ghost use Rattle.std.specs.Prelude.{◌≡◌, ◌<◌, ◌++◌, ◌∷◌, [], ℕ, List, Some, None, length, map, take, OnOk, IsErrOf, IfOk};
+ghost use Rattle.std.specs.Prelude.{◌≡◌, ◌<◌, ◌++◌, ◌∷◌, [], ℕ, true, List, Some, None, length, map, take, OnOk, IsErrOf, IfOk};
 ghost use Rattle.std.specs.List.Sorted.{IsPermutation, IsSortedBy, IsStrictlySortedBy};
 ghost use Rattle.std.specs.Ordering.{is_lt};
 ghost use Rattle.gx_values.specs.Values.{AreSized};
 ghost use Rattle.gx_values.specs.declared.records.Rec.{Rec as Record};
 ghost use Rattle.gx_ports.specs.LeafMaps.{Extends};
 ghost use Rattle.gx_mapping.specs.Rule.{AreOfKey, IsGathered, part_cmp};
-ghost use Rattle.gx_gather.specs.Gather.{gather_cmp, part_for, first_front, is_next, AreDataParts, AreMade, AreMadeOf, IsUnmade};
+ghost use Rattle.gx_gather.specs.Gather.{gather_cmp, part_for, first_front, is_next, AreAlike, AreDataParts, AreMade, AreMadeOf, IsUnmade};
 
 use crate::order::{front, is_same_front, sort_parts};
 use crate::recs::Recs;
@@ -77,6 +77,33 @@ fn gather_sorted<M: Mapping>(
     ensures not_full { ¬ IsErrOf result Stop.Full }
     ensures not_fault { ¬ IsErrOf result Stop.Fault }
 {
+    if is_one_group(width, &parts.0) {
+        return gather_group(alloc, mapping, width, &parts, out);
+    }
+    gather_groups(alloc, mapping, width, parts, out)
+}
+
+// The parts of each record are put into a group of their own.
+fn gather_groups<M: Mapping>(
+    alloc: Global,
+    mapping: &M,
+    width: usize,
+    parts: Parts,
+    out: &mut Recs,
+) -> Result<(), Stop>
+    requires parts { AreDataParts (M.rule mapping.now) parts }
+    requires width { width ≡ length (M.rule mapping.now).form.keys }
+    requires in_order { IsSortedBy (λ a b. is_lt (gather_cmp width a b)) parts }
+    ensures made { OnOk result
+        ((found : List Record) × (out.new ≡ out.old ++ found)
+        × AreMadeOf (M.rule mapping.now) parts found) }
+    ensures front { Extends out.old out.new }
+    ensures damaged { (block : ℕ) → IsErrOf result (Stop.Damaged block) →
+        IsUnmade (M.rule mapping.now) width (IsStrictlySortedBy (gather_cmp width) parts) parts }
+    ensures block { (n : ℕ) → IsErrOf result (Stop.Damaged n) → n ≡ 0 }
+    ensures not_full { ¬ IsErrOf result Stop.Full }
+    ensures not_fault { ¬ IsErrOf result Stop.Fault }
+{
     let mut group = Parts(Vec::new(alloc));
     for part in parts.0 {
         if begins_next(width, &group.0, &part) {
@@ -89,6 +116,19 @@ fn gather_sorted<M: Mapping>(
         return Ok(());
     }
     gather_group(alloc, mapping, width, &group, out)
+}
+
+// Whether there are parts, and all of one record: so it is where one was looked for by its key.
+fn is_one_group(width: usize, parts: &[Part]) -> bool
+    ensures some { result ≡ true → 0 < length parts.now }
+    ensures alike { result ≡ true → AreAlike width parts.now }
+{
+    for i in 0..parts.len() {
+        if begins_next(width, parts, &parts[i]) {
+            return false;
+        }
+    }
+    !parts.is_empty()
 }
 
 // Whether a part is of another record than those of a group.

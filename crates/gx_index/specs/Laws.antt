@@ -8,7 +8,7 @@ use Rattle.gx_values.specs.declared.records.Field.{Field}
 use Rattle.gx_values.specs.declared.records.Form.{Form}
 use Rattle.gx_values.specs.declared.records.Rec.{Rec}
 use Rattle.gx_mapping.specs.declared.parts.Part.{Part}
-use Rattle.gx_mapping.specs.Rule.{In, IsOf, BeginsWith, part_cmp, is_field, first_in}
+use Rattle.gx_mapping.specs.Rule.{In, IsOf, BeginsWith, KeepsRecords, part_cmp, is_field, first_in}
 use Rattle.gx_mapping.specs.Laws.{MappingLaws, IsCarrier, IsEntered, IsIndex}
 use Rattle.gx_mapping.proofs.FieldLemmas.{has_value, first_kind, first_value, fit_at}
 use Rattle.gx_index.specs.Forms.{no_field, no_value, CanIndex}
@@ -158,3 +158,18 @@ index_laws form i sound = record {
     leads r p (inl at) rest = ([], ap (λ (x : Part). x.rec.key) at ∙ sym (append-nil r.key))
     leads r p (inr (inl at)) rest = absurd (let e : false ≡ true = sym (ap (λ (x : Part). nat_eq x.child 0) at) ∙ rest in cc)
     leads r p (inr (inr none)) rest = absurd none
+
+-- the first child has each record as it is
+pub index_keeps : (form : Form) (i : ℕ) → KeepsRecords (index_rule form i)
+index_keeps form i = record {
+  child = omega arith;
+  form = refl;
+  rest = refl;
+  others = λ r. entry_part i r ∷ [];
+  first = λ r. refl;
+  apart = apart;
+}
+  where
+    apart : (r : Rec) (p : Part) → In p (entry_part i r ∷ []) → p.child ≡ 0 → ⊥
+    apart r p (inl is) none = absurd (let e : 1 ≡ 0 = ap (λ (x : Part). x.child) (sym is) ∙ none in omega (arith, e))
+    apart r p (inr none) zero = absurd none

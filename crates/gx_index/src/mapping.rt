@@ -4,7 +4,7 @@ ghost use Rattle.gx_index.specs.Laws.{index_laws};
 
 use crate::entries::entry;
 use crate::layer::Index;
-use gx_mapping::{Mapping, Part, Parts, field_number, has_field};
+use gx_mapping::{Mapping, Part, Parts, Whole, field_number, has_field};
 use gx_values::{Form, Name, NoMemory, Rec, Span, Values};
 use std::alloc::Global;
 
@@ -44,6 +44,16 @@ impl Mapping for Index {
             rec: entry(alloc, rec, usize::from(self.field))?,
         })?;
         Ok(Parts(parts))
+    }
+
+    fn as_whole(&self, alloc: Global, rec: &Rec) -> Result<Option<Whole>, NoMemory> {
+        let rec = entry(alloc, rec, usize::from(self.field))?;
+        let others = Parts::one(alloc, Part { child: 1, rec })?;
+        Ok(Some(Whole { child: 0, others }))
+    }
+
+    fn keeps(&self) -> bool {
+        true
     }
 
     fn gather(&self, alloc: Global, _key: &Values, parts: &Parts) -> Result<Option<Rec>, NoMemory> {

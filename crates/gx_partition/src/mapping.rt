@@ -9,7 +9,7 @@ ghost use Rattle.gx_partition.specs.Laws.{partition_laws};
 use crate::layer::Partition;
 use crate::place::{Where, value_of};
 use crate::ranges::{begins_after, child_of, ends_before, lower_of, upper_of};
-use gx_mapping::{Mapping, Part, Parts, has_field};
+use gx_mapping::{Mapping, Part, Parts, Whole, has_field};
 use gx_values::{Form, Name, NoMemory, Rec, Span, Values};
 use std::alloc::Global;
 
@@ -38,6 +38,14 @@ impl Mapping for Partition {
         let child = self.child_for(rec);
         let rec = rec.copy(alloc)?;
         Parts::one(alloc, Part { child, rec })
+    }
+
+    fn as_whole(&self, alloc: Global, rec: &Rec) -> Result<Option<Whole>, NoMemory> {
+        let others = Parts(Vec::new(alloc));
+        Ok(Some(Whole {
+            child: self.child_for(rec),
+            others,
+        }))
     }
 
     fn gather(&self, alloc: Global, _key: &Values, parts: &Parts) -> Result<Option<Rec>, NoMemory> {

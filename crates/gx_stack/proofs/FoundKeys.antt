@@ -1,9 +1,9 @@
 -- The records of a layer by what was found of them in one child.
-use Rattle.std.proofs.Common.{◌≡◌, ◌≢◌, ◌<◌, ◌≤◌, ◌+◌, ℕ, Bool, true, false, Option, Some, List, [], ◌∷◌, ◌++◌, inl, inr, refl, sym, ap, ◌∙◌, subst, length, map, drop, arith, append_assoc, length-append}
+use Rattle.std.proofs.Common.{◌≡◌, ◌≢◌, ◌<◌, ◌≤◌, ◌+◌, ℕ, Bool, true, false, Some, List, [], ◌∷◌, ◌++◌, inl, inr, refl, sym, ap, ◌∙◌, subst, length, map, drop, arith, append_assoc, length-append}
 use Rattle.std.specs.Prelude.{◌&&◌}
 use Rattle.std.proofs.lemmas.Bool.{true≢false}
-use Rattle.std.proofs.lemmas.List.Sums.{sum_by-append, sum_by-cons}
-use Rattle.std.specs.List.{flat_map, sum_by, AllByRecursion}
+use Rattle.std.proofs.lemmas.List.Sums.{sum_by-cons}
+use Rattle.std.specs.List.{flat_map}
 use Rattle.std.specs.declared.cmp.Ordering.TheVariants.{Less}
 use Rattle.gx_values.specs.declared.values.Value.{Value}
 use Rattle.gx_values.specs.declared.records.Rec.{Rec}
@@ -12,15 +12,15 @@ use Rattle.gx_values.specs.Values.{Fits, AreFit}
 use Rattle.gx_values.specs.Keys.{bytes_of, key_of, is_inside}
 use Rattle.gx_values.specs.Spans.{IsValueSpan}
 use Rattle.gx_mapping.specs.declared.parts.Part.{Part}
-use Rattle.gx_mapping.specs.Rule.{Rule, In, IsOf, value_in, kind_in}
+use Rattle.gx_mapping.specs.Rule.{Rule, In, value_in}
 use Rattle.gx_mapping.specs.Laws.{MappingLaws, IsCarrier, IsIndex}
 use Rattle.gx_stack.specs.Tree.{Tree, Kids, layer, entries_of, kid_entries, entry_total}
 use Rattle.gx_stack.specs.Internal.{IsSet, child_records}
 use Rattle.gx_gather.specs.Gather.{rec_cmp, part_for}
-use Rattle.gx_stack.specs.Selected.{IsKeySpan, IsSelection}
+use Rattle.gx_stack.specs.Selected.{IsKeySpan}
 use Rattle.gx_stack.specs.Indexed.{is_value_inside, is_where, AreUnderOwnKeys}
 use Rattle.gx_gather.proofs.Lists.{in_left, in_right, in_cases, nat_cases, all_at}
-use Rattle.gx_gather.proofs.Orders.{rec_total, Ascends, ascends, not_before_itself}
+use Rattle.gx_gather.proofs.Orders.{rec_total, Ascends, not_before_itself}
 use Rattle.gx_stack.proofs.Children.{from_child, in_child}
 use Rattle.gx_stack.proofs.Selects.{le_longer, front_longer, last_none}
 

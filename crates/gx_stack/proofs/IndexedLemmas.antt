@@ -1,9 +1,8 @@
 -- Which children carry a field and are indexed by it, by their numbers.
-use Rattle.std.proofs.Common.{◌≡◌, ◌<◌, ◌+◌, ℕ, zero, suc, Bool, true, false, List, [], ◌∷◌, inl, inr, refl, sym, ap, ◌∙◌, subst, length, get_or, map, arith}
+use Rattle.std.proofs.Common.{◌≡◌, ◌<◌, ◌+◌, ℕ, zero, suc, Bool, true, false, List, [], ◌∷◌, inl, inr, refl, sym, ap, ◌∙◌, length, get_or, map, arith}
 use Rattle.std.specs.Prelude.{◌&&◌, ◌||◌, not}
 use Rattle.gx_stack.specs.declared.node.Node.{Node}
 use Rattle.gx_mapping.specs.Rule.{Rule}
-use Rattle.gx_stack.specs.Tree.{Kids, no_kids, kid, kid_count}
 use Rattle.gx_stack.specs.Seen.{tree_of, kids_from}
 use Rattle.gx_stack.specs.Indexed.{is_carried, is_indexed, are_indexed}
 use Rattle.std.proofs.lemmas.Bool.{true≢false}

@@ -1,9 +1,8 @@
 -- The keys that a node finds by an indexed field.
-use Rattle.std.proofs.Common.{◌≡◌, ◌<◌, ◌≤◌, ◌+◌, ℕ, suc, Bool, true, false, Option, Some, None, List, [], ◌∷◌, ◌++◌, inl, inr, refl, sym, ap, ◌∙◌, subst, length, get_or, map, drop, arith, append_assoc}
+use Rattle.std.proofs.Common.{◌≡◌, ◌<◌, ◌≤◌, ◌+◌, ℕ, Bool, true, false, Option, Some, None, List, [], ◌∷◌, ◌++◌, inl, inr, refl, sym, ap, ◌∙◌, subst, length, get_or, map, drop, arith, append_assoc}
 use Rattle.std.specs.Prelude.{◌&&◌, ◌||◌, is_some}
 use Rattle.std.proofs.lemmas.Bool.{true≢false}
 use Rattle.std.proofs.lemmas.List.Sums.{sum_by-append}
-use Rattle.std.specs.List.{sum_by}
 use Rattle.gx_values.specs.declared.values.Value.{Value}
 use Rattle.gx_values.specs.declared.records.Field.{Field}
 use Rattle.gx_values.specs.declared.records.Form.{Form}
@@ -19,19 +18,19 @@ use Rattle.gx_mapping.specs.Laws.{MappingLaws, IsIndex}
 use Rattle.gx_stack.specs.declared.node.Node.{Node}
 use Rattle.gx_stack.specs.declared.node.Node.TheVariants as V
 use Rattle.gx_stack.specs.declared.node.LayerNode.{LayerNode}
-use Rattle.gx_stack.specs.Tree.{Tree, Kids, layer, leaves_of, kids_leaves, tree_form, entries_of, entry_total, IsValid}
+use Rattle.gx_stack.specs.Tree.{Kids, layer, leaves_of, tree_form, entries_of, entry_total, IsValid}
 use Rattle.gx_stack.specs.Seen.{tree_of, kids_from}
 use Rattle.gx_stack.specs.Internal.{IsSet, IsInternal, HasSet, child_records}
 use Rattle.gx_gather.specs.Gather.{rec_cmp}
 use Rattle.gx_stack.specs.Selected.{IsKeySpan, IsSelection}
-use Rattle.gx_stack.specs.Indexed.{is_carried, are_indexed, is_indexed, is_where, AreKeysOf, AreKeysFound}
+use Rattle.gx_stack.specs.Indexed.{is_carried, are_indexed, is_indexed, is_where, AreKeysFound}
 use Rattle.gx_gather.proofs.Lists.{in_cases, from_map}
 use Rattle.gx_gather.proofs.Orders.{ascends}
 use Rattle.gx_stack.proofs.Seen.{seen_layer, layer_form, child_there, child_valid, child_internal, kid_entries_at, count_kids}
 use Rattle.gx_stack.proofs.Children.{child_set}
 use Rattle.gx_stack.proofs.Selects.{leaves_below, leaves_below_more, leaves_below_all}
 use Rattle.gx_stack.proofs.IndexedLemmas.{carried_at, indexed_at}
-use Rattle.gx_stack.proofs.FoundKeys.{AreFoundBelow, IsCarriedBelow, none_found, found_skip, found_add, own_once, ascending_once, carrier_single, carrier_lift, index_single, index_lift, index_span, lifted, lifted_keys, lifted_sound, lifted_complete, lifted_once, lifted_weight}
+use Rattle.gx_stack.proofs.FoundKeys.{AreFoundBelow, none_found, found_skip, found_add, own_once, ascending_once, carrier_single, carrier_lift, index_single, index_lift, index_span, lifted, lifted_keys, lifted_sound, lifted_complete, lifted_once, lifted_weight}
 
 map_both : (xs ys : List Rec) → map (λ (r : Rec). r.key) (xs ++ ys) ≡ map (λ r. r.key) xs ++ map (λ r. r.key) ys
 map_both [] ys = refl

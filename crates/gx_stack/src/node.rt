@@ -88,7 +88,14 @@ impl<M: Mapping> Node<M> {
                 Ok(())
             }
             Node::Layer(layer) => {
-                let parts = layer.mapping.parts(alloc, rec)?;
+                let parts = match layer.mapping.as_whole(alloc, rec)? {
+                    Some(whole) => {
+                        let first = &layer.kids[whole.child as usize];
+                        first.entries(alloc, rec, out)?;
+                        whole.others
+                    }
+                    None => layer.mapping.parts(alloc, rec)?,
+                };
                 for part in &parts.0 {
                     let kid = &layer.kids[part.child as usize];
                     kid.entries(alloc, &part.rec, out)?;
@@ -197,6 +204,10 @@ impl<M: Mapping> Node<M> {
         match self {
             Node::Leaf(node) => select_leaf(alloc, leaves, node.leaf, &node.form, span, out),
             Node::Layer(layer) => {
+                if layer.mapping.keeps() {
+                    let first = &layer.kids[0];
+                    return first.select(alloc, leaves, span, out);
+                }
                 let mut parts = Parts(Vec::new(alloc));
                 for child in 0..layer.mapping.kids() {
                     if is_searched(&layer.mapping, child, span) {

@@ -5,7 +5,7 @@ use gx_actual::Actual;
 use gx_divide::Divide;
 use gx_encode::Encode;
 use gx_index::Index;
-use gx_mapping::{Mapping, Parts};
+use gx_mapping::{Mapping, Parts, Whole};
 use gx_partition::Partition;
 use gx_split::{Segment, Transpose};
 use gx_values::{Form, Name, NoMemory, Rec, Span, Values};
@@ -94,6 +94,30 @@ impl Mapping for AnyMapping {
             AnyMapping::Partition(mapping) => mapping.parts(alloc, rec),
             AnyMapping::Divide(mapping) => mapping.parts(alloc, rec),
             AnyMapping::Index(mapping) => mapping.parts(alloc, rec),
+        }
+    }
+
+    fn as_whole(&self, alloc: Global, rec: &Rec) -> Result<Option<Whole>, NoMemory> {
+        match self {
+            AnyMapping::Actual(mapping) => mapping.as_whole(alloc, rec),
+            AnyMapping::Encode(mapping) => mapping.as_whole(alloc, rec),
+            AnyMapping::Segment(mapping) => mapping.as_whole(alloc, rec),
+            AnyMapping::Transpose(mapping) => mapping.as_whole(alloc, rec),
+            AnyMapping::Partition(mapping) => mapping.as_whole(alloc, rec),
+            AnyMapping::Divide(mapping) => mapping.as_whole(alloc, rec),
+            AnyMapping::Index(mapping) => mapping.as_whole(alloc, rec),
+        }
+    }
+
+    fn keeps(&self) -> bool {
+        match self {
+            AnyMapping::Actual(mapping) => mapping.keeps(),
+            AnyMapping::Encode(mapping) => mapping.keeps(),
+            AnyMapping::Segment(mapping) => mapping.keeps(),
+            AnyMapping::Transpose(mapping) => mapping.keeps(),
+            AnyMapping::Partition(mapping) => mapping.keeps(),
+            AnyMapping::Divide(mapping) => mapping.keeps(),
+            AnyMapping::Index(mapping) => mapping.keeps(),
         }
     }
 

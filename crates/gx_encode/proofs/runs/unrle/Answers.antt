@@ -7,7 +7,7 @@ pub returns-then-not-is_next : goal.returns-then-not-is_next
 returns-then-not-is_next c =
     let rest = c.loop-rest.rest.now in
     let text = c.loop-rest.text.items in
-    let room : c.from.result - c.len.result ≡ c.args.longest - length text = search rules in
+    let room : c.from-in-len2-up.result - c.len.result ≡ c.args.longest - length text = search rules in
     let front = two_front rest c.in-len2-up.len_at_least in
     let now = subst (IsReading c.args.longest c.args.bytes.now c.loop-rest.previous text) front c.loop-rest.invariant in
     let last = sym (ap (is_next c.loop-rest.previous (get_or rest 0 0) (get_or rest 1 0)) room) ∙ sym c.is_next.ensures ∙ c.if-not-is_next.true in
@@ -17,7 +17,7 @@ pub loop-rest-preserved : goal.loop-rest-preserved
 loop-rest-preserved c =
     let rest = c.loop-rest.rest.now in
     let text = c.loop-rest.text.items in
-    let room : c.from.result - c.len.result ≡ c.args.longest - length text = search rules in
+    let room : c.from-in-len2-up.result - c.len.result ≡ c.args.longest - length text = search rules in
     let front = two_front rest c.in-len2-up.len_at_least in
     let now = subst (IsReading c.args.longest c.args.bytes.now c.loop-rest.previous text) front c.loop-rest.invariant in
     let next = sym (ap (is_next c.loop-rest.previous (get_or rest 0 0) (get_or rest 1 0)) room) ∙ sym c.is_next.ensures ∙ c.if-not-is_next.false in

@@ -1,10 +1,10 @@
-use Rattle.std.proofs.Common.{◌≡◌, ◌<◌, ◌∙◌, Bool, true, false, Some, None, Option, ℕ, sym, ap, subst, length, map, refl, ◌+◌, arith, rules}
+use Rattle.std.proofs.Common.{◌≡◌, ◌<◌, ◌∙◌, Bool, true, false, ℕ, sym, ap, subst, length, map, refl, ◌+◌, arith, rules}
 use Rattle.std.specs.Prelude.{◌&&◌, ◌||◌, is_some}
 use Rattle.gx_stack.specs.Tree.{IsValid}
 use Rattle.gx_stack.specs.Seen.{tree_of, kids_from}
 use Rattle.gx_stack.specs.Indexed.{is_carried, is_indexed, are_indexed}
 use Rattle.gx_stack.proofs.Seen.{seen_layer, child_there, child_valid, kid_lower, count_kids}
-use Rattle.gx_stack.proofs.IndexedLemmas.{AreIndexedBelow, below_none, below_carried, below_other, all_indexed, carried_some, indexed_not}
+use Rattle.gx_stack.proofs.IndexedLemmas.{AreIndexedBelow, below_none, below_carried, below_other, all_indexed, indexed_not}
 use Rattle.gx_stack.proofs.node.Node.+indexed.Goals.{then-carries+else-not-indexed, else-carries}
 use Rattle.gx_stack.proofs.node.Node.+indexed.Goals as goal
 

@@ -1,5 +1,4 @@
 use Rattle.std.proofs.Common.{◌≡◌, map}
-use Rattle.gx_ports.specs.LeafMaps.{Extends}
 use Rattle.gx_ports.specs.Calls.{Reads}
 use Rattle.gx_stack.specs.Tree.{height}
 use Rattle.gx_stack.specs.Seen.{tree_of, kids_from}
