@@ -173,10 +173,10 @@ one_ascends : (o : Option Rec) → Ascends rec_cmp (list_of_one o)
 one_ascends None = tt
 one_ascends (Some r) = (tt, tt)
 
-some_in : (f : File) (k : Value) (vs : List Value) → fin.get f k ≡ Some vs → In (rec_of (k, vs)) (list_of_one (record_at f k))
+pub some_in : (f : File) (k : Value) (vs : List Value) → fin.get f k ≡ Some vs → In (rec_of (k, vs)) (list_of_one (record_at f k))
 some_in f k vs e = subst (λ (o : Option (List Value)). In (rec_of (k, vs)) (list_of_one (option_map (λ values. rec_of (k, values)) o))) (sym e) (inl refl)
 
-in_one : (f : File) (k : Value) (q : Rec) → In q (list_of_one (record_at f k)) → (vs : List Value) × (fin.get f k ≡ Some vs) × (q ≡ rec_of (k, vs))
+pub in_one : (f : File) (k : Value) (q : Rec) → In q (list_of_one (record_at f k)) → (vs : List Value) × (fin.get f k ≡ Some vs) × (q ≡ rec_of (k, vs))
 in_one f k q = go (fin.get f k) refl
   where
     go : (o : Option (List Value)) → fin.get f k ≡ o → In q (list_of_one (option_map (λ values. rec_of (k, values)) o)) → (vs : List Value) × (fin.get f k ≡ Some vs) × (q ≡ rec_of (k, vs))

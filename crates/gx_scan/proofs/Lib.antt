@@ -8,4 +8,5 @@ pub mod SelectLemmas
 pub mod StorableLemmas
 pub mod WhereLemmas
 mod DistinctLemmas
+mod KeyLemmas
 pub mod StepLemmas

@@ -1,11 +1,11 @@
 -- Where the records of a tree stand whole, and the entries of one of its leaves.
-use Rattle.std.proofs.Common.{[], ◌≡◌, ℕ, zero, suc, ◌+◌, ◌-◌, ◌<◌, ◌≤◌, List, ◌∷◌, ◌++◌, ◌⊎◌, length, take, get_or, map, Some, nat_eq, inl, inr, refl, sym, ap, subst, ◌∙◌, arith, append_assoc, append-nil}
-use Rattle.std.proofs.lemmas.List.{map-append, take_all, take_more}
-use Rattle.std.proofs.lemmas.Bool.{eqb-true, eq-eqb}
+use Rattle.std.proofs.Common.{[], ◌≡◌, ℕ, zero, suc, ◌+◌, ◌-◌, ◌<◌, ◌≤◌, List, ◌∷◌, ◌++◌, ◌⊎◌, length, length-append, take, drop, get_or, map, Some, nat_eq, true, false, inl, inr, refl, sym, ap, subst, ◌∙◌, arith, append_assoc, append-nil}
+use Rattle.std.proofs.lemmas.List.{map-append, take_all, take_more, length-take}
+use Rattle.std.proofs.lemmas.Bool.{eqb-true, eq-eqb, true≢false}
 use Rattle.std.specs.List.{flat_map, AllByRecursion}
 use Rattle.std.specs.FinMap as fin
 use Rattle.std.specs.FinMap.Entries.{below_all}
-use Rattle.std.specs.Prelude.{T, filter, Bool}
+use Rattle.std.specs.Prelude.{T, filter, Bool, if◌then◌else◌, Option, None, SomeIff, IfSome}
 use Rattle.std.specs.Ordering.{nat_cmp}
 use Rattle.std.specs.declared.cmp.Ordering.{Ordering}
 use Rattle.std.specs.declared.cmp.Ordering.TheVariants.{Less}
@@ -30,21 +30,22 @@ use Rattle.gx_stack.specs.declared.node.Node.{Node}
 use Rattle.gx_stack.specs.declared.node.LeafNode.{LeafNode}
 use Rattle.gx_stack.specs.declared.node.LayerNode.{LayerNode}
 use Rattle.gx_stack.specs.declared.node.Node.TheVariants as nodes
+use Rattle.gx_actual.specs.Rules.{actual_rec}
 use Rattle.gx_stack.specs.Tree.{Tree, Kids, leaf, layer, kid, no_kids, leaves_of, kids_leaves, tree_form, entries_of, kid_entries, entry_in, leaf_body, IsBytesUpTo, IsLeafData, IsLeafForm, IsValid, AreValid}
 use Rattle.gx_stack.specs.Seen.{tree_of, kids_from}
 use Rattle.gx_stack.specs.Internal.{IsUnion}
-use Rattle.gx_gather.proofs.Lists.{in_left, in_right, in_cases, in_map, from_map, in_each, from_each, in_filter, filter_in, all_at, all_of, some_same, none_some}
+use Rattle.gx_gather.proofs.Lists.{in_left, in_right, in_cases, in_map, from_map, in_each, from_each, in_filter, filter_in, all_at, all_of}
 use Rattle.gx_gather.proofs.Orders.{Ascends, ascends_filter, ascends_unique}
-use Rattle.gx_stack.proofs.Seen.{seen_layer, seen_leaf, layer_form, child_there, child_valid, kid_entries_at}
+use Rattle.gx_stack.proofs.Seen.{seen_layer, seen_leaf, layer_form, count_kids, child_there, child_valid, kid_entries_at}
+use Rattle.gx_stack.proofs.Unique.{entry_leaf, kid_leaf}
 use Rattle.gx_types.specs.declared.any.AnyMapping.{AnyMapping}
-use Rattle.gx_types.specs.declared.any.Passing.{Passing}
-use Rattle.gx_types.specs.declared.any.Passing.TheVariants.{Whole, Wrapped, Apart}
-use Rattle.gx_types.specs.Passing.{Passes}
+use Rattle.gx_types.specs.declared.any.AnyMapping.TheVariants as any
+use Rattle.gx_types.specs.Passing.{PassesOne, PassesWhole}
 use Rattle.gx_types.specs.Any.{any_rule, any_laws}
 use Rattle.gx_model.specs.States.{File, Row, IsRowOf, IsFileOf}
 use Rattle.gx_scan.specs.declared.places.Place.{Place}
 use Rattle.gx_scan.specs.Files.{rec_of, records_of, IsStorable, IsTreeFor}
-use Rattle.gx_scan.specs.Entries.{wrapped, entry_of_row, layers_below, ArePlaces, IsPlaceOf, first_leaf, leaf_of, rows_at}
+use Rattle.gx_scan.specs.Entries.{wrapped, entry_of_row, IsPassed, PassesOn, data_leaves, kids_data, IsAlone, ArePlaces, IsPlaceOf, first_leaf, leaf_of, rows_at}
 use Rattle.gx_scan.proofs.FileLemmas.{first_of_both, second_of_both, is_less, find_in, in_find, set_of}
 
 abbrev pub number : Place → ℕ
@@ -73,6 +74,78 @@ module _ {M : Type 0} (rule : M → Rule) where
     kids_once forms no_kids v = tt
     kids_once forms (kid t ks) v = once_joined (leaves_of t) (kids_leaves ks) (leaves_once t v.1) (kids_once (λ c. forms (suc c)) ks v.3) v.2
 
+-- ---- the leaves that records are gathered from
+
+if_in : (b : Bool) (n : ℕ) (ns : List ℕ) → In n (if b then ns else []) → (b ≡ true) × In n ns
+if_in true n ns h = (refl, h)
+if_in false n ns h = absurd h
+
+if_once : (b : Bool) (ns : List ℕ) → IsOnce ns → IsOnce (if b then ns else [])
+if_once true ns once = once
+if_once false ns once = tt
+
+if_few : (b : Bool) (ns : List ℕ) (most : ℕ) → length ns ≤ most → length (if b then ns else []) ≤ most
+if_few true ns most few = few
+if_few false ns most few = omega arith
+
+mutual
+  pub data_in : (t : Tree AnyMapping) (n : ℕ) → In n (data_leaves t) → In n (leaves_of t)
+  data_in (leaf m form) n h = h
+  data_in (layer m ks) n h = kids_data_in ((any_rule m).holds_rest) ks n h
+
+  kids_data_in : (rest : ℕ → Bool) (ks : Kids AnyMapping) (n : ℕ) → In n (kids_data rest ks) → In n (kids_leaves ks)
+  kids_data_in rest no_kids n h = absurd h
+  kids_data_in rest (kid t ks) n h = elim (in_cases n (if rest 0 then data_leaves t else []) (kids_data (λ c. rest (suc c)) ks) h) [
+    | inl a ↦ in_left n (leaves_of t) (kids_leaves ks) (data_in t n (if_in (rest 0) n (data_leaves t) a).1)
+    | inr b ↦ in_right n (leaves_of t) (kids_leaves ks) (kids_data_in (λ c. rest (suc c)) ks n b)
+  ]
+
+mutual
+  pub data_once : (t : Tree AnyMapping) → IsValid any_rule t → IsOnce (data_leaves t)
+  data_once (leaf m form) v = (λ i. i, tt)
+  data_once (layer m ks) v = kids_data_once ((any_rule m).holds_rest) ((any_rule m).kid_form) ks v.1
+
+  kids_data_once : (rest : ℕ → Bool) (forms : ℕ → Form) (ks : Kids AnyMapping) → AreValid any_rule forms ks → IsOnce (kids_data rest ks)
+  kids_data_once rest forms no_kids v = tt
+  kids_data_once rest forms (kid t ks) v = once_joined (if rest 0 then data_leaves t else []) (kids_data (λ c. rest (suc c)) ks)
+      (if_once (rest 0) (data_leaves t) (data_once t v.1)) (kids_data_once (λ c. rest (suc c)) (λ c. forms (suc c)) ks v.3)
+      (λ n i k. v.2 n (data_in t n (if_in (rest 0) n (data_leaves t) i).1) (kids_data_in (λ c. rest (suc c)) ks n k))
+
+mutual
+  pub data_few : (t : Tree AnyMapping) → length (data_leaves t) ≤ length (leaves_of t)
+  data_few (leaf m form) = omega arith
+  data_few (layer m ks) = kids_data_few ((any_rule m).holds_rest) ks
+
+  kids_data_few : (rest : ℕ → Bool) (ks : Kids AnyMapping) → length (kids_data rest ks) ≤ length (kids_leaves ks)
+  kids_data_few rest no_kids = omega arith
+  kids_data_few rest (kid t ks) =
+      let one = if_few (rest 0) (data_leaves t) (length (leaves_of t)) (data_few t) in
+      let more = kids_data_few (λ c. rest (suc c)) ks in
+      omega (arith, one, more, length-append (if rest 0 then data_leaves t else []) (kids_data (λ c. rest (suc c)) ks), length-append (leaves_of t) (kids_leaves ks))
+
+-- those below one child
+abbrev below_child : Kids AnyMapping → ℕ → List ℕ
+below_child no_kids c = []
+below_child (kid t ks) zero = data_leaves t
+below_child (kid t ks) (suc c) = below_child ks c
+
+below_at : (ns : List (Node AnyMapping)) (c : ℕ) (n : Node AnyMapping) → c < length ns → below_child (kids_from (map tree_of ns)) c ≡ data_leaves (tree_of (get_or ns c n))
+below_at [] c n l = absurd (omega arith)
+below_at (x ∷ ns) zero n l = refl
+below_at (x ∷ ns) (suc c) n l = below_at ns c n (omega arith)
+
+-- where an entry of a part stands in one of these leaves, the part's child is a data child and the leaf is below it
+part_leaf : (rest : ℕ → Bool) (forms : ℕ → Form) (ks : Kids AnyMapping) (c : ℕ) (r : Rec) (e : LeafEntry) → AreValid any_rule forms ks → In e (kid_entries any_rule ks c r) → In e.leaf (kids_data rest ks) → (rest c ≡ true) × In e.leaf (below_child ks c)
+part_leaf rest forms no_kids c r e v h d = absurd h
+part_leaf rest forms (kid t ks) zero r e v h d = elim (in_cases e.leaf (if rest 0 then data_leaves t else []) (kids_data (λ c. rest (suc c)) ks) d) [
+  | inl a ↦ if_in (rest 0) e.leaf (data_leaves t) a
+  | inr b ↦ absurd (v.2 e.leaf (entry_leaf any_rule t r e h) (kids_data_in (λ c. rest (suc c)) ks e.leaf b))
+]
+part_leaf rest forms (kid t ks) (suc c) r e v h d = elim (in_cases e.leaf (if rest 0 then data_leaves t else []) (kids_data (λ c. rest (suc c)) ks) d) [
+  | inl a ↦ absurd (v.2 e.leaf (data_in t e.leaf (if_in (rest 0) e.leaf (data_leaves t) a).1) (kid_leaf any_rule ks c r e h))
+  | inr b ↦ part_leaf (λ c. rest (suc c)) (λ c. forms (suc c)) ks c r e v.3 h b
+]
+
 -- a leaf has one place
 pub place_same : (ps : List Place) (p q : Place) → IsOnce (map number ps) → In p ps → In q ps → p.leaf ≡ q.leaf → p ≡ q
 place_same [] p q once i k e = absurd i
@@ -98,6 +171,9 @@ no_values : (vs : List Value) → AreFit [] vs → vs ≡ []
 no_values [] fit = refl
 no_values (v ∷ vs) fit = absurd fit
 
+alone : (m : ℕ) (e : LeafEntry) (es : List LeafEntry) → es ≡ e ∷ [] → IsAlone (m ∷ []) e es
+alone m e es is = record { others = []; first = is; elsewhere = λ o h d. h }
+
 bare_placed : (m : ℕ) (form : Form) (n : ℕ) (p : Place) → IsLeafForm form → (n ≡ 0 → AreKeyFields form.fields) → p.leaf ≡ m → p.lengths ≡ n - 1 → ArePlaces n (leaf m form) (p ∷ [])
 bare_placed m form zero p is plain number_is lengths_is = record {
   leaves = ap (λ x. x ∷ []) number_is;
@@ -105,13 +181,13 @@ bare_placed m form zero p is plain number_is lengths_is = record {
       let none : r.fields ≡ [] = no_values r.fields (subst (λ fs. AreFit fs r.fields) (no_fields form.fields _ (plain refl) is.entry_small) fits.fields) in
       let lengths : p.lengths ≡ 0 = omega (arith, lengths_is) in
       let bodies : leaf_body r.fields ≡ leaf_body (wrapped 1 r).fields = ap leaf_body none ∙ sym (ap (λ (vs : List Value). leaf_body (wrapped 1 (record { key = r.key; fields = vs })).fields) none) in
-      (p, inl refl, (λ i. record { leaf = sym number_is i; key = key_of r.key; body = bodies i } ∷ []) ∙ ap (λ k. entry_in p.leaf (wrapped (suc k) r) ∷ []) (sym lengths));
+      (p, inl refl, alone m _ _ ((λ i. record { leaf = sym number_is i; key = key_of r.key; body = bodies i } ∷ []) ∙ ap (λ k. entry_in p.leaf (wrapped (suc k) r) ∷ []) (sym lengths)));
 }
 bare_placed m form (suc n) p is plain number_is lengths_is = record {
   leaves = ap (λ x. x ∷ []) number_is;
   stand = λ r fits.
       let lengths : p.lengths ≡ n = omega (arith, lengths_is) in
-      (p, inl refl, λ i. entry_in (sym number_is i) (wrapped (suc (sym lengths i)) r) ∷ []);
+      (p, inl refl, alone m _ _ (λ i. entry_in (sym number_is i) (wrapped (suc (sym lengths i)) r) ∷ []));
 }
 
 pub leaf_placed : (node : Node AnyMapping) (l : LeafNode) (n : ℕ) (p : Place) → node ≡ nodes.Leaf l → IsValid any_rule (tree_of node) → (n ≡ 0 → AreKeyFields (tree_form any_rule (tree_of node)).fields) → p.leaf ≡ l.leaf → p.lengths ≡ n - 1 → ArePlaces n (tree_of node) (p ∷ [])
@@ -125,45 +201,87 @@ leaf_placed node l n p is valid plain number_is lengths_is =
 abbrev part : ℕ → Rec → Part
 part c r = record { child = c; rec = r }
 
--- how a layer passes the records that stand below so many layers `actual`
-pub record PassesOn (m : AnyMapping) (n b : ℕ) : Type 0 where
-  pub one : (r : Rec) → (c : ℕ) × ((any_rule m).parts (wrapped n r) ≡ part c (wrapped b r) ∷ [])
-  pub plain : (c : ℕ) → (n ≡ 0 → AreKeyFields (any_rule m).form.fields) → b ≡ 0 → AreKeyFields ((any_rule m).kid_form c).fields
+-- a record that goes to one child alone
+one_passed : (m : AnyMapping) (n b : ℕ) (r : Rec) (c : ℕ) → IsOf (any_rule m).form (wrapped n r) → (any_rule m).parts (wrapped n r) ≡ part c (wrapped b r) ∷ [] → IsPassed (any_rule m) n b r
+one_passed m n b r c fits is =
+    let rest = λ (p : Part). (any_rule m).holds_rest p.child in
+    let main = (any_laws m).has_data (wrapped n r) fits in
+    let kept = in_filter rest main.0 ((any_rule m).parts (wrapped n r)) main.1 in
+    let same : main.0 ≡ part c (wrapped b r) = elim (subst (In main.0) is kept.0) [ inl e ↦ e | inr none ↦ absurd none ] in
+    record { child = c; rest = ap rest (sym same) ∙ kept.1; others = []; parts = is; beside = λ p h. absurd h }
 
-pub passes_on : (m : AnyMapping) (p : Passing) (n b : ℕ) → Passes (any_rule m) p → layers_below p n ≡ Some b → PassesOn m n b
-passes_on m Whole n b passes is =
-    let same : n ≡ b = some_same n b is in
-    record {
-      one = λ r. let x = passes.one (wrapped n r) in (x.0, x.1 ∙ ap (λ k. part x.0 (wrapped k r) ∷ []) same);
-      plain = λ c plain none. subst (λ f. AreKeyFields f.fields) (sym (passes.form c)) (plain (same ∙ none));
+pub whole_passes : (m : AnyMapping) (n : ℕ) → PassesWhole (any_rule m) → PassesOn (any_rule m) n n
+whole_passes m n passes = record {
+  each = λ r fits. let x = passes.one (wrapped n r) in one_passed m n n r x.0 fits x.1;
+  plain = λ c rest plain none. subst (λ f. AreKeyFields f.fields) (sym (passes.form c)) (plain none);
+}
+
+wrapped_passes : (m : AnyMapping) (n b : ℕ) → b ≡ n + 1 → PassesOne (any_rule m) actual_rec → PassesOn (any_rule m) n b
+wrapped_passes m n b more passes =
+    let same : suc n ≡ b = omega (arith, more) in record {
+      each = λ r fits. let x = passes (wrapped n r) in one_passed m n b r x.0 fits (x.1 ∙ ap (λ k. part x.0 (wrapped k r) ∷ []) same);
+      plain = λ c rest plain none. absurd (omega (arith, more, none));
     }
-passes_on m Wrapped n b passes is =
-    let same : suc n ≡ b = some_same (suc n) b is in
-    record {
-      one = λ r. let x = passes (wrapped n r) in (x.0, x.1 ∙ ap (λ k. part x.0 (wrapped k r) ∷ []) same);
-      plain = λ c plain none. absurd (omega (arith, same, none));
-    }
-passes_on m Apart n b passes is = absurd (none_some b is)
+
+pub counted_passes : (m : AnyMapping) (n : ℕ) (most : Type 0) (o : Option ℕ) → SomeIff o most (n + 1) → PassesOne (any_rule m) actual_rec → IfSome o (PassesOn (any_rule m) n)
+counted_passes m n most None is passes = tt
+counted_passes m n most (Some b) is passes = wrapped_passes m n b is.1 passes
+
+abbrev pub is_index : AnyMapping → Bool
+is_index (any.Actual m) = false
+is_index (any.Encode m) = false
+is_index (any.Segment m) = false
+is_index (any.Transpose m) = false
+is_index (any.Partition m) = false
+is_index (any.Divide m) = false
+is_index (any.Index m) = true
+
+-- an index passes its records to child 0, and their entries to child 1
+pub index_passes : (m : AnyMapping) (n : ℕ) → is_index m ≡ true → PassesOn (any_rule m) n n
+index_passes (any.Actual m) n is = absurd (true≢false (sym is))
+index_passes (any.Encode m) n is = absurd (true≢false (sym is))
+index_passes (any.Segment m) n is = absurd (true≢false (sym is))
+index_passes (any.Transpose m) n is = absurd (true≢false (sym is))
+index_passes (any.Partition m) n is = absurd (true≢false (sym is))
+index_passes (any.Divide m) n is = absurd (true≢false (sym is))
+index_passes (any.Index m) n is = record {
+  each = λ r fits. record {
+    child = 0;
+    rest = refl;
+    others = drop 1 ((any_rule (any.Index m)).parts (wrapped n r));
+    parts = refl;
+    beside = λ p h. elim h [ inl e ↦ ap (λ (q : Part). (any_rule (any.Index m)).holds_rest q.child) e | inr none ↦ absurd none ];
+  };
+  plain = first;
+}
+  where
+    first : (c : ℕ) → (any_rule (any.Index m)).holds_rest c ≡ true → (n ≡ 0 → AreKeyFields (any_rule (any.Index m)).form.fields) → n ≡ 0 → AreKeyFields ((any_rule (any.Index m)).kid_form c).fields
+    first zero rest plain none = plain none
+    first (suc c) rest plain none = absurd (omega (arith, eqb-true (suc c) 0 rest))
 
 abbrev pub Stand : ℕ → Tree AnyMapping → List Place → Type 0
-Stand n t ps = (r : Rec) → IsOf (tree_form any_rule t) (wrapped n r) → (p : Place) × In p ps × (entries_of any_rule t (wrapped n r) ≡ entry_in p.leaf (wrapped (suc p.lengths) r) ∷ [])
+Stand n t ps = (r : Rec) → IsOf (tree_form any_rule t) (wrapped n r) → (p : Place) × In p ps × IsAlone (data_leaves t) (entry_in p.leaf (wrapped (suc p.lengths) r)) (entries_of any_rule t (wrapped n r))
 
--- the places of the first i children
-pub record ArePlacesOf (n : ℕ) (ks : List (Node AnyMapping)) (i : ℕ) (ps : List Place) : Type 0 where
-  pub leaves : map number ps ≡ kids_leaves (kids_from (map tree_of (take i ks)))
-  pub stand : (c : ℕ) (k : Node AnyMapping) → c < i → k ≡ get_or ks c k → Stand n (tree_of k) ps
+-- the places below the first i children
+pub record ArePlacesOf (m : AnyMapping) (n : ℕ) (ks : List (Node AnyMapping)) (i : ℕ) (ps : List Place) : Type 0 where
+  pub leaves : map number ps ≡ kids_data ((any_rule m).holds_rest) (kids_from (map tree_of (take i ks)))
+  pub stand : (c : ℕ) (k : Node AnyMapping) → c < i → (any_rule m).holds_rest c ≡ true → k ≡ get_or ks c k → Stand n (tree_of k) ps
 
-pub none_placed : (n : ℕ) (ks : List (Node AnyMapping)) → ArePlacesOf n ks 0 []
-none_placed n ks = record { leaves = refl; stand = λ c k below. absurd (omega arith) }
+pub none_placed : (m : AnyMapping) (n : ℕ) (ks : List (Node AnyMapping)) → ArePlacesOf m n ks 0 []
+none_placed m n ks = record { leaves = refl; stand = λ c k below. absurd (omega arith) }
 
-kids_last : (xs : List (Node AnyMapping)) (k : Node AnyMapping) → kids_leaves (kids_from (map tree_of (xs ++ k ∷ []))) ≡ kids_leaves (kids_from (map tree_of xs)) ++ leaves_of (tree_of k)
-kids_last [] k = append-nil (leaves_of (tree_of k))
-kids_last (x ∷ xs) k = ap (λ ns. leaves_of (tree_of x) ++ ns) (kids_last xs k) ∙ sym (append_assoc (leaves_of (tree_of x)) (kids_leaves (kids_from (map tree_of xs))) (leaves_of (tree_of k)))
+kids_last : (rest : ℕ → Bool) (xs : List (Node AnyMapping)) (k : Node AnyMapping) → kids_data rest (kids_from (map tree_of (xs ++ k ∷ []))) ≡ kids_data rest (kids_from (map tree_of xs)) ++ (if rest (length xs) then data_leaves (tree_of k) else [])
+kids_last rest [] k = append-nil (if rest 0 then data_leaves (tree_of k) else [])
+kids_last rest (x ∷ xs) k =
+    let one = if rest 0 then data_leaves (tree_of x) else [] in
+    ap (λ ns. one ++ ns) (kids_last (λ c. rest (suc c)) xs k)
+    ∙ sym (append_assoc one (kids_data (λ c. rest (suc c)) (kids_from (map tree_of xs))) (if rest (length (x ∷ xs)) then data_leaves (tree_of k) else []))
 
-kids_more : (ks : List (Node AnyMapping)) (i : ℕ) (k : Node AnyMapping) → i < length ks → k ≡ get_or ks i k → kids_leaves (kids_from (map tree_of (take (i + 1) ks))) ≡ kids_leaves (kids_from (map tree_of (take i ks))) ++ leaves_of (tree_of k)
-kids_more ks i k l read =
-    ap (λ xs. kids_leaves (kids_from (map tree_of xs))) (take_more ks i k l) ∙ kids_last (take i ks) (get_or ks i k)
-    ∙ ap (λ (x : Node AnyMapping). kids_leaves (kids_from (map tree_of (take i ks))) ++ leaves_of (tree_of x)) (sym read)
+kids_more : (rest : ℕ → Bool) (ks : List (Node AnyMapping)) (i : ℕ) (k : Node AnyMapping) → i < length ks → k ≡ get_or ks i k → kids_data rest (kids_from (map tree_of (take (i + 1) ks))) ≡ kids_data rest (kids_from (map tree_of (take i ks))) ++ (if rest i then data_leaves (tree_of k) else [])
+kids_more rest ks i k l read =
+    let many : length (take i ks) ≡ i = omega (arith, length-take i ks) in
+    ap (λ xs. kids_data rest (kids_from (map tree_of xs))) (take_more ks i k l) ∙ kids_last rest (take i ks) (get_or ks i k)
+    ∙ (λ j. kids_data rest (kids_from (map tree_of (take i ks))) ++ (if rest (many j) then data_leaves (tree_of (sym read j)) else []))
 
 pub get_or_any : {A : Type 0} (xs : List A) (i : ℕ) (d e : A) → i < length xs → get_or xs i d ≡ get_or xs i e
 get_or_any [] i d e l = absurd (omega arith)
@@ -176,38 +294,77 @@ below_cases zero (suc i) l = inl (omega arith)
 below_cases (suc c) zero l = absurd (omega arith)
 below_cases (suc c) (suc i) l = elim (below_cases c i (omega arith)) [ inl h ↦ inl (omega (arith, h)) | inr e ↦ inr (ap suc e) ]
 
-pub kid_placed : (n : ℕ) (ks : List (Node AnyMapping)) (i : ℕ) (k : Node AnyMapping) (ps qs : List Place) → i < length ks → k ≡ get_or ks i k → ArePlacesOf n ks i ps → ArePlaces n (tree_of k) qs → ArePlacesOf n ks (i + 1) (ps ++ qs)
-kid_placed n ks i k ps qs l read so_far one = record {
-  leaves = map-append number ps qs ∙ (λ j. so_far.leaves j ++ one.leaves j) ∙ sym (kids_more ks i k l read);
-  stand = λ c d below at r fits. elim (below_cases c i below) [
-    | inl less ↦ (let x = so_far.stand c d less at r fits in (x.0, in_left x.0 ps qs x.1, x.2))
+pub kid_placed : (m : AnyMapping) (n : ℕ) (ks : List (Node AnyMapping)) (i : ℕ) (k : Node AnyMapping) (ps qs : List Place) → i < length ks → (any_rule m).holds_rest i ≡ true → k ≡ get_or ks i k → ArePlacesOf m n ks i ps → ArePlaces n (tree_of k) qs → ArePlacesOf m n ks (i + 1) (ps ++ qs)
+kid_placed m n ks i k ps qs l rest read so_far one = record {
+  leaves = map-append number ps qs ∙ (λ j. so_far.leaves j ++ one.leaves j)
+      ∙ ap (λ b. kids_data ((any_rule m).holds_rest) (kids_from (map tree_of (take i ks))) ++ (if b then data_leaves (tree_of k) else [])) (sym rest)
+      ∙ sym (kids_more ((any_rule m).holds_rest) ks i k l read);
+  stand = λ c d below holds at r fits. elim (below_cases c i below) [
+    | inl less ↦ (let x = so_far.stand c d less holds at r fits in (x.0, in_left x.0 ps qs x.1, x.2))
     | inr same ↦ (
         let is : d ≡ k = at ∙ ap (λ j. get_or ks j d) same ∙ get_or_any ks i d k l ∙ sym read in
         let x = one.stand r (subst (λ (y : Node AnyMapping). IsOf (tree_form any_rule (tree_of y)) (wrapped n r)) is fits) in
-        (x.0, in_right x.0 ps qs x.1, subst (λ (y : Node AnyMapping). entries_of any_rule (tree_of y) (wrapped n r) ≡ entry_in x.0.leaf (wrapped (suc x.0.lengths) r) ∷ []) (sym is) x.2))
+        (x.0, in_right x.0 ps qs x.1, subst (λ (y : Node AnyMapping). IsAlone (data_leaves (tree_of y)) (entry_in x.0.leaf (wrapped (suc x.0.lengths) r)) (entries_of any_rule (tree_of y) (wrapped n r))) (sym is) x.2))
   ];
 }
 
-pub layer_placed : (node : Node AnyMapping) (l : LayerNode AnyMapping) (n b i : ℕ) (ps : List Place) → node ≡ nodes.Layer l → IsValid any_rule (tree_of node) → PassesOn l.mapping n b → length l.kids.items ≤ i → ArePlacesOf b l.kids.items i ps → ArePlaces n (tree_of node) ps
-layer_placed node l n b i ps is valid passes end placed = record {
-  leaves = placed.leaves ∙ ap (λ ks. kids_leaves (kids_from (map tree_of ks))) (take_all i l.kids.items end) ∙ sym (ap leaves_of (seen_layer node l is));
-  stand = λ r fits.
-      let below = wrapped b r in
-      let one = passes.one r in
-      let fits' = subst (λ f. IsOf f (wrapped n r)) (layer_form any_rule node l is) fits in
-      let here = (any_laws l.mapping).fit (wrapped n r) (part one.0 below) fits' (subst (In (part one.0 below)) (sym one.1) (inl refl)) in
-      let there = child_there any_rule node l is one.0 valid here.0 in
-      let k = get_or l.kids.items one.0 node in
-      let read : k ≡ get_or l.kids.items one.0 k = get_or_any l.kids.items one.0 node k there in
-      let v = child_valid any_rule node l is one.0 k valid there read in
-      let x = placed.stand one.0 k (omega (arith, there, end)) read r (subst (λ f. IsOf f below) (sym v.0) here.1) in
-      let ks = kids_from (map tree_of l.kids.items) in (
-        x.0,
-        x.1,
-        ap (λ t. entries_of any_rule t (wrapped n r)) (seen_layer node l is) ∙ ap (flat_map (λ (p : Part). kid_entries any_rule ks p.child p.rec)) one.1
-            ∙ append-nil (kid_entries any_rule ks one.0 below) ∙ kid_entries_at any_rule l.kids.items one.0 node below there ∙ x.2,
-      );
-}
+-- a child that isn't a data child has no place
+pub kid_left : (m : AnyMapping) (n : ℕ) (ks : List (Node AnyMapping)) (i : ℕ) (k : Node AnyMapping) (ps : List Place) → i < length ks → (any_rule m).holds_rest i ≡ false → ArePlacesOf m n ks i ps → ArePlacesOf m n ks (i + 1) ps
+kid_left m n ks i k ps l rest so_far =
+    let at = get_or ks i k in
+    record {
+      leaves = so_far.leaves ∙ sym (append-nil (kids_data ((any_rule m).holds_rest) (kids_from (map tree_of (take i ks)))))
+          ∙ ap (λ b. kids_data ((any_rule m).holds_rest) (kids_from (map tree_of (take i ks))) ++ (if b then data_leaves (tree_of at) else [])) (sym rest)
+          ∙ sym (kids_more ((any_rule m).holds_rest) ks i at l (get_or_any ks i k at l));
+      stand = λ c d below holds read. elim (below_cases c i below) [
+        | inl less ↦ so_far.stand c d less holds read
+        | inr same ↦ absurd (true≢false (sym holds ∙ ap ((any_rule m).holds_rest) same ∙ rest))
+      ];
+    }
+
+pub kids_many : (node : Node AnyMapping) (l : LayerNode AnyMapping) → node ≡ nodes.Layer l → IsValid any_rule (tree_of node) → length l.kids.items ≡ (any_rule l.mapping).kids
+kids_many node l is valid = sym (count_kids l.kids.items) ∙ (subst (IsValid any_rule) (seen_layer node l is) valid).0
+
+pub layer_placed : (node : Node AnyMapping) (l : LayerNode AnyMapping) (n b i : ℕ) (ps : List Place) → node ≡ nodes.Layer l → IsValid any_rule (tree_of node) → PassesOn (any_rule l.mapping) n b → length l.kids.items ≤ i → ArePlacesOf l.mapping b l.kids.items i ps → ArePlaces n (tree_of node) ps
+layer_placed node l n b i ps is valid passes end placed =
+    let rule = any_rule l.mapping in
+    let rest = rule.holds_rest in
+    let ks = kids_from (map tree_of l.kids.items) in
+    let seen = seen_layer node l is in
+    let kids_valid = (subst (IsValid any_rule) seen valid).1 in
+    let kid_part = λ (p : Part). kid_entries any_rule ks p.child p.rec in
+    record {
+      leaves = placed.leaves ∙ ap (λ ks. kids_data rest (kids_from (map tree_of ks))) (take_all i l.kids.items end) ∙ sym (ap data_leaves seen);
+      stand = λ r fits.
+          let below = wrapped b r in
+          let fits' = subst (λ f. IsOf f (wrapped n r)) (layer_form any_rule node l is) fits in
+          let one = passes.each r fits' in
+          let here = (any_laws l.mapping).fit (wrapped n r) (part one.child below) fits' (subst (In (part one.child below)) (sym one.parts) (inl refl)) in
+          let there = child_there any_rule node l is one.child valid here.0 in
+          let k = get_or l.kids.items one.child node in
+          let read : k ≡ get_or l.kids.items one.child k = get_or_any l.kids.items one.child node k there in
+          let v = child_valid any_rule node l is one.child k valid there read in
+          let x = placed.stand one.child k (omega (arith, there, end)) one.rest read r (subst (λ f. IsOf f below) (sym v.0) here.1) in
+          let e = entry_in x.0.leaf (wrapped (suc x.0.lengths) r) in
+          let of_child : kid_entries any_rule ks one.child below ≡ e ∷ x.2.others = kid_entries_at any_rule l.kids.items one.child node below there ∙ x.2.first in (
+            x.0,
+            x.1,
+            record {
+              others = x.2.others ++ flat_map kid_part one.others;
+              first = ap (λ t. entries_of any_rule t (wrapped n r)) seen ∙ ap (flat_map kid_part) one.parts ∙ ap (λ (es : List LeafEntry). es ++ flat_map kid_part one.others) of_child;
+              elsewhere = λ o h d.
+                  let d' : In o.leaf (kids_data rest ks) = subst (In o.leaf) (ap data_leaves seen) d in
+                  elim (in_cases o x.2.others (flat_map kid_part one.others) h) [
+                    | inl a ↦ (
+                        let leaf_below = part_leaf rest rule.kid_form ks one.child below o kids_valid (subst (In o) (sym of_child) (inr a)) d' in
+                        x.2.elsewhere o a (subst (In o.leaf) (below_at l.kids.items one.child node there) leaf_below.1))
+                    | inr b ↦ (
+                        let q = from_each kid_part o one.others b in
+                        true≢false (sym (part_leaf rest rule.kid_form ks q.0.child q.0.rec o kids_valid q.2 d').0 ∙ one.beside q.0 q.1))
+                  ];
+            },
+          );
+    }
 
 -- ---- the entries of one leaf
 
@@ -247,8 +404,11 @@ wrapped_key (suc n) r = wrapped_key n r
 entry_key : (n : ℕ) (r : Row) → key_of (wrapped n (rec_of r)).key ≡ bytes_of r.0
 entry_key n r = ap key_of (wrapped_key n (rec_of r)) ∙ append-nil (bytes_of r.0)
 
+place_data : (t : Tree AnyMapping) (p : Place) → IsPlaceOf t p → In p.leaf (data_leaves t)
+place_data t p at = subst (In p.leaf) at.are.leaves (in_map number p at.places at.there)
+
 pub place_there : (t : Tree AnyMapping) (p : Place) → IsPlaceOf t p → In p.leaf (leaves_of t)
-place_there t p at = subst (In p.leaf) at.are.leaves (in_map number p at.places at.there)
+place_there t p at = data_in t p.leaf (place_data t p at)
 
 module _ (file : FileDef) (t : Tree AnyMapping) (leaves : ℕ) (maps : List LeafMap) (f : File) (storable : IsStorable file) (tree : IsTreeFor file t leaves) (fit : IsFileOf file f) where
   row_of_tree : (r : Row) → In r (fin.entries f) → IsOf (tree_form any_rule t) (rec_of r)
@@ -258,14 +418,14 @@ module _ (file : FileDef) (t : Tree AnyMapping) (leaves : ℕ) (maps : List Leaf
   pub leaf_there : (ps : List Place) → ArePlaces 0 t ps → (r : Row) → In r (fin.entries f) → In (leaf_of t r) (map number ps)
   leaf_there ps are r h =
       let x = are.stand (rec_of r) (row_of_tree r h) in
-      subst (λ n. In n (map number ps)) (sym (ap first_leaf x.2)) (in_map number x.0 ps x.1)
+      subst (λ n. In n (map number ps)) (sym (ap first_leaf x.2.first)) (in_map number x.0 ps x.1)
 
-  held_at : (p : Place) → IsPlaceOf t p → (r : Row) → In r (fin.entries f) → leaf_of t r ≡ p.leaf → entries_of any_rule t (rec_of r) ≡ entry_in p.leaf (wrapped (suc p.lengths) (rec_of r)) ∷ []
+  held_at : (p : Place) → IsPlaceOf t p → (r : Row) → In r (fin.entries f) → leaf_of t r ≡ p.leaf → IsAlone (data_leaves t) (entry_in p.leaf (wrapped (suc p.lengths) (rec_of r))) (entries_of any_rule t (rec_of r))
   held_at p at r h same =
       let x = at.are.stand (rec_of r) (row_of_tree r h) in
-      let once = subst IsOnce (sym at.are.leaves) (leaves_once any_rule t tree.valid) in
-      let one : x.0 ≡ p = place_same at.places x.0 p once x.1 at.there (sym (ap first_leaf x.2) ∙ same) in
-      x.2 ∙ ap (λ (q : Place). entry_in q.leaf (wrapped (suc q.lengths) (rec_of r)) ∷ []) one
+      let once = subst IsOnce (sym at.are.leaves) (data_once t tree.valid) in
+      let one : x.0 ≡ p = place_same at.places x.0 p once x.1 at.there (sym (ap first_leaf x.2.first) ∙ same) in
+      subst (λ (q : Place). IsAlone (data_leaves t) (entry_in q.leaf (wrapped (suc q.lengths) (rec_of r))) (entries_of any_rule t (rec_of r))) one x.2
 
   entry_from : IsUnion any_rule t (records_of f) maps → (p : Place) → IsPlaceOf t p → (e : Pair) → In e (fin.entries (map_at maps p.leaf)) → In e (map (entry_of_row p.lengths) (rows_at t p.leaf f))
   entry_from union p at e h =
@@ -276,9 +436,10 @@ module _ (file : FileDef) (t : Tree AnyMapping) (leaves : ℕ) (maps : List Leaf
       let row = from_map rec_of q.0 (fin.entries f) q.1 in
       let among : In le (entries_of any_rule t (rec_of row.0)) = subst (λ x. In le (entries_of any_rule t x)) row.2 q.2 in
       let x = at.are.stand (rec_of row.0) (row_of_tree row.0 row.1) in
-      let first : le ≡ entry_in x.0.leaf (wrapped (suc x.0.lengths) (rec_of row.0)) = elim (subst (In le) x.2 among) [ inl i ↦ i | inr n ↦ absurd n ] in
-      let same : leaf_of t row.0 ≡ p.leaf = ap first_leaf x.2 ∙ sym (ap (λ (y : LeafEntry). y.leaf) first) in
-      let made : le ≡ entry_in p.leaf (wrapped (suc p.lengths) (rec_of row.0)) = elim (subst (In le) (held_at p at row.0 row.1 same) among) [ inl i ↦ i | inr n ↦ absurd n ] in
+      let first : le ≡ entry_in x.0.leaf (wrapped (suc x.0.lengths) (rec_of row.0)) = elim (subst (In le) x.2.first among) [ inl i ↦ i | inr n ↦ absurd (x.2.elsewhere le n (place_data t p at)) ] in
+      let same : leaf_of t row.0 ≡ p.leaf = ap first_leaf x.2.first ∙ sym (ap (λ (y : LeafEntry). y.leaf) first) in
+      let here = held_at p at row.0 row.1 same in
+      let made : le ≡ entry_in p.leaf (wrapped (suc p.lengths) (rec_of row.0)) = elim (subst (In le) here.first among) [ inl i ↦ i | inr n ↦ absurd (here.elsewhere le n (place_data t p at)) ] in
       let key : e.0 ≡ bytes_of row.0.0 = ap (λ (y : LeafEntry). y.key) made ∙ entry_key (suc p.lengths) row.0 in
       let body : e.1 ≡ leaf_body (wrapped (suc p.lengths) (rec_of row.0)).fields = ap (λ (y : LeafEntry). y.body) made in
       subst (λ (y : Pair). In y (map (entry_of_row p.lengths) (rows_at t p.leaf f))) (λ i. (sym key i, sym body i))
@@ -291,7 +452,7 @@ module _ (file : FileDef) (t : Tree AnyMapping) (leaves : ℕ) (maps : List Leaf
       let r = row.0 in
       let kept = in_filter (λ (r : Row). nat_eq (leaf_of t r) p.leaf) r (fin.entries f) row.1 in
       let le = entry_in p.leaf (wrapped (suc p.lengths) (rec_of r)) in
-      let among : In le (entries_of any_rule t (rec_of r)) = subst (In le) (sym (held_at p at r kept.0 (eqb-true _ _ kept.1))) (inl refl) in
+      let among : In le (entries_of any_rule t (rec_of r)) = subst (In le) (sym (held_at p at r kept.0 (eqb-true _ _ kept.1)).first) (inl refl) in
       let there = union.holds le (in_each (entries_of any_rule t) (rec_of r) le (records_of f) (in_map rec_of r (fin.entries f) kept.0) among) in
       let found : fin.find (slice_cmp nat_cmp) (bytes_of r.0) (fin.entries m) ≡ Some le.body = sym (fin.get-entries m (bytes_of r.0)) ∙ ap (fin.get m) (sym (entry_key (suc p.lengths) r)) ∙ there in
       subst (λ (x : Pair). In x (fin.entries m)) (sym row.2) (find_in (fin.slice_cmp-IsAntisymmetric fin.nat_cmp-IsAntisymmetric) (bytes_of r.0) le.body (fin.entries m) found)

@@ -1,16 +1,15 @@
 -- Records that stand whole in leaves.
-use Rattle.std.specs.Prelude.{[], ◌≡◌, ℕ, zero, suc, List, ◌∷◌, map, nat_eq, Option, Some, None}
+use Rattle.std.specs.Prelude.{[], ◌≡◌, ℕ, zero, suc, List, ◌∷◌, ◌++◌, map, nat_eq, Bool, true, false, if◌then◌else◌}
 use Rattle.std.specs.List.{filter}
 use Rattle.std.specs.FinMap as fin
 use Rattle.gx_values.specs.declared.records.Rec.{Rec}
-use Rattle.gx_values.specs.Keys.{bytes_of}
+use Rattle.gx_values.specs.Keys.{bytes_of, AreKeyFields}
 use Rattle.gx_actual.specs.Rules.{actual_rec}
-use Rattle.gx_mapping.specs.Rule.{In, IsOf}
+use Rattle.gx_mapping.specs.declared.parts.Part.{Part}
+use Rattle.gx_mapping.specs.Rule.{Rule, In, IsOf}
 use Rattle.gx_stack.specs.declared.entries.LeafEntry.{LeafEntry}
-use Rattle.gx_stack.specs.Tree.{Tree, leaves_of, tree_form, entries_of, entry_in, leaf_body}
+use Rattle.gx_stack.specs.Tree.{Tree, Kids, leaf, layer, no_kids, kid, tree_form, entries_of, entry_in, leaf_body}
 use Rattle.gx_types.specs.declared.any.AnyMapping.{AnyMapping}
-use Rattle.gx_types.specs.declared.any.Passing.{Passing}
-use Rattle.gx_types.specs.declared.any.Passing.TheVariants.{Whole, Wrapped, Apart}
 use Rattle.gx_types.specs.Any.{any_rule}
 use Rattle.gx_model.specs.States.{File, Row}
 use Rattle.gx_scan.specs.declared.places.Place.{Place}
@@ -25,17 +24,41 @@ wrapped (suc n) r = actual_rec (wrapped n r)
 abbrev pub entry_of_row : ℕ → Row → List ℕ × List ℕ
 entry_of_row n r = (bytes_of r.0, leaf_body (wrapped (suc n) (rec_of r)).fields)
 
--- how many layers `actual` stand above the children of a layer above which there are so many, where it passes its records whole
-abbrev pub layers_below : Passing → ℕ → Option ℕ
-layers_below Whole n = Some n
-layers_below Wrapped n = Some (suc n)
-layers_below Apart n = None
+-- A layer passes each record that is below n layers `actual` to one data child, where it is below b of them. What else comes of the
+-- record goes to children that aren't data children.
+pub record IsPassed (rule : Rule) (n b : ℕ) (r : Rec) : Type 0 where
+  pub child : ℕ
+  pub rest : rule.holds_rest child ≡ true
+  pub others : List Part
+  pub parts : rule.parts (wrapped n r) ≡ record { child = child; rec = wrapped b r } ∷ others
+  pub beside : (p : Part) → In p others → rule.holds_rest p.child ≡ false
 
--- The places are the leaves of the tree, each once and in their order. Each record of the tree, which is below n layers `actual`,
--- stands whole in one of them.
+pub record PassesOn (rule : Rule) (n b : ℕ) : Type 0 where
+  pub each : (r : Rec) → IsOf rule.form (wrapped n r) → IsPassed rule n b r
+  pub plain : (c : ℕ) → rule.holds_rest c ≡ true → (n ≡ 0 → AreKeyFields rule.form.fields) → b ≡ 0 → AreKeyFields (rule.kid_form c).fields
+
+-- the leaves that records are gathered from
+abbrev mutual
+  pub data_leaves : Tree AnyMapping → List ℕ
+  data_leaves (leaf n form) = n ∷ []
+  data_leaves (layer m ks) = kids_data ((any_rule m).holds_rest) ks
+
+  -- those below the data children
+  pub kids_data : (ℕ → Bool) → Kids AnyMapping → List ℕ
+  kids_data holds_rest no_kids = []
+  kids_data holds_rest (kid t ks) = (if holds_rest 0 then data_leaves t else []) ++ kids_data (λ c. holds_rest (suc c)) ks
+
+-- the first of the entries, and the only one in these leaves
+pub record IsAlone (leaves : List ℕ) (e : LeafEntry) (es : List LeafEntry) : Type 0 where
+  pub others : List LeafEntry
+  pub first : es ≡ e ∷ others
+  pub elsewhere : (o : LeafEntry) → In o others → In o.leaf leaves → ⊥
+
+-- The places are the leaves that the tree's records are gathered from, each once and in their order. Each record of the tree, which is
+-- below n layers `actual`, stands whole in one of them, and none of its other entries stands in any.
 pub record ArePlaces (n : ℕ) (t : Tree AnyMapping) (places : List Place) : Type 0 where
-  pub leaves : map (λ p. p.leaf) places ≡ leaves_of t
-  pub stand : (r : Rec) → IsOf (tree_form any_rule t) (wrapped n r) → (p : Place) × In p places × (entries_of any_rule t (wrapped n r) ≡ entry_in p.leaf (wrapped (suc p.lengths) r) ∷ [])
+  pub leaves : map (λ p. p.leaf) places ≡ data_leaves t
+  pub stand : (r : Rec) → IsOf (tree_form any_rule t) (wrapped n r) → (p : Place) × In p places × IsAlone (data_leaves t) (entry_in p.leaf (wrapped (suc p.lengths) r)) (entries_of any_rule t (wrapped n r))
 
 -- one of the places of a file's records
 pub record IsPlaceOf (t : Tree AnyMapping) (p : Place) : Type 0 where

@@ -1,17 +1,21 @@
 // Finding by entries: where records stand whole in leaves, conditions are tested on the bytes of entries.
-ghost use Rattle.std.specs.Prelude.{◌≡◌, ◌≤◌, ◌+◌, ◌*◌, ◌++◌, ℕ, length, filter, OnOk, IsErrOf};
+ghost use Rattle.std.specs.Prelude.{◌≡◌, ◌≤◌, ◌+◌, ◌*◌, ◌∷◌, ◌++◌, [], ℕ, length, filter, OnOk, IsErrOf};
+ghost use Rattle.gx_values.specs.Values.{Fits};
+ghost use Rattle.gx_schema.specs.Lookups.{key_kind};
 ghost use Rattle.gx_ports.specs.Calls.{Reads, Ends};
 ghost use Rattle.gx_ports.specs.LeafMaps.{Extends};
 ghost use Rattle.gx_stack.specs.Tree.{leaves_of};
 ghost use Rattle.gx_stack.specs.Seen.{tree_of};
 ghost use Rattle.gx_model.specs.States.{File as FileMap};
+ghost use Rattle.gx_model.specs.Found.{meets_conds};
 ghost use Rattle.gx_scan.specs.Files.{IsInternal, HasFile, IsStorable, IsTreeFor};
 ghost use Rattle.gx_scan.specs.Entries.{ArePlaces, IsPlaceOf, rows_at};
 ghost use Rattle.gx_scan.specs.Within.{is_within, AreAdded};
+ghost use Rattle.gx_scan.specs.Where.{rows_at_key};
 ghost use Rattle.gx_scan.specs.Steps.{HaveAtMost, is_key_inside, rows_inside};
 
 use crate::places::Place;
-use crate::records::NO_BLOCK;
+use crate::records::{NO_BLOCK, key_span};
 use crate::scan::add_chosen_rows;
 use gx_commands::Cond;
 use gx_ports::{Entries, Leaves, Stop};
@@ -19,7 +23,7 @@ use gx_rows::Row;
 use gx_schema::FileDef;
 use gx_stack::Node;
 use gx_types::AnyMapping;
-use gx_values::Span;
+use gx_values::{Span, Value};
 use std::alloc::Global;
 
 /// Appends the records of the file within the span that meet the conditions, in the order of the places,
@@ -57,6 +61,41 @@ pub(crate) fn add_by_entries<B: Leaves>(
         add_at(alloc, file, node, *place, span, conds, leaves, rows)?;
     }
     Ok(())
+}
+
+/// Appends the record at a key, where there is one and it meets the conditions.
+pub(crate) fn add_at_key<B: Leaves>(
+    alloc: Global,
+    file: &FileDef,
+    node: &Node<AnyMapping>,
+    places: &[Place],
+    key: &Value,
+    conds: &[Cond],
+    leaves: &mut B,
+    rows: &mut Vec<Row>,
+) -> Result<(), Stop>
+    requires places { ArePlaces 0 (tree_of node.now) places.now }
+    requires tree { IsTreeFor file.now (tree_of node.now) (length (B.working leaves.old)) }
+    requires storable { IsStorable file.now }
+    requires key { Fits (key_kind file.now) key.now }
+    ensures rows { (f : FileMap) → B.whole leaves.old →
+        IsInternal file.now (tree_of node.now) (B.working leaves.old) f → OnOk result
+        (rows.new.items
+        ≡ rows.old.items ++ filter (meets_conds conds.now) (rows_at_key f (key.now ∷ []))) }
+    ensures steps { (f : FileMap) (most : ℕ) → B.whole leaves.old →
+        IsInternal file.now (tree_of node.now) (B.working leaves.old) f →
+        HaveAtMost most (tree_of node.now) f → OnOk result
+        (B.work leaves.new
+        ≤ B.work leaves.old + (length (leaves_of (tree_of node.now)) + most)) }
+    ensures reads { Reads B.View leaves.old leaves.new }
+    ensures ends { Ends B.View
+        (B.whole leaves.old × HasFile file.now (tree_of node.now) (B.working leaves.old))
+        leaves.old leaves.new result }
+    ensures block { (n : ℕ) → IsErrOf result (Stop.Damaged n) → B.whole leaves.old → n ≡ 0 }
+    ensures not_full { ¬ IsErrOf result Stop.Full }
+{
+    let span = key_span(key);
+    add_by_entries(alloc, file, node, places, &span, conds, leaves, rows)
 }
 
 // Appends those in one leaf, in the order of their keys.

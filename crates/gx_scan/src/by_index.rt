@@ -1,5 +1,5 @@
 // Finding by an index: it gives the keys of records, and each record there is tested.
-ghost use Rattle.std.specs.Prelude.{◌≡◌, ◌++◌, ◌<◌, ◌≤◌, ◌+◌, ◌*◌, ℕ, List, true, length, filter, flat_map, OnOk, IsErrOf};
+ghost use Rattle.std.specs.Prelude.{◌≡◌, ◌++◌, ◌<◌, ◌≤◌, ◌+◌, ◌*◌, ℕ, List, true, length, filter, flat_map, IfSome, OnOk, IsErrOf};
 ghost use Rattle.gx_values.specs.Values.{AreFit};
 ghost use Rattle.gx_values.specs.Spans.{IsValueSpan};
 ghost use Rattle.gx_values.specs.declared.values.Value.{Value as FieldValue};
@@ -14,10 +14,13 @@ ghost use Rattle.gx_typing.specs.Dues.{file_form};
 ghost use Rattle.gx_model.specs.States.{File as FileMap};
 ghost use Rattle.gx_model.specs.Found.{meets_conds};
 ghost use Rattle.gx_scan.specs.Files.{IsInternal, HasFile, IsStorable, IsTreeFor};
+ghost use Rattle.gx_scan.specs.Entries.{ArePlaces};
 ghost use Rattle.gx_scan.specs.Where.{AreNamed, AreAddedWhere, rows_at_key};
 ghost use Rattle.gx_scan.specs.Steps.{HaveAtMost, rows_with};
 
+use crate::by_entries::add_at_key;
 use crate::by_records::{into_row, meets_all};
+use crate::places::{Place, places_of};
 use crate::records::find_record;
 use gx_commands::Cond;
 use gx_ports::{Leaves, Stop};
@@ -69,10 +72,20 @@ pub fn rows_where<B: Leaves>(
     ensures block { (n : ℕ) → IsErrOf result (Stop.Damaged n) → B.whole leaves.old → n ≡ 0 }
     ensures not_full { ¬ IsErrOf result Stop.Full }
 {
+    let places = places_of(alloc, node)?;
     let name = field_name(file, field);
     let mut keys = Keys::new(alloc);
     node.keys_where(alloc, leaves, name, span, &mut keys)?;
-    add_by_keys(alloc, file, node, keys.0.as_slice(), conds, leaves, rows)?;
+    add_by_keys(
+        alloc,
+        file,
+        node,
+        &places,
+        keys.0.as_slice(),
+        conds,
+        leaves,
+        rows,
+    )?;
     Ok(())
 }
 
@@ -88,12 +101,14 @@ fn add_by_keys<B: Leaves>(
     alloc: Global,
     file: &FileDef,
     node: &Node<AnyMapping>,
+    places: &Option<Vec<Place>>,
     keys: &[Values],
     conds: &[Cond],
     leaves: &mut B,
     rows: &mut Vec<Row>,
 ) -> Result<(), Stop>
     requires tree { IsTreeFor file.now (tree_of node.now) (length (B.working leaves.old)) }
+    requires places { IfSome places.now (λ ps. ArePlaces 0 (tree_of node.now) ps.items) }
     requires storable { IsStorable file.now }
     requires fit { (key : List FieldValue) → In key keys.now →
         AreFit (file_form file.now).keys key }
@@ -114,22 +129,25 @@ fn add_by_keys<B: Leaves>(
     ensures not_full { ¬ IsErrOf result Stop.Full }
 {
     for key in keys {
-        add_by_key(alloc, file, node, key, conds, leaves, rows)?;
+        add_by_key(alloc, file, node, places, key, conds, leaves, rows)?;
     }
     Ok(())
 }
 
-// Appends the record at a key, where there is one and it meets the conditions.
+// Appends the record at a key, where there is one and it meets the conditions. Where records stand whole
+// in leaves, the conditions are tested on the bytes of its entry.
 fn add_by_key<B: Leaves>(
     alloc: Global,
     file: &FileDef,
     node: &Node<AnyMapping>,
+    places: &Option<Vec<Place>>,
     key: &Values,
     conds: &[Cond],
     leaves: &mut B,
     rows: &mut Vec<Row>,
 ) -> Result<(), Stop>
     requires tree { IsTreeFor file.now (tree_of node.now) (length (B.working leaves.old)) }
+    requires places { IfSome places.now (λ ps. ArePlaces 0 (tree_of node.now) ps.items) }
     requires storable { IsStorable file.now }
     requires fit { AreFit (file_form file.now).keys key.now }
     ensures rows { (f : FileMap) → B.whole leaves.old →
@@ -151,6 +169,9 @@ fn add_by_key<B: Leaves>(
     let Some(key) = key.0.first() else {
         unreachable!()
     };
+    if let Some(places) = places {
+        return add_at_key(alloc, file, node, places, key, conds, leaves, rows);
+    }
     let Some(rec) = find_record(alloc, file, node, key, leaves)? else {
         return Ok(());
     };

@@ -1,12 +1,13 @@
 // Where the records of a file stand in its node's leaves.
-ghost use Rattle.std.specs.Prelude.{◌≡◌, ◌++◌, List, ℕ, true, Some, IfOk, IfSome};
+ghost use Rattle.std.specs.Prelude.{◌≡◌, ◌++◌, List, true, IfOk, IfSome};
 ghost use Rattle.gx_values.specs.Keys.{AreKeyFields};
 ghost use Rattle.gx_stack.specs.Tree.{tree_form, IsValid};
 ghost use Rattle.gx_stack.specs.Seen.{tree_of};
 ghost use Rattle.gx_types.specs.Any.{any_rule};
 ghost use Rattle.gx_scan.specs.declared.places.Place.{Place as ThePlace};
-ghost use Rattle.gx_scan.specs.Entries.{layers_below, ArePlaces};
+ghost use Rattle.gx_scan.specs.Entries.{PassesOn, ArePlaces};
 
+use gx_mapping::Mapping;
 use gx_stack::Node;
 use gx_types::{AnyMapping, Passing};
 use gx_values::NoMemory;
@@ -22,8 +23,8 @@ pub struct Place {
     pub lengths: u32,
 }
 
-/// The places of the records of a file's node: its leaves, each once. `None`: some layer codes or splits
-/// its records. `NoMemory`: there was none for the places.
+/// The places of the records of a file's node: the leaves that they are gathered from, each once. `None`:
+/// some layer codes or splits its records. `NoMemory`: there was none for the places.
 pub(crate) fn places_of(
     alloc: Global,
     node: &Node<AnyMapping>,
@@ -62,12 +63,15 @@ fn add_places(
             Ok(true)
         }
         Node::Layer(layer) => {
-            let Some(below) = layers_below(layer.mapping.passing(), layers) else {
+            let Some(below) = layers_below(&layer.mapping, layers) else {
                 return Ok(false);
             };
-            for kid in &layer.kids {
-                if !add_places(kid, below, places)? {
-                    return Ok(false);
+            for child in 0..layer.mapping.kids() {
+                if layer.mapping.holds_rest(child) {
+                    let kid = &layer.kids[child as usize];
+                    if !add_places(kid, below, places)? {
+                        return Ok(false);
+                    }
                 }
             }
             Ok(true)
@@ -75,14 +79,17 @@ fn add_places(
     }
 }
 
-// How many layers `actual` stand above the children of a layer. `None`: it codes or splits its records, or
-// they are too many to count.
-fn layers_below(passing: Passing, layers: u32) -> Option<u32>
-    ensures { (below : ℕ) → result ≡ Some below → layers_below passing layers ≡ Some below }
+// How many layers `actual` stand above the data children of a layer. `None`: it codes or splits its
+// records, or they are too many to count.
+fn layers_below(mapping: &AnyMapping, layers: u32) -> Option<u32>
+    ensures { IfSome result (PassesOn (any_rule mapping.now) layers) }
 {
-    match passing {
-        Passing::Whole => Some(layers),
-        Passing::Wrapped => layers.checked_add(1),
-        Passing::Apart => None,
+    match mapping {
+        AnyMapping::Index(_) => Some(layers),
+        _ => match mapping.passing() {
+            Passing::Whole => Some(layers),
+            Passing::Wrapped => layers.checked_add(1),
+            Passing::Apart => None,
+        },
     }
 }

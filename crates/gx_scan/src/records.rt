@@ -35,8 +35,8 @@ pub(crate) fn data_fields(file: &FileDef) -> &[Field]
     &file.fields.0[1..]
 }
 
-// The span of one key.
-fn key_span(key: &Value) -> Span
+/// The span of one key.
+pub(crate) fn key_span(key: &Value) -> Span
     requires { length (bytes_of key.now) ≤ MAX_KEY_LEN }
     ensures lo { result.lo ≡ bytes_of key.now }
     ensures hi { result.hi ≡ bytes_of key.now }

@@ -8,7 +8,6 @@ use Rattle.gx_ports.specs.LeafMaps.{LeafMap}
 use Rattle.gx_ports.proofs.CallLemmas.{reads_itself, reads_joined}
 use Rattle.gx_stack.specs.Seen.{tree_of}
 use Rattle.gx_gather.proofs.Lists.{in_read}
-use Rattle.gx_types.specs.Any.{any_rule}
 use Rattle.gx_model.specs.States.{Row}
 use Rattle.gx_scan.specs.declared.places.Place.{Place}
 use Rattle.gx_scan.specs.Files.{IsInternal}
@@ -16,7 +15,7 @@ use Rattle.gx_scan.specs.Entries.{rows_at}
 use Rattle.gx_scan.specs.Within.{is_within}
 use Rattle.gx_scan.specs.Steps.{is_key_inside, rows_inside}
 use Rattle.gx_gather.proofs.Lists.{in_filter}
-use Rattle.gx_scan.proofs.PlaceLemmas.{IsOnce, leaves_once, leaf_there, get_or_any, number}
+use Rattle.gx_scan.proofs.PlaceLemmas.{IsOnce, data_once, data_few, leaf_there, get_or_any, number}
 use Rattle.gx_scan.proofs.StepLemmas.{whole_most}
 use Rattle.gx_scan.proofs.ListingLemmas.{none_chosen, place_chosen, all_chosen}
 use Rattle.gx_scan.proofs.by_entries.add_by_entries.Goals as goal
@@ -60,7 +59,7 @@ loop-place-preserved g c =
           let now = e.rows f (inv.whole whole) (subst (λ (maps : List LeafMap). IsInternal c.args.file.now t maps f) (sym inv.reads.working) is) in (
             so_far.0 ++ more,
             now ∙ ap (λ (l : List Row). l ++ more) so_far.1 ∙ append_assoc c.args.rows.now.items so_far.0 more,
-            place_chosen t test f ps i p so_far.0 (so_far.0 ++ more) (subst IsOnce (sym are.leaves) (leaves_once any_rule t c.requires.tree.valid)) c.loop-place-test.true (get_or_any ps i _ p c.loop-place-test.true) so_far.2 refl,
+            place_chosen t test f ps i p so_far.0 (so_far.0 ++ more) (subst IsOnce (sym are.leaves) (data_once t c.requires.tree.valid)) c.loop-place-test.true (get_or_any ps i _ p c.loop-place-test.true) so_far.2 refl,
           );
       steps = λ f whole is.
           let inside = is_key_inside c.args.span.now in
@@ -68,7 +67,7 @@ loop-place-preserved g c =
           let more = filter inside (rows_at t p.leaf f) in
           let now = e.steps f (inv.whole whole) (subst (λ (maps : List LeafMap). IsInternal c.args.file.now t maps f) (sym inv.reads.working) is) in (
             so_far.0 ++ more,
-            place_chosen t inside f ps i p so_far.0 (so_far.0 ++ more) (subst IsOnce (sym are.leaves) (leaves_once any_rule t c.requires.tree.valid)) c.loop-place-test.true (get_or_any ps i _ p c.loop-place-test.true) so_far.1 refl,
+            place_chosen t inside f ps i p so_far.0 (so_far.0 ++ more) (subst IsOnce (sym are.leaves) (data_once t c.requires.tree.valid)) c.loop-place-test.true (get_or_any ps i _ p c.loop-place-test.true) so_far.1 refl,
             omega (arith, so_far.2, now, length-append so_far.0 more, length-take i ps, length-take (i + 1) ps),
           );
       front = (inv.front.0 ++ e.front.0, e.front.1 ∙ ap (λ (l : List Row). l ++ e.front.0) inv.front.1 ∙ append_assoc c.args.rows.now.items inv.front.0 e.front.0);
@@ -116,4 +115,4 @@ returns-clause-steps g c = λ f most whole is few.
     let all = all_chosen t inside f ps i so_far.0 (omega (arith, c.loop-place-test.false)) (leaf_there file t _ (g.B.View.working c.args.leaves.now) f c.requires.storable c.requires.tree is.fit ps c.requires.places) so_far.1 in
     let many = length_permutation (rows_inside c.args.span.now f) so_far.0 all in
     let one = whole_most file t f most ps (rows_inside c.args.span.now f) c.requires.places c.requires.tree.form c.requires.storable.keyed is.fit few (λ r h. (in_filter inside r (fin.entries f) h).0) in
-    omega (arith, so_far.2, many, one, length-take i ps, ap length c.requires.places.leaves, length-map ps number)
+    omega (arith, so_far.2, many, one, length-take i ps, ap length c.requires.places.leaves, length-map ps number, data_few t)

@@ -9,5 +9,5 @@ abbrev pub decreases-add_places : goal.decreases-add_places
 decreases-add_places l = height (tree_of l.node.now)
 
 -- the places of the children so far
-abbrev pub invariant-loop-kid : goal.invariant-loop-kid
-invariant-loop-kid l = (added : List Place) × (l.places.items ≡ l.fn.places.items ++ added) × ArePlacesOf l.below l.kid-items l.kid-index added
+abbrev pub invariant-loop-child : goal.invariant-loop-child
+invariant-loop-child l = (added : List Place) × (l.places.items ≡ l.fn.places.items ++ added) × ArePlacesOf l.layer.mapping l.below l.layer.kids.items l.child added
