@@ -4,3 +4,4 @@ pub mod Linksets
 pub mod Rows
 pub mod Owners
 pub mod Pairs
+pub mod Spans

@@ -1,5 +1,5 @@
 -- What contracts see of a linkset, what is true of each, and what its calls find.
-use Rattle.std.specs.Prelude.{◌≡◌, ◌↔◌, ℕ, suc, ◌+◌, ◌*◌, ◌≤◌, Bool, true, false, List, [], ◌++◌, length, Option, Some, None, IfSome}
+use Rattle.std.specs.Prelude.{◌≡◌, ◌↔◌, ℕ, suc, ◌+◌, ◌*◌, ◌≤◌, ◌<◌, Bool, true, false, List, [], ◌++◌, length, Option, Some, None, IfSome}
 use Rattle.std.specs.List.{flat_map}
 use Rattle.std.specs.FinMap as fin
 use Rattle.gx_values.specs.declared.values.Kind.{Kind}
@@ -9,7 +9,9 @@ use Rattle.gx_ports.specs.LeafMaps.{LeafMap}
 use Rattle.gx_mapping.specs.Rule.{In}
 use Rattle.gx_stack.specs.declared.entries.LeafEntry.{LeafEntry}
 use Rattle.gx_stack.specs.Internal.{at}
-use Rattle.gx_links.specs.Links.{Link, members_of, owners_of, IsLink}
+use Rattle.gx_links.specs.declared.linkset.Joining.{Joining}
+use Rattle.gx_links.specs.declared.linkset.Joining.TheVariants as joining
+use Rattle.gx_links.specs.Links.{Link, members_of, owners_of, most_members, IsLink}
 
 -- what contracts see of a linkset
 pub record LinkRule : Type 0 where
@@ -61,6 +63,10 @@ pub record AreMembers (rule : LinkRule) (held : Link → List LeafMap → Type 0
   pub those : whole → (link : Link) → IsLink rule.owner rule.member link → held link maps → found ≡ members_of link owner
   pub few_steps : whole → (link : Link) → IsLink rule.owner rule.member link → held link maps → steps ≤ steps_before + (rule.rounds (length found) * length rule.leaves + length (rule.entries owner (members_of link owner)))
 
+-- the most steps in which an owner's members are read: one for each leaf each time that it is gone through, and one for each entry
+abbrev pub steps_for : LinkRule → Link → Value → ℕ
+steps_for rule link owner = rule.rounds (length (members_of link owner)) * length rule.leaves + length (rule.entries owner (members_of link owner))
+
 -- the leaf entries of an owner, where there is one
 abbrev pub entries_if : LinkRule → Link → Option Value → List LeafEntry
 entries_if rule link None = []
@@ -72,12 +78,21 @@ pub record IsOwner (rule : LinkRule) (held : Link → List LeafMap → Type 0) (
   pub that : whole → (link : Link) → IsLink rule.owner rule.member link → held link maps → found ≡ fin.get link member
   pub few_steps : rule.finds ≡ true → whole → (link : Link) → IsLink rule.owner rule.member link → held link maps → steps ≤ steps_before + (length rule.leaves + length (entries_if rule link found))
 
--- the maps stand for a link in which the member has no owner and the owner has room, and these are the owner's members
-pub record CanConnect (rule : LinkRule) (held : Link → List LeafMap → Type 0) (maps : List LeafMap) (link : Link) (owner member : Value) (members : List Value) : Type 0 where
+-- the maps stand for a link in which the member has no owner
+pub record CanConnect (rule : LinkRule) (held : Link → List LeafMap → Type 0) (maps : List LeafMap) (link : Link) (member : Value) : Type 0 where
   pub is_link : IsLink rule.owner rule.member link
   pub is_held : held link maps
   pub free : fin.get link member ≡ None
-  pub those : members ≡ members_of link owner
+
+-- the owner can have a further member
+abbrev pub HasRoom : Link → Value → Type 0
+HasRoom link owner = length (members_of link owner) < most_members
+
+-- what became of a member that was to join an owner: the maps stand for the link with the pair; or they do for the link as it was, where
+-- the owner had no room
+abbrev pub IsJoined : (Link → List LeafMap → Type 0) → List LeafMap → Link → Value → Value → Joining → Type 0
+IsJoined held maps link owner member joining.Joined = HasRoom link owner × held (fin.insert link member owner) maps
+IsJoined held maps link owner member joining.NoRoom = ¬ HasRoom link owner × held link maps
 
 -- the maps stand for a link in which the member has this owner
 pub record CanDisconnect (rule : LinkRule) (held : Link → List LeafMap → Type 0) (maps : List LeafMap) (link : Link) (owner member : Value) : Type 0 where

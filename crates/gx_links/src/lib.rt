@@ -5,8 +5,10 @@ mod linkset;
 mod owners;
 mod pairs;
 mod rows;
+mod spans;
 
-pub use linkset::{Linkset, MOST_MEMBERS};
+pub use linkset::{Joining, Linkset, MOST_MEMBERS};
 pub use owners::{are_few, owners_of};
 pub use pairs::{Owned, Owners, Pairs};
 pub use rows::are_rows;
+pub use spans::value_span;

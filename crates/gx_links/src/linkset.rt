@@ -1,5 +1,5 @@
 // The trait of the linksets.
-ghost use Rattle.std.specs.Prelude.{◌≡◌, ◌<◌, ◌+◌, ℕ, List, length, IfOk, OnOk, IsErrOf};
+ghost use Rattle.std.specs.Prelude.{◌≡◌, ◌<◌, ◌≤◌, ◌+◌, ℕ, List, length, IfOk, OnOk, IsErrOf};
 ghost use Rattle.std.specs.FinMap.{insert, remove};
 ghost use Rattle.gx_values.specs.declared.values.Value.{Value as FieldValue};
 ghost use Rattle.gx_values.specs.Values.{Fits};
@@ -8,7 +8,7 @@ ghost use Rattle.gx_ports.specs.Calls.{Keeps, Reads, Ends};
 ghost use Rattle.gx_mapping.specs.Rule.{In};
 ghost use Rattle.gx_links.specs.Links.{Link, members_of, most_members};
 ghost use Rattle.gx_links.specs.Pairs.{ArePairs};
-ghost use Rattle.gx_links.specs.Linksets.{LinkRule, LinksetLaws, HasLink, AreMembers, IsOwner, CanConnect, CanDisconnect};
+ghost use Rattle.gx_links.specs.Linksets.{LinkRule, LinksetLaws, HasLink, AreMembers, IsOwner, CanConnect, HasRoom, IsJoined, CanDisconnect, steps_for};
 
 use crate::pairs::Pairs;
 use gx_ports::{Leaves, Stop};
@@ -17,6 +17,15 @@ use std::alloc::Global;
 
 /// The most members that an owner has in one link.
 pub const MOST_MEMBERS: usize = 500;
+
+/// What became of a member that was to join an owner.
+#[derive(Clone, Copy, Debug, PartialEq, Eq)]
+pub enum Joining {
+    /// it is one of the owner's members
+    Joined,
+    /// the owner has `MOST_MEMBERS` other members
+    NoRoom,
+}
 
 /// What keeps a link in nodes: of each member it knows the owner, if there is one, and of each owner the
 /// members.
@@ -83,40 +92,45 @@ pub trait Linkset {
         ensures block { (n : ℕ) → IsErrOf result (Stop.Damaged n) → B.whole leaves.old → n ≡ 0 }
         ensures not_full { ¬ IsErrOf result Stop.Full };
 
-    /// Gives a member without an owner its owner, which has just these members so far.
+    /// Gives a member without an owner its owner, where that has room for it: it has fewer than
+    /// `MOST_MEMBERS` members.
     ///
     /// `Full`: the pages may not be enough for the entries of the owner with its new member, besides all
     /// that there are. After a refusal a part of the change may be made.
-    fn connect_among<B: Leaves>(
+    fn connect<B: Leaves>(
         &self,
         alloc: Global,
         leaves: &mut B,
         owner: &Value,
         member: &Value,
-        members: &Values,
-    ) -> Result<(), Stop>
+    ) -> Result<Joining, Stop>
         requires valid { valid self.now }
         requires below { (n : ℕ) → In n (rule self.now).leaves → n < length (B.working leaves.old) }
         requires owner { Fits (rule self.now).owner owner.now }
         requires member { Fits (rule self.now).member member.now }
-        requires members { (m : FieldValue) → In m members.now → Fits (rule self.now).member m }
-        requires room { length members.now < MOST_MEMBERS }
 
-        // The leaves hold the link with the pair, and all other leaves stay.
-        ensures connected { (link : Link) → B.whole leaves.old →
-            CanConnect (rule self.now) (held self.now) (B.working leaves.old) link owner.now
-            member.now members.now → OnOk result
-            (held self.now (insert link member.now owner.now) (B.working leaves.new)) }
+        // The leaves hold the link with the pair where the owner had room, and all other leaves stay.
+        ensures joined { (link : Link) → B.whole leaves.old →
+            CanConnect (rule self.now) (held self.now) (B.working leaves.old) link member.now →
+            IfOk result
+            (IsJoined (held self.now) (B.working leaves.new) link owner.now member.now) }
+        ensures steps { (link : Link) → B.whole leaves.old →
+            CanConnect (rule self.now) (held self.now) (B.working leaves.old) link member.now →
+            OnOk result (B.work leaves.new
+            ≤ B.work leaves.old + steps_for (rule self.now) link owner.now) }
         ensures others { (n : ℕ) → B.whole leaves.old → ¬ IsErrOf result Stop.Fault →
             ¬ In n (rule self.now).leaves →
             map_at (B.working leaves.new) n ≡ map_at (B.working leaves.old) n }
 
         ensures keeps { Keeps B.View leaves.old leaves.new }
-        ensures work { B.work leaves.new ≡ B.work leaves.old }
-        ensures ends { Ends B.View (B.whole leaves.old) leaves.old leaves.new result }
+        ensures ends { Ends B.View
+            (B.whole leaves.old × HasLink (rule self.now) (held self.now) (B.working leaves.old))
+            leaves.old leaves.new result }
+        ensures block { (n : ℕ) → IsErrOf result (Stop.Damaged n) → B.whole leaves.old → n ≡ 0 }
         ensures full { (link : Link) → B.whole leaves.old →
-            CanConnect (rule self.now) (held self.now) (B.working leaves.old) link owner.now
-            member.now members.now → IsErrOf result Stop.Full → IsCrowdedBy (B.limit leaves.old)
+            CanConnect (rule self.now) (held self.now) (B.working leaves.old) link member.now →
+            IsErrOf result Stop.Full → HasRoom link owner.now
+            × IsCrowdedBy (B.limit leaves.old)
             (entry_count (B.working leaves.old)
             + length ((rule self.now).entries owner.now
             (members_of (insert link member.now owner.now) owner.now))) };

@@ -1,7 +1,7 @@
 // The linksets of all kinds as one type.
 ghost use Rattle.std.specs.Prelude.{◌≡◌};
 
-use gx_links::{Linkset, Pairs};
+use gx_links::{Joining, Linkset, Pairs};
 use gx_lists::{Inverted, PointerArray};
 use gx_ports::{Leaves, Stop};
 use gx_ring::Ring;
@@ -67,24 +67,17 @@ impl<'a> Linkset for AnyLinkset<'a> {
         }
     }
 
-    fn connect_among<B: Leaves>(
+    fn connect<B: Leaves>(
         &self,
         alloc: Global,
         leaves: &mut B,
         owner: &Value,
         member: &Value,
-        members: &Values,
-    ) -> Result<(), Stop> {
+    ) -> Result<Joining, Stop> {
         match self {
-            AnyLinkset::Array(linkset) => {
-                linkset.connect_among(alloc, leaves, owner, member, members)
-            }
-            AnyLinkset::Ring(linkset) => {
-                linkset.connect_among(alloc, leaves, owner, member, members)
-            }
-            AnyLinkset::Inverted(linkset) => {
-                linkset.connect_among(alloc, leaves, owner, member, members)
-            }
+            AnyLinkset::Array(linkset) => linkset.connect(alloc, leaves, owner, member),
+            AnyLinkset::Ring(linkset) => linkset.connect(alloc, leaves, owner, member),
+            AnyLinkset::Inverted(linkset) => linkset.connect(alloc, leaves, owner, member),
         }
     }
 

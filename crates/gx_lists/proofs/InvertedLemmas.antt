@@ -33,9 +33,10 @@ use Rattle.gx_links.specs.Links.{Link, members_of, IsLink}
 use Rattle.gx_links.specs.Linksets.{entries_if}
 use Rattle.gx_links.specs.Rows.{two_forms, link_parts, node_rows, owner_entries, IsHeldLink, RowLaws}
 use Rattle.gx_links.proofs.KindLemmas.{fit_kinds}
+use Rattle.gx_links.proofs.JoinLemmas.{crowded_more}
 use Rattle.gx_links.proofs.MemberLemmas.{same_value, value_itself, in_members, from_members, members_ascend, new_here, from_insert, still_there, from_remove, kept_there}
 use Rattle.gx_links.proofs.RowLemmas.{node_set}
-use Rattle.gx_lists.specs.Spans.{begins_with}
+use Rattle.gx_links.specs.Spans.{begins_with}
 use Rattle.gx_lists.specs.Inverted.{pair_rec, owned_rec, inverted_rows, two_nodes, owner_kind, member_kind, IsInverted, inverted_rule, no_value, member_in, owner_in}
 use Rattle.gx_lists.specs.InvertedLaws.{row_of, of_row, inverted_row_laws, pair_fits, owned_fits}
 
@@ -124,10 +125,6 @@ owner_again m (Some o) = refl
 pub on_ok_kept : {T P Q : Type 0} (r : Result T Stop) → ((r ≡ Err stop.Fault → ⊥) → P → Q) → OnOk r P → OnOk r Q
 on_ok_kept (Ok x) f h = f (λ e. cc) h
 on_ok_kept (Err y) f h = tt
-
-pub crowded_more : (limit : Option Limits) (n m : ℕ) → n ≤ m → IsCrowdedBy limit n → IsCrowdedBy limit m
-crowded_more None n m more crowded = absurd crowded
-crowded_more (Some limits) n m more crowded = omega (arith, more, crowded)
 
 module _ {M : Type 0} (rule : M → Rule) (down up : Tree M) (valid : IsInverted rule down up) where
   abbrev owner_key : Kind

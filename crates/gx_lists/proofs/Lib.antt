@@ -1,4 +1,5 @@
 mod SpanLemmas
+mod CountLemmas
 mod InvertedLemmas
 mod PieceLemmas
 mod ChangeLemmas

@@ -1,4 +1,4 @@
-pub mod Spans
+pub mod Counts
 pub mod Inverted
 pub mod InvertedLaws
 pub mod Arrays

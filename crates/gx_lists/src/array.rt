@@ -1,19 +1,27 @@
 // Pointer arrays.
-ghost use Rattle.std.specs.Prelude.{◌≡◌, [], IfOk};
+ghost use Rattle.std.specs.Prelude.{◌≡◌, ◌<◌, ◌+◌, ℕ, [], length, IfOk, OnOk, IsErrOf};
+ghost use Rattle.std.specs.FinMap.{insert};
 ghost use Rattle.gx_values.specs.declared.records.Rec.{Rec as Record};
+ghost use Rattle.gx_values.specs.declared.values.Value.{Value as FieldValue};
+ghost use Rattle.gx_values.specs.Values.{Fits};
+ghost use Rattle.gx_ports.specs.LeafMaps.{map_at, entry_count, IsCrowdedBy};
+ghost use Rattle.gx_ports.specs.Calls.{Keeps, Ends};
 ghost use Rattle.gx_mapping.specs.Rule.{In, IsOf};
 ghost use Rattle.gx_stack.specs.Tree.{tree_form};
 ghost use Rattle.gx_stack.specs.Seen.{tree_of};
+ghost use Rattle.gx_links.specs.Links.{Link, members_of};
+ghost use Rattle.gx_links.specs.Linksets.{CanConnect};
 ghost use Rattle.gx_links.specs.Pairs.{IsTold, two_parts};
+ghost use Rattle.gx_links.specs.Rows.{owner_entries, IsHeldLink};
 ghost use Rattle.gx_lists.specs.Inverted.{owner_kind};
-ghost use Rattle.gx_lists.specs.Arrays.{array_rows, IsArray};
+ghost use Rattle.gx_lists.specs.Arrays.{one_node, array_rows, array_rule, IsArray};
 
 use crate::array_pairs::{cut_owners, is_each_once, pairs_by_member};
 use crate::arrays::{array_rec, first_body, owner_among, with_member, without_member};
 use crate::pieces::cut_members;
-use crate::spans::{value_span, whole_span};
+use crate::spans::whole_span;
 use gx_gather::{NO_BLOCK, Recs};
-use gx_links::{Linkset, MOST_MEMBERS, Pairs};
+use gx_links::{Joining, Linkset, MOST_MEMBERS, Pairs, value_span};
 use gx_mapping::Mapping;
 use gx_ports::{Leaves, Stop};
 use gx_stack::Node;
@@ -76,21 +84,20 @@ impl<'a, M: Mapping> Linkset for PointerArray<'a, M> {
         owner_among(alloc, self.member, &found, member)
     }
 
-    fn connect_among<B: Leaves>(
+    fn connect<B: Leaves>(
         &self,
         alloc: Global,
         leaves: &mut B,
         owner: &Value,
         member: &Value,
-        members: &Values,
-    ) -> Result<(), Stop> {
-        let with = with_member(alloc, member, members)?;
-        let new = array_rec(alloc, owner, &with.0)?;
-        if members.0.is_empty() {
-            return self.tree.replace(alloc, leaves, None, Some(&new));
+    ) -> Result<Joining, Stop> {
+        let mut members = Values(Vec::new(alloc));
+        self.members(alloc, leaves, owner, &mut members)?;
+        if members.0.len() >= MOST_MEMBERS {
+            return Ok(Joining::NoRoom);
         }
-        let old = array_rec(alloc, owner, &members.0)?;
-        self.tree.replace(alloc, leaves, Some(&old), Some(&new))
+        self.put_among(alloc, leaves, owner, member, &members)?;
+        Ok(Joining::Joined)
     }
 
     fn disconnect_from<B: Leaves>(
@@ -123,6 +130,55 @@ impl<'a, M: Mapping> Linkset for PointerArray<'a, M> {
 }
 
 impl<'a, M: Mapping> PointerArray<'a, M> {
+    // Puts a member without an owner among the owner's members so far.
+    fn put_among<B: Leaves>(
+        &self,
+        alloc: Global,
+        leaves: &mut B,
+        owner: &Value,
+        member: &Value,
+        members: &Values,
+    ) -> Result<(), Stop>
+        requires valid { IsArray M.rule (tree_of self.now.tree.now) self.now.member }
+        requires below { (n : ℕ) →
+            In n (array_rule M.rule (tree_of self.now.tree.now) self.now.member).leaves →
+            n < length (B.working leaves.old) }
+        requires owner { Fits (owner_kind M.rule (tree_of self.now.tree.now)) owner.now }
+        requires member { Fits self.now.member member.now }
+        requires members { (m : FieldValue) → In m members.now → Fits self.now.member m }
+        requires room { length members.now < MOST_MEMBERS }
+        ensures connected { (link : Link) → B.whole leaves.old →
+            CanConnect (array_rule M.rule (tree_of self.now.tree.now) self.now.member)
+            (IsHeldLink M.rule (one_node (tree_of self.now.tree.now)) array_rows)
+            (B.working leaves.old) link member.now →
+            members.now ≡ members_of link owner.now → OnOk result
+            (IsHeldLink M.rule (one_node (tree_of self.now.tree.now)) array_rows
+            (insert link member.now owner.now) (B.working leaves.new)) }
+        ensures others { (n : ℕ) → B.whole leaves.old → ¬ IsErrOf result Stop.Fault →
+            ¬ In n (array_rule M.rule (tree_of self.now.tree.now) self.now.member).leaves →
+            map_at (B.working leaves.new) n ≡ map_at (B.working leaves.old) n }
+        ensures keeps { Keeps B.View leaves.old leaves.new }
+        ensures work { B.work leaves.new ≡ B.work leaves.old }
+        ensures ends { Ends B.View (B.whole leaves.old) leaves.old leaves.new result }
+        ensures full { (link : Link) → B.whole leaves.old →
+            CanConnect (array_rule M.rule (tree_of self.now.tree.now) self.now.member)
+            (IsHeldLink M.rule (one_node (tree_of self.now.tree.now)) array_rows)
+            (B.working leaves.old) link member.now →
+            members.now ≡ members_of link owner.now → IsErrOf result Stop.Full →
+            IsCrowdedBy (B.limit leaves.old)
+            (entry_count (B.working leaves.old)
+            + length (owner_entries M.rule (one_node (tree_of self.now.tree.now)) array_rows owner.now
+            (members_of (insert link member.now owner.now) owner.now))) }
+    {
+        let with = with_member(alloc, member, members)?;
+        let new = array_rec(alloc, owner, &with.0)?;
+        if members.0.is_empty() {
+            return self.tree.replace(alloc, leaves, None, Some(&new));
+        }
+        let old = array_rec(alloc, owner, &members.0)?;
+        self.tree.replace(alloc, leaves, Some(&old), Some(&new))
+    }
+
     // The pairs of the link whose rows these records are. `None`: they are those of no link.
     fn told(&self, alloc: Global, found: &Recs) -> Result<Option<Pairs>, NoMemory>
         requires valid { IsArray M.rule (tree_of self.now.tree.now) self.now.member }

@@ -1,16 +1,24 @@
 // Inverted lists.
-ghost use Rattle.std.specs.Prelude.{◌≡◌, IfOk};
+ghost use Rattle.std.specs.Prelude.{◌≡◌, ◌<◌, ◌+◌, ℕ, length, IfOk, OnOk, IsErrOf};
+ghost use Rattle.std.specs.FinMap.{insert};
 ghost use Rattle.gx_values.specs.declared.records.Rec.{Rec as Record};
+ghost use Rattle.gx_values.specs.Values.{Fits};
+ghost use Rattle.gx_ports.specs.LeafMaps.{map_at, entry_count, IsCrowdedBy};
+ghost use Rattle.gx_ports.specs.Calls.{Keeps, Reads, Ends};
 ghost use Rattle.gx_mapping.specs.Rule.{In, IsOf};
 ghost use Rattle.gx_stack.specs.Tree.{tree_form};
 ghost use Rattle.gx_stack.specs.Seen.{tree_of};
+ghost use Rattle.gx_links.specs.Links.{Link, members_of};
+ghost use Rattle.gx_links.specs.Linksets.{HasLink, CanConnect};
 ghost use Rattle.gx_links.specs.Pairs.{IsTold, two_parts};
-ghost use Rattle.gx_lists.specs.Inverted.{inverted_rows, owner_kind, member_kind, IsInverted};
+ghost use Rattle.gx_links.specs.Rows.{owner_entries, IsHeldLink};
+ghost use Rattle.gx_lists.specs.Counts.{IsMemberCount};
+ghost use Rattle.gx_lists.specs.Inverted.{inverted_rows, two_nodes, owner_kind, member_kind, IsInverted, inverted_rule};
 
+use crate::counts::count_within;
 use crate::records::{add_members, inverted_rows, owned_pairs, owned_rec, owner_of, pair_rec};
-use crate::spans::value_span;
 use gx_gather::{Recs, add_parts};
-use gx_links::{Linkset, Pairs, are_few, are_rows, owners_of};
+use gx_links::{Joining, Linkset, MOST_MEMBERS, Pairs, are_few, are_rows, owners_of, value_span};
 use gx_mapping::{Mapping, Parts};
 use gx_ports::{Leaves, Stop};
 use gx_stack::Node;
@@ -72,18 +80,18 @@ impl<'a, M: Mapping> Linkset for Inverted<'a, M> {
         Ok(owner_of(found))
     }
 
-    fn connect_among<B: Leaves>(
+    fn connect<B: Leaves>(
         &self,
         alloc: Global,
         leaves: &mut B,
         owner: &Value,
         member: &Value,
-        _members: &Values,
-    ) -> Result<(), Stop> {
-        let pair = pair_rec(alloc, owner, member)?;
-        let owned = owned_rec(alloc, owner, member)?;
-        self.down.replace(alloc, leaves, None, Some(&pair))?;
-        self.up.replace(alloc, leaves, None, Some(&owned))
+    ) -> Result<Joining, Stop> {
+        if self.count_members(alloc, leaves, owner)? >= MOST_MEMBERS {
+            return Ok(Joining::NoRoom);
+        }
+        self.put_pair(alloc, leaves, owner, member)?;
+        Ok(Joining::Joined)
     }
 
     fn disconnect_from<B: Leaves>(
@@ -111,6 +119,84 @@ impl<'a, M: Mapping> Linkset for Inverted<'a, M> {
 }
 
 impl<'a, M: Mapping> Inverted<'a, M> {
+    // How many members an owner has.
+    fn count_members<B: Leaves>(
+        &self,
+        alloc: Global,
+        leaves: &mut B,
+        owner: &Value,
+    ) -> Result<usize, Stop>
+        requires valid { IsInverted M.rule (tree_of self.now.down.now) (tree_of self.now.up.now) }
+        requires below { (n : ℕ) →
+            In n (inverted_rule M.rule (tree_of self.now.down.now) (tree_of self.now.up.now)).leaves →
+            n < length (B.working leaves.old) }
+        requires owner { Fits (owner_kind M.rule (tree_of self.now.down.now)) owner.now }
+        ensures count { IfOk result
+            (IsMemberCount
+            (inverted_rule M.rule (tree_of self.now.down.now) (tree_of self.now.up.now))
+            (IsHeldLink M.rule (two_nodes (tree_of self.now.down.now) (tree_of self.now.up.now))
+            inverted_rows)
+            (B.whole leaves.old) (B.working leaves.old) owner.now (B.work leaves.old)
+            (B.work leaves.new)) }
+        ensures reads { Reads B.View leaves.old leaves.new }
+        ensures ends { Ends B.View
+            (B.whole leaves.old
+            × HasLink (inverted_rule M.rule (tree_of self.now.down.now) (tree_of self.now.up.now))
+            (IsHeldLink M.rule (two_nodes (tree_of self.now.down.now) (tree_of self.now.up.now))
+            inverted_rows)
+            (B.working leaves.old))
+            leaves.old leaves.new result }
+        ensures block { (n : ℕ) → IsErrOf result (Stop.Damaged n) → B.whole leaves.old → n ≡ 0 }
+        ensures not_full { ¬ IsErrOf result Stop.Full }
+    {
+        let span = value_span(self.down.form(), owner);
+        count_within(alloc, leaves, self.down, &span)
+    }
+
+    // Puts the pair of a member without an owner into both nodes.
+    fn put_pair<B: Leaves>(
+        &self,
+        alloc: Global,
+        leaves: &mut B,
+        owner: &Value,
+        member: &Value,
+    ) -> Result<(), Stop>
+        requires valid { IsInverted M.rule (tree_of self.now.down.now) (tree_of self.now.up.now) }
+        requires below { (n : ℕ) →
+            In n (inverted_rule M.rule (tree_of self.now.down.now) (tree_of self.now.up.now)).leaves →
+            n < length (B.working leaves.old) }
+        requires owner { Fits (owner_kind M.rule (tree_of self.now.down.now)) owner.now }
+        requires member { Fits (member_kind M.rule (tree_of self.now.up.now)) member.now }
+        ensures connected { (link : Link) → B.whole leaves.old →
+            CanConnect (inverted_rule M.rule (tree_of self.now.down.now) (tree_of self.now.up.now))
+            (IsHeldLink M.rule (two_nodes (tree_of self.now.down.now) (tree_of self.now.up.now))
+            inverted_rows)
+            (B.working leaves.old) link member.now → OnOk result
+            (IsHeldLink M.rule (two_nodes (tree_of self.now.down.now) (tree_of self.now.up.now))
+            inverted_rows (insert link member.now owner.now) (B.working leaves.new)) }
+        ensures others { (n : ℕ) → B.whole leaves.old → ¬ IsErrOf result Stop.Fault →
+            ¬ In n (inverted_rule M.rule (tree_of self.now.down.now) (tree_of self.now.up.now)).leaves →
+            map_at (B.working leaves.new) n ≡ map_at (B.working leaves.old) n }
+        ensures keeps { Keeps B.View leaves.old leaves.new }
+        ensures work { B.work leaves.new ≡ B.work leaves.old }
+        ensures ends { Ends B.View (B.whole leaves.old) leaves.old leaves.new result }
+        ensures full { (link : Link) → B.whole leaves.old →
+            CanConnect (inverted_rule M.rule (tree_of self.now.down.now) (tree_of self.now.up.now))
+            (IsHeldLink M.rule (two_nodes (tree_of self.now.down.now) (tree_of self.now.up.now))
+            inverted_rows)
+            (B.working leaves.old) link member.now → IsErrOf result Stop.Full →
+            IsCrowdedBy (B.limit leaves.old)
+            (entry_count (B.working leaves.old)
+            + length (owner_entries M.rule
+            (two_nodes (tree_of self.now.down.now) (tree_of self.now.up.now)) inverted_rows owner.now
+            (members_of (insert link member.now owner.now) owner.now))) }
+    {
+        let pair = pair_rec(alloc, owner, member)?;
+        let owned = owned_rec(alloc, owner, member)?;
+        self.down.replace(alloc, leaves, None, Some(&pair))?;
+        self.up.replace(alloc, leaves, None, Some(&owned))
+    }
+
     // The pairs of the link whose rows these records of the two nodes are. `None`: they are those of no
     // link.
     fn told(&self, alloc: Global, down: Recs, up: Recs) -> Result<Option<Pairs>, NoMemory>

@@ -4,6 +4,7 @@
 mod array;
 mod array_pairs;
 mod arrays;
+mod counts;
 mod inverted;
 mod pieces;
 mod records;

@@ -1,13 +1,21 @@
 -- What leaves hold of a stored link.
-use Rattle.std.proofs.Common.{◌≡◌, ◌+◌, ℕ, List, Option, sym, subst}
+use Rattle.std.proofs.Common.{◌≡◌, ◌<◌, ◌∙◌, ℕ, suc, Bool, true, false, List, [], ◌∷◌, length, Option, Some, None, refl, sym, ap, subst, arith}
+use Rattle.std.specs.Prelude.{not, ◌&&◌, nat_le, is_some, if◌then◌else◌}
+use Rattle.std.specs.FinMap as fin
+use Rattle.std.proofs.Math.Nat.{lt_of_not-le}
+use Rattle.std.proofs.lemmas.Bool.{true≢false}
+use Rattle.std.proofs.lemmas.Bool.Decides.{nat_tests}
+use Rattle.std.proofs.lemmas.List.{length-map}
 use Rattle.gx_values.specs.declared.values.Value.{Value}
-use Rattle.gx_ports.specs.LeafMaps.{LeafMap, Limits, entry_count, IsCrowdedBy}
-use Rattle.gx_model.specs.States.{File}
+use Rattle.gx_ports.specs.LeafMaps.{LeafMap}
+use Rattle.gx_model.specs.States.{File, pairs_of, most_members}
+use Rattle.gx_model.specs.Commands.{Refusal, no_record, has_owner, too_many_members, first_refusal}
 use Rattle.gx_scan.specs.Files.{HasFile}
-use Rattle.gx_links.specs.Links.{Link}
-use Rattle.gx_links.specs.Linksets.{LinkRule, HasLink, CanConnect}
+use Rattle.gx_links.specs.Links.{Link, members_of}
+use Rattle.gx_links.specs.Linksets.{LinkRule, HasLink, HasRoom}
 use Rattle.gx_pairs.specs.declared.stored.StoredLink.{StoredLink}
 use Rattle.gx_pairs.specs.Stored.{file_of, node_tree, AreLinked, HaveLink}
+use Rattle.gx_pairs.specs.Changes.{connect_refusal}
 
 module _ {L : Type 0} (rule : L → LinkRule) (held : L → Link → List LeafMap → Type 0) (s : StoredLink L) (maps : List LeafMap) where
   pub owners_there : HaveLink rule held s maps → HasFile (file_of s.owners) (node_tree s.owners) maps
@@ -26,11 +34,40 @@ module _ {L : Type 0} (rule : L → LinkRule) (held : L → Link → List LeafMa
   pub have_still : new ≡ old → HaveLink rule held s old → HaveLink rule held s new
   have_still same h = (h.0, h.1, h.2, linked_still h.0 h.1 h.2 same h.3)
 
--- so many entries crowd the same pages
-pub crowded_still : (before limit : Option Limits) (old new : List LeafMap) (more : ℕ) → limit ≡ before → new ≡ old → IsCrowdedBy limit (entry_count new + more) → IsCrowdedBy before (entry_count old + more)
-crowded_still before limit old new more same is crowded =
-    subst (λ l. IsCrowdedBy l (entry_count old + more)) same (subst (λ (maps : List LeafMap). IsCrowdedBy limit (entry_count maps + more)) is crowded)
+-- ---- why a pair isn't connected
 
-module _ (rule : LinkRule) (held : Link → List LeafMap → Type 0) (old new : List LeafMap) where
-  pub connect_still : (link : Link) (owner member : Value) (among : List Value) → new ≡ old → CanConnect rule held old link owner member among → CanConnect rule held new link owner member among
-  connect_still link owner member among same can = record { is_link = can.is_link; is_held = subst (held link) (sym same) can.is_held; free = can.free; those = can.those }
+below_most : (n : ℕ) → n < most_members → nat_le most_members n ≡ false
+below_most n few = grind (arith, nat_tests)
+
+not_below_most : (n : ℕ) → ¬ (n < most_members) → nat_le most_members n ≡ true
+not_below_most n many =
+    let past : most_members < suc n = lt_of_not-le {n = suc n} {m = most_members} many in
+    grind (arith, nat_tests)
+
+module _ (owners members : File) (link : Link) (owner member : Value) where
+  as_many : length (members_of link owner) ≡ length (pairs_of link owner)
+  as_many = length-map (pairs_of link owner) (λ pair. pair.0)
+
+  abbrev for_room : Bool → Option Refusal
+  for_room full = if full then Some too_many_members else None
+
+  -- both are records, and the member has no owner
+  module _ (both has : Bool) (both_are : both ≡ is_some (fin.get owners owner) && is_some (fin.get members member)) (yes : both ≡ true) (has_is : has ≡ is_some (fin.get link member)) (no : has ≡ false) where
+    for_room_alone : connect_refusal owners members link owner member ≡ for_room (nat_le most_members (length (pairs_of link owner)))
+    for_room_alone =
+        let records : is_some (fin.get owners owner) && is_some (fin.get members member) ≡ true = sym both_are ∙ yes in
+        let owned : is_some (fin.get link member) ≡ false = sym has_is ∙ no in
+        λ i. first_refusal ((not (records i), no_record) ∷ (owned i, has_owner) ∷ (nat_le most_members (length (pairs_of link owner)), too_many_members) ∷ [])
+
+    pub is_free : fin.get link member ≡ None
+    is_free = go (fin.get link member) (sym has_is ∙ no)
+      where
+        go : (o : Option Value) → is_some o ≡ false → o ≡ None
+        go None e = refl
+        go (Some o) e = absurd (true≢false e)
+
+    pub may_connect : HasRoom link owner → connect_refusal owners members link owner member ≡ None
+    may_connect room = for_room_alone ∙ ap for_room (ap (nat_le most_members) (sym as_many) ∙ below_most (length (members_of link owner)) room)
+
+    pub has_no_room : ¬ HasRoom link owner → connect_refusal owners members link owner member ≡ Some too_many_members
+    has_no_room full = for_room_alone ∙ ap for_room (ap (nat_le most_members) (sym as_many) ∙ not_below_most (length (members_of link owner)) full)

@@ -1,5 +1,5 @@
 // Connecting a member to an owner, and taking it away.
-ghost use Rattle.std.specs.Prelude.{◌≡◌, ◌+◌, ◌<◌, ◌&&◌, ℕ, length, IfOk, IsErrOf, Option, is_some, if◌then◌else◌};
+ghost use Rattle.std.specs.Prelude.{◌≡◌, ◌+◌, ◌&&◌, ℕ, length, IfOk, IsErrOf, Option, is_some, if◌then◌else◌};
 ghost use Rattle.std.specs.Option.{option_map};
 ghost use Rattle.std.specs.FinMap as fin;
 ghost use Rattle.gx_values.specs.declared.values.Value.{Value as FieldValue};
@@ -7,19 +7,17 @@ ghost use Rattle.gx_values.specs.Values.{Fits};
 ghost use Rattle.gx_schema.specs.Lookups.{key_kind};
 ghost use Rattle.gx_ports.specs.LeafMaps.{entry_count, IsCrowdedBy};
 ghost use Rattle.gx_ports.specs.Calls.{Keeps, Reads, Ends};
-ghost use Rattle.gx_mapping.specs.Rule.{In};
 ghost use Rattle.gx_model.specs.States.{File as FileMap, Link as LinkMap};
 ghost use Rattle.gx_links.specs.Links.{members_of};
-ghost use Rattle.gx_links.specs.Linksets.{CanConnect};
 ghost use Rattle.gx_pairs.specs.Stored.{file_of, IsStoredLink, AreLinked, HaveLink, IsRelinked};
 ghost use Rattle.gx_pairs.specs.Changes.{refusal_for, refusal_in, connect_refusal, disconnect_refusal};
 
 use crate::owners::has_owner;
 use crate::refused::Refused;
 use crate::stored::{StoredLink, has_record};
-use gx_links::{Linkset, MOST_MEMBERS};
+use gx_links::{Joining, Linkset};
 use gx_ports::{Leaves, Stop};
-use gx_values::{Value, Values};
+use gx_values::Value;
 use std::alloc::Global;
 
 /// Connects a member to an owner, or answers why it doesn't.
@@ -57,14 +55,16 @@ pub fn connect_pair<B: Leaves, L: Linkset>(
         (entry_count (B.working leaves.old) + length ((L.rule stored.now.linkset).entries owner.now
         (members_of (fin.insert link member.now owner.now) owner.now))) }
 {
-    let among = match members_to_join(alloc, stored, owner, member, leaves)? {
-        Ok(among) => among,
-        Err(why) => return Ok(Some(why)),
-    };
-    stored
-        .linkset
-        .connect_among(alloc, leaves, owner, member, &among)?;
-    Ok(None)
+    if !has_both(alloc, stored, owner, member, leaves)? {
+        return Ok(Some(Refused::NoRecord));
+    }
+    if has_owner(alloc, &stored.linkset, member, leaves)? {
+        return Ok(Some(Refused::HasOwner));
+    }
+    match stored.linkset.connect(alloc, leaves, owner, member)? {
+        Joining::Joined => Ok(None),
+        Joining::NoRoom => Ok(Some(Refused::TooManyMembers)),
+    }
 }
 
 /// Takes a member from its owner, or answers why it doesn't.
@@ -107,48 +107,6 @@ pub fn disconnect_pair<B: Leaves, L: Linkset>(
         .linkset
         .disconnect_from(alloc, leaves, &owner, member)?;
     Ok(None)
-}
-
-// The members that the owner has so far, or why it gets no further one.
-fn members_to_join<B: Leaves, L: Linkset>(
-    alloc: Global,
-    stored: &StoredLink<L>,
-    owner: &Value,
-    member: &Value,
-    leaves: &mut B,
-) -> Result<Result<Values, Refused>, Stop>
-    requires stored { IsStoredLink L.rule L.valid stored.now (length (B.working leaves.old)) }
-    requires owner { Fits (key_kind (file_of stored.now.owners)) owner.now }
-    requires member { Fits (key_kind (file_of stored.now.members)) member.now }
-    ensures refused { (owners members : FileMap) (link : LinkMap) → B.whole leaves.old →
-        AreLinked L.rule L.held stored.now (B.working leaves.old) owners members link → IfOk result
-        (λ room. refusal_in room ≡ connect_refusal owners members link owner.now member.now) }
-    ensures those { (owners members : FileMap) (link : LinkMap) → B.whole leaves.old →
-        AreLinked L.rule L.held stored.now (B.working leaves.old) owners members link → IfOk result
-        (λ room. IfOk room (CanConnect (L.rule stored.now.linkset) (L.held stored.now.linkset)
-        (B.working leaves.old) link owner.now member.now)) }
-    ensures fit { IfOk result (λ room. IfOk room
-        (λ among. (m : FieldValue) → In m among → Fits (L.rule stored.now.linkset).member m)) }
-    ensures few { IfOk result (λ room. IfOk room (λ among. length among < MOST_MEMBERS)) }
-    ensures reads { Reads B.View leaves.old leaves.new }
-    ensures ends { Ends B.View
-        (B.whole leaves.old × HaveLink L.rule L.held stored.now (B.working leaves.old))
-        leaves.old leaves.new result }
-    ensures block { (n : ℕ) → IsErrOf result (Stop.Damaged n) → B.whole leaves.old → n ≡ 0 }
-    ensures not_full { ¬ IsErrOf result Stop.Full }
-{
-    if !has_both(alloc, stored, owner, member, leaves)? {
-        return Ok(Err(Refused::NoRecord));
-    }
-    if has_owner(alloc, &stored.linkset, member, leaves)? {
-        return Ok(Err(Refused::HasOwner));
-    }
-    let mut among = Values(Vec::new(alloc));
-    stored.linkset.members(alloc, leaves, owner, &mut among)?;
-    if among.0.len() >= MOST_MEMBERS {
-        return Ok(Err(Refused::TooManyMembers));
-    }
-    Ok(Ok(among))
 }
 
 // Whether there are records of the owner and of the member.

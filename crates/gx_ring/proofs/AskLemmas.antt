@@ -10,6 +10,7 @@ use Rattle.gx_stack.specs.Internal.{entries_if}
 use Rattle.gx_links.specs.Links.{Link, members_of, most_members, IsLink, without_member}
 use Rattle.gx_links.specs.Linksets.{LinkRule, AreMembers, CanConnect, CanDisconnect}
 use Rattle.gx_links.specs.Rows.{IsHeldLink}
+use Rattle.gx_links.proofs.JoinLemmas.{crowded_more}
 use Rattle.gx_links.proofs.MemberLemmas.{insert_link, remove_link, gone_free, gone_comes, members_gone, from_without}
 use Rattle.gx_ring.specs.declared.changes.Change.{Change}
 use Rattle.gx_ring.specs.Ring.{ring_rows, two_nodes, owner_kind, member_kind, IsRing, ring_rule}
@@ -18,7 +19,7 @@ use Rattle.gx_ring.specs.Steps.{leading, lead_change, own_change, reversed}
 use Rattle.gx_ring.specs.Changes.{AreReplaced}
 use Rattle.gx_ring.proofs.ChainLemmas.{members_between}
 use Rattle.gx_ring.proofs.HeldLemmas.{comes, goes, came_entries, went_entries}
-use Rattle.gx_ring.proofs.ComeLemmas.{place_among, crowded_more}
+use Rattle.gx_ring.proofs.ComeLemmas.{place_among}
 
 -- the members but one, of those that were found
 module _ (rule : LinkRule) (held : Link → List LeafMap → Type 0) (whole : Type 0) (maps : List LeafMap) (owner m : Value) (steps_before steps : ℕ) (before now others : List Value) (found : AreMembers rule held whole maps owner steps_before steps before now) (none : before ≡ []) (is : others ≡ without_member m now) where
@@ -33,11 +34,11 @@ module _ (rule : LinkRule) (held : Link → List LeafMap → Type 0) (whole : Ty
 
 module _ {M : Type 0} (rule : M → Rule) (heads nexts : Tree M) (valid : IsRing rule heads nexts) (o m : Value) (fit_o : Fits (owner_kind rule heads) o) (fit_m : Fits (member_kind rule nexts) m) (members : List Value) (before next : Option Value) (before_is : before ≡ before_in members m) (next_is : next ≡ next_in members m) (leader : Tree M) (leader_is : leader ≡ leading heads nexts before) (lead own : Change) where
   -- it comes
-  module _ (lead_is : lead ≡ lead_change o m before next) (own_is : own ≡ own_change o m next) (link : Link) (maps : List LeafMap) (can : CanConnect (ring_rule rule heads nexts) (IsHeldLink rule (two_nodes heads nexts) ring_rows) maps link o m members) where
+  module _ (lead_is : lead ≡ lead_change o m before next) (own_is : own ≡ own_change o m next) (link : Link) (maps : List LeafMap) (can : CanConnect (ring_rule rule heads nexts) (IsHeldLink rule (two_nodes heads nexts) ring_rows) maps link m) (those : members ≡ members_of link o) where
     pub connected : (now : List LeafMap) → length members < most_members → AreReplaced rule leader nexts lead own maps now → IsHeldLink rule (two_nodes heads nexts) ring_rows (fin.insert link m o) now
     connected now room a =
-        let at = place_among link o m members before next can.those can.free before_is next_is in
-        let more = insert_link link o m can.free (owner_kind rule heads) (member_kind rule nexts) can.is_link fit_o fit_m (subst (λ ms. length ms < most_members) can.those room) in
+        let at = place_among link o m members before next those can.free before_is next_is in
+        let more = insert_link link o m can.free (owner_kind rule heads) (member_kind rule nexts) can.is_link fit_o fit_m (subst (λ ms. length ms < most_members) those room) in
         comes rule heads nexts valid link o m can.is_link more can.free maps now before next at can.is_held
         (subst (λ t. AreReplaced rule t nexts (lead_change o m before next) (own_change o m next) maps now) leader_is
         (subst (λ c. AreReplaced rule leader nexts c (own_change o m next) maps now) lead_is
@@ -45,7 +46,7 @@ module _ {M : Type 0} (rule : M → Rule) (heads nexts : Tree M) (valid : IsRing
 
     pub connect_full : (limit : Option Limits) → IsCrowdedBy limit (entry_count maps + (length (entries_if rule leader lead.new) + length (entries_if rule nexts own.new))) → IsCrowdedBy limit (entry_count maps + length ((ring_rule rule heads nexts).entries o (members_of (fin.insert link m o) o)))
     connect_full limit full =
-        let at = place_among link o m members before next can.those can.free before_is next_is in
+        let at = place_among link o m members before next those can.free before_is next_is in
         let few = came_entries rule heads nexts (members_of link o) (members_of (fin.insert link m o) o) o m before next at (members_between link o m can.free at.front at.rest at.split at.lower at.upper) in
         let one : length (entries_if rule leader lead.new) ≡ length (entries_if rule (leading heads nexts before) (lead_change o m before next).new) = (λ i. length (entries_if rule (leader_is i) (lead_is i).new)) in
         let two : length (entries_if rule nexts own.new) ≡ length (entries_if rule nexts (own_change o m next).new) = ap (λ (c : Change). length (entries_if rule nexts c.new)) own_is in

@@ -9,7 +9,6 @@ use Rattle.gx_values.specs.Keys.{width_of}
 use Rattle.gx_values.specs.Spans.{IsSpanKind}
 use Rattle.gx_values.proofs.CopyLemmas.{fit_sized}
 use Rattle.gx_values.proofs.KeyLemmas.{fit_bytes}
-use Rattle.gx_ports.specs.LeafMaps.{IsCrowdedBy, Limits}
 use Rattle.gx_mapping.specs.Rule.{Rule, In, IsOf}
 use Rattle.gx_gather.proofs.Lists.{take_in, in_at, in_right}
 use Rattle.gx_stack.specs.Tree.{Tree, leaves_of, tree_form, IsValid}
@@ -89,9 +88,3 @@ module _ {M : Type 0} (rule : M → Rule) (heads nexts : Tree M) (valid : IsRing
     pub lead_fits : (before next : Option Value) → IfThere before (Fits (member_kind rule nexts)) → IfThere next (Fits (member_kind rule nexts)) → FitsChange (tree_form rule (leading heads nexts before)) (lead_change o m before next)
     lead_fits None next fit_b fit_n = (head_if_is next fit_n, head_is m fit_m)
     lead_fits (Some p) next fit_b fit_n = (chain_is p next fit_b fit_n, chain_is p (Some m) fit_b fit_m)
-
--- ---- the cause of too many entries
-
-pub crowded_more : (limit : Option Limits) (m n : ℕ) → m ≤ n → IsCrowdedBy limit m → IsCrowdedBy limit n
-crowded_more None m n le c = c
-crowded_more (Some l) m n le c = omega (arith, c, le)

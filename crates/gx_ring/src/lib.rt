@@ -7,6 +7,5 @@ mod reads;
 mod records;
 mod ring;
 mod rows;
-mod spans;
 
 pub use ring::Ring;

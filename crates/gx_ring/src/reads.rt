@@ -10,8 +10,8 @@ ghost use Rattle.gx_stack.specs.Internal.{HasSet};
 ghost use Rattle.gx_links.specs.Kinds.{kinds_of, first_kind};
 ghost use Rattle.gx_ring.specs.Reads.{IsRecordAt};
 
-use crate::spans::key_span;
 use gx_gather::Recs;
+use gx_links::value_span;
 use gx_mapping::Mapping;
 use gx_ports::{Leaves, Stop};
 use gx_stack::Node;
@@ -43,7 +43,7 @@ pub fn record_at<M: Mapping, B: Leaves>(
     ensures not_full { ¬ IsErrOf result Stop.Full }
 {
     let mut found = Recs::new(alloc);
-    let span = key_span(node.form(), key);
+    let span = value_span(node.form(), key);
     node.select(alloc, leaves, &span, &mut found)?;
     Ok(first_rec(found))
 }

@@ -1,17 +1,21 @@
 // The ring.
 ghost use Rattle.std.specs.Prelude.{◌≡◌, ◌<◌, ◌+◌, ℕ, length, IfOk, OnOk, IsErrOf};
+ghost use Rattle.std.specs.FinMap.{insert};
 ghost use Rattle.gx_values.specs.declared.records.Rec.{Rec as Record};
 ghost use Rattle.gx_values.specs.declared.values.Value.{Value as FieldValue};
 ghost use Rattle.gx_values.specs.Values.{Fits};
-ghost use Rattle.gx_ports.specs.LeafMaps.{Extends};
-ghost use Rattle.gx_ports.specs.Calls.{Reads, Ends};
+ghost use Rattle.gx_ports.specs.LeafMaps.{map_at, entry_count, Extends, IsCrowdedBy};
+ghost use Rattle.gx_ports.specs.Calls.{Keeps, Reads, Ends};
 ghost use Rattle.gx_mapping.specs.Rule.{In, IsOf};
 ghost use Rattle.gx_stack.specs.Tree.{leaves_of, tree_form};
 ghost use Rattle.gx_stack.specs.Seen.{tree_of};
 ghost use Rattle.std.specs.Option.{option_map};
 ghost use Rattle.gx_stack.specs.Internal.{IfThere};
+ghost use Rattle.gx_links.specs.Links.{Link, members_of};
+ghost use Rattle.gx_links.specs.Linksets.{CanConnect};
 ghost use Rattle.gx_links.specs.Pairs.{IsTold, two_parts};
-ghost use Rattle.gx_ring.specs.Ring.{ring_rows, IsRing, owner_kind, member_kind};
+ghost use Rattle.gx_links.specs.Rows.{IsHeldLink};
+ghost use Rattle.gx_ring.specs.Ring.{ring_rows, ring_rule, two_nodes, IsRing, owner_kind, member_kind};
 ghost use Rattle.gx_ring.specs.Records.{IsKeyValue};
 ghost use Rattle.gx_ring.specs.Steps.{leading, lead_change, own_change};
 ghost use Rattle.gx_ring.specs.Walks.{HasMember, HasChain, IsNext, AreWalked};
@@ -22,7 +26,7 @@ use crate::reads::record_at;
 use crate::records::{Behind, chain_rec, head_if, head_rec, read_behind, take_field};
 use crate::rows::{chain_pairs, ring_rows};
 use gx_gather::{NO_BLOCK, Recs, add_parts};
-use gx_links::{Linkset, MOST_MEMBERS, Pairs, are_few, are_rows, owners_of};
+use gx_links::{Joining, Linkset, MOST_MEMBERS, Pairs, are_few, are_rows, owners_of};
 use gx_mapping::{Mapping, Parts};
 use gx_ports::{Leaves, Stop};
 use gx_stack::Node;
@@ -83,18 +87,20 @@ impl<'a, M: Mapping> Linkset for Ring<'a, M> {
         }
     }
 
-    fn connect_among<B: Leaves>(
+    fn connect<B: Leaves>(
         &self,
         alloc: Global,
         leaves: &mut B,
         owner: &Value,
         member: &Value,
-        members: &Values,
-    ) -> Result<(), Stop> {
-        let at = neighbours_of(&members.0, member);
-        let lead = lead_change(alloc, owner, member, at)?;
-        let own = own_change(alloc, owner, member, at)?;
-        replace_both(alloc, leaves, self.leading(at), &lead, self.chain, &own)
+    ) -> Result<Joining, Stop> {
+        let mut members = Values(Vec::new(alloc));
+        self.members(alloc, leaves, owner, &mut members)?;
+        if members.0.len() >= MOST_MEMBERS {
+            return Ok(Joining::NoRoom);
+        }
+        self.put_among(alloc, leaves, owner, member, &members)?;
+        Ok(Joining::Joined)
     }
 
     fn disconnect_from<B: Leaves>(
@@ -125,6 +131,55 @@ impl<'a, M: Mapping> Linkset for Ring<'a, M> {
 }
 
 impl<'a, M: Mapping> Ring<'a, M> {
+    // Puts a member without an owner among the owner's members so far.
+    fn put_among<B: Leaves>(
+        &self,
+        alloc: Global,
+        leaves: &mut B,
+        owner: &Value,
+        member: &Value,
+        members: &Values,
+    ) -> Result<(), Stop>
+        requires valid { IsRing M.rule (tree_of self.now.heads.now) (tree_of self.now.chain.now) }
+        requires below { (n : ℕ) →
+            In n (ring_rule M.rule (tree_of self.now.heads.now) (tree_of self.now.chain.now)).leaves →
+            n < length (B.working leaves.old) }
+        requires owner { Fits (owner_kind M.rule (tree_of self.now.heads.now)) owner.now }
+        requires member { Fits (member_kind M.rule (tree_of self.now.chain.now)) member.now }
+        requires members { (m : FieldValue) → In m members.now →
+            Fits (member_kind M.rule (tree_of self.now.chain.now)) m }
+        requires room { length members.now < MOST_MEMBERS }
+        ensures connected { (link : Link) → B.whole leaves.old →
+            CanConnect (ring_rule M.rule (tree_of self.now.heads.now) (tree_of self.now.chain.now))
+            (IsHeldLink M.rule (two_nodes (tree_of self.now.heads.now) (tree_of self.now.chain.now))
+            ring_rows)
+            (B.working leaves.old) link member.now →
+            members.now ≡ members_of link owner.now → OnOk result
+            (IsHeldLink M.rule (two_nodes (tree_of self.now.heads.now) (tree_of self.now.chain.now))
+            ring_rows (insert link member.now owner.now) (B.working leaves.new)) }
+        ensures others { (n : ℕ) → B.whole leaves.old → ¬ IsErrOf result Stop.Fault →
+            ¬ In n (ring_rule M.rule (tree_of self.now.heads.now) (tree_of self.now.chain.now)).leaves →
+            map_at (B.working leaves.new) n ≡ map_at (B.working leaves.old) n }
+        ensures keeps { Keeps B.View leaves.old leaves.new }
+        ensures work { B.work leaves.new ≡ B.work leaves.old }
+        ensures ends { Ends B.View (B.whole leaves.old) leaves.old leaves.new result }
+        ensures full { (link : Link) → B.whole leaves.old →
+            CanConnect (ring_rule M.rule (tree_of self.now.heads.now) (tree_of self.now.chain.now))
+            (IsHeldLink M.rule (two_nodes (tree_of self.now.heads.now) (tree_of self.now.chain.now))
+            ring_rows)
+            (B.working leaves.old) link member.now →
+            members.now ≡ members_of link owner.now → IsErrOf result Stop.Full →
+            IsCrowdedBy (B.limit leaves.old)
+            (entry_count (B.working leaves.old)
+            + length ((ring_rule M.rule (tree_of self.now.heads.now) (tree_of self.now.chain.now)).entries
+            owner.now (members_of (insert link member.now owner.now) owner.now))) }
+    {
+        let at = neighbours_of(&members.0, member);
+        let lead = lead_change(alloc, owner, member, at)?;
+        let own = own_change(alloc, owner, member, at)?;
+        replace_both(alloc, leaves, self.leading(at), &lead, self.chain, &own)
+    }
+
     // Appends the members from this one on.
     fn walk<B: Leaves>(
         &self,

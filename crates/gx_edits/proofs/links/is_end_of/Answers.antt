@@ -6,7 +6,7 @@ use Rattle.gx_ports.specs.LeafMaps.{LeafMap}
 use Rattle.gx_ports.proofs.CallLemmas.{reads_itself}
 use Rattle.gx_linksets.specs.Any.{any_link_rule, IsHeldBy, IsValidLinkset}
 use Rattle.gx_pairs.specs.Members.{has_member}
-use Rattle.gx_pairs.proofs.PassLemmas.{Passes, passes, ends_given, ends_given_after}
+use Rattle.gx_links.proofs.PassLemmas.{Passes, passes, ends_given, ends_given_after}
 use Rattle.gx_pairs.proofs.LinkedLemmas.{link_there, linked_still, have_still}
 use Rattle.gx_model.specs.States.{link_in}
 use Rattle.gx_states.proofs.StoredLemmas.{is_stored, is_linked_in, have_link}

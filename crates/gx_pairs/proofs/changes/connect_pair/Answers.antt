@@ -1,15 +1,42 @@
-use Rattle.std.proofs.Common.{◌<◌, ◌∙◌, List, length, sym, ap, subst}
+use Rattle.std.proofs.Common.{rules, ◌<◌, ◌∙◌, List, length, sym, ap, subst}
 use Rattle.gx_ports.specs.declared.stop.Stop.TheVariants as stop
 use Rattle.gx_ports.specs.LeafMaps.{LeafMap, map_at}
-use Rattle.gx_pairs.proofs.PassLemmas.{same_stop}
-use Rattle.gx_pairs.proofs.LinkedLemmas.{connect_still, crowded_still}
+use Rattle.gx_links.proofs.PassLemmas.{same_stop, passes, passes_joined, ends_given_after}
+use Rattle.gx_links.proofs.JoinLemmas.{connect_still, crowded_still}
+use Rattle.gx_links.specs.Linksets.{IsJoined}
+use Rattle.gx_pairs.proofs.LinkedLemmas.{link_there, have_still, is_free, may_connect, has_no_room}
 use Rattle.gx_pairs.proofs.changes.connect_pair.Goals as goal
 
-pub connect_among-requires-clause-below : goal.connect_among-requires-clause-below
-connect_among-requires-clause-below g c = λ n h. subst (λ (maps : List LeafMap). n < length maps) (sym c.members_to_join.ensures.reads.working) (c.requires.stored.below n h)
+pub has_owner-requires-clause-below : goal.has_owner-requires-clause-below
+has_owner-requires-clause-below g c = λ n h. subst (λ (maps : List LeafMap). n < length maps) (sym c.has_both.ensures.reads.working) (c.requires.stored.below n h)
 
-pub returns-in_err-connect_among-clause-full : goal.returns-in_err-connect_among-clause-full
-returns-in_err-connect_among-clause-full g c = λ owners members link whole are full.
+pub returns-in_err-has_owner-clause-ends : goal.returns-in_err-has_owner-clause-ends
+returns-in_err-has_owner-clause-ends g c =
+    let b = g.B.View in
+    let rule = g.L.Linkset.rule in
+    let held = g.L.Linkset.held in
+    let s = c.args.stored.now in
+    let old = b.working c.args.leaves.now in
+    let new = b.working c.has_both.new.leaves in
+    let passed = passes b c.has_both.ensures.reads c.in_ok-has_both.ensures.ends in
+    ends_given_after b c.from_residual-in_err-has_owner.result c.from_residual-in_err-has_owner.ensures.1 passed (λ h. (passed.whole h.0, link_there rule held s new (have_still rule held s old new passed.reads.working h.1))) c.in_err-has_owner.ensures.ends
+
+pub connect-requires-clause-below : goal.connect-requires-clause-below
+connect-requires-clause-below g c = λ n h. subst (λ (maps : List LeafMap). n < length maps) (sym (c.has_owner.ensures.reads.working ∙ c.has_both.ensures.reads.working)) (c.requires.stored.below n h)
+
+pub returns-in_err-connect-clause-ends : goal.returns-in_err-connect-clause-ends
+returns-in_err-connect-clause-ends g c =
+    let b = g.B.View in
+    let rule = g.L.Linkset.rule in
+    let held = g.L.Linkset.held in
+    let s = c.args.stored.now in
+    let old = b.working c.args.leaves.now in
+    let new = b.working c.has_owner.new.leaves in
+    let passed = passes_joined b (passes b c.has_both.ensures.reads c.in_ok-has_both.ensures.ends) (passes b c.has_owner.ensures.reads c.in_ok-has_owner.ensures.ends) in
+    ends_given_after b c.from_residual-in_err-connect.result c.from_residual-in_err-connect.ensures.1 passed (λ h. (passed.whole h.0, link_there rule held s new (have_still rule held s old new passed.reads.working h.1))) c.in_err-connect.ensures.ends
+
+pub returns-in_err-connect-clause-full : goal.returns-in_err-connect-clause-full
+returns-in_err-connect-clause-full g c = λ owners members link whole are full.
     let b = g.B.View in
     let s = c.args.stored.now in
     let rule = g.L.Linkset.rule s.linkset in
@@ -17,16 +44,20 @@ returns-in_err-connect_among-clause-full g c = λ owners members link whole are 
     let o = c.args.owner.now in
     let m = c.args.member.now in
     let old = b.working c.args.leaves.now in
-    let new = b.working c.members_to_join.new.leaves in
-    let reads = c.members_to_join.ensures.reads in
-    let none = rw c.in-Ok.is at (c.in_ok-among.ensures.refused owners members link whole are) in
-    let can = rw c.in-Ok.is at (c.in_ok-among.ensures.those owners members link whole are) in
-    let now = connect_still rule held old new link o m _ reads.working can in
-    let crowded = c.in_err-connect_among.ensures.full link (c.in_ok-among.ensures.ends.whole whole) now (same_stop c.from_residual-in_err-connect_among.result stop.Full c.from_residual-in_err-connect_among.ensures.1 full) in
-    (sym none, crowded_still (b.limit c.args.leaves.now) (b.limit c.members_to_join.new.leaves) old new _ reads.limit reads.working crowded)
+    let new = b.working c.has_owner.new.leaves in
+    let half = c.has_both.ensures.reads.working in
+    let same = c.has_owner.ensures.reads.working ∙ half in
+    let between = c.in_ok-has_both.ensures.ends.whole whole in
+    let after = c.in_ok-has_owner.ensures.ends.whole between in
+    let both = c.in_ok-has_both.ensures.found owners members link whole are in
+    let has = c.in_ok-has_owner.ensures.found link between are.is_link (subst (held link) (sym half) are.link) in
+    let can = connect_still rule held old new link m same (record { is_link = are.is_link; is_held = are.link; free = is_free owners members link o m _ _ both (search rules) has (search rules) }) in
+    let limit = c.has_owner.ensures.reads.limit ∙ c.has_both.ensures.reads.limit in
+    let crowded = c.in_err-connect.ensures.full link after can (same_stop c.from_residual-in_err-connect.result stop.Full c.from_residual-in_err-connect.ensures.1 full) in
+    (may_connect owners members link o m _ _ both (search rules) has (search rules) crowded.0, crowded_still (b.limit c.args.leaves.now) (b.limit c.has_owner.new.leaves) old new _ limit same crowded.1)
 
-pub returns-clause-connected : goal.returns-clause-connected
-returns-clause-connected g c = λ owners members link whole are.
+pub returns-in-Joined-clause-refused : goal.returns-in-Joined-clause-refused
+returns-in-Joined-clause-refused g c = λ owners members link whole are.
     let b = g.B.View in
     let s = c.args.stored.now in
     let rule = g.L.Linkset.rule s.linkset in
@@ -34,12 +65,79 @@ returns-clause-connected g c = λ owners members link whole are.
     let o = c.args.owner.now in
     let m = c.args.member.now in
     let old = b.working c.args.leaves.now in
-    let new = b.working c.members_to_join.new.leaves in
-    let same = c.members_to_join.ensures.reads.working in
-    let after = c.in_ok-among.ensures.ends.whole whole in
-    let can = rw c.in-Ok.is at (c.in_ok-among.ensures.those owners members link whole are) in
-    let now = connect_still rule held old new link o m _ same can in
+    let new = b.working c.has_owner.new.leaves in
+    let half = c.has_both.ensures.reads.working in
+    let same = c.has_owner.ensures.reads.working ∙ half in
+    let between = c.in_ok-has_both.ensures.ends.whole whole in
+    let after = c.in_ok-has_owner.ensures.ends.whole between in
+    let both = c.in_ok-has_both.ensures.found owners members link whole are in
+    let has = c.in_ok-has_owner.ensures.found link between are.is_link (subst (held link) (sym half) are.link) in
+    let can = connect_still rule held old new link m same (record { is_link = are.is_link; is_held = are.link; free = is_free owners members link o m _ _ both (search rules) has (search rules) }) in
+    let joined = subst (IsJoined held (b.working c.connect.new.leaves) link o m) c.in-Joined.is (c.in_ok-connect.ensures.joined link after can) in
+    sym (may_connect owners members link o m _ _ both (search rules) has (search rules) joined.0)
+
+pub returns-in-Joined-clause-connected : goal.returns-in-Joined-clause-connected
+returns-in-Joined-clause-connected g c = λ owners members link whole are.
+    let b = g.B.View in
+    let s = c.args.stored.now in
+    let rule = g.L.Linkset.rule s.linkset in
+    let held = g.L.Linkset.held s.linkset in
+    let o = c.args.owner.now in
+    let m = c.args.member.now in
+    let old = b.working c.args.leaves.now in
+    let new = b.working c.has_owner.new.leaves in
+    let half = c.has_both.ensures.reads.working in
+    let same = c.has_owner.ensures.reads.working ∙ half in
+    let between = c.in_ok-has_both.ensures.ends.whole whole in
+    let after = c.in_ok-has_owner.ensures.ends.whole between in
+    let both = c.in_ok-has_both.ensures.found owners members link whole are in
+    let has = c.in_ok-has_owner.ensures.found link between are.is_link (subst (held link) (sym half) are.link) in
+    let can = connect_still rule held old new link m same (record { is_link = are.is_link; is_held = are.link; free = is_free owners members link o m _ _ both (search rules) has (search rules) }) in
+    let joined = subst (IsJoined held (b.working c.connect.new.leaves) link o m) c.in-Joined.is (c.in_ok-connect.ensures.joined link after can) in
     record {
-      link = c.in_ok-connect_among.ensures.connected link after now;
-      others = λ n away. c.in_ok-connect_among.ensures.others n after (λ e. cc) away ∙ ap (λ (maps : List LeafMap). map_at maps n) same;
+      link = joined.1;
+      others = λ n away. c.in_ok-connect.ensures.others n after (λ e. cc) away ∙ ap (λ (maps : List LeafMap). map_at maps n) same;
+    }
+
+pub returns-in-NoRoom-clause-refused : goal.returns-in-NoRoom-clause-refused
+returns-in-NoRoom-clause-refused g c = λ owners members link whole are.
+    let b = g.B.View in
+    let s = c.args.stored.now in
+    let rule = g.L.Linkset.rule s.linkset in
+    let held = g.L.Linkset.held s.linkset in
+    let o = c.args.owner.now in
+    let m = c.args.member.now in
+    let old = b.working c.args.leaves.now in
+    let new = b.working c.has_owner.new.leaves in
+    let half = c.has_both.ensures.reads.working in
+    let same = c.has_owner.ensures.reads.working ∙ half in
+    let between = c.in_ok-has_both.ensures.ends.whole whole in
+    let after = c.in_ok-has_owner.ensures.ends.whole between in
+    let both = c.in_ok-has_both.ensures.found owners members link whole are in
+    let has = c.in_ok-has_owner.ensures.found link between are.is_link (subst (held link) (sym half) are.link) in
+    let can = connect_still rule held old new link m same (record { is_link = are.is_link; is_held = are.link; free = is_free owners members link o m _ _ both (search rules) has (search rules) }) in
+    let joined = subst (IsJoined held (b.working c.connect.new.leaves) link o m) c.in-NoRoom.is (c.in_ok-connect.ensures.joined link after can) in
+    sym (has_no_room owners members link o m _ _ both (search rules) has (search rules) joined.0)
+
+pub returns-in-NoRoom-clause-connected : goal.returns-in-NoRoom-clause-connected
+returns-in-NoRoom-clause-connected g c = λ owners members link whole are.
+    let b = g.B.View in
+    let s = c.args.stored.now in
+    let rule = g.L.Linkset.rule s.linkset in
+    let held = g.L.Linkset.held s.linkset in
+    let o = c.args.owner.now in
+    let m = c.args.member.now in
+    let old = b.working c.args.leaves.now in
+    let new = b.working c.has_owner.new.leaves in
+    let half = c.has_both.ensures.reads.working in
+    let same = c.has_owner.ensures.reads.working ∙ half in
+    let between = c.in_ok-has_both.ensures.ends.whole whole in
+    let after = c.in_ok-has_owner.ensures.ends.whole between in
+    let both = c.in_ok-has_both.ensures.found owners members link whole are in
+    let has = c.in_ok-has_owner.ensures.found link between are.is_link (subst (held link) (sym half) are.link) in
+    let can = connect_still rule held old new link m same (record { is_link = are.is_link; is_held = are.link; free = is_free owners members link o m _ _ both (search rules) has (search rules) }) in
+    let joined = subst (IsJoined held (b.working c.connect.new.leaves) link o m) c.in-NoRoom.is (c.in_ok-connect.ensures.joined link after can) in
+    record {
+      link = joined.1;
+      others = λ n away. c.in_ok-connect.ensures.others n after (λ e. cc) away ∙ ap (λ (maps : List LeafMap). map_at maps n) same;
     }

@@ -2,8 +2,9 @@ use Rattle.std.proofs.Common.{◌<◌, ◌∙◌, List, length, sym, ap, subst}
 use Rattle.gx_ports.specs.declared.stop.Stop.TheVariants as stop
 use Rattle.gx_ports.specs.LeafMaps.{LeafMap, map_at}
 use Rattle.gx_links.specs.Linksets.{CanDisconnect}
-use Rattle.gx_pairs.proofs.PassLemmas.{same_stop, passes, ends_given_after}
-use Rattle.gx_pairs.proofs.LinkedLemmas.{link_there, have_still, crowded_still}
+use Rattle.gx_links.proofs.PassLemmas.{same_stop, passes, ends_given_after}
+use Rattle.gx_links.proofs.JoinLemmas.{crowded_still}
+use Rattle.gx_pairs.proofs.LinkedLemmas.{link_there, have_still}
 use Rattle.gx_pairs.proofs.changes.disconnect_pair.Goals as goal
 
 pub disconnect_from-requires-clause-below : goal.disconnect_from-requires-clause-below

@@ -1,4 +1,4 @@
-use Rattle.gx_pairs.proofs.PassLemmas.{passes, ends_after, ends_given}
+use Rattle.gx_links.proofs.PassLemmas.{passes, ends_after, ends_given}
 use Rattle.gx_pairs.proofs.LinkedLemmas.{owners_there, members_there, have_still}
 use Rattle.gx_pairs.proofs.changes.has_both.Goals as goal
 

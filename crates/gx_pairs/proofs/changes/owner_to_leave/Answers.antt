@@ -1,6 +1,6 @@
 use Rattle.std.proofs.Common.{◌<◌, List, length, sym, subst}
 use Rattle.gx_ports.specs.LeafMaps.{LeafMap}
-use Rattle.gx_pairs.proofs.PassLemmas.{passes, ends_given, ends_given_after}
+use Rattle.gx_links.proofs.PassLemmas.{passes, ends_given, ends_given_after}
 use Rattle.gx_pairs.proofs.LinkedLemmas.{members_there, link_there, have_still}
 use Rattle.gx_pairs.proofs.changes.owner_to_leave.Goals as goal
 

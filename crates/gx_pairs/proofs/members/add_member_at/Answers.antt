@@ -11,7 +11,7 @@ use Rattle.gx_scan.specs.Files.{IsInternal}
 use Rattle.gx_scan.proofs.StepLemmas.{leaves_few}
 use Rattle.gx_pairs.specs.Stored.{file_of, node_tree}
 use Rattle.gx_pairs.specs.Members.{rows_at}
-use Rattle.gx_pairs.proofs.PassLemmas.{passes, passes_joined, ends_given, ends_given_after}
+use Rattle.gx_links.proofs.PassLemmas.{passes, passes_joined, ends_given, ends_given_after}
 use Rattle.gx_pairs.proofs.LinkedLemmas.{owners_there, members_there, link_there, have_still}
 use Rattle.gx_pairs.proofs.MemberLemmas.{one_owner_steps, one_member_steps}
 use Rattle.gx_pairs.proofs.members.add_member_at.Goals as goal

@@ -1,6 +1,6 @@
 use Rattle.std.proofs.Common.{◌<◌, List, length, sym, subst}
 use Rattle.gx_ports.specs.LeafMaps.{LeafMap}
-use Rattle.gx_pairs.proofs.PassLemmas.{passes, passes_joined, ends_given, ends_given_after}
+use Rattle.gx_links.proofs.PassLemmas.{passes, passes_joined, ends_given, ends_given_after}
 use Rattle.gx_pairs.proofs.LinkedLemmas.{owners_there, members_there, link_there, have_still}
 use Rattle.gx_pairs.proofs.owners.find_owner.Goals as goal
 

@@ -8,7 +8,7 @@ use Rattle.gx_values.specs.Keys.{key_of, is_inside}
 use Rattle.gx_ports.specs.declared.stop.Stop.TheVariants as stop
 use Rattle.gx_stack.specs.Seen.{tree_of}
 use Rattle.gx_links.specs.Rows.{node_rows}
-use Rattle.gx_lists.specs.Spans.{begins_with}
+use Rattle.gx_links.specs.Spans.{begins_with}
 use Rattle.gx_lists.specs.Arrays.{array_rows, first_body, AreCut, AreOfNone}
 use Rattle.gx_lists.proofs.ArrayLemmas.{in_leaves, rows_set, rows_found, cut_same, cut_some, members_steps}
 use Rattle.gx_lists.proofs.array.PointerArrayLinkset.members.Goals as goal

@@ -3,7 +3,8 @@ use Rattle.gx_stack.specs.Seen.{tree_of}
 use Rattle.gx_ring.specs.declared.records.Behind.TheVariants as found
 use Rattle.gx_ring.specs.Records.{IsBehind}
 use Rattle.gx_ring.specs.Reads.{IsRecordAt}
-use Rattle.gx_ring.proofs.EndLemmas.{ends_handed, ends_shown}
+use Rattle.gx_links.proofs.PassLemmas.{ends_given}
+use Rattle.gx_ring.proofs.EndLemmas.{ends_shown}
 use Rattle.gx_ring.proofs.WalkLemmas.{has_set, missing, unknown, next_found}
 use Rattle.gx_ring.proofs.ring.Ring.next_of.Goals as goal
 
@@ -14,7 +15,7 @@ returns-in_err-rec-clause-ends g c =
     let nexts = tree_of c.args.self.now.chain.now in
     let b = g.B.View in
     let maps = b.working c.args.leaves.now in
-    ends_handed b _ _ _ _ c.args.leaves.now c.record_at.new.leaves _ c.from_residual.result (λ s. (s.0, has_set rule heads nexts c.requires.valid maps c.args.member.now s.1)) c.in_err-rec.ensures.ends c.from_residual.ensures.1
+    ends_given b c.from_residual.result c.from_residual.ensures.1 (λ s. (s.0, has_set rule heads nexts c.requires.valid maps c.args.member.now s.1)) c.in_err-rec.ensures.ends
 
 pub returns-in_default-clause-ends : goal.returns-in_default-clause-ends
 returns-in_default-clause-ends g c =

@@ -3,7 +3,8 @@ use Rattle.gx_ports.proofs.CallLemmas.{reads_itself, reads_joined}
 use Rattle.gx_links.specs.Links.{most_members}
 use Rattle.gx_stack.specs.Seen.{tree_of}
 use Rattle.gx_ring.specs.Walks.{HasMember, IsNext}
-use Rattle.gx_ring.proofs.EndLemmas.{ends_handed, ends_after, ends_stopped}
+use Rattle.gx_links.proofs.PassLemmas.{ends_given_after}
+use Rattle.gx_ring.proofs.EndLemmas.{ends_stopped}
 use Rattle.gx_ring.proofs.WalkLemmas.{AtStep, first_step, next_step, last_step, no_step, member_at, next_again}
 use Rattle.gx_ring.proofs.ring.Ring.walk.Goals as goal
 
@@ -33,9 +34,9 @@ returns-in_err-next-clause-ends g c =
     let nexts = tree_of c.args.self.now.chain.now in
     let old = c.args.leaves.now in
     let inv = c.loop-step.invariant in
-    ends_after b _ _ old c.loop-step.leaves c.next_of.new.leaves c.from_residual.result inv.counted inv.whole
+    ends_given_after b c.from_residual.result c.from_residual.ensures.1 (record { reads = inv.reads; whole = inv.whole; counted = inv.counted })
     (λ s. (inv.whole s.0, subst (λ ms. HasMember rule heads nexts ms c.loop-step.at) (sym inv.reads.working) (member_at rule heads nexts c.requires.valid (b.whole old) (b.working old) c.args.first c.args.out.now (b.work old) _ c.loop-step.at _ _ inv.step s.0 s.1)))
-    (ends_handed b _ _ _ _ c.loop-step.leaves c.next_of.new.leaves _ c.from_residual.result (λ s. s) c.in_err-next.ensures.ends c.from_residual.ensures.1)
+    c.in_err-next.ensures.ends
 
 pub returns-in-None-clause-walked : goal.returns-in-None-clause-walked
 returns-in-None-clause-walked g c =

@@ -15,7 +15,7 @@ use Rattle.gx_ring.specs.Ring.{owner_kind, member_kind, ring_rule, ring_rows, tw
 use Rattle.gx_ring.specs.Places.{before_in, next_in}
 use Rattle.gx_ring.specs.Steps.{leading, lead_change, own_change, reversed}
 use Rattle.gx_ring.specs.Changes.{FitsChange}
-use Rattle.gx_ring.proofs.EndLemmas.{ends_after}
+use Rattle.gx_links.proofs.PassLemmas.{passes, ends_after}
 use Rattle.gx_ring.proofs.FoundLemmas.{nexts_below}
 use Rattle.gx_ring.proofs.ComeLemmas.{key_value_of, key_value_if, before_fits, next_fits, leading_below, lead_fits, own_fits}
 use Rattle.gx_ring.proofs.AskLemmas.{others_fit, others_are, disconnected, disconnect_full}
@@ -199,7 +199,7 @@ returns-clause-ends g c =
     let half = c.members.new.leaves in
     let others = c.without-others.result in
     let found = c.in_ok-members.ensures.found in
-    ends_after b _ _ old half c.replace_both.new.leaves c.replace_both.result (c.in_ok-members.ensures.ends.counted refl) c.in_ok-members.ensures.ends.whole
+    ends_after b c.replace_both.result (passes b c.in_ok-members.ensures.reads c.in_ok-members.ensures.ends)
     (λ s. c.in_ok-members.ensures.ends.whole s.0) c.replace_both.ensures.ends
 
 pub returns-clause-full : goal.returns-clause-full

@@ -4,7 +4,7 @@ use Rattle.gx_values.specs.Values.{Fits}
 use Rattle.gx_stack.specs.Seen.{tree_of}
 use Rattle.gx_ring.specs.Ring.{member_kind}
 use Rattle.gx_ring.specs.Reads.{IsRecordAt}
-use Rattle.gx_ring.proofs.EndLemmas.{ends_handed, ends_after}
+use Rattle.gx_links.proofs.PassLemmas.{passes, ends_after, ends_given}
 use Rattle.gx_ring.proofs.FoundLemmas.{heads_below, nexts_below, heads_held, head_field, members_none, members_some, chain_of_link}
 use Rattle.gx_ring.proofs.ring.RingLinkset.members.Goals as goal
 
@@ -14,8 +14,8 @@ record_at-requires-clause-below g c = λ n h. c.requires.below n (heads_below g.
 pub returns-in_err-head-clause-ends : goal.returns-in_err-head-clause-ends
 returns-in_err-head-clause-ends g c =
     let b = g.B.View in
-    ends_handed b _ _ _ _ c.args.leaves.now c.record_at.new.leaves _ c.from_residual.result
-    (λ s. (s.0, heads_held g.M.Mapping.rule (tree_of c.args.self.now.heads.now) (tree_of c.args.self.now.chain.now) c.requires.valid (b.working c.args.leaves.now) s.1)) c.in_err-head.ensures.ends c.from_residual.ensures.1
+    ends_given b c.from_residual.result c.from_residual.ensures.1
+    (λ s. (s.0, heads_held g.M.Mapping.rule (tree_of c.args.self.now.heads.now) (tree_of c.args.self.now.chain.now) c.requires.valid (b.working c.args.leaves.now) s.1)) c.in_err-head.ensures.ends
 
 pub take_field-requires : goal.take_field-requires
 take_field-requires g c =
@@ -51,7 +51,7 @@ returns-in-Some-clause-ends g c =
     let old = c.args.leaves.now in
     let half = c.record_at.new.leaves in
     let at = subst (IsRecordAt g.M.Mapping.rule heads (b.whole old) (b.working old) c.args.owner.now (b.work old) (b.work half)) c.in-Some.is c.in_ok-head.ensures.found in
-    ends_after b _ _ old half c.walk.new.leaves c.walk.result (c.in_ok-head.ensures.ends.counted refl) c.in_ok-head.ensures.ends.whole
+    ends_after b c.walk.result (passes b c.in_ok-head.ensures.reads c.in_ok-head.ensures.ends)
     (chain_of_link g.M.Mapping.rule heads (tree_of c.args.self.now.chain.now) c.requires.valid (b.whole old) (b.whole half) (b.working old) (b.working half) c.in_ok-head.ensures.ends.whole c.in_ok-head.ensures.reads.working c.args.owner.now (b.work old) (b.work half) c.in-Some.head c.take_field.result c.take_field.ensures at)
     c.walk.ensures.ends
 

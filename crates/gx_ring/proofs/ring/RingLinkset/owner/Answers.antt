@@ -1,7 +1,7 @@
 use Rattle.std.proofs.Common.{subst}
 use Rattle.gx_stack.specs.Seen.{tree_of}
 use Rattle.gx_ring.specs.Reads.{IsRecordAt}
-use Rattle.gx_ring.proofs.EndLemmas.{ends_handed}
+use Rattle.gx_links.proofs.PassLemmas.{ends_given}
 use Rattle.gx_ring.proofs.FoundLemmas.{nexts_below, nexts_held, owner_field, owner_none, owner_some}
 use Rattle.gx_ring.proofs.ring.RingLinkset.owner.Goals as goal
 
@@ -11,8 +11,8 @@ record_at-requires-clause-below g c = λ n h. c.requires.below n (nexts_below g.
 pub returns-in_err-rec-clause-ends : goal.returns-in_err-rec-clause-ends
 returns-in_err-rec-clause-ends g c =
     let b = g.B.View in
-    ends_handed b _ _ _ _ c.args.leaves.now c.record_at.new.leaves _ c.from_residual.result
-    (λ s. (s.0, nexts_held g.M.Mapping.rule (tree_of c.args.self.now.heads.now) (tree_of c.args.self.now.chain.now) c.requires.valid (b.working c.args.leaves.now) s.1)) c.in_err-rec.ensures.ends c.from_residual.ensures.1
+    ends_given b c.from_residual.result c.from_residual.ensures.1
+    (λ s. (s.0, nexts_held g.M.Mapping.rule (tree_of c.args.self.now.heads.now) (tree_of c.args.self.now.chain.now) c.requires.valid (b.working c.args.leaves.now) s.1)) c.in_err-rec.ensures.ends
 
 pub take_field-requires : goal.take_field-requires
 take_field-requires g c =

@@ -7,7 +7,7 @@ use Rattle.gx_links.specs.Rows.{node_rows}
 use Rattle.gx_lists.specs.Arrays.{array_rec, array_rows}
 use Rattle.gx_lists.proofs.ArrayLemmas.{in_leaves, rows_set}
 use Rattle.gx_lists.proofs.ArrayChanges.{each_sized, bytes_small, with_fits, none_left, new_fits, old_fits, first_change, first_connected, more_change, more_connected, connect_crowded}
-use Rattle.gx_lists.proofs.array.PointerArrayLinkset.connect_among.Goals as goal
+use Rattle.gx_lists.proofs.array.PointerArray.put_among.Goals as goal
 
 pub with_member-requires-clause-members : goal.with_member-requires-clause-members
 with_member-requires-clause-members g c = each_sized c.args.self.now.member c.args.members.now c.requires.members
@@ -26,7 +26,7 @@ replace-requires-clause-new_fits g c =
     new_fits g.M.Mapping.rule (tree_of c.args.self.now.tree.now) c.args.self.now.member c.requires.valid c.args.owner.now c.args.member.now c.args.members.now c.deref.result.now c.in_ok-new.new c.requires.owner c.requires.member c.requires.members c.requires.room list c.in_ok-new.ensures
 
 pub returns-then-is_empty-clause-connected : goal.returns-then-is_empty-clause-connected
-returns-then-is_empty-clause-connected g c = λ link whole can.
+returns-then-is_empty-clause-connected g c = λ link whole can those.
     let rule = g.M.Mapping.rule in
     let tree = tree_of c.args.self.now.tree.now in
     let kind = c.args.self.now.member in
@@ -36,13 +36,13 @@ returns-then-is_empty-clause-connected g c = λ link whole can.
     let ms = c.args.members.now in
     let list : c.deref.result.now ≡ with_member m ms = search rules in
     let empty : length ms ≡ 0 = search rules in
-    let internal = c.replace.ensures.internal (node_rows array_rows link 0) whole (rows_set rule tree kind valid link can.is_link) (first_change rule tree kind valid link o m can.free ms c.deref.result.now can.those list c.in_ok-new.new c.in_ok-new.ensures (none_left ms empty)) can.is_held.0 in
-    on_ok_weaker c.replace.result (λ d. first_connected rule tree kind valid link o m can.free ms c.deref.result.now can.those list c.in_ok-new.new (g.B.View.working c.replace.new.leaves) c.in_ok-new.ensures (none_left ms empty) d) internal
+    let internal = c.replace.ensures.internal (node_rows array_rows link 0) whole (rows_set rule tree kind valid link can.is_link) (first_change rule tree kind valid link o m can.free ms c.deref.result.now those list c.in_ok-new.new c.in_ok-new.ensures (none_left ms empty)) can.is_held.0 in
+    on_ok_weaker c.replace.result (λ d. first_connected rule tree kind valid link o m can.free ms c.deref.result.now those list c.in_ok-new.new (g.B.View.working c.replace.new.leaves) c.in_ok-new.ensures (none_left ms empty) d) internal
 
 pub returns-then-is_empty-clause-full : goal.returns-then-is_empty-clause-full
-returns-then-is_empty-clause-full g c = λ link whole can full.
+returns-then-is_empty-clause-full g c = λ link whole can those full.
     let list : c.deref.result.now ≡ with_member c.args.member.now c.args.members.now = search rules in
-    connect_crowded g.M.Mapping.rule (tree_of c.args.self.now.tree.now) c.args.self.now.member c.requires.valid link c.args.owner.now c.args.member.now can.free c.args.members.now c.deref.result.now can.those list _ _ c.in_ok-new.new c.in_ok-new.ensures (c.replace.ensures.full whole full)
+    connect_crowded g.M.Mapping.rule (tree_of c.args.self.now.tree.now) c.args.self.now.member c.requires.valid link c.args.owner.now c.args.member.now can.free c.args.members.now c.deref.result.now those list _ _ c.in_ok-new.new c.in_ok-new.ensures (c.replace.ensures.full whole full)
 
 pub array_rec-requires-2-clause-members : goal.array_rec-requires-2-clause-members
 array_rec-requires-2-clause-members g c = λ m h.
@@ -64,7 +64,7 @@ replace-requires-2-clause-new_fits g c =
     new_fits g.M.Mapping.rule (tree_of c.args.self.now.tree.now) c.args.self.now.member c.requires.valid c.args.owner.now c.args.member.now c.args.members.now c.deref.result.now c.in_ok-new.new c.requires.owner c.requires.member c.requires.members c.requires.room list c.in_ok-new.ensures
 
 pub returns-clause-connected : goal.returns-clause-connected
-returns-clause-connected g c = λ link whole can.
+returns-clause-connected g c = λ link whole can those.
     let rule = g.M.Mapping.rule in
     let tree = tree_of c.args.self.now.tree.now in
     let kind = c.args.self.now.member in
@@ -73,13 +73,13 @@ returns-clause-connected g c = λ link whole can.
     let m = c.args.member.now in
     let ms = c.args.members.now in
     let list : c.deref.result.now ≡ with_member m ms = search rules in
-    let those : c.deref-2.result.now ≡ ms = search rules in
+    let list2 : c.deref-2.result.now ≡ ms = search rules in
     let some : 0 < length ms = search rules in
-    let was = c.in_ok-old.ensures ∙ ap (array_rec o) those in
-    let internal = c.replace-2.ensures.internal (node_rows array_rows link 0) whole (rows_set rule tree kind valid link can.is_link) (more_change rule tree kind valid link o m can.free ms c.deref.result.now can.those list c.in_ok-old.old c.in_ok-new.new was c.in_ok-new.ensures some) can.is_held.0 in
-    on_ok_weaker c.replace-2.result (λ d. more_connected rule tree kind valid link o m can.free ms c.deref.result.now can.those list c.in_ok-old.old c.in_ok-new.new (g.B.View.working c.replace-2.new.leaves) was c.in_ok-new.ensures d) internal
+    let was = c.in_ok-old.ensures ∙ ap (array_rec o) list2 in
+    let internal = c.replace-2.ensures.internal (node_rows array_rows link 0) whole (rows_set rule tree kind valid link can.is_link) (more_change rule tree kind valid link o m can.free ms c.deref.result.now those list c.in_ok-old.old c.in_ok-new.new was c.in_ok-new.ensures some) can.is_held.0 in
+    on_ok_weaker c.replace-2.result (λ d. more_connected rule tree kind valid link o m can.free ms c.deref.result.now those list c.in_ok-old.old c.in_ok-new.new (g.B.View.working c.replace-2.new.leaves) was c.in_ok-new.ensures d) internal
 
 pub returns-clause-full : goal.returns-clause-full
-returns-clause-full g c = λ link whole can full.
+returns-clause-full g c = λ link whole can those full.
     let list : c.deref.result.now ≡ with_member c.args.member.now c.args.members.now = search rules in
-    connect_crowded g.M.Mapping.rule (tree_of c.args.self.now.tree.now) c.args.self.now.member c.requires.valid link c.args.owner.now c.args.member.now can.free c.args.members.now c.deref.result.now can.those list _ _ c.in_ok-new.new c.in_ok-new.ensures (c.replace-2.ensures.full whole full)
+    connect_crowded g.M.Mapping.rule (tree_of c.args.self.now.tree.now) c.args.self.now.member c.requires.valid link c.args.owner.now c.args.member.now can.free c.args.members.now c.deref.result.now those list _ _ c.in_ok-new.new c.in_ok-new.ensures (c.replace-2.ensures.full whole full)

@@ -8,7 +8,7 @@ use Rattle.gx_stack.specs.Internal.{IsInternal, IsChange, changed}
 use Rattle.gx_links.specs.Rows.{node_rows}
 use Rattle.gx_lists.specs.Inverted.{pair_rec, inverted_rows}
 use Rattle.gx_lists.proofs.InvertedLemmas.{on_ok_kept, down_leaf, up_leaf, down_set, up_set, pair_of_form, owned_of_form, first_crowded, second_crowded, up_stays, down_stays, down_free, up_free, connected}
-use Rattle.gx_lists.proofs.inverted.InvertedLinkset.connect_among.Goals as goal
+use Rattle.gx_lists.proofs.inverted.Inverted.put_pair.Goals as goal
 
 pub replace-requires-clause-below : goal.replace-requires-clause-below
 replace-requires-clause-below g c = λ n h. c.requires.below n (down_leaf g.M.Mapping.rule (tree_of c.args.self.now.down.now) (tree_of c.args.self.now.up.now) c.requires.valid n h)

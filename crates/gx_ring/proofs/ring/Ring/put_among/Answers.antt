@@ -14,7 +14,7 @@ use Rattle.gx_ring.specs.Changes.{FitsChange}
 use Rattle.gx_ring.proofs.FoundLemmas.{nexts_below}
 use Rattle.gx_ring.proofs.ComeLemmas.{key_value_of, before_fits, next_fits, leading_below, lead_fits, own_fits}
 use Rattle.gx_ring.proofs.AskLemmas.{connected, connect_full}
-use Rattle.gx_ring.proofs.ring.RingLinkset.connect_among.Goals as goal
+use Rattle.gx_ring.proofs.ring.Ring.put_among.Goals as goal
 
 pub lead_change-requires-clause-before : goal.lead_change-requires-clause-before
 lead_change-requires-clause-before g c =
@@ -79,7 +79,7 @@ replace_both-requires-clause-second_fits g c =
     subst (FitsChange (tree_form rule nexts)) (sym c.in_ok-own.ensures) (own_fits rule heads nexts c.requires.valid c.args.owner.now c.args.member.now c.requires.owner c.requires.member next fit_n)
 
 pub returns-clause-connected : goal.returns-clause-connected
-returns-clause-connected g c = λ link whole can.
+returns-clause-connected g c = λ link whole can those.
     let rule = g.M.Mapping.rule in
     let b = g.B.View in
     let heads = tree_of c.args.self.now.heads.now in
@@ -89,7 +89,7 @@ returns-clause-connected g c = λ link whole can.
     (λ a. connected rule heads nexts c.requires.valid c.args.owner.now c.args.member.now c.requires.owner c.requires.member c.args.members.now
     (option_map (λ v. v.now) c.neighbours_of-at.result.before) (option_map (λ v. v.now) c.neighbours_of-at.result.next)
     (c.neighbours_of-at.ensures.before ∙ ap (λ ms. before_in ms c.args.member.now) same) (c.neighbours_of-at.ensures.next ∙ ap (λ ms. next_in ms c.args.member.now) same)
-    (tree_of c.leading.result.now) c.leading.ensures c.in_ok-lead.lead c.in_ok-own.own c.in_ok-lead.ensures c.in_ok-own.ensures link (b.working c.args.leaves.now) can (b.working c.replace_both.new.leaves) c.requires.room a)
+    (tree_of c.leading.result.now) c.leading.ensures c.in_ok-lead.lead c.in_ok-own.own c.in_ok-lead.ensures c.in_ok-own.ensures link (b.working c.args.leaves.now) can those (b.working c.replace_both.new.leaves) c.requires.room a)
     (c.replace_both.ensures.changed whole)
 
 pub returns-clause-others : goal.returns-clause-others
@@ -101,7 +101,7 @@ returns-clause-others g c = λ n whole fault away.
     (λ h. away (nexts_below g.M.Mapping.rule heads nexts c.requires.valid n h))
 
 pub returns-clause-full : goal.returns-clause-full
-returns-clause-full g c = λ link whole can is.
+returns-clause-full g c = λ link whole can those is.
     let rule = g.M.Mapping.rule in
     let b = g.B.View in
     let heads = tree_of c.args.self.now.heads.now in
@@ -110,5 +110,5 @@ returns-clause-full g c = λ link whole can is.
     connect_full rule heads nexts c.requires.valid c.args.owner.now c.args.member.now c.requires.owner c.requires.member c.args.members.now
     (option_map (λ v. v.now) c.neighbours_of-at.result.before) (option_map (λ v. v.now) c.neighbours_of-at.result.next)
     (c.neighbours_of-at.ensures.before ∙ ap (λ ms. before_in ms c.args.member.now) same) (c.neighbours_of-at.ensures.next ∙ ap (λ ms. next_in ms c.args.member.now) same)
-    (tree_of c.leading.result.now) c.leading.ensures c.in_ok-lead.lead c.in_ok-own.own c.in_ok-lead.ensures c.in_ok-own.ensures link (b.working c.args.leaves.now) can
+    (tree_of c.leading.result.now) c.leading.ensures c.in_ok-lead.lead c.in_ok-own.own c.in_ok-lead.ensures c.in_ok-own.ensures link (b.working c.args.leaves.now) can those
     (b.limit c.args.leaves.now) (c.replace_both.ensures.full whole is)
