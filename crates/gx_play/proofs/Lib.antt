@@ -1,5 +1,6 @@
 mod SayLemmas
 mod LineLemmas
+pub mod AnsweringLemmas
 pub mod PlayLemmas
 mod HoldingLemmas
 pub mod OverLemmas

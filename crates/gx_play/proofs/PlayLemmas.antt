@@ -26,7 +26,7 @@ use Rattle.gx_engine.specs.Steps.{schema_of, built_of, leaves_of, is_open, IsDue
 use Rattle.gx_ports.specs.declared.stop.Stop.TheVariants as stop
 use Rattle.gx_play.specs.declared.play.PlayEnd.{PlayEnd}
 use Rattle.gx_play.specs.declared.play.PlayEnd.TheVariants as play_end
-use Rattle.gx_play.specs.Plays.{IsLinePlayed, IsLineCut, IsCommandCut, HasPlayCause, IsBadAt, IsPlayedUp, IsPlayedPart, IsPlayedTo, IsLineEnd, IsSoFar, IsShortLine, IsGivenUp, KeepsState, is_play_fault}
+use Rattle.gx_play.specs.Plays.{IsLinePlayed, IsLineCut, IsCommandCut, HasPlayCause, IsBadAt, IsPlayedUp, IsPlayedPart, IsPlayedTo, IsLineEnd, IsSoFar, IsShortLine, IsGivenUp, KeepsState}
 use Rattle.gx_play.specs.Played.{IsShortAt}
 
 -- no line was played yet
@@ -211,23 +211,6 @@ cause_since limit start before mid now stop.Full limit_is le cause = (cause.0, s
 cause_since limit start before mid now stop.NoMemory limit_is le cause = tt
 cause_since limit start before mid now (stop.Damaged block) limit_is le cause = absurd cause
 
--- an end that isn't that of a failed call
-pub stop_other : (end : PlayEnd) (s : Stop) → end ≡ play_end.Stop s → s ≢ stop.Fault → end ≢ play_end.Stop stop.Fault
-stop_other end s is other e = other (ap given (sym is ∙ e))
-  where
-    given : PlayEnd → Stop
-    given (play_end.Stop t) = t
-    given (play_end.Line number reason) = s
-
-pub no_play_fault : (end : PlayEnd) (s : Stop) → end ≡ play_end.Stop s → s ≢ stop.Fault → is_play_fault (Err end) ≡ false
-no_play_fault end s is other = ap (λ e. is_play_fault (Err e)) is ∙ by_stop s other
-  where
-    by_stop : (s : Stop) → s ≢ stop.Fault → is_play_fault (Err (play_end.Stop s)) ≡ false
-    by_stop stop.Fault other = absurd (other refl)
-    by_stop stop.Full other = refl
-    by_stop stop.NoMemory other = refl
-    by_stop (stop.Damaged block) other = refl
-
 -- how the play ends where a line isn't carried out
 pub at_line : {S : Type 0} (g : Ghosts S) (start : Playing) (all before left : Lines) (number : ℕ) (line : List ℕ) (end : PlayEnd) (result : Result (Unit {0}) PlayEnd) (old e new : Engine S) → schema_of e ≡ schema_of old → built_of e ≡ built_of old → g.limit (leaves_of e) ≡ g.limit (leaves_of old) → before ≡ with_line line left → (so : IsSoFar g start all before number old e) → result ≡ Err end → ((n : ℕ) (reason : LineWhy) → end ≡ play_end.Line n reason → IsBadAt (schema_of e) (is_open e) (number + 1) line n reason × (new ≡ e)) → ((why : Stop) → end ≡ play_end.Stop why → IsGivenUp g so.now line e new why) → IsPlayedTo g start all old new result
 at_line g start all before left number line (play_end.Line n reason) result old e new schema_is built_is limit_is before_is so result_is bad up =
@@ -282,7 +265,7 @@ at_line_end g start all left number (play_end.Line n reason) result old e so res
 at_line_end g start all left number (play_end.Stop stop) result old e so result_is is = absurd is
 
 -- an error that is passed on as it is
-pub is_err : (r : Result (Unit {0}) PlayEnd) (end : PlayEnd) → IsErrAnd r (λ e. e ≡ end) → r ≡ Err end
+pub is_err : {A E : Type 0} (r : Result A E) (end : E) → IsErrAnd r (λ e. e ≡ end) → r ≡ Err end
 is_err (Ok x) end is = absurd is
 is_err (Err e) end is = ap Err is
 

@@ -4,3 +4,4 @@ pub mod Say
 pub mod Endings
 pub mod Played
 pub mod Plays
+pub mod Answering

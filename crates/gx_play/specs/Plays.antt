@@ -1,6 +1,7 @@
 -- What the play of a script on an engine says, line by line.
-use Rattle.std.specs.Prelude.{◌≡◌, ◌≢◌, ◌⊎◌, ℕ, ◌+◌, ◌<◌, List, [], ◌∷◌, ◌++◌, length, take, Bool, false, IsTrue, Option, None, Result, Ok, Err}
-use Rattle.gx_device.specs.Content.{Content}
+use Rattle.std.specs.Prelude.{◌≡◌, ◌≢◌, ◌⊎◌, ℕ, ◌+◌, ◌<◌, ◌≤◌, List, [], ◌++◌, length, take, Bool, true, false, IsTrue, Option, None, Result, Ok, Err}
+use Rattle.gx_device.specs.Content.{Content, Silent}
+use Rattle.gx_device.specs.Quiet.{IsPrefix}
 use Rattle.gx_device.specs.Faults.{Rose}
 use Rattle.gx_schema.specs.declared.schema.Schema.{Schema}
 use Rattle.gx_commands.specs.declared.command.Command.{Command}
@@ -20,13 +21,16 @@ use Rattle.gx_types.specs.declared.built.Built.{Built}
 use Rattle.gx_model.specs.Runs.{Runs, IsBadLine, IsPlayFrom}
 use Rattle.gx_engine.specs.declared.engine.Engine.{Engine}
 use Rattle.gx_states.specs.Internal.{AreInternal}
-use Rattle.gx_engine.specs.Steps.{IsAt, IsShortFor, schema_of, built_of, leaves_of}
+use Rattle.gx_engine.specs.Steps.{IsAt, IsReady, IsShortFor, schema_of, built_of, leaves_of}
 use Rattle.gx_play.specs.declared.ending.Ending.{Ending}
 use Rattle.gx_play.specs.declared.ending.Ending.TheVariants as ending
 use Rattle.gx_play.specs.Endings.{ending_of}
 use Rattle.gx_play.specs.Played.{IsPlay, AreFirst, IsShortAt, IsFullAt}
 use Rattle.gx_play.specs.declared.play.PlayEnd.{PlayEnd}
 use Rattle.gx_play.specs.declared.play.PlayEnd.TheVariants as play_end
+use Rattle.gx_play.specs.declared.play.Answers.{Answers}
+use Rattle.gx_play.specs.declared.play.Answers.TheVariants as answers
+use Rattle.gx_play.specs.Say.{OnlySays}
 
 -- a command was carried out and its answer said, and the engine stands for what comes after it
 pub record IsCommandPlayed {S : Type 0} (g : Ghosts S) (p : Playing) (command : Command) (old new : Engine S) : Type 0 where
@@ -69,15 +73,40 @@ HasCause before now stop.NoMemory = Unit {0}
 HasCause before now other = ⊥
 
 -- whether a call below failed
-abbrev pub is_play_fault : Result (Unit {0}) PlayEnd → Bool
+abbrev pub is_play_fault : {T : Type 0} → Result T PlayEnd → Bool
 is_play_fault (Err (play_end.Stop why)) = is_outside why
 is_play_fault _ = false
+
+-- What the play of lines keeps of an engine. What was said before stays, in front, and where the answers are kept
+-- nothing is said.
+pub record KeepsPlayed {S : Type 0} (g : Ghosts S) (to : Answers) (old new : Engine S) : Type 0 where
+  pub schema : schema_of new ≡ schema_of old
+  pub built : built_of new ≡ built_of old
+  pub ready : IsReady g new
+  pub limit : g.limit (leaves_of new) ≡ g.limit (leaves_of old)
+  pub head : g.head (leaves_of new) ≡ g.head (leaves_of old)
+  pub rest : OnlySays (g.content (leaves_of old)) (g.content (leaves_of new))
+  pub begins : IsTrue g.tells → IsPrefix (g.content (leaves_of old)).now.said (g.content (leaves_of new)).now.said
+  pub silent : to ≡ answers.Kept → Silent (g.content (leaves_of old)) (g.content (leaves_of new))
+
+-- how failures are counted: the count never falls, it rises where a call below failed, and else it stays
+pub record CountsFailed (before now : ℕ) (failed : Bool) : Type 0 where
+  pub later : before ≤ now
+  pub rose : failed ≡ true → Rose before now
+  pub counted : failed ≡ false → now ≡ before
 
 -- ---- the play of lines
 
 -- the pages may be too few for the command of a line, which may stand there
 abbrev pub IsShortLine : {S : Type 0} → Ghosts S → Engine S → Playing → List ℕ → Type 0
 IsShortLine g e p line = (command : Command) × IsLineOf (schema_of e) line command × (place_reason (is_inside p) command ≡ None) × IsShortFor g e p command
+
+-- A command was given up: unless a call below failed, nothing was said of it, and what was last committed stays.
+pub record IsCommandGivenUp {S : Type 0} (g : Ghosts S) (p : Playing) (command : Command) (old new : Engine S) (why : Stop) : Type 0 where
+  pub unsaid : why ≢ stop.Fault → (g.content (leaves_of new)).now.said ≡ (g.content (leaves_of old)).now.said
+  pub cut : IsCommandCut (schema_of old) p command (g.content (leaves_of old)) (g.content (leaves_of new))
+  pub kept : why ≢ stop.Fault → Keeps g (leaves_of old) (leaves_of new)
+  pub short : why ≡ stop.Full → IsShortFor g old p command
 
 -- A line was given up: unless a call below failed, nothing of it was said, and what was last committed stays.
 pub record IsGivenUp {S : Type 0} (g : Ghosts S) (p : Playing) (line : List ℕ) (old new : Engine S) (why : Stop) : Type 0 where

@@ -15,7 +15,7 @@ pub use ending::{DeviceWhy, Ending, end};
 pub use hearing::hear_all;
 pub use lines::{next_line, placed_command};
 pub use over_leaves::play_over;
-pub use play::PlayEnd;
+pub use play::{Answers, PlayEnd, play_script};
 pub use say::say_all;
 pub use status::Status;
 pub use summary::summarize;

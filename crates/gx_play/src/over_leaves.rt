@@ -9,12 +9,13 @@ ghost use Rattle.gx_play.specs.Endings.{IsPlayEnding, is_fault};
 ghost use Rattle.gx_play.specs.Plays.{IsHolding, KeepsState, IsPlayedAs, IsEndingOf};
 
 use crate::ending::Ending;
-use crate::play::{PlayEnd, play};
+use crate::play::{Answers, PlayEnd, play_script};
 use crate::script::hear_script;
 use gx_engine::Engine;
 use gx_ports::Leaves;
 use gx_schema::Schema;
 use gx_types::Built;
+use gx_values::Octets;
 use std::alloc::Global;
 
 /// Hears the script and plays it over leaves, which are handed back. On leaves that hold a state, of
@@ -53,7 +54,8 @@ pub fn play_over<'a, B: Leaves + Drop>(
         Err(ending) => return (Err(ending), leaves),
     };
     let mut engine = Engine::start(schema, built, leaves);
-    let played = play(alloc, &script, &mut engine);
+    let mut answer = Octets(Vec::new(alloc));
+    let played = play_script(alloc, &script, Answers::Said, &mut engine, &mut answer);
     (ended(played), engine.into_leaves())
 }
 

@@ -37,7 +37,8 @@ use Rattle.gx_work.specs.Summary.{found_count, work_line, work_text}
 use Rattle.gx_work.proofs.LineLemmas.{line_of}
 use Rattle.gx_work.proofs.RunLemmas.{IsFind, find_runs}
 use Rattle.gx_work.proofs.WorkLemmas.{task_lines, tasks_small, length_tasks, changes_small, length_changes, changes_run}
-use Rattle.gx_working.specs.Answering.{beside, with_answers}
+use Rattle.gx_play.specs.declared.play.Answers.TheVariants as answers
+use Rattle.gx_play.specs.Answering.{beside, with_answers}
 use Rattle.gx_working.specs.Counts.{TellsCount}
 use Rattle.gx_working.specs.Worked.{IsWorkedOut, IsWorkedFirst, IsWorkedAs}
 use Rattle.gx_working.proofs.WorkedLemmas.{IsUpTo, up_to_start, AreFew, played_next, up_to_next, worked_part, worked_so_far}
@@ -72,11 +73,11 @@ find_few (task.Employee i) h = absurd h
 find_few (task.Connection i) h = absurd h
 find_few (task.Raise i) h = absurd h
 
-pub after_changes : {S : Type 0} (g : Ghosts S) (n : ℕ) (s : State) (e f : Engine S) (script text : List ℕ) → n ≤ 10000 → schema_of e ≡ work_schema → IsAt g (start_at s) e → script ≡ lines_text (changes n) → IsPlayedTo (beside g) (start_at s) (script_lines script) (with_answers e []) (with_answers f text) (Ok tt) → IsUpTo g s (changes n) ((n + 19) / 20 + 2) f
+pub after_changes : {S : Type 0} (g : Ghosts S) (n : ℕ) (s : State) (e f : Engine S) (script text : List ℕ) → n ≤ 10000 → schema_of e ≡ work_schema → IsAt g (start_at s) e → script ≡ lines_text (changes n) → IsPlayedTo (beside g answers.Kept) (start_at s) (script_lines script) (with_answers e []) (with_answers f text) (Ok tt) → IsUpTo g s (changes n) ((n + 19) / 20 + 2) f
 after_changes g n s e f script text le schema_is at script_is played =
     let r = changes_run n (start_at s) le refl refl in
     up_to_next g s [] (changes n) 0 ((n + 19) / 20 + 2) e f text (up_to_start g s e at) r
-    (played_next g (start_at s) (changes n) ((n + 19) / 20 + 2) e f text (changes_few n le) r schema_is (subst (λ t. IsPlayedTo (beside g) (start_at s) (script_lines t) (with_answers e []) (with_answers f text) (Ok tt)) script_is played))
+    (played_next g (start_at s) (changes n) ((n + 19) / 20 + 2) e f text (changes_few n le) r schema_is (subst (λ t. IsPlayedTo (beside g answers.Kept) (start_at s) (script_lines t) (with_answers e []) (with_answers f text) (Ok tt)) script_is played))
 
 -- a find was played behind these tasks
 pub record IsFoundBehind {S : Type 0} (g : Ghosts S) (s : State) (done : List Task) (t : Task) (p : Playing) (f : Engine S) (text : List ℕ) : Type 0 where
@@ -84,7 +85,7 @@ pub record IsFoundBehind {S : Type 0} (g : Ghosts S) (s : State) (done : List Ta
   pub answered : IsAnswered work_schema p (command_of t) text
   pub same : seen_state next.final ≡ seen_state p
 
-pub after_find : {S : Type 0} (g : Ghosts S) (s : State) (done : List Task) (t : Task) (commits : ℕ) (e f : Engine S) (text : List ℕ) → IsFind t → schema_of e ≡ work_schema → (u : IsUpTo g s done commits e) → IsPlayedTo (beside g) u.final (script_lines (lines_text (t ∷ []))) (with_answers e []) (with_answers f text) (Ok tt) → IsFoundBehind g s done t u.final f text
+pub after_find : {S : Type 0} (g : Ghosts S) (s : State) (done : List Task) (t : Task) (commits : ℕ) (e f : Engine S) (text : List ℕ) → IsFind t → schema_of e ≡ work_schema → (u : IsUpTo g s done commits e) → IsPlayedTo (beside g answers.Kept) u.final (script_lines (lines_text (t ∷ []))) (with_answers e []) (with_answers f text) (Ok tt) → IsFoundBehind g s done t u.final f text
 after_find g s done t commits e f text find schema_is u played =
     let runs = find_runs t u.final find u.outside in
     let next = played_next g u.final (t ∷ []) u.final.commits e f text (find_few t find) runs.run schema_is played in
@@ -102,13 +103,13 @@ moved g n s e leaves built limit result built_is limit_is h =
     subst (λ (b : Built). IsWorkedAs b limit s (KeepsState g work_schema b leaves) n result) built_is
     (subst (λ (l : Option Limits). IsWorkedAs (built_of e) l s (KeepsState g work_schema (built_of e) leaves) n result) limit_is h)
 
-pub no_changes : {S : Type 0} (g : Ghosts S) (n : ℕ) (s : State) (e f : Engine S) (script text : List ℕ) (end : PlayEnd) → n ≤ 10000 → schema_of e ≡ work_schema → IsAt g (start_at s) e → script ≡ lines_text (changes n) → ((block : ℕ) → end ≡ play_end.Stop (stop.Damaged block) → ⊥) → IsPlayedTo (beside g) (start_at s) (script_lines script) (with_answers e []) (with_answers f text) (Err end)
+pub no_changes : {S : Type 0} (g : Ghosts S) (n : ℕ) (s : State) (e f : Engine S) (script text : List ℕ) (end : PlayEnd) → n ≤ 10000 → schema_of e ≡ work_schema → IsAt g (start_at s) e → script ≡ lines_text (changes n) → ((block : ℕ) → end ≡ play_end.Stop (stop.Damaged block) → ⊥) → IsPlayedTo (beside g answers.Kept) (start_at s) (script_lines script) (with_answers e []) (with_answers f text) (Err end)
     → IsWorkedAs (built_of e) (g.limit (leaves_of e)) s (KeepsState g work_schema (built_of e) (leaves_of f)) n (Err (ending_of end))
 no_changes g n s e f script text end le schema_is at script_is sound played =
     worked_part g n s [] (changes n) (task.FindByPay ∷ task.FindByLink ∷ []) 0 ((n + 19) / 20 + 2) e f text le refl (changes_few n le) schema_is (up_to_start g s e at) end (changes_run n (start_at s) le refl refl) sound
-    (subst (λ t. IsPlayedTo (beside g) (start_at s) (script_lines t) (with_answers e []) (with_answers f text) (Err end)) script_is played)
+    (subst (λ t. IsPlayedTo (beside g answers.Kept) (start_at s) (script_lines t) (with_answers e []) (with_answers f text) (Err end)) script_is played)
 
-pub no_find : {S : Type 0} (g : Ghosts S) (n : ℕ) (s : State) (done later : List Task) (t : Task) (commits : ℕ) (e f : Engine S) (built : Built) (limit : Option Limits) (text : List ℕ) (end : PlayEnd) → n ≤ 10000 → tasks n ≡ done ++ t ∷ [] ++ later → IsFind t → schema_of e ≡ work_schema → built_of e ≡ built → g.limit (leaves_of e) ≡ limit → (u : IsUpTo g s done commits e) → ((block : ℕ) → end ≡ play_end.Stop (stop.Damaged block) → ⊥) → IsPlayedTo (beside g) u.final (script_lines (lines_text (t ∷ []))) (with_answers e []) (with_answers f text) (Err end)
+pub no_find : {S : Type 0} (g : Ghosts S) (n : ℕ) (s : State) (done later : List Task) (t : Task) (commits : ℕ) (e f : Engine S) (built : Built) (limit : Option Limits) (text : List ℕ) (end : PlayEnd) → n ≤ 10000 → tasks n ≡ done ++ t ∷ [] ++ later → IsFind t → schema_of e ≡ work_schema → built_of e ≡ built → g.limit (leaves_of e) ≡ limit → (u : IsUpTo g s done commits e) → ((block : ℕ) → end ≡ play_end.Stop (stop.Damaged block) → ⊥) → IsPlayedTo (beside g answers.Kept) u.final (script_lines (lines_text (t ∷ []))) (with_answers e []) (with_answers f text) (Err end)
     → IsWorkedAs built limit s (KeepsState g work_schema built (leaves_of f)) n (Err (ending_of end))
 no_find g n s done later t commits e f built limit text end le all find schema_is built_is limit_is u sound played =
     moved g n s e (leaves_of f) built limit (Err (ending_of end)) built_is limit_is

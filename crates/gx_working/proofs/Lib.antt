@@ -1,4 +1,3 @@
-pub mod AnsweringLemmas
 pub mod CountLemmas
 pub mod WorkedLemmas
 pub mod DoneLemmas

@@ -28,9 +28,10 @@ use Rattle.gx_work.specs.Workload.{lines_text, tasks, work_script}
 use Rattle.gx_work.proofs.LineLemmas.{IsSmall, line_of}
 use Rattle.gx_work.proofs.RunLemmas.{RunsTo}
 use Rattle.gx_work.proofs.WorkLemmas.{task_lines, task_once, tasks_small, length_tasks}
-use Rattle.gx_working.specs.Answering.{beside, with_answers}
+use Rattle.gx_play.specs.declared.play.Answers.TheVariants as answers
+use Rattle.gx_play.specs.Answering.{beside, with_answers}
 use Rattle.gx_working.specs.Worked.{IsWorkedFirst, IsWorkedFull, IsWorkedAs}
-use Rattle.gx_working.proofs.AnsweringLemmas.{at_alone}
+use Rattle.gx_play.proofs.AnsweringLemmas.{at_alone}
 
 -- these tasks ran from the start, and the engine stands behind them
 pub record IsUpTo {S : Type 0} (g : Ghosts S) (start : State) (done : List Task) (commits : ℕ) (e : Engine S) : Type 0 where
@@ -54,7 +55,7 @@ pub record IsNext {S : Type 0} (g : Ghosts S) (p : Playing) (ts : List Task) (co
   pub text_is : text ≡ r.text
   pub at : IsAt g r.final f
 
-pub played_next : {S : Type 0} (g : Ghosts S) (p : Playing) (ts : List Task) (commits : ℕ) (e f : Engine S) (text : List ℕ) → AreFew ts → (r : RunsTo p ts false commits) → schema_of e ≡ work_schema → IsPlayedTo (beside g) p (script_lines (lines_text ts)) (with_answers e []) (with_answers f text) (Ok tt) → IsNext g p ts commits r f text
+pub played_next : {S : Type 0} (g : Ghosts S) (p : Playing) (ts : List Task) (commits : ℕ) (e f : Engine S) (text : List ℕ) → AreFew ts → (r : RunsTo p ts false commits) → schema_of e ≡ work_schema → IsPlayedTo (beside g answers.Kept) p (script_lines (lines_text ts)) (with_answers e []) (with_answers f text) (Ok tt) → IsNext g p ts commits r f text
 played_next g p ts commits e f text few r schema_is up =
     let played : IsPlayFrom work_schema p (record { lines = map line_of ts; stop = None }) up.text up.final good =
     subst (λ (ls : Lines). IsPlayFrom work_schema p ls up.text up.final good) (task_lines ts few.small few.few)
@@ -62,7 +63,7 @@ played_next g p ts commits e f text few r schema_is up =
     let one = task_once p ts commits r up.text up.final good played in
     record {
       text_is = up.said ∙ one.0;
-      at = subst (λ (q : Playing). IsAt g q f) one.1 (at_alone g up.final f text up.at);
+      at = subst (λ (q : Playing). IsAt g q f) one.1 (at_alone g answers.Kept up.final f text up.at);
     }
 
 abbrev pub up_to_next : {S : Type 0} (g : Ghosts S) (start : State) (done ts : List Task) (some commits : ℕ) (e f : Engine S) (text : List ℕ) (u : IsUpTo g start done some e) (r : RunsTo u.final ts false commits) → IsNext g u.final ts commits r f text → IsUpTo g start (done ++ ts) commits f
@@ -108,7 +109,7 @@ module _ {S : Type 0} (g : Ghosts S) (n : ℕ) (start : State) (done ts later : 
   Kept = KeepsState g work_schema (built_of e) (leaves_of f)
 
   abbrev Part : Stop → Type 0
-  Part why = IsPlayedPart (beside g) u.final (script_lines (lines_text ts)) (with_answers e []) (with_answers f text) why
+  Part why = IsPlayedPart (beside g answers.Kept) u.final (script_lines (lines_text ts)) (with_answers e []) (with_answers f text) why
 
   part_lines : (why : Stop) (part : Part why) → map line_of ts ≡ part.ran ++ part.later
   part_lines why part = ap (λ (ls : Lines). ls.lines) (sym (task_lines ts few.small few.few)) ∙ part.parts
@@ -146,7 +147,7 @@ module _ {S : Type 0} (g : Ghosts S) (n : ℕ) (start : State) (done ts later : 
     holds = part_kept stop.Full (λ e. cc) part;
   }
 
-  no_line : (number : ℕ) (why : LineWhy) → RunsTo u.final ts false commits → IsPlayedUp (beside g) u.final (script_lines (lines_text ts)) (with_answers e []) (with_answers f text) (stopped number why) → ⊥
+  no_line : (number : ℕ) (why : LineWhy) → RunsTo u.final ts false commits → IsPlayedUp (beside g answers.Kept) u.final (script_lines (lines_text ts)) (with_answers e []) (with_answers f text) (stopped number why) → ⊥
   no_line number why r up =
       let played : IsPlayFrom work_schema u.final (record { lines = map line_of ts; stop = None }) up.text up.final (stopped number why) =
       subst (λ (ls : Lines). IsPlayFrom work_schema u.final ls up.text up.final (stopped number why)) (task_lines ts few.small few.few)
@@ -157,7 +158,7 @@ module _ {S : Type 0} (g : Ghosts S) (n : ℕ) (start : State) (done ts later : 
       never h = cc
 
   -- the play ends early in a part
-  pub worked_part : (end : PlayEnd) → RunsTo u.final ts false commits → ((block : ℕ) → end ≡ play_end.Stop (stop.Damaged block) → ⊥) → IsPlayedTo (beside g) u.final (script_lines (lines_text ts)) (with_answers e []) (with_answers f text) (Err end)
+  pub worked_part : (end : PlayEnd) → RunsTo u.final ts false commits → ((block : ℕ) → end ≡ play_end.Stop (stop.Damaged block) → ⊥) → IsPlayedTo (beside g answers.Kept) u.final (script_lines (lines_text ts)) (with_answers e []) (with_answers f text) (Err end)
       → IsWorkedAs (built_of e) (g.limit (leaves_of e)) start Kept n (Err (ending_of end))
   worked_part (play_end.Line number why) r sound up = absurd (no_line number why r up)
   worked_part (play_end.Stop stop.NoMemory) r sound part = worked_first stop.NoMemory (λ h. cc) part

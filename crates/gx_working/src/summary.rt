@@ -1,7 +1,6 @@
 // The line that tells what came of the workload.
-ghost use Rattle.std.specs.Prelude.{◌≡◌, ◌++◌, ◌<◌, ◌≤◌, ℕ, List, [], ◌∷◌, length, false, IfOk};
+ghost use Rattle.std.specs.Prelude.{◌≡◌, ◌++◌, ◌<◌, ℕ, List, IfOk};
 ghost use Rattle.std.specs.Fmt.{decimal};
-ghost use Rattle.std.specs.List.{AllByRecursion};
 ghost use Rattle.gx_tokens.specs.Lexemes.{is_digit};
 ghost use Rattle.gx_work.specs.Summary.{work_line};
 ghost use Rattle.gx_working.specs.Counts.{TellsCount, IsBehind};

@@ -1,5 +1,5 @@
 // Playing the workload's script silently.
-ghost use Rattle.std.specs.Prelude.{◌≡◌, ◌≤◌, ℕ, None, false, length, OnOk, IfErr, IsErrOf};
+ghost use Rattle.std.specs.Prelude.{◌≡◌, ◌≤◌, None, false, length, OnOk, IfErr, IsErrOf};
 ghost use Rattle.gx_device.specs.Content.{Silent};
 ghost use Rattle.gx_device.specs.Faults.{Rose};
 ghost use Rattle.gx_schema.specs.WellFormed.{IsWellFormed};
@@ -10,14 +10,13 @@ ghost use Rattle.gx_states.specs.Internal.{AreFor};
 ghost use Rattle.gx_engine.specs.Steps.{IsReady, IsAt, schema_of, built_of, stop_of, leaves_of};
 ghost use Rattle.gx_work.specs.Schema.{work_schema};
 ghost use Rattle.gx_play.specs.Endings.{IsPlayEnding, is_fault};
-ghost use Rattle.gx_play.specs.Plays.{IsHolding, KeepsState, HasPlayCause, is_play_fault};
+ghost use Rattle.gx_play.specs.Plays.{IsHolding, KeepsState, KeepsPlayed, CountsFailed, HasPlayCause, is_play_fault};
 ghost use Rattle.gx_working.specs.Answering.{IsAnsweredBy};
 ghost use Rattle.gx_working.specs.Worked.{IsWorkedAs};
 
-use crate::answering::answer_script;
 use crate::summary::summary_line;
 use gx_engine::Engine;
-use gx_play::{Ending, PlayEnd};
+use gx_play::{Answers, Ending, PlayEnd, play_script};
 use gx_ports::{Leaves, Stop};
 use gx_schema::Schema;
 use gx_types::Built;
@@ -75,13 +74,9 @@ fn work<'a, B: Leaves + Drop>(
         (KeepsState B.View work_schema (built_of engine.old) (leaves_of engine.new)) records
         result }
     ensures ending { IfErr result IsPlayEnding }
-    ensures fault { IsErrOf result Ending.Fault →
-        Rose (B.faults (leaves_of engine.old)) (B.faults (leaves_of engine.new)) }
-    ensures head { B.head (leaves_of engine.new) ≡ B.head (leaves_of engine.old) }
-    ensures silent { Silent (B.content (leaves_of engine.old)) (B.content (leaves_of engine.new)) }
-    ensures counted { is_fault result ≡ false →
-        B.faults (leaves_of engine.new) ≡ B.faults (leaves_of engine.old) }
-    ensures later { B.faults (leaves_of engine.old) ≤ B.faults (leaves_of engine.new) }
+    ensures keeps { KeepsPlayed B.View Answers.Kept engine.old engine.new }
+    ensures counts { CountsFailed (B.faults (leaves_of engine.old))
+        (B.faults (leaves_of engine.new)) (is_fault result) }
 {
     let script = changes(alloc, records)?;
     answers(alloc, script.as_slice(), engine)?;
@@ -112,20 +107,12 @@ fn answers<B: Leaves + Drop>(
         IsErrOf result (PlayEnd.Stop stop) →
         HasPlayCause (B.limit (leaves_of engine.old)) (B.faults (leaves_of engine.old))
         (B.faults (leaves_of engine.new)) stop }
-    ensures fault { IsErrOf result (PlayEnd.Stop Stop.Fault) →
-        Rose (B.faults (leaves_of engine.old)) (B.faults (leaves_of engine.new)) }
-    ensures schema { schema_of engine.new ≡ schema_of engine.old }
-    ensures built { built_of engine.new ≡ built_of engine.old }
-    ensures ready { IsReady B.View engine.new }
+    ensures keeps { KeepsPlayed B.View Answers.Kept engine.old engine.new }
     ensures going { OnOk result (stop_of engine.new ≡ None) }
-    ensures limit { B.limit (leaves_of engine.new) ≡ B.limit (leaves_of engine.old) }
-    ensures head { B.head (leaves_of engine.new) ≡ B.head (leaves_of engine.old) }
-    ensures silent { Silent (B.content (leaves_of engine.old)) (B.content (leaves_of engine.new)) }
-    ensures counted { (IsErrOf result (PlayEnd.Stop Stop.Fault) → ⊥) →
-        B.faults (leaves_of engine.new) ≡ B.faults (leaves_of engine.old) }
-    ensures later { B.faults (leaves_of engine.old) ≤ B.faults (leaves_of engine.new) }
+    ensures counts { CountsFailed (B.faults (leaves_of engine.old))
+        (B.faults (leaves_of engine.new)) (is_play_fault result) }
 {
     let mut out = Octets(Vec::new(alloc));
-    answer_script(alloc, script, engine, &mut out)?;
+    play_script(alloc, script, Answers::Kept, engine, &mut out)?;
     Ok(out)
 }

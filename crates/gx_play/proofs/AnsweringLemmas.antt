@@ -1,0 +1,152 @@
+-- Lines whose answers are said, or kept.
+use Rattle.std.proofs.Common.{◌≡◌, ℕ, List, Bool, false, true, None, Result, Ok, Err, refl, sym, ap, subst, ◌∙◌, inl, inr, arith}
+use Rattle.gx_commands.specs.declared.command.Command.{Command}
+use Rattle.gx_commands.specs.Commands.{place_reason}
+use Rattle.gx_commands.specs.Lines.{Lines}
+use Rattle.gx_script.specs.Grammar.{IsLineOf}
+use Rattle.gx_ports.specs.declared.stop.Stop.{Stop}
+use Rattle.gx_ports.specs.declared.stop.Stop.TheVariants as stop
+use Rattle.gx_ports.specs.declared.view.View.{Ghosts}
+use Rattle.gx_model.specs.Play.{Playing, End, good, stopped, is_inside}
+use Rattle.gx_engine.specs.declared.engine.Engine.{Engine}
+use Rattle.gx_engine.specs.Steps.{IsAt, IsDue, IsReady, schema_of}
+use Rattle.gx_play.specs.declared.ending.Ending.{Ending}
+use Rattle.gx_play.specs.Endings.{ending_of, is_outside, is_fault}
+use Rattle.gx_play.specs.declared.play.PlayEnd.{PlayEnd}
+use Rattle.gx_play.specs.declared.play.PlayEnd.TheVariants as play_end
+use Rattle.gx_play.specs.declared.play.Answers.{Answers}
+use Rattle.gx_play.specs.declared.play.Answers.TheVariants as answers
+use Rattle.gx_play.specs.Answering.{beside, with_answers}
+use Rattle.gx_play.specs.Plays.{IsCommandPlayed, IsLinePlayed, IsCommandGivenUp, IsGivenUp, IsPlayedUp, IsPlayedTo, KeepsPlayed, CountsFailed, is_play_fault}
+use Rattle.gx_play.proofs.SayLemmas.{begins_same, begins_then}
+
+-- the engine stands so with answers beside it
+pub at_beside : {S : Type 0} (g : Ghosts S) (to : Answers) (p : Playing) (e : Engine S) (out : List ℕ) → IsAt g p e → IsAt (beside g to) p (with_answers e out)
+at_beside g to p e out at = record { stands = at.stands; whole_is = at.whole_is; kept_whole_is = at.kept_whole_is }
+
+pub at_alone : {S : Type 0} (g : Ghosts S) (to : Answers) (p : Playing) (e : Engine S) (out : List ℕ) → IsAt (beside g to) p (with_answers e out) → IsAt g p e
+at_alone g to p e out at = record { stands = at.stands; whole_is = at.whole_is; kept_whole_is = at.kept_whole_is }
+
+-- ---- what stays of the engine
+
+pub keeps_same : {S : Type 0} (g : Ghosts S) (to : Answers) (e : Engine S) → IsReady g e → KeepsPlayed g to e e
+keeps_same g to e ready = record {
+  schema = refl;
+  built = refl;
+  ready = ready;
+  limit = refl;
+  head = refl;
+  rest = record { shelf = refl; script = refl; aside = refl };
+  begins = λ told. begins_same _ _ refl;
+  silent = λ kept. record { said = refl; shelf = refl; script = refl; aside = refl };
+}
+
+pub keeps_then : {S : Type 0} (g : Ghosts S) (to : Answers) (a b c : Engine S) → KeepsPlayed g to a b → KeepsPlayed g to b c → KeepsPlayed g to a c
+keeps_then g to a b c p q = record {
+  schema = q.schema ∙ p.schema;
+  built = q.built ∙ p.built;
+  ready = q.ready;
+  limit = q.limit ∙ p.limit;
+  head = q.head ∙ p.head;
+  rest = record { shelf = q.rest.shelf ∙ p.rest.shelf; script = q.rest.script ∙ p.rest.script; aside = q.rest.aside ∙ p.rest.aside };
+  begins = λ told. begins_then _ _ _ (p.begins told) (q.begins told);
+  silent = λ kept.
+      let x = p.silent kept in
+      let y = q.silent kept in
+      record { said = y.said ∙ x.said; shelf = y.shelf ∙ x.shelf; script = y.script ∙ x.script; aside = y.aside ∙ x.aside };
+}
+
+-- ---- the line of the command
+
+pub line_played : {S : Type 0} (g : Ghosts S) (to : Answers) (p : Playing) (line : List ℕ) (c : Command) (old new : Engine S) (out now : List ℕ) → IsAt g p old → IsLineOf (schema_of old) line c → IsDue old c → IsCommandPlayed (beside g to) p c (with_answers old out) (with_answers new now)
+    → IsLinePlayed (beside g to) p line (with_answers old out) (with_answers new now)
+line_played g to p line c old new out now at means due played = record {
+  command = c;
+  means = means;
+  placed = subst (λ (b : Bool). place_reason b c ≡ None) at.stands.inside_same due.allowed;
+  played = played;
+}
+
+pub line_given_up : {S : Type 0} (g : Ghosts S) (to : Answers) (p : Playing) (line : List ℕ) (c : Command) (old new : Engine S) (out now : List ℕ) (why : Stop) → IsAt g p old → IsLineOf (schema_of old) line c → IsDue old c → IsCommandGivenUp (beside g to) p c (with_answers old out) (with_answers new now) why
+    → IsGivenUp (beside g to) p line (with_answers old out) (with_answers new now) why
+line_given_up g to p line c old new out now why at means due up =
+    let placed : place_reason (is_inside p) c ≡ None = subst (λ (b : Bool). place_reason b c ≡ None) at.stands.inside_same due.allowed in
+    record {
+      unsaid = up.unsaid;
+      cut = inr (c, means, placed, up.cut);
+      kept = up.kept;
+      short = λ full. (c, means, placed, up.short full);
+    }
+
+no_memory_full : {A : Type 0} (why : Stop) → why ≡ stop.NoMemory → why ≡ stop.Full → A
+no_memory_full why is full = absurd (never (sym is ∙ full))
+  where
+    never : stop.NoMemory ≡ stop.Full → ⊥
+    never f = cc
+
+-- an error is one
+pub err_same : {A E : Type 0} (r : Result A E) (a b : E) → r ≡ Err a → r ≡ Err b → a ≡ b
+err_same {A = A} {E = E} r a b p q = ap err_in (sym p ∙ q)
+  where
+    err_in : Result A E → E
+    err_in (Err e) = e
+    err_in (Ok x) = a
+
+pub stop_same : (a b : Stop) → play_end.Stop a ≡ play_end.Stop b → a ≡ b
+stop_same a b e = ap stop_in e
+  where
+    stop_in : PlayEnd → Stop
+    stop_in (play_end.Stop s) = s
+    stop_in (play_end.Line number reason) = a
+
+-- a line for which there was no memory
+pub unread_given_up : {S : Type 0} (g : Ghosts S) (to : Answers) (p : Playing) (line : List ℕ) (e : Engine S) (out : List ℕ) (why : Stop) → why ≡ stop.NoMemory → IsGivenUp (beside g to) p line (with_answers e out) (with_answers e out) why
+unread_given_up g to p line e out why is = record {
+  unsaid = λ other. refl;
+  cut = inl refl;
+  kept = λ other. record { leaves = refl; kept = refl; kept_whole = (λ h. h, λ h. h); limit = refl; head = refl; calm = λ s h. h; silent = record { said = refl; shelf = refl; script = refl; aside = refl } };
+  short = λ full. no_memory_full why is full;
+}
+
+-- ---- what the machine said, alone
+
+up_alone : {S : Type 0} (g : Ghosts S) (p : Playing) (lines : Lines) (old new : Engine S) (out now : List ℕ) (end : End) → IsPlayedUp (beside g answers.Said) p lines (with_answers old out) (with_answers new now) end → IsPlayedUp g p lines old new end
+up_alone g p lines old new out now end up = record { text = up.text; final = up.final; played = up.played; said = up.said; at = at_alone g answers.Said up.final new now up.at }
+
+-- the play of lines whose answers were said
+pub played_aloud : {S : Type 0} (g : Ghosts S) (p : Playing) (lines : Lines) (old new : Engine S) (out now : List ℕ) (result : Result (Unit {0}) PlayEnd) → IsPlayedTo (beside g answers.Said) p lines (with_answers old out) (with_answers new now) result → IsPlayedTo g p lines old new result
+played_aloud g p lines old new out now (Ok x) up = up_alone g p lines old new out now good up
+played_aloud g p lines old new out now (Err (play_end.Line number why)) up = up_alone g p lines old new out now (stopped number why) up
+played_aloud g p lines old new out now (Err (play_end.Stop why)) part = record {
+  ran = part.ran;
+  later = part.later;
+  parts = part.parts;
+  text = part.text;
+  final = part.final;
+  runs = part.runs;
+  front = part.front;
+  whole = part.whole;
+  kept = part.kept;
+  short = part.short;
+}
+
+-- ---- how failures are counted where a play ends a request
+
+pub none_failed : (before now : ℕ) → now ≡ before → CountsFailed before now false
+none_failed before now same = record { later = omega (arith, same); rose = λ e. absurd (never e); counted = λ e. same }
+  where
+    never : ◌≡◌ {A = Bool} false true → ⊥
+    never e = cc
+
+outside_end : (U : Type 0) (end : PlayEnd) → is_outside (ending_of end) ≡ is_play_fault {T = U} (Err end)
+outside_end U (play_end.Line number why) = refl
+outside_end U (play_end.Stop stop.Fault) = refl
+outside_end U (play_end.Stop stop.Full) = refl
+outside_end U (play_end.Stop stop.NoMemory) = refl
+outside_end U (play_end.Stop (stop.Damaged block)) = refl
+
+pub failed_end : {T : Type 0} (U : Type 0) (before mid now : ℕ) (end : PlayEnd) (result : Result T Ending) → mid ≡ before → result ≡ Err (ending_of end) → CountsFailed mid now (is_play_fault {T = U} (Err end)) → CountsFailed before now (is_fault result)
+failed_end {T = T} U before mid now end result same is counts =
+    subst (λ (r : Result T Ending). CountsFailed before now (is_fault r)) (sym is)
+    (subst (CountsFailed before now) (sym (outside_end U end))
+    (subst (λ n. CountsFailed n now (is_play_fault {T = U} (Err end))) same counts))
