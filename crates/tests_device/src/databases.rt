@@ -3,7 +3,8 @@ ghost use Rattle.std.specs.Prelude.{◌≡◌, ◌≤◌, IsTrue, length};
 ghost use Rattle.gx_leaves.specs.Kinds.{are_built};
 ghost use Rattle.gx_ports.specs.Roots.{root_pages};
 
-use gx_device::{Device, Machine};
+use crate::shelf::Shelf;
+use gx_device::Device;
 use gx_journal::Journal;
 use gx_leaves::PagedLeaves;
 use gx_memory_machine::MemoryMachine;
@@ -30,59 +31,63 @@ fn heap() -> [LeafSpec; 1]
 }
 
 /// A machine without a device, with room for its calls.
-pub(crate) fn machine(alloc: Global) -> Result<MemoryMachine, Fail> {
+pub(crate) fn machine(alloc: Global) -> Result<Shelf, Fail> {
     let mut machine = MemoryMachine::new(alloc)?;
     machine.reserve(alloc, 1000, 1_000_000)?;
-    Ok(machine)
+    Ok(Shelf { machine })
 }
 
 /// Makes an empty database on a new device.
-pub(crate) fn make_on<M: Machine + Drop>(
+pub(crate) fn make_on(
     alloc: Global,
-    machine: M,
+    machine: Shelf,
     blocks: u32,
     (schema, equation): (&[u8], &[u8]),
-) -> (Result<(), Unopened>, M) {
+) -> (Result<(), Unopened>, Shelf) {
     let schema = &schema[..schema.len().min(8190)];
     let equation = &equation[..equation.len().min(8190)];
     make(alloc, machine, "d", blocks, schema, equation, &heap())
 }
 
 /// Opens the database on the device.
-pub(crate) fn open_on<M: Machine + Drop>(
+pub(crate) fn open_on(
     alloc: Global,
-    machine: M,
+    machine: Shelf,
     (schema, equation): (&[u8], &[u8]),
-) -> Result<Store<M>, (M, Unopened)> {
+) -> Result<Store<Shelf>, (Shelf, Unopened)> {
     let schema = &schema[..schema.len().min(8190)];
     let equation = &equation[..equation.len().min(8190)];
     open(alloc, machine, "d", schema, equation, &heap())
 }
 
 /// The database on the device that is attached, with so many pages in memory.
-pub(crate) fn adopted(
-    alloc: Global,
-    machine: MemoryMachine,
-    frames: u32,
-) -> Result<Store<MemoryMachine>, Fail>
+pub(crate) fn adopted(alloc: Global, machine: Shelf, frames: u32) -> Result<Store<Shelf>, Fail>
     requires least { 8 ≤ frames }
     requires most { frames ≤ 1024 }
 {
     if machine.blocks() < 7 || machine.blocks() > 65543 {
         return Err("the device has another size".into());
     }
-    let journal = Journal::recover(alloc, machine, frames).map_err(|e| e.1)?;
-    let pages = Paged::adopt(journal);
+    match Journal::recover(alloc, machine, frames) {
+        Ok(journal) => adopted_over(alloc, Paged::adopt(journal)),
+        Err((_, why)) => Err(why)?,
+    }
+}
+
+fn adopted_over(alloc: Global, pages: Paged<Shelf>) -> Result<Store<Shelf>, Fail> {
     if pages.pages() < 17 {
         return Err("there are too few pages".into());
     }
-    Ok(PagedLeaves::adopt(alloc, pages, &heap()).map_err(|e| e.1)?)
+    match PagedLeaves::adopt(alloc, pages, &heap()) {
+        Ok(store) => Ok(store),
+        Err((_, why)) => Err(why)?,
+    }
 }
 
 /// Sets the pair at a key below 128, and commits.
-pub(crate) fn put<M: Machine + Drop>(
+pub(crate) fn put(
     alloc: Global,
-    store: &mut Store<M>,
+    store: &mut Store<Shelf>,
     key: u8,
     body: &[u8],
 ) -> Result<(), Stop> {
@@ -96,7 +101,7 @@ pub(crate) fn put<M: Machine + Drop>(
 }
 
 /// How many entries there are.
-pub(crate) fn count<M: Machine + Drop>(alloc: Global, store: &mut Store<M>) -> Result<usize, Stop> {
+pub(crate) fn count(alloc: Global, store: &mut Store<Shelf>) -> Result<usize, Stop> {
     if store.leaves() == 0 {
         return Err(Stop::Damaged(0));
     }
@@ -109,18 +114,19 @@ pub(crate) fn count<M: Machine + Drop>(alloc: Global, store: &mut Store<M>) -> R
     Ok(found.len())
 }
 
+fn block_of(machine: &mut Shelf, n: u32) -> Result<[u8; 4096], Fail> {
+    let mut bytes = [0; 4096];
+    if n < machine.blocks() {
+        machine.read_block(n, &mut bytes)?;
+    }
+    Ok(bytes)
+}
+
 /// All blocks of the device.
-pub(crate) fn blocks_of(
-    alloc: Global,
-    machine: &mut MemoryMachine,
-) -> Result<Vec<[u8; 4096]>, Fail> {
+pub(crate) fn blocks_of(alloc: Global, machine: &mut Shelf) -> Result<Vec<[u8; 4096]>, Fail> {
     let mut blocks = Vec::new(alloc);
     for n in 0..machine.blocks() {
-        let mut bytes = [0; 4096];
-        if n < machine.blocks() {
-            machine.read_block(n, &mut bytes)?;
-        }
-        blocks.push(bytes)?;
+        blocks.push(block_of(machine, n)?)?;
     }
     Ok(blocks)
 }

@@ -1,9 +1,8 @@
 // Each call of the device is refused once: what is opened then is the database before or after.
 use crate::databases::{EQUATION, SCHEMA, count, machine, make_on, open_on, put};
 use crate::shelf::Shelf;
-use gx_memory_machine::MemoryMachine;
 use gx_ports::Stop;
-use gx_store::{Unopened, close};
+use gx_store::{Store, Unopened, close};
 use std::alloc::Global;
 use std::process::Abort;
 use std::test::Fail;
@@ -21,60 +20,65 @@ enum Reached {
     Committed,
 }
 
-// Opens the database, and adds an entry.
-fn add(
-    rt: &impl Abort,
-    alloc: Global,
-    machine: MemoryMachine,
-) -> Result<(Reached, MemoryMachine), Fail> {
-    let mut store = match open_on(alloc, Shelf { machine }, TEXTS) {
-        Ok(store) => store,
-        Err((shelf, why)) => {
-            assert!(rt; why == Unopened::Fault);
-            return Ok((Reached::Made, shelf.machine));
+// Adds an entry.
+fn put_entry(rt: &impl Abort, alloc: Global, store: &mut Store<Shelf>) -> Reached {
+    match put(alloc, store, 7, b"ann") {
+        Ok(()) => Reached::Committed,
+        Err(stop) => {
+            assert!(rt; stop == Stop::Fault);
+            Reached::Made
         }
-    };
-    let answer = put(alloc, &mut store, 7, b"ann");
-    assert!(rt; answer == Ok(()) || answer == Err(Stop::Fault));
-    let reached = if answer.is_ok() {
-        Reached::Committed
-    } else {
-        Reached::Made
-    };
-    Ok((reached, close(store).machine))
+    }
 }
 
-// Makes a database and adds an entry, where the call of that number fails.
-fn make_and_add(
-    rt: &impl Abort,
-    alloc: Global,
-    failing: u32,
-) -> Result<(Reached, MemoryMachine), Fail> {
-    let mut machine = machine(alloc)?;
-    machine.fail_at(alloc, failing)?;
+// Opens the database, and adds an entry.
+fn add(rt: &impl Abort, alloc: Global, machine: Shelf) -> (Reached, Shelf) {
+    match open_on(alloc, machine, TEXTS) {
+        Ok(mut store) => (put_entry(rt, alloc, &mut store), close(store)),
+        Err((machine, why)) => {
+            assert!(rt; why == Unopened::Fault);
+            (Reached::Made, machine)
+        }
+    }
+}
+
+// A machine of which this call fails.
+fn failing_machine(alloc: Global, call: u32) -> Result<Shelf, Fail> {
+    let mut shelf = machine(alloc)?;
+    shelf.machine.fail_at(alloc, call)?;
+    Ok(shelf)
+}
+
+// Makes a database and adds an entry.
+fn make_and_add(rt: &impl Abort, alloc: Global, machine: Shelf) -> (Reached, Shelf) {
     let (answer, machine) = make_on(alloc, machine, 101, TEXTS);
     match answer {
         Ok(()) => add(rt, alloc, machine),
         Err(why) => {
             assert!(rt; why == Unopened::Fault);
-            Ok((Reached::Nothing, machine))
+            (Reached::Nothing, machine)
         }
+    }
+}
+
+// How many entries there are, where they are found.
+fn entries(alloc: Global, store: &mut Store<Shelf>) -> Result<usize, Unopened> {
+    match count(alloc, store) {
+        Ok(count) => Ok(count),
+        Err(_) => Err(Unopened::Fault),
     }
 }
 
 // How many entries `open` finds, where it finds a database.
-fn look(alloc: Global, machine: MemoryMachine) -> (Result<usize, Unopened>, MemoryMachine) {
-    match open_on(alloc, Shelf { machine }, TEXTS) {
-        Ok(mut store) => {
-            let found = count(alloc, &mut store);
-            (found.map_err(|_| Unopened::Fault), close(store).machine)
-        }
-        Err((shelf, why)) => (Err(why), shelf.machine),
+fn look(alloc: Global, machine: Shelf) -> (Result<usize, Unopened>, Shelf) {
+    match open_on(alloc, machine, TEXTS) {
+        Ok(mut store) => (entries(alloc, &mut store), close(store)),
+        Err((machine, why)) => (Err(why), machine),
     }
 }
 
 /// The same. Where the call that fails is one of this `open`, the device is opened again.
-fn found(alloc: Global, machine: MemoryMachine) -> Result<usize, Unopened> {
+fn found(alloc: Global, machine: Shelf) -> Result<usize, Unopened> {
     match look(alloc, machine) {
         (Err(Unopened::Fault), machine) => look(alloc, machine).0,
         (found, _) => found,
@@ -95,14 +99,18 @@ fn may_find(reached: Reached, found: Result<usize, Unopened>) -> bool {
     }
 }
 
+// Expects that the database before or after is opened, where this call fails.
+fn expect_one_of_both(rt: &impl Abort, alloc: Global, failing: u32) -> Result<Reached, Fail> {
+    let (reached, machine) = make_and_add(rt, alloc, failing_machine(alloc, failing)?);
+    assert!(rt; may_find(reached, found(alloc, machine)));
+    Ok(reached)
+}
+
 // The first call makes the device, and the eightieth comes after the last.
 #[test]
 fn each_call_is_refused_once(rt: HostRuntime) -> Result<(), Fail> {
-    let alloc = rt.alloc();
     for failing in 0..80 {
-        let (reached, machine) = make_and_add(&rt, alloc, failing)?;
-        let found = found(alloc, machine);
-        assert!(rt; may_find(reached, found));
+        let reached = expect_one_of_both(&rt, rt.alloc(), failing)?;
         assert!(rt; failing > 0 || reached == Reached::Nothing);
         assert!(rt; failing < 79 || reached == Reached::Committed);
     }

@@ -3,10 +3,10 @@ ghost use Rattle.std.specs.Prelude.{◌≤◌};
 
 use crate::databases::{EQUATION, SCHEMA, adopted, blocks_of, count, machine, make_on, put};
 use crate::refusals::is_filled;
+use crate::shelf::Shelf;
 use gx_device::Device;
-use gx_memory_machine::MemoryMachine;
-use gx_ports::{Leaves, Stop};
-use gx_store::{Unopened, close};
+use gx_ports::Stop;
+use gx_store::{Store, Unopened, close};
 use std::alloc::Global;
 use std::process::Abort;
 use std::test::Fail;
@@ -26,9 +26,9 @@ const PAGE_OF_ANN: [u8; 24] = [
     0x00, 0x00, 0x00, 0x07, 0x03, 0x61, 0x6E, 0x6E,
 ];
 
-fn made(alloc: Global, rt: &impl Abort) -> Result<MemoryMachine, Fail> {
+fn made(rt: &impl Abort, alloc: Global) -> Result<Shelf, Fail> {
     let (answer, machine) = make_on(alloc, machine(alloc)?, BLOCKS, (SCHEMA, EQUATION));
-    assert!(rt; answer == Ok(()));
+    assert!(rt; answer.is_ok());
     assert!(rt; machine.blocks() == BLOCKS);
     Ok(machine)
 }
@@ -49,51 +49,100 @@ fn is(blocks: &[[u8; 4096]], n: usize, front: &[u8]) -> bool {
     }
 }
 
-#[test]
-fn a_new_device_has_its_layout(rt: HostRuntime) -> Result<(), Fail> {
-    let mut machine = made(rt.alloc(), &rt)?;
-    let blocks = blocks_of(rt.alloc(), &mut machine)?;
-    assert!(rt; begins(&blocks, 0, b"GENESIS1"));
-    assert!(rt; !begins(&blocks, 1, &[0xA5]));
-    assert!(rt; is(&blocks, 3, TEXTS));
+// Expects the blocks of an empty database.
+fn expect_empty(rt: &impl Abort, blocks: &[[u8; 4096]]) {
+    assert!(rt; begins(blocks, 0, b"GENESIS1"));
+    assert!(rt; !begins(blocks, 1, &[0xA5]));
+    assert!(rt; is(blocks, 3, TEXTS));
     for text_block in 4..7 {
-        assert!(rt; is(&blocks, text_block, b""));
+        assert!(rt; is(blocks, text_block, b""));
     }
     // The 16 pages of the table, the root page, and 30 free pages.
     let mut owners = [0; 94];
     owners[..32].fill(0xFF);
     owners[33] = 1;
-    assert!(rt; begins(&blocks, 54, &owners));
-    assert!(rt; begins(&blocks, 70, &EMPTY_PAGE));
+    assert!(rt; begins(blocks, 54, &owners));
+    assert!(rt; begins(blocks, 70, &EMPTY_PAGE));
+}
+
+#[test]
+fn a_new_device_has_its_layout(rt: HostRuntime) -> Result<(), Fail> {
+    let mut machine = made(&rt, rt.alloc())?;
+    let blocks = blocks_of(rt.alloc(), &mut machine)?;
+    expect_empty(&rt, blocks.as_slice());
     Ok(())
 }
 
-// One entry is committed: page 16, its slot and the bitmap change, and no other block.
+/// Whether all blocks but these are the same.
+fn are_same_but(changed: [usize; 3], before: &[[u8; 4096]], after: &[[u8; 4096]]) -> bool {
+    let mut same = true;
+    for n in 0..BLOCKS as usize {
+        same = same && (changed.contains(&n) || before.get(n) == after.get(n));
+    }
+    same
+}
+
+// Expects that page 16, its slot and the bitmap changed, and no other block.
+fn expect_change(rt: &impl Abort, before: &[[u8; 4096]], after: &[[u8; 4096]]) {
+    assert!(rt; after.len() == BLOCKS as usize);
+    assert!(rt; begins(after, 70, &PAGE_OF_ANN));
+    assert!(rt; begins(after, 23, &PAGE_OF_ANN));
+    assert!(rt; is(after, 2, &[0, 0, 0x80]));
+    assert!(rt; !begins(after, 1, &[0xA5]));
+    assert!(rt; are_same_but([2, 23, 70], before, after));
+}
+
+// The device after an entry is committed.
+fn with_entry(rt: &impl Abort, alloc: Global, machine: Shelf, frames: u32) -> Result<Shelf, Fail>
+    requires least { 8 ≤ frames }
+    requires most { frames ≤ 1024 }
+{
+    let mut store = adopted(alloc, machine, frames)?;
+    assert!(rt; put(alloc, &mut store, 7, &[0x03, 0x61, 0x6E, 0x6E]).is_ok());
+    assert!(rt; count(alloc, &mut store) == Ok(1));
+    Ok(close(store))
+}
+
+// Expects so many entries on the device.
+fn expect_entries(
+    rt: &impl Abort,
+    alloc: Global,
+    machine: Shelf,
+    frames: u32,
+    entries: usize,
+) -> Result<(), Fail>
+    requires least { 8 ≤ frames }
+    requires most { frames ≤ 1024 }
+{
+    let mut store = adopted(alloc, machine, frames)?;
+    assert!(rt; count(alloc, &mut store) == Ok(entries));
+    Ok(())
+}
+
+// The device after an entry is committed, of which no other block changed.
+fn with_entry_alone(
+    rt: &impl Abort,
+    alloc: Global,
+    machine: Shelf,
+    frames: u32,
+) -> Result<Shelf, Fail>
+    requires least { 8 ≤ frames }
+    requires most { frames ≤ 1024 }
+{
+    let mut machine = machine;
+    let before = blocks_of(alloc, &mut machine)?;
+    let mut machine = with_entry(rt, alloc, machine, frames)?;
+    let after = blocks_of(alloc, &mut machine)?;
+    expect_change(rt, before.as_slice(), after.as_slice());
+    Ok(machine)
+}
+
 fn an_entry_is_committed(rt: &impl Abort, alloc: Global, frames: u32) -> Result<(), Fail>
     requires least { 8 ≤ frames }
     requires most { frames ≤ 1024 }
 {
-    let mut machine = made(alloc, rt)?;
-    let before = blocks_of(alloc, &mut machine)?;
-    let mut store = adopted(alloc, machine, frames)?;
-    put(alloc, &mut store, 7, &[0x03, 0x61, 0x6E, 0x6E])?;
-    let found = count(alloc, &mut store)?;
-    assert!(rt; found == 1);
-    let mut machine = close(store);
-    let after = blocks_of(alloc, &mut machine)?;
-    assert!(rt; after.len() == BLOCKS as usize);
-    assert!(rt; begins(&after, 70, &PAGE_OF_ANN));
-    assert!(rt; begins(&after, 23, &PAGE_OF_ANN));
-    assert!(rt; is(&after, 2, &[0, 0, 0x80]));
-    assert!(rt; !begins(&after, 1, &[0xA5]));
-    for n in 0..BLOCKS as usize {
-        let is_other = n != 2 && n != 23 && n != 70;
-        assert!(rt; !is_other || before.get(n) == after.get(n));
-    }
-    let mut store = adopted(alloc, machine, frames)?;
-    let found = count(alloc, &mut store)?;
-    assert!(rt; found == 1);
-    Ok(())
+    let machine = with_entry_alone(rt, alloc, made(rt, alloc)?, frames)?;
+    expect_entries(rt, alloc, machine, frames, 1)
 }
 
 #[test]
@@ -109,24 +158,27 @@ fn an_entry_is_committed_by_more_frames(rt: HostRuntime) -> Result<(), Fail> {
 /// The texts of a database whose entries have 213 bytes.
 const LONG: (&[u8], &[u8]) = (b"file f (k int, t text 200)\n", EQUATION);
 
+// Puts 19 entries, and one for which there is no room.
+fn fill(alloc: Global, store: &mut Store<Shelf>) -> bool {
+    let mut body = [b'x'; 201];
+    body[0] = 200;
+    let mut all = true;
+    for key in 1..20 {
+        all = put(alloc, store, key, &body).is_ok() && all;
+    }
+    all && put(alloc, store, 20, &body) == Err(Stop::Full)
+}
+
 // The smallest device has 17 pages, and its root page has room for 19 such entries.
 fn the_smallest_device_fills(rt: &impl Abort, alloc: Global, frames: u32) -> Result<(), Fail>
     requires least { 8 ≤ frames }
     requires most { frames ≤ 1024 }
 {
     let (answer, machine) = make_on(alloc, machine(alloc)?, 41, LONG);
-    assert!(rt; answer == Ok(()));
+    assert!(rt; answer.is_ok());
     let mut store = adopted(alloc, machine, frames)?;
-    let mut body = [b'x'; 201];
-    body[0] = 200;
-    for key in 1..20 {
-        assert!(rt; put(alloc, &mut store, key, &body) == Ok(()));
-    }
-    assert!(rt; put(alloc, &mut store, 20, &body) == Err(Stop::Full));
-    let mut store = adopted(alloc, close(store), frames)?;
-    let found = count(alloc, &mut store)?;
-    assert!(rt; found == 19);
-    Ok(())
+    assert!(rt; fill(alloc, &mut store));
+    expect_entries(rt, alloc, close(store), frames, 19)
 }
 
 #[test]
@@ -139,12 +191,19 @@ fn the_smallest_device_fills_by_more_frames(rt: HostRuntime) -> Result<(), Fail>
     the_smallest_device_fills(&rt, rt.alloc(), 64)
 }
 
+// Whether no device of so many blocks is made.
+fn is_unmade(alloc: Global, machine: Shelf, blocks: u32) -> bool {
+    let (answer, machine) = make_on(alloc, machine, blocks, LONG);
+    answer == Err(Unopened::Size) && machine.blocks() == 0
+}
+
 #[test]
 fn a_device_of_another_size_is_not_made(rt: HostRuntime) -> Result<(), Fail> {
     for blocks in [0, 7, 40, 65544, 4_294_967_295] {
-        let (answer, machine) = make_on(rt.alloc(), machine(rt.alloc())?, blocks, LONG);
-        assert!(rt; answer == Err(Unopened::Size), "{blocks} blocks");
-        assert!(rt; machine.blocks() == 0);
+        assert!(rt;
+            is_unmade(rt.alloc(), machine(rt.alloc())?, blocks),
+            "{blocks} blocks"
+        );
     }
     Ok(())
 }

@@ -6,8 +6,8 @@ use gx_device::{AttachStop, Device, Failed, FetchStop, Machine};
 use gx_memory_machine::MemoryMachine;
 use std::alloc::Global;
 
-/// The device that the machine in memory has attached, if it has one, under any name. The machine
-/// in memory itself attaches one device once.
+/// A machine in memory, whose device is attached again under any name. The machine in memory itself
+/// attaches one device once.
 #[derive(Drop)]
 pub(crate) struct Shelf {
     pub(crate) machine: MemoryMachine,
@@ -54,10 +54,10 @@ impl Machine for Shelf {
         self.machine.fetch(alloc, name, limit)
     }
 
-    fn attach(&mut self, _alloc: Global, _name: &str, make: Option<u32>) -> Result<(), AttachStop> {
+    fn attach(&mut self, alloc: Global, name: &str, make: Option<u32>) -> Result<(), AttachStop> {
         match make {
+            _ if self.machine.blocks() == 0 => self.machine.attach(alloc, name, make),
             Some(_) => Err(AttachStop::Exists),
-            None if self.machine.blocks() == 0 => Err(AttachStop::Missing),
             None => Ok(()),
         }
     }

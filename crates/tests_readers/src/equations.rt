@@ -1,7 +1,7 @@
 // Worked texts: what they mean, their canonical texts, and the lines of their places.
 use gx_equation::{Definition, Side, Term, read_equation};
 use gx_printing::print_equation;
-use gx_values::{Code, Octets, Value};
+use gx_values::{Code, Value};
 use std::alloc::Global;
 use std::test::Fail;
 
@@ -12,7 +12,7 @@ struct Case {
     canonical: &'static [u8],
 }
 
-const CASES: [Case; 14] = [
+const CASES: &[Case] = &[
     Case {
         text: b"f=heap",
         canonical: b"f = heap\n",
@@ -89,23 +89,20 @@ actual(actual(actual(actual(actual(heap)))))))))))))))
     },
 ];
 
-// The canonical text of what a text means; none where it means nothing.
-fn canonical(alloc: Global, text: &[u8]) -> Option<Octets> {
+// Whether a text means an equation with this canonical text.
+fn is_canonical(alloc: Global, text: &[u8], canonical: &[u8]) -> Result<bool, Fail> {
     if text.len() >= 4_294_967_295 {
-        return None;
+        return Ok(false);
     }
-    let equation = read_equation(alloc, text).ok()?;
-    print_equation(alloc, &equation).ok()
+    let equation = read_equation(alloc, text)?;
+    Ok(print_equation(alloc, &equation)?.as_slice() == canonical)
 }
 
 #[test]
 fn reads_and_prints(rt: HostRuntime) -> Result<(), Fail> {
-    let alloc = rt.alloc();
-    for case in CASES {
-        let printed = canonical(alloc, case.text).ok_or("an equation")?;
-        assert!(rt; printed.as_slice() == case.canonical);
-        let again = canonical(alloc, printed.as_slice()).ok_or("an equation again")?;
-        assert!(rt; again.as_slice() == case.canonical);
+    for Case { text, canonical } in CASES {
+        assert!(rt; is_canonical(rt.alloc(), text, canonical)?);
+        assert!(rt; is_canonical(rt.alloc(), canonical, canonical)?);
     }
     Ok(())
 }
@@ -133,24 +130,39 @@ bplus))
     Ok(())
 }
 
+// Whether these are the bounds 5 and `a"`.
+fn are_bounds(bounds: &[Value]) -> bool {
+    match bounds {
+        [Value::Int(5), Value::Text(text)] => text.as_slice() == b"a\"".as_slice(),
+        _ => false,
+    }
+}
+
+// Whether the term is a partition by `k`, whose first kid is coded by runs.
+fn is_partition(term: &Term) -> bool {
+    match term {
+        Term::Partition(field, bounds, kids) => {
+            field.as_slice() == b"k".as_slice()
+                && are_bounds(bounds.0.as_slice())
+                && matches!(kids.first(), Some(Term::Encode(_, Code::Rle, _)))
+        }
+        _ => false,
+    }
+}
+
+// Whether this is the definition of `f`, a partition.
+fn is_worked(definition: &Definition) -> bool {
+    match &definition.side {
+        Side::File(term) => definition.name.as_slice() == b"f".as_slice() && is_partition(term),
+        _ => false,
+    }
+}
+
 #[test]
 fn makes_terms(rt: HostRuntime) -> Result<(), Fail> {
-    let alloc = rt.alloc();
-    let equation = read_equation(alloc, br#"f = partition(k 5 "a""", encode(t rle, heap))"#)?;
-    let Some(
-        Definition {
-            name,
-            side: Side::File(Term::Partition(field, bounds, kids)),
-        },
-    ) = equation.definitions.0.first()
-    else {
-        return Err("a partition".into());
-    };
-    assert!(rt; name.as_slice() == b"f".as_slice() && field.as_slice() == b"k".as_slice());
-    assert!(rt; matches!(bounds.0.first(), Some(Value::Int(5))));
-    assert!(rt;
-        matches!(bounds.0.last(), Some(Value::Text(text)) if text.as_slice() == b"a\"".as_slice())
-    );
-    assert!(rt; matches!(kids.first(), Some(Term::Encode(_, Code::Rle, _))));
+    let text = br#"f = partition(k 5 "a""", encode(t rle, heap))"#;
+    let equation = read_equation(rt.alloc(), text)?;
+    let first = equation.definitions.0.first().ok_or("a definition")?;
+    assert!(rt; is_worked(first));
     Ok(())
 }

@@ -3,7 +3,7 @@ ghost use Rattle.std.specs.Prelude.{IfOk};
 ghost use Rattle.gx_schema.specs.WellFormed.{IsWellFormed};
 
 use crate::row::check_row;
-use gx_commands::{LineWhy, NoCommand, ScriptLines, allowed};
+use gx_commands::{Command, LineWhy, NoCommand, ScriptLines, allowed};
 use gx_schema::{Schema, read_schema};
 use gx_script::read_command;
 use std::alloc::{AllocError, Global};
@@ -27,7 +27,7 @@ struct Case {
     command: &'static str,
 }
 
-const CASES: [Case; 25] = [
+const CASES: &[Case] = &[
     Case {
         line: "",
         command: "Nothing",
@@ -145,27 +145,29 @@ const CASES: [Case; 25] = [
     },
 ];
 
-// The command of a line, as `Debug` prints it.
-fn command_text(alloc: Global, schema: &Schema, line: &str) -> Result<String, Fail>
+fn is_printed(alloc: Global, command: &Command, text: &str) -> Result<bool, Fail> {
+    Ok(format!(in alloc; "{command:?}")?.as_str() == text)
+}
+
+// Whether the command of a line is as `Debug` prints it.
+fn is_read(alloc: Global, schema: &Schema, case: &Case) -> Result<bool, Fail>
     requires { IsWellFormed schema.now }
 {
-    let command = read_command(alloc, schema, line.as_bytes())?;
-    Ok(format!(in alloc; "{command:?}")?)
+    let command = read_command(alloc, schema, case.line.as_bytes())?;
+    is_printed(alloc, &command, case.command)
 }
 
 #[test]
 fn reads_commands(rt: HostRuntime) -> Result<(), Fail> {
-    let alloc = rt.alloc();
-    let schema = worked_schema(alloc)?;
+    let schema = worked_schema(rt.alloc())?;
     for case in CASES {
-        let printed = command_text(alloc, &schema, case.line)?;
-        assert!(rt; printed.as_str() == case.command);
+        check_row(&rt, case.line, is_read(rt.alloc(), &schema, case)?);
     }
     Ok(())
 }
 
 // Lines on a link, which the program doesn't carry out yet.
-const LINES_ON_LINKS: [(&str, LineWhy); 15] = [
+const LINES_ON_LINKS: &[(&str, LineWhy)] = &[
     ("connect works 3", LineWhy::Word),
     ("disconnect works 5 5", LineWhy::Word),
     ("members works 3 order", LineWhy::Word),
@@ -183,68 +185,66 @@ const LINES_ON_LINKS: [(&str, LineWhy); 15] = [
     ("connect works 3 \"5\"", LineWhy::Value),
 ];
 
+// Whether the line has no command, for this reason.
+fn is_bad(alloc: Global, schema: &Schema, line: &str, reason: LineWhy) -> bool
+    requires { IsWellFormed schema.now }
+{
+    match read_command(alloc, schema, line.as_bytes()) {
+        Err(NoCommand::Bad(why)) => why == reason,
+        _ => false,
+    }
+}
+
 #[test]
 fn names_the_first_reason(rt: HostRuntime) -> Result<(), Fail> {
-    let alloc = rt.alloc();
-    let schema = worked_schema(alloc)?;
+    let schema = worked_schema(rt.alloc())?;
     for (line, reason) in LINES_ON_LINKS {
-        let given = read_command(alloc, &schema, line.as_bytes()).err();
-        check_row(&rt, line, given == Some(NoCommand::Bad(reason)));
+        check_row(&rt, line, is_bad(rt.alloc(), &schema, line, *reason));
     }
     Ok(())
 }
 
-// Commands that change something.
-const CHANGES: [&str; 9] = [
-    "commit",
-    "abort",
-    "insert dept 1 \"a\"",
-    "update emp 5 pay 1",
-    "delete emp 5",
-    "connect works 3 5",
-    "disconnect works 5",
-    "reorganize emp",
-    "reorganize works",
+// Lines, and why the command of each may not stand inside a transaction, and outside.
+const RULE: &[(&str, Option<LineWhy>, Option<LineWhy>)] = &[
+    ("commit", None, Some(LineWhy::NoTransaction)),
+    ("abort", None, Some(LineWhy::NoTransaction)),
+    ("insert dept 1 \"a\"", None, Some(LineWhy::NoTransaction)),
+    ("update emp 5 pay 1", None, Some(LineWhy::NoTransaction)),
+    ("delete emp 5", None, Some(LineWhy::NoTransaction)),
+    ("connect works 3 5", None, Some(LineWhy::NoTransaction)),
+    ("disconnect works 5", None, Some(LineWhy::NoTransaction)),
+    ("reorganize emp", None, Some(LineWhy::NoTransaction)),
+    ("reorganize works", None, Some(LineWhy::NoTransaction)),
+    ("get dept 1", None, None),
+    ("members works 3", None, None),
+    ("owner works 5", None, None),
+    ("find emp", None, None),
+    ("", None, None),
+    ("# x", None, None),
+    ("begin", Some(LineWhy::InTransaction), None),
 ];
 
-const READS: [&str; 6] = [
-    "get dept 1",
-    "members works 3",
-    "owner works 5",
-    "find emp",
-    "",
-    "# x",
-];
-
-// Why the command of a line may not stand inside a transaction, or outside.
-fn forbidden(
+// Whether the command of a line may stand inside a transaction and outside, but for these reasons.
+fn is_allowed(
     alloc: Global,
     schema: &Schema,
-    inside: bool,
     line: &str,
-) -> Result<Option<LineWhy>, Fail>
+    inside: Option<LineWhy>,
+    outside: Option<LineWhy>,
+) -> Result<bool, Fail>
     requires { IsWellFormed schema.now }
 {
     let command = read_command(alloc, schema, line.as_bytes())?;
-    Ok(allowed(inside, &command).err())
+    Ok(allowed(true, &command).err() == inside && allowed(false, &command).err() == outside)
 }
 
 #[test]
 fn keeps_the_transaction_rule(rt: HostRuntime) -> Result<(), Fail> {
-    let alloc = rt.alloc();
-    let schema = worked_schema(alloc)?;
-    for line in CHANGES {
-        assert!(rt; forbidden(alloc, &schema, true, line)? == None);
-        let outside = forbidden(alloc, &schema, false, line)?;
-        assert!(rt; outside == Some(LineWhy::NoTransaction));
+    let schema = worked_schema(rt.alloc())?;
+    for (line, inside, outside) in RULE {
+        let stands = is_allowed(rt.alloc(), &schema, line, *inside, *outside)?;
+        check_row(&rt, line, stands);
     }
-    for line in READS {
-        assert!(rt; forbidden(alloc, &schema, true, line)? == None);
-        assert!(rt; forbidden(alloc, &schema, false, line)? == None);
-    }
-    let begun = forbidden(alloc, &schema, true, "begin")?;
-    assert!(rt; begun == Some(LineWhy::InTransaction));
-    assert!(rt; forbidden(alloc, &schema, false, "begin")? == None);
     assert!(rt; LineWhy::ScriptTooLong.word() == "script too long");
     Ok(())
 }

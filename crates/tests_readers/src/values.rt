@@ -1,5 +1,6 @@
 // Values: their order, their keys and their copies.
 ghost use Rattle.std.specs.Prelude.{◌≡◌};
+ghost use Rattle.gx_values.specs.Keys.{AreKeyFields};
 
 use gx_values::{
     Field, Fields, Form, KeyBuf, Kind, Name, Octets, Op, Rec, Span, Value, Values, compare, inside,
@@ -30,22 +31,62 @@ fn are_same(a: &Values, b: &Values) -> bool {
             .all(|(a, b)| compare(a, b).is_eq())
 }
 
+// Whether the key of an int has these bytes.
+fn is_key_of_int(n: i64, bytes: &[u8]) -> bool {
+    value_key(&Value::Int(n)).as_slice() == bytes
+}
+
+// Whether the key of a short text has these bytes.
+fn is_key_of_text(alloc: Global, text: &[u8], bytes: &[u8]) -> Result<bool, Fail> {
+    if text.len() > 200 {
+        return Ok(false);
+    }
+    let value = Value::Text(Octets::from_slice(alloc, text)?);
+    Ok(value_key(&value).as_slice() == bytes)
+}
+
+const KEYS_OF_INTS: &[(i64, &[u8])] = &[
+    (-1, b"\x7F\xFF\xFF\xFF\xFF\xFF\xFF\xFF"),
+    (0, b"\x80\0\0\0\0\0\0\0"),
+];
+
+const KEYS_OF_TEXTS: &[(&[u8], &[u8])] = &[(b"", b"\0"), (b"a", b"a\0"), (b"ab", b"ab\0")];
+
+// The values ascend, and so do the bytes of their keys.
 #[test]
 fn keys_have_their_bytes(rt: HostRuntime) -> Result<(), Fail> {
-    let zero = value_key(&Value::Int(0));
-    let below = value_key(&Value::Int(-1));
-    assert!(rt; zero.as_slice() == b"\x80\0\0\0\0\0\0\0".as_slice());
-    assert!(rt; below.as_slice() == b"\x7F\xFF\xFF\xFF\xFF\xFF\xFF\xFF".as_slice());
-    assert!(rt; below.as_slice().cmp(zero.as_slice()).is_lt());
-    let mut last = KeyBuf::from_slice(b"");
-    for (bytes, want) in [("", "\0"), ("a", "a\0"), ("ab", "ab\0")] {
-        let key = value_key(&Value::Text(Octets::from_slice(rt.alloc(), bytes.as_bytes())?));
-        assert!(rt; key.as_slice() == want.as_bytes());
-        assert!(rt; last.as_slice().cmp(key.as_slice()).is_lt());
-        last = key;
+    let mut last = b"".as_slice();
+    for (n, bytes) in KEYS_OF_INTS {
+        assert!(rt; is_key_of_int(*n, bytes));
+        assert!(rt; last.cmp(bytes).is_lt());
+        last = bytes;
+    }
+    let mut last = b"".as_slice();
+    for (text, bytes) in KEYS_OF_TEXTS {
+        assert!(rt; is_key_of_text(rt.alloc(), text, bytes)?);
+        assert!(rt; last.cmp(bytes).is_lt());
+        last = bytes;
     }
     Ok(())
 }
+
+// Whether these bytes are the key of these values.
+fn is_read(alloc: Global, keys: &Fields, bytes: &[u8], key: &Values) -> Result<bool, Fail>
+    requires { AreKeyFields keys.now }
+{
+    Ok(matches!(read_key(alloc, keys, bytes)?, Some(found) if are_same(&found, key)))
+}
+
+const NO_KEYS: &[&[u8]] = &[
+    b"",
+    b"\x80\0\0\0\0\0\0",
+    b"\x80\0\0\0\0\0\0\0",
+    b"\x80\0\0\0\0\0\0\0ab",
+    b"\x80\0\0\0\0\0\0\0abcd\0",
+    b"\x80\0\0\0\0\0\0\0a\x1F\0",
+    b"\x80\0\0\0\0\0\0\0\x7F\0",
+    b"\x80\0\0\0\0\0\0\0ab\0\0",
+];
 
 #[test]
 fn keys_of_two_fields_are_read_back(rt: HostRuntime) -> Result<(), Fail> {
@@ -57,40 +98,46 @@ fn keys_of_two_fields_are_read_back(rt: HostRuntime) -> Result<(), Fail> {
     ]?);
     let bytes = key_bytes(&keys, &key);
     assert!(rt; bytes.as_slice() == b"\x7F\xFF\xFF\xFF\xFF\xFF\xFF\xFFab\0".as_slice());
-    let found = read_key(alloc, &keys, bytes.as_slice())?.unwrap();
-    assert!(rt; are_same(&found, &key));
-    let wrong: [&[u8]; 8] = [
-        b"",
-        b"\x80\0\0\0\0\0\0",
-        b"\x80\0\0\0\0\0\0\0",
-        b"\x80\0\0\0\0\0\0\0ab",
-        b"\x80\0\0\0\0\0\0\0abcd\0",
-        b"\x80\0\0\0\0\0\0\0a\x1F\0",
-        b"\x80\0\0\0\0\0\0\0\x7F\0",
-        b"\x80\0\0\0\0\0\0\0ab\0\0",
-    ];
-    for bytes in wrong {
+    assert!(rt; is_read(alloc, &keys, bytes.as_slice(), &key)?);
+    Ok(())
+}
+
+#[test]
+fn other_bytes_are_no_keys(rt: HostRuntime) -> Result<(), Fail> {
+    let alloc = rt.alloc();
+    let keys = Fields(vec![in alloc; field(Kind::Int), field(Kind::Text(3))]?);
+    for bytes in NO_KEYS {
         assert!(rt; read_key(alloc, &keys, bytes)?.is_none());
     }
     Ok(())
 }
 
 #[test]
-fn a_value_is_read_back_from_its_key(rt: HostRuntime) -> Result<(), Fail> {
-    let alloc = rt.alloc();
-    let least = read_value_key(alloc, Kind::Int, &[0; 8])?.ok_or("an int")?;
-    assert!(rt; compare(&least, &Value::Int(i64::MIN)).is_eq());
-    let found = read_value_key(alloc, Kind::Text(3), b"abc\0")?.ok_or("a text")?;
-    assert!(rt; compare(&found, &text(alloc, b"abc")?).is_eq());
-    let wrong: [&[u8]; 4] = [b"", b"ab", b"abcd\0", b"ab\0\0"];
-    for bytes in wrong {
-        assert!(rt; read_value_key(alloc, Kind::Text(3), bytes)?.is_none());
+fn an_int_is_read_back_from_its_key(rt: HostRuntime) -> Result<(), Fail> {
+    let found = read_value_key(rt.alloc(), Kind::Int, &[0; 8])?;
+    assert!(rt; matches!(found, Some(Value::Int(i64::MIN))));
+    Ok(())
+}
+
+#[test]
+fn a_text_is_read_back_from_its_key(rt: HostRuntime) -> Result<(), Fail> {
+    let found = read_value_key(rt.alloc(), Kind::Text(3), b"abc\0")?;
+    assert!(rt; matches!(&found, Some(Value::Text(text)) if text.as_slice() == b"abc".as_slice()));
+    Ok(())
+}
+
+const NO_KEYS_OF_A_TEXT: &[&[u8]] = &[b"", b"ab", b"abcd\0", b"ab\0\0"];
+
+#[test]
+fn other_bytes_are_no_key_of_a_text(rt: HostRuntime) -> Result<(), Fail> {
+    for bytes in NO_KEYS_OF_A_TEXT {
+        assert!(rt; read_value_key(rt.alloc(), Kind::Text(3), bytes)?.is_none());
     }
     Ok(())
 }
 
 // The two ends of a span, a key, and whether it is inside.
-const INSIDE: [(&str, &str, &str, bool); 11] = [
+const INSIDE: &[(&str, &str, &str, bool)] = &[
     ("", "", "", true),
     ("", "", "z", true),
     ("b", "", "a", false),
@@ -110,14 +157,19 @@ fn key_of(text: &str) -> KeyBuf {
     KeyBuf::from_slice(&bytes[..bytes.len().min(400)])
 }
 
+// Whether a key is inside the span between two ends.
+fn is_inside(lo: &str, hi: &str, key: &str) -> bool {
+    let span = Span {
+        lo: key_of(lo),
+        hi: key_of(hi),
+    };
+    inside(&span, key.as_bytes())
+}
+
 #[test]
 fn spans_hold_keys(rt: HostRuntime) {
     for (lo, hi, key, want) in INSIDE {
-        let span = Span {
-            lo: key_of(lo),
-            hi: key_of(hi),
-        };
-        assert!(rt; inside(&span, key.as_bytes()) == want);
+        assert!(rt; is_inside(lo, hi, key) == *want);
     }
 }
 
@@ -145,7 +197,7 @@ fn values_are_compared(rt: HostRuntime) -> Result<(), Fail> {
 }
 
 // An operator, and whether a number that is less, equal or greater meets it.
-const MET: [(Op, bool, bool, bool); 6] = [
+const MET: &[(Op, bool, bool, bool)] = &[
     (Op::Equal, false, true, false),
     (Op::Unequal, true, false, true),
     (Op::Less, true, false, false),
@@ -157,54 +209,67 @@ const MET: [(Op, bool, bool, bool); 6] = [
 #[test]
 fn values_meet_conditions(rt: HostRuntime) {
     for (op, less, equal, greater) in MET {
-        for (n, want) in [(4, less), (5, equal), (6, greater)] {
-            let met = meets(&Value::Int(n), op, &Value::Int(5));
-            assert!(rt; met == want);
-        }
+        assert!(rt; meets(&Value::Int(4), *op, &Value::Int(5)) == *less);
+        assert!(rt; meets(&Value::Int(5), *op, &Value::Int(5)) == *equal);
+        assert!(rt; meets(&Value::Int(6), *op, &Value::Int(5)) == *greater);
     }
+}
+
+// Whether the copy of a record has its values.
+fn is_copied(alloc: Global, record: &Rec) -> Result<bool, Fail> {
+    let copy = record.copy(alloc)?;
+    Ok(are_same(&copy.key, &record.key) && are_same(&copy.fields, &record.fields))
+}
+
+// A text and bytes.
+fn fields_of_record(alloc: Global) -> Result<Values, Fail> {
+    let text = text(alloc, b"ab")?;
+    let bytes = Octets::from_slice(alloc, b"\0\xFF")?;
+    Ok(Values(vec![in alloc; text, Value::Bytes(bytes)]?))
 }
 
 #[test]
 fn records_are_copied(rt: HostRuntime) -> Result<(), Fail> {
-    let alloc = rt.alloc();
+    let fields = fields_of_record(rt.alloc())?;
     let record = Rec {
-        key: Values(vec![in alloc; Value::Int(i64::MIN)]?),
-        fields: Values(vec![in alloc;
-            text(alloc, b"ab")?,
-            Value::Bytes(Octets::from_slice(alloc, b"\0\xFF")?),
-        ]?),
+        key: Values(vec![in rt.alloc(); Value::Int(i64::MIN)]?),
+        fields,
     };
-    let copy = record.copy(alloc)?;
-    assert!(rt; are_same(&copy.key, &record.key));
-    assert!(rt; are_same(&copy.fields, &record.fields));
+    assert!(rt; is_copied(rt.alloc(), &record)?);
     Ok(())
 }
 
-fn has_fields(fields: &Fields, wanted: &[(&[u8], Kind)]) -> bool {
-    fields.0.len() == wanted.len()
-        && fields.0.iter().zip(wanted.iter()).all(|(field, (name, kind))| field.name.as_slice()
-            == *name
-            && field.kind == *kind)
+fn is_field(field: &Field, name: &[u8], kind: Kind) -> bool {
+    field.name.as_slice() == name && field.kind == kind
 }
 
-#[test]
-fn forms_are_copied(rt: HostRuntime) -> Result<(), Fail> {
-    let alloc = rt.alloc();
+// Whether these are the form's fields: an int in the key, a text and bytes behind it.
+fn has_fields(form: &Form) -> bool {
+    match (form.keys.0.as_slice(), form.fields.0.as_slice()) {
+        ([key], [name, bytes]) => {
+            is_field(key, b"f", Kind::Int)
+                && is_field(name, b"name", Kind::Text(24))
+                && is_field(bytes, b"f", Kind::Bytes(4))
+        }
+        _ => false,
+    }
+}
+
+fn fields_of_form(alloc: Global) -> Result<Fields, Fail> {
     let name = Field {
         name: Name::from_slice(b"name"),
         kind: Kind::Text(24),
     };
+    Ok(Fields(vec![in alloc; name, field(Kind::Bytes(4))]?))
+}
+
+#[test]
+fn forms_are_copied(rt: HostRuntime) -> Result<(), Fail> {
+    let fields = fields_of_form(rt.alloc())?;
     let form = Form {
-        keys: Fields(vec![in alloc; field(Kind::Int)]?),
-        fields: Fields(vec![in alloc; name, field(Kind::Bytes(4))]?),
+        keys: Fields(vec![in rt.alloc(); field(Kind::Int)]?),
+        fields,
     };
-    let copy = form.copy(alloc)?;
-    assert!(rt; has_fields(&copy.keys, &[(b"f", Kind::Int)]));
-    assert!(rt;
-        has_fields(
-            &copy.fields,
-            &[(b"name", Kind::Text(24)), (b"f", Kind::Bytes(4))]
-        )
-    );
+    assert!(rt; has_fields(&form.copy(rt.alloc())?));
     Ok(())
 }

@@ -1,6 +1,10 @@
 // What stands in the leaves after a script, beside entries that were worked out by hand.
-ghost use Rattle.std.specs.Prelude.{◌≡◌, length, IfOk};
+ghost use Rattle.std.specs.Prelude.{◌≡◌, ◌≤◌, length, IfOk};
+ghost use Rattle.gx_schema.specs.Rules.{IsSchema};
 ghost use Rattle.gx_schema.specs.WellFormed.{IsWellFormed};
+ghost use Rattle.gx_equation.specs.Printing.{AreWritten};
+ghost use Rattle.gx_equation.specs.Seen.{definitions_of};
+ghost use Rattle.gx_types.specs.Nodes.{AreNodes, AreLinkNodes};
 ghost use Rattle.gx_memory_leaves.specs.Plain.{working_of};
 ghost use Rattle.gx_states.specs.Internal.{AreFor};
 ghost use Rattle.gx_engine.specs.Steps.{IsReady, schema_of, built_of, leaves_of};
@@ -8,7 +12,7 @@ ghost use Rattle.gx_engine.specs.Steps.{IsReady, schema_of, built_of, leaves_of}
 use crate::row::check_row;
 use gx_commands::{LONGEST_LINE, LineWhy, allowed};
 use gx_engine::Engine;
-use gx_equation::read_equation;
+use gx_equation::{Equation, read_equation};
 use gx_memory_leaves::PlainLeaves;
 use gx_memory_machine::MemoryMachine;
 use gx_ports::{Entries, Leaves};
@@ -21,26 +25,60 @@ use std::alloc::Global;
 use std::process::Abort;
 use std::test::Fail;
 
+fn schema_of(alloc: Global, text: &[u8]) -> Result<Schema, Fail>
+    ensures valid { IfOk result (λ schema. IsSchema schema) }
+    ensures well_formed { IfOk result IsWellFormed }
+{
+    if text.len() >= 100 {
+        return Err("a long schema".into());
+    }
+    Ok(read_schema(alloc, text)?)
+}
+
+fn equation_of(alloc: Global, text: &[u8]) -> Result<Equation, Fail>
+    ensures { IfOk result (λ equation. AreWritten (definitions_of equation.definitions)) }
+{
+    if text.len() >= 100 {
+        return Err("a long equation".into());
+    }
+    Ok(read_equation(alloc, text)?)
+}
+
+// How the files and the links of a schema are stored.
+fn built_under(alloc: Global, schema: &Schema, equation: &[u8]) -> Result<Built, Fail>
+    requires { IsSchema schema.now }
+    ensures nodes { IfOk result (λ built. AreNodes schema.now built.files (length built.specs)) }
+    ensures link_nodes { IfOk result
+        (λ built. AreLinkNodes schema.now built.files built.links (length built.specs)) }
+    ensures owned { IfOk result (λ built. length built.owners ≡ length built.specs) }
+    ensures few { IfOk result (λ built. length built.specs ≤ 255) }
+{
+    let equation = equation_of(alloc, equation)?;
+    let typing = typed(alloc, schema, &equation)?;
+    Ok(build(alloc, schema, &equation, typing)?)
+}
+
 // A schema, and how its files and its links are stored.
-fn built(
-    rt: &impl Abort,
-    alloc: Global,
-    schema: &[u8],
-    equation: &[u8],
-) -> Result<(Schema, Built), Fail>
+fn built(alloc: Global, schema: &[u8], equation: &[u8]) -> Result<(Schema, Built), Fail>
     ensures stored { IfOk result (λ texts. AreFor texts.0 texts.1 (length texts.1.specs)) }
     ensures well_formed { IfOk result (λ texts. IsWellFormed texts.0) }
 {
-    assert!(rt; schema.len() < 100 && equation.len() < 100);
-    let schema = read_schema(alloc, schema)?;
-    let equation = read_equation(alloc, equation)?;
-    let typing = typed(alloc, &schema, &equation)?;
-    let built = build(alloc, &schema, &equation, typing)?;
+    let schema = schema_of(alloc, schema)?;
+    let built = built_under(alloc, &schema, equation)?;
     Ok((schema, built))
 }
 
+fn empty_leaves(alloc: Global, count: u32) -> Result<PlainLeaves<MemoryMachine>, Fail>
+    ensures { IfOk result (λ leaves. length (working_of leaves) ≡ count) }
+{
+    let machine = MemoryMachine::new(alloc)?;
+    match PlainLeaves::make(alloc, machine, count) {
+        Ok(leaves) => Ok(leaves),
+        Err((_, error)) => Err(error)?,
+    }
+}
+
 fn started(
-    rt: &impl Abort,
     alloc: Global,
     schema: &[u8],
     equation: &[u8],
@@ -49,13 +87,9 @@ fn started(
         (λ engine. AreFor (schema_of engine) (built_of engine) (length (working_of (leaves_of engine)))) }
     ensures well_formed { IfOk result (λ engine. IsWellFormed (schema_of engine)) }
 {
-    let (schema, built) = built(rt, alloc, schema, equation)?;
-    let machine = MemoryMachine::new(alloc)?;
-    let count = built.specs.0.len() as u32;
-    match PlainLeaves::make(alloc, machine, count) {
-        Ok(leaves) => Ok(Engine::start(schema, built, leaves)),
-        Err((_, error)) => Err(error)?,
-    }
+    let (schema, built) = built(alloc, schema, equation)?;
+    let leaves = empty_leaves(alloc, built.specs.0.len() as u32)?;
+    Ok(Engine::start(schema, built, leaves))
 }
 
 // Carries out the command of a line, and appends its answer.
@@ -95,25 +129,41 @@ fn played<B: Leaves + Drop>(
     Ok(answers)
 }
 
-// The bytes, each as two hexadecimal digits.
-fn digits(alloc: Global, bytes: &[u8]) -> Result<String, Fail> {
-    let mut text = String::new(alloc);
+// Appends the bytes, each as two hexadecimal digits.
+fn push_digits(alloc: Global, bytes: &[u8], text: &mut String) -> Result<(), Fail> {
     for byte in bytes {
         text.push_str(format!(in alloc; "{byte:02x}")?.as_str())?;
     }
-    Ok(text)
+    Ok(())
 }
 
-// Each entry of a leaf as a line: the number of the leaf, the key and the body.
-fn entries_text(alloc: Global, leaf: u32, entries: &Entries) -> Result<String, Fail> {
-    let mut text = String::new(alloc);
+// Appends an entry as a line: the number of the leaf, the key and the body.
+fn push_entry(
+    alloc: Global,
+    leaf: u32,
+    (key, body): (&[u8], &[u8]),
+    text: &mut String,
+) -> Result<(), Fail> {
+    text.push_str(format!(in alloc; "{leaf} ")?.as_str())?;
+    push_digits(alloc, key, text)?;
+    text.push_str("=")?;
+    push_digits(alloc, body, text)?;
+    text.push_str("\n")?;
+    Ok(())
+}
+
+// Appends the entries of a leaf.
+fn push_entries(
+    alloc: Global,
+    leaf: u32,
+    entries: &Entries,
+    text: &mut String,
+) -> Result<(), Fail> {
     for index in 0..entries.len() {
         let entry = entries.entry(index);
-        let key = digits(alloc, entry.key)?;
-        let body = digits(alloc, entry.body)?;
-        text.push_str(format!(in alloc; "{leaf} {key}={body}\n")?.as_str())?;
+        push_entry(alloc, leaf, (entry.key, entry.body), text)?;
     }
-    Ok(text)
+    Ok(())
 }
 
 // The entries of all leaves.
@@ -126,7 +176,7 @@ fn leaves_text<B: Leaves>(alloc: Global, leaves: &mut B) -> Result<String, Fail>
     for leaf in 0..leaves.leaves() {
         let mut entries = Entries::new(alloc);
         leaves.select(alloc, leaf, &all, &mut entries)?;
-        text.push_str(entries_text(alloc, leaf, &entries)?.as_str())?;
+        push_entries(alloc, leaf, &entries, &mut text)?;
     }
     Ok(text)
 }
@@ -145,7 +195,7 @@ struct Case {
 // A link between two files of keys alone.
 const LINKED: &str = "file d (k int) file e (k int) link l (d, e)";
 
-const CASES: [Case; 18] = [
+const CASES: &[Case] = &[
     // Parts by the key: each bound is the least key of its part.
     Case {
         schema: "file f (k int)",
@@ -509,21 +559,35 @@ ok
     },
 ];
 
+// Whether the script of a case has its answers.
+fn is_answered<B: Leaves + Drop>(
+    alloc: Global,
+    case: &Case,
+    engine: &mut Engine<B>,
+) -> Result<bool, Fail>
+    requires ready { IsReady B.View engine.old }
+    requires well_formed { IsWellFormed (schema_of engine.old) }
+{
+    Ok(played(alloc, case.script, engine)?.as_slice() == case.answers.as_bytes())
+}
+
+// Whether the leaves have the entries of a case.
+fn have_entries<B: Leaves>(alloc: Global, case: &Case, leaves: &mut B) -> Result<bool, Fail> {
+    Ok(leaves_text(alloc, leaves)?.as_str() == case.entries)
+}
+
+fn expect_case(rt: &impl Abort, alloc: Global, case: &Case) -> Result<(), Fail> {
+    let mut engine = started(alloc, case.schema.as_bytes(), case.equation.as_bytes())?;
+    check_row(rt, case.script, is_answered(alloc, case, &mut engine)?);
+    let mut leaves = engine.into_leaves();
+    check_row(rt, case.script, have_entries(alloc, case, &mut leaves)?);
+    Ok(())
+}
+
 #[test]
 fn leaves_hold_the_parts_of_records(rt: HostRuntime) -> Result<(), Fail> {
-    let alloc = rt.alloc();
     for case in CASES {
-        let (schema, equation) = (case.schema.as_bytes(), case.equation.as_bytes());
-        let mut engine = started(&rt, alloc, schema, equation)?;
-        let answers = played(alloc, case.script, &mut engine)?;
-        check_row(
-            &rt,
-            case.script,
-            answers.as_slice() == case.answers.as_bytes(),
-        );
-        let mut leaves = engine.into_leaves();
-        let entries = leaves_text(alloc, &mut leaves)?;
-        check_row(&rt, case.script, entries.as_str() == case.entries);
+        expect_case(&rt, rt.alloc(), case)?;
     }
     Ok(())
 }
