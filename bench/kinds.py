@@ -71,7 +71,7 @@ def main():
         loaded = write(folder, "load", load())
         rows = {
             f"{GETS:,} gets": write(folder, "gets", lines(GETS, lambda it: f"get part {it.randrange(RECORDS)}")),
-            f"{FINDS} finds of 100 by a range of keys": write(folder, "finds", lines(FINDS, range_of_100)),
+            f"{FINDS} finds of 100 by a range of keys": write(folder, "finds", lines(FINDS, range_of_100(RECORDS))),
         }
         players = {}
         for kind in KINDS:

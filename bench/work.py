@@ -1,20 +1,33 @@
 #!/usr/bin/env python3
-"""Measures `work` beside SQLite doing the same work on the same disk: work.py PROGRAM FOLDER [ROUNDS]. Each round makes
-a new device or database in the folder for each of them in turn. SQLite syncs each commit (synchronous=FULL), with a
-rollback journal and with a write-ahead log, by prepared statements. Both must count the same records and commits. It
-prints the least seconds that went by, since most of them are waited for the disk, and their ratios."""
+"""Measures `work` beside SQLite and LMDB doing the same work on the same disk: work.py PROGRAM FOLDER [ROUNDS]. Each round
+makes a new device or database in the folder for each of them in turn, and syncs each commit: SQLite (synchronous=FULL, by
+prepared statements) with a rollback journal and with a write-ahead log, LMDB by the player peers/work.c, where its library
+is installed. All must count the same records and commits.
 
+The floor is what the disk alone takes: as many blocks written at random to a file as large, and as many syncs, as `strace`
+counts of the program, where it is installed. It prints the least seconds that went by, since most of them are waited for the
+disk, and the ratios to the program."""
+
+import os
 import pathlib
+import random
+import shutil
 import sqlite3
 import subprocess
 import sys
 import tempfile
 import time
 
-EQUATION = """dept = actual(bplus)
+EQUATIONS = {
+    "ring": """dept = actual(bplus)
 emp = index(pay, segment(name pay, actual(bplus), actual(heap)), bplus)
 works = ring(actual(hash(8)), actual(bplus))
-"""
+""",
+    "inverted": """dept = actual(bplus)
+emp = index(pay, actual(bplus), bplus)
+works = inverted(bplus, actual(bplus))
+""",
+}
 BLOCKS = 30007
 RECORDS = (1_000, 5_000)
 GROUP = 20
@@ -28,15 +41,54 @@ TABLES = (
 )
 
 
-def of_program(program, folder, records):
-    """The line of `work`, and its seconds."""
-    equation = folder / "equation"
-    equation.write_text(EQUATION)
-    device = folder / "device"
-    device.unlink(missing_ok=True)
+def timed(words, made):
+    """What the command prints, and the seconds that it takes, where the file that it makes isn't there."""
+    made.unlink(missing_ok=True)
     begun = time.monotonic()
-    ran = subprocess.run([program, "work", equation, device, str(BLOCKS), str(records)], check=True, capture_output=True, text=True)
+    ran = subprocess.run(words, check=True, capture_output=True, text=True)
     return ran.stdout, time.monotonic() - begun
+
+
+def words_of(program, folder, equation, records):
+    text = folder / equation
+    text.write_text(EQUATIONS[equation])
+    return [program, "work", text, folder / "device", str(BLOCKS), str(records)]
+
+
+def of_program(program, folder, equation, records):
+    """The line of `work`, and its seconds."""
+    return timed(words_of(program, folder, equation, records), folder / "device")
+
+
+def of_lmdb(player, folder, records):
+    return timed([player, folder / "lmdb", str(records)], folder / "lmdb")
+
+
+def counted(program, folder, equation, records):
+    """How many blocks the program writes, and how often it syncs. None where `strace` isn't installed."""
+    if not shutil.which("strace"):
+        return None
+    (folder / "device").unlink(missing_ok=True)
+    words = ["strace", "-f", "-c", "-o", folder / "calls", *words_of(program, folder, equation, records)]
+    subprocess.run(words, check=True, capture_output=True)
+    rows = (it.split() for it in (folder / "calls").read_text().splitlines())
+    calls = {row[-1]: int(row[3]) for row in rows if len(row) > 4 and row[3].isdigit()}
+    return calls["pwrite64"], calls["fdatasync"]
+
+
+def floor(folder, writes, syncs):
+    """The seconds of as many blocks written at random and as many syncs, to a file as large."""
+    path = folder / "floor"
+    path.unlink(missing_ok=True)
+    block, order = bytes(range(256)) * 16, random.Random(1)
+    begun = time.monotonic()
+    with open(path, "w+b", buffering=0) as file:
+        file.truncate(BLOCKS * len(block))
+        for sync in range(syncs):
+            for _ in range(writes * (sync + 1) // syncs - writes * sync // syncs):
+                os.pwrite(file.fileno(), block, order.randrange(BLOCKS) * len(block))
+            os.fdatasync(file.fileno())
+    return time.monotonic() - begun
 
 
 def of_sqlite(folder, records, mode):
@@ -78,28 +130,51 @@ def of_sqlite(folder, records, mode):
     return f"work: {records} records, {by_pay} by pay, {by_link} by link, {commits} commits\n", took
 
 
+def built(folder):
+    """The player of LMDB. None where its library isn't installed."""
+    player = folder / "player"
+    source = pathlib.Path(__file__).resolve().parent / "peers" / "work.c"
+    ran = subprocess.run(["cc", "-O2", "-o", player, source, "-llmdb"], capture_output=True)
+    return player if ran.returncode == 0 else None
+
+
+def measured(program, folder, player, equation, records, rounds):
+    """The least seconds of each."""
+    peers = {f"SQLite, {mode}": lambda mode=mode: of_sqlite(folder, records, mode) for mode in MODES}
+    if player:
+        peers["LMDB"] = lambda: of_lmdb(player, folder, records)
+    calls = counted(program, folder, equation, records)
+    best = {}
+    for _ in range(rounds):
+        said, took = of_program(program, folder, equation, records)
+        best["genesis"] = min(took, best.get("genesis", took))
+        for name, peer in peers.items():
+            told, took = peer()
+            if told != said:
+                sys.exit(f"not the same: {said}{told}")
+            best[name] = min(took, best.get(name, took))
+        if calls:
+            took = floor(folder, *calls)
+            best["the floor"] = min(took, best.get("the floor", took))
+    return best
+
+
 def main():
     program, root = pathlib.Path(sys.argv[1]).resolve(), sys.argv[2]
     rounds = int(sys.argv[3]) if len(sys.argv) > 3 else 5
-    print("| work | s | SQLite, delete | ratio | SQLite, wal | ratio |")
-    print("|---|--:|--:|--:|--:|--:|")
+    names = None
     with tempfile.TemporaryDirectory(dir=root) as made:
         folder = pathlib.Path(made)
+        player = built(folder)
         for records in RECORDS:
-            ours, theirs = [], {mode: [] for mode in MODES}
-            for _ in range(rounds):
-                said, took = of_program(program, folder, records)
-                ours.append(took)
-                for mode in MODES:
-                    told, took = of_sqlite(folder, records, mode)
-                    if told != said:
-                        sys.exit(f"not the same: {said}{told}")
-                    theirs[mode].append(took)
-            best = {mode: min(theirs[mode]) for mode in MODES}
-            row = [f"work {records}", f"{min(ours):.3f}"]
-            for mode in MODES:
-                row += [f"{best[mode]:.3f}", f"{min(ours) / best[mode]:.2f}"]
-            print("|", " | ".join(row), "|")
+            for equation in EQUATIONS:
+                best = measured(program, folder, player, equation, records, rounds)
+                if not names:
+                    names = [it for it in best if it != "genesis"]
+                    print("| work | genesis |", " | ".join(f"by {it}" for it in names), "|")
+                    print("|---|" + "--:|" * (len(names) + 1))
+                row = [f"{best['genesis'] / best[it]:.2f}" for it in names]
+                print(f"| work {records}, {equation} | {best['genesis']:.3f} s |", " | ".join(row), "|")
 
 
 main()

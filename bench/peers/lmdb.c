@@ -1,4 +1,4 @@
-// LMDB: one tree from numbers to the other fields. The mode is `sync`, or `nosync` where no commit is
+// LMDB: one tree from numbers to the other fields, and one from titles to bodies. The mode is `sync`, or `nosync` where no commit is
 // synced. Outside a transaction each get and find reads in one of its own.
 #include "peer.h"
 #include <lmdb.h>
@@ -11,7 +11,7 @@ struct body {
 };
 
 static MDB_env *env;
-static MDB_dbi tree;
+static MDB_dbi tree, notes;
 static MDB_txn *open_, *reading;
 
 static void check(int status)
@@ -24,10 +24,12 @@ void peer_open(const char *path, const char *mode)
 {
     check(mdb_env_create(&env));
     check(mdb_env_set_mapsize(env, (size_t)1 << 32));
+    check(mdb_env_set_maxdbs(env, 2));
     check(mdb_env_open(env, path, MDB_NOSUBDIR | (strcmp(mode, "nosync") ? 0 : MDB_NOSYNC), 0644));
     MDB_txn *made;
     check(mdb_txn_begin(env, NULL, 0, &made));
-    check(mdb_dbi_open(made, NULL, MDB_INTEGERKEY | MDB_CREATE, &tree));
+    check(mdb_dbi_open(made, "part", MDB_INTEGERKEY | MDB_CREATE, &tree));
+    check(mdb_dbi_open(made, "note", MDB_CREATE, &notes));
     check(mdb_txn_commit(made));
     check(mdb_txn_begin(env, NULL, MDB_RDONLY, &reading));
     mdb_txn_reset(reading);
@@ -124,6 +126,30 @@ bool peer_delete(long long asked)
     unsigned long long number = (unsigned long long)asked;
     MDB_val key = key_of(&number);
     int status = mdb_del(open_, tree, &key, NULL);
+    if (status != MDB_NOTFOUND)
+        check(status);
+    return !status;
+}
+
+bool peer_insert_note(const struct note *note)
+{
+    MDB_val key = {strlen(note->title), (void *)note->title}, data = {strlen(note->body), (void *)note->body};
+    int status = mdb_put(open_, notes, &key, &data, MDB_NOOVERWRITE);
+    if (status != MDB_KEYEXIST)
+        check(status);
+    return !status;
+}
+
+bool peer_get_note(const char *title, struct note *note)
+{
+    MDB_val key = {strlen(title), (void *)title}, data;
+    int status = mdb_get(seen(), notes, &key, &data);
+    if (!status) {
+        strcpy(note->title, title);
+        memcpy(note->body, data.mv_data, data.mv_size);
+        note->body[data.mv_size] = 0;
+    }
+    unsee();
     if (status != MDB_NOTFOUND)
         check(status);
     return !status;

@@ -1,5 +1,6 @@
 // Plays a script of the program on a peer, and says the same bytes: PEER PATH MODE <SCRIPT. It knows the
-// commands that the benchmarks use, of a file `part (number int, quantity int, name text 20)`.
+// commands that the benchmarks use, of the files `part (number int, quantity int, name text 20)` and
+// `note (title text 40, body text 200)`.
 #define _GNU_SOURCE
 #include "peer.h"
 #include <stdio.h>
@@ -75,12 +76,12 @@ static long long number(void)
     return value;
 }
 
-static void name(char *into)
+static void letters(char *into, size_t most)
 {
     const char *text = word();
     size_t length = strlen(text);
-    if (length < 2 || length > 22 || text[0] != '"' || text[length - 1] != '"')
-        fail("a text of at most 20 letters is due");
+    if (length < 2 || length > most + 2 || text[0] != '"' || text[length - 1] != '"')
+        fail("a text of letters is due");
     memcpy(into, text + 1, length - 2);
     into[length - 2] = 0;
 }
@@ -133,6 +134,31 @@ static void find(void)
     say("\n");
 }
 
+// A command on notes.
+static void play_note(const char *verb)
+{
+    struct note note;
+    letters(note.title, 40);
+    if (!strcmp(verb, "insert")) {
+        letters(note.body, 200);
+        say(peer_insert_note(&note) ? "ok\n" : "refused: key exists\n");
+    } else if (!strcmp(verb, "get")) {
+        char title[41];
+        strcpy(title, note.title);
+        if (!peer_get_note(title, &note)) {
+            say("none\n");
+            return;
+        }
+        say("note \"");
+        say(note.title);
+        say("\" \"");
+        say(note.body);
+        say("\"\n");
+    } else {
+        fail("another command on notes");
+    }
+}
+
 static long long commits;
 
 static void play(void)
@@ -155,15 +181,20 @@ static void play(void)
         say("dropped\n");
         return;
     }
-    if (strcmp(word(), "part"))
-        fail("the file is part");
+    const char *file = word();
+    if (!strcmp(file, "note")) {
+        play_note(verb);
+        return;
+    }
+    if (strcmp(file, "part"))
+        fail("the file is part or note");
     struct part part;
     if (!strcmp(verb, "find")) {
         find();
     } else if (!strcmp(verb, "insert")) {
         part.number = number();
         part.quantity = number();
-        name(part.name);
+        letters(part.name, 20);
         say(peer_insert(&part) ? "ok\n" : "refused: key exists\n");
     } else if (!strcmp(verb, "get")) {
         if (peer_get(number(), &part))

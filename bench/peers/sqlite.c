@@ -1,12 +1,13 @@
 // SQLite with prepared statements. The mode is the journal's: `memory`, `delete` or `wal`; but for the
-// first each commit is synced (synchronous=FULL).
+// first each commit is synced (synchronous=FULL). Where PEER_INDEX is set there is an index on the quantity.
 #include "peer.h"
 #include <sqlite3.h>
 #include <stdio.h>
+#include <stdlib.h>
 #include <string.h>
 
 static sqlite3 *base;
-static sqlite3_stmt *begin, *commit, *abort_, *insert, *get, *update, *delete_;
+static sqlite3_stmt *begin, *commit, *abort_, *insert, *get, *update, *delete_, *insert_note, *get_note;
 
 static void run(const char *sql)
 {
@@ -31,6 +32,9 @@ void peer_open(const char *path, const char *mode)
     run(sql);
     run(strcmp(mode, "memory") ? "pragma synchronous=FULL" : "pragma synchronous=OFF");
     run("create table if not exists part (number integer primary key, quantity integer not null, name text not null)");
+    run("create table if not exists note (title text primary key, body text not null) without rowid");
+    if (getenv("PEER_INDEX"))
+        run("create index if not exists by_quantity on part (quantity)");
     begin = prepared("begin");
     commit = prepared("commit");
     abort_ = prepared("rollback");
@@ -38,11 +42,13 @@ void peer_open(const char *path, const char *mode)
     get = prepared("select number, quantity, name from part where number = ?");
     update = prepared("update part set quantity = ? where number = ?");
     delete_ = prepared("delete from part where number = ?");
+    insert_note = prepared("insert or ignore into note values (?, ?)");
+    get_note = prepared("select title, body from note where title = ?");
 }
 
 void peer_close(void)
 {
-    sqlite3_stmt *all[] = {begin, commit, abort_, insert, get, update, delete_};
+    sqlite3_stmt *all[] = {begin, commit, abort_, insert, get, update, delete_, insert_note, get_note};
     for (size_t i = 0; i < sizeof all / sizeof *all; i++)
         sqlite3_finalize(all[i]);
     // the statements of finds are the connection's, and go with it
@@ -103,6 +109,25 @@ bool peer_delete(long long number)
 {
     sqlite3_bind_int64(delete_, 1, number);
     return changed(delete_);
+}
+
+bool peer_insert_note(const struct note *note)
+{
+    sqlite3_bind_text(insert_note, 1, note->title, -1, SQLITE_STATIC);
+    sqlite3_bind_text(insert_note, 2, note->body, -1, SQLITE_STATIC);
+    return changed(insert_note);
+}
+
+bool peer_get_note(const char *title, struct note *note)
+{
+    sqlite3_bind_text(get_note, 1, title, -1, SQLITE_STATIC);
+    bool is_there = sqlite3_step(get_note) == SQLITE_ROW;
+    if (is_there) {
+        snprintf(note->title, sizeof note->title, "%s", (const char *)sqlite3_column_text(get_note, 0));
+        snprintf(note->body, sizeof note->body, "%s", (const char *)sqlite3_column_text(get_note, 1));
+    }
+    sqlite3_reset(get_note);
+    return is_there;
 }
 
 // The statement of such a find is made once.
