@@ -1,7 +1,6 @@
 -- Calls of pages, one after the other.
 use Rattle.std.proofs.Common.{◌≡◌, ℕ, ◌<◌, ◌≤◌, ◌∙◌, refl, sym, ap, subst, arith}
 use Rattle.std.specs.Prelude.{Result, Ok, Err, IsErrOf, IsErrAnd}
-use Rattle.std.proofs.lemmas.Bool.{true≢false}
 use Rattle.gx_ports.specs.declared.page_view.PageView.{Ghosts}
 use Rattle.gx_ports.specs.declared.stop.Stop.{Stop}
 use Rattle.gx_ports.specs.declared.stop.Stop.TheVariants.{Fault, Damaged}
@@ -63,28 +62,6 @@ module _ {S : Type 0} (g : Ghosts S) where
     };
     bound = λ m is. let same : n ≡ m = cc in subst (λ x. x < (g.ground a).blocks) same block;
   }
-
-  pub ends_well : {T : Type 0} (sound : Type 0) (a b : S) (x : T) → g.faults b ≡ g.faults a → EndsFile {T = T} g sound a b (Ok x)
-  ends_well sound a b x f = record {
-    cause = record { later = omega (arith, f); fault = λ is. absurd (cc); counted = λ is. f; damaged = λ n is h. absurd (cc) };
-    bound = λ n is. absurd (cc);
-  }
-
-  failed_ends : {T : Type 0} (sound : Type 0) (a b c : S) → g.faults b ≡ g.faults a → g.faults b ≤ g.faults c → Rose (g.faults b) (g.faults c) → EndsFile {T = T} g sound a c (Err Fault)
-  failed_ends sound a b c f later rose = record {
-    cause = record {
-      later = omega (arith, f, later);
-      fault = λ is. subst (λ n. Rose n (g.faults c)) f rose;
-      counted = λ is. absurd (true≢false is);
-      damaged = λ n is h. absurd (cc);
-    };
-    bound = λ n is. absurd (cc);
-  }
-
-  -- a call of pages failed
-  pub ends_failed : {T : Type 0} (sound : Type 0) (a b c : S) (r : Result T Stop) → g.faults b ≡ g.faults a → g.faults b ≤ g.faults c → Rose (g.faults b) (g.faults c) → IsErrAnd r (λ s. s ≡ Fault) → EndsFile {T = T} g sound a c r
-  ends_failed sound a b c (Ok x) f later rose is = absurd is
-  ends_failed {T = T} sound a b c (Err s) f later rose is = subst (λ x. EndsFile {T = T} g sound a c (Err x)) (sym is) (failed_ends {T = T} sound a b c f later rose)
 
   -- an error that is handed on
   recast : (T U : Type 0) (why v : Stop) → IsErrOf {T = U} (Err why) v → IsErrOf {T = T} (Err why) v

@@ -8,7 +8,7 @@ use Rattle.gx_ports.specs.Roots.{roots_of, roots_of_kind}
 use Rattle.gx_ports.specs.Sheets.{Sheets, Ground, IsPast}
 use Rattle.gx_btree.specs.Bplus.{IsBplus, IsOwned, bytes_at, ArePast}
 use Rattle.gx_btree.specs.Hole.{IsAtHand}
-use Rattle.gx_btree.specs.Tree.{Tree, pages}
+use Rattle.gx_btree.specs.Tree.{Tree}
 use Rattle.gx_btree.proofs.BoundLemmas.{ends}
 
 pub past_of : (ground : Ground) (place : Place) (sheets : Sheets) (map : LeafMap) → IsBplus ground place sheets map → ArePast ground place.owner sheets

@@ -19,7 +19,7 @@ use Rattle.gx_btree.specs.Hole.{IsAtHand}
 use Rattle.gx_btree.specs.Order.{IsUnder}
 use Rattle.gx_btree.specs.Search.{IsFound}
 use Rattle.gx_btree.specs.Tree as trees
-use Rattle.gx_btree.specs.Tree.{In, Tree, Kids, leaf, node, last, more, page_of, entries, pages, kids_pages, separators, kids_separators, Stands, AllStand, ShowsInner, ShowsEntries, child_for, bound_for}
+use Rattle.gx_btree.specs.Tree.{In, Tree, Kids, leaf, node, last, more, entries, pages, kids_pages, separators, kids_separators, Stands, AllStand, ShowsInner, ShowsEntries, child_for, bound_for}
 use Rattle.gx_btree.proofs.BranchLemmas.{bound_in}
 use Rattle.gx_btree.proofs.CallLemmas.{ends_after, ends_shown, pages_read_itself, pages_read_joined}
 use Rattle.gx_btree.proofs.EntryLemmas.{shows_entries, shows_inner}

@@ -1,5 +1,5 @@
 -- The entries of a page that are given, one at a time.
-use Rattle.std.proofs.Common.{◌≡◌, ◌≢◌, inl, inr, ℕ, zero, suc, ◌+◌, ◌<◌, ◌≤◌, Bool, true, false, cond, List, [], ◌∷◌, ◌++◌, length, map, take, drop, get_or, refl, sym, ap, ap₂, ◌∙◌, subst, arith, append-nil, append_assoc}
+use Rattle.std.proofs.Common.{◌≡◌, ◌≢◌, inl, ℕ, zero, suc, ◌+◌, ◌<◌, ◌≤◌, Bool, true, false, cond, List, [], ◌∷◌, ◌++◌, length, map, take, drop, get_or, refl, sym, ap, ap₂, ◌∙◌, subst, arith, append-nil, append_assoc}
 use Rattle.std.specs.Prelude.{◌&&◌, filter}
 use Rattle.std.specs.Cmp.Lexicographic.{slice_cmp}
 use Rattle.std.specs.Ordering.{nat_cmp, is_le, is_gt}
@@ -19,7 +19,7 @@ use Rattle.gx_slots.proofs.EntryLemmas.{entry_format}
 use Rattle.gx_slots.proofs.PageLemmas.{body_holds, count_is}
 use Rattle.gx_btree.specs.Order.{IsBelow}
 use Rattle.gx_btree.specs.Selection.{given_entry, given_from, IsPastSpan}
-use Rattle.gx_btree.specs.Tree.{In, Ascending}
+use Rattle.gx_btree.specs.Tree.{Ascending}
 use Rattle.gx_btree.proofs.EntryLemmas.{ascending_of}
 
 abbrev pub is_given : List ℕ → List ℕ → List ℕ → Entry → Bool

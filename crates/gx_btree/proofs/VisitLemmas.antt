@@ -1,5 +1,5 @@
 -- Visits of the pages of a tree that is checked.
-use Rattle.std.proofs.Common.{◌≡◌, ◌≢◌, ◌⊎◌, ◌↔◌, inl, inr, ℕ, zero, suc, ◌+◌, ◌<◌, ◌≤◌, Bool, true, false, List, [], ◌∷◌, ◌++◌, map, length, replicate, slice_set, Option, Some, None, Err, refl, sym, ap, ◌∙◌, subst, arith}
+use Rattle.std.proofs.Common.{◌≡◌, ◌≢◌, ◌↔◌, inl, inr, ℕ, zero, suc, ◌+◌, ◌<◌, ◌≤◌, Bool, true, false, List, [], ◌∷◌, ◌++◌, map, length, replicate, slice_set, Option, Some, None, Err, refl, sym, ap, ◌∙◌, subst, arith}
 use Rattle.std.specs.Prelude.{slice_get, IsTrue, Result}
 use Rattle.gx_ports.specs.declared.page_view.PageView.{Ghosts}
 use Rattle.gx_ports.specs.declared.pages.Place.{Place}
@@ -8,7 +8,7 @@ use Rattle.gx_ports.specs.declared.stop.Stop.TheVariants.{Damaged}
 use Rattle.gx_ports.specs.Files.{EndsFile, IsWhole}
 use Rattle.gx_ports.specs.PageCalls.{ReadsPages}
 use Rattle.gx_ports.specs.Sheets.{Sheets, Ground, IsPast}
-use Rattle.std.proofs.lemmas.Bool.{cases_eq, false≢true}
+use Rattle.std.proofs.lemmas.Bool.{false≢true}
 use Rattle.std.proofs.lemmas.List.{length-replicate}
 use Rattle.std.proofs.lemmas.Option.{same_Some, none-some}
 use Rattle.gx_bnode.specs.Branches.{Branch}
@@ -17,8 +17,9 @@ use Rattle.gx_btree.specs.declared.checking.Part.{Part}
 use Rattle.gx_btree.specs.declared.checking.Visits.{Visits}
 use Rattle.gx_btree.specs.declared.reading.Shape.{Shape}
 use Rattle.gx_btree.specs.declared.reading.Shape.TheVariants as shapes
-use Rattle.gx_btree.specs.Bplus.{IsBplus, IsTreePage, IsOwned, Shows, bytes_at}
-use Rattle.gx_btree.specs.Checking.{IsUnseen, AreAllSeen, root_part, child_parts, HasRest, IsInside, IsPassed, IsVisited, AreBelow, HasNext, pages_of, AreAtParts}
+use Rattle.gx_btree.specs.Bplus.{IsBplus, IsTreePage, Shows, bytes_at}
+use Rattle.gx_btree.specs.Checking.{root_part, child_parts, HasRest, IsInside, IsPassed, IsVisited, AreBelow, HasNext, pages_of, AreAtParts}
+use Rattle.gx_seen.specs.Seen.{IsUnseen, AreAllSeen}
 use Rattle.gx_btree.specs.Tree.{In, Tree, pages}
 use Rattle.gx_btree.proofs.CallLemmas.{pages_read_itself, pages_read_joined, ends_after, ends_shown}
 use Rattle.gx_btree.proofs.MemberLemmas.{in_left, in_right, in_cases}
@@ -32,27 +33,6 @@ pub unmarked : (n q : ℕ) → slice_get (replicate n false) q ≢ Some true
 unmarked zero q is = none-some true is
 unmarked (suc n) zero is = false≢true (same_Some false true is)
 unmarked (suc n) (suc q) is = unmarked n q is
-
-marked_or_not : (o : Option Bool) → (o ≡ Some true) ⊎ (o ≢ Some true)
-marked_or_not None = inr (λ e. none-some true e)
-marked_or_not (Some true) = inl refl
-marked_or_not (Some false) = inr (λ e. false≢true (same_Some false true e))
-
-pub record IsSeekingUnseen {S : Type 0} (g : Ghosts S) (owner : ℕ) (seen : List Bool) (start now : S) (page : ℕ) : Type 0 where
-  pub reads : ReadsPages g start now
-  pub faults : g.faults now ≡ g.faults start
-  pub all : IsTrue g.tells → (q : ℕ) → q < page → IsOwned owner (g.working start) q → slice_get seen q ≡ Some true
-
--- one page more
-pub seek_more : (sheets : Sheets) (owner : ℕ) (seen : List Bool) (page : ℕ) → (IsUnseen sheets owner seen page → ⊥) → ((q : ℕ) → q < page → IsOwned owner sheets q → slice_get seen q ≡ Some true)
-    → (q : ℕ) → q < page + 1 → IsOwned owner sheets q → slice_get seen q ≡ Some true
-seek_more sheets owner seen page none all q less owned = elim (cases_eq q page) [
-  | inl e ↦ elim (marked_or_not (slice_get seen q)) [
-    | inl is ↦ is
-    | inr off ↦ absurd (none (subst (IsUnseen sheets owner seen) e (owned, off)))
-  ]
-  | inr d ↦ all q (omega (arith, less, d)) owned
-]
 
 -- ---- one part
 

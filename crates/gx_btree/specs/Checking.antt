@@ -15,17 +15,6 @@ use Rattle.gx_btree.specs.Tree.{IsSome, In, Tree, page_of, entries, pages, Stand
 use Rattle.gx_btree.specs.Hole.{AreUnique}
 use Rattle.gx_btree.specs.Order.{IsUpTo, IsUnder}
 
--- the owner has the page, which isn't marked
-abbrev pub IsUnseen : Sheets → ℕ → List Bool → ℕ → Type 0
-IsUnseen sheets owner seen page = IsOwned owner sheets page × (slice_get seen page ≢ Some true)
-
--- each page of the owner is marked
-abbrev pub AreAllSeen : Sheets → ℕ → List Bool → Type 0
-AreAllSeen sheets owner seen = (page : ℕ) → IsOwned owner sheets page → slice_get seen page ≡ Some true
-
-abbrev pub HasAllSeen : {S : Type 0} → Ghosts S → S → ℕ → List Bool → Type 0
-HasAllSeen g p owner seen = IsTrue g.tells × AreAllSeen (g.working p) owner seen
-
 -- the whole tree
 abbrev pub root_part : ℕ → Part
 root_part root = record { above = root; page = root; low = [] }

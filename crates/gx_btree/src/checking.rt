@@ -3,20 +3,21 @@ ghost use Rattle.std.specs.Prelude.{◌≡◌, ◌↔◌, ◌++◌, ◌∷◌, [
 ghost use Rattle.std.specs.Bool.{OnTrue};
 ghost use Rattle.gx_ports.specs.declared.kinds.LeafKind.TheVariants as kinds;
 ghost use Rattle.gx_ports.specs.Files.{IsPlace, EndsFile, IsWhole};
-ghost use Rattle.gx_ports.specs.PageCalls.{ReadsPages, CountsPageFaults};
+ghost use Rattle.gx_ports.specs.PageCalls.{ReadsPages};
 ghost use Rattle.gx_ports.specs.Sheets.{IsPast};
 ghost use Rattle.gx_bnode.specs.Page.{IsInnerPage, first_of, branches_of};
 ghost use Rattle.gx_btree.specs.declared.reading.Shape.TheVariants as shapes;
 ghost use Rattle.gx_btree.specs.Bplus.{IsBplus, IsTreePage, Shows, bytes_at};
-ghost use Rattle.gx_btree.specs.Checking.{IsUnseen, AreAllSeen, HasAllSeen, root_part, child_parts, IsInside, IsPassed, IsVisited, AreBelow, HasNext};
+ghost use Rattle.gx_btree.specs.Checking.{root_part, child_parts, IsInside, IsPassed, IsVisited, AreBelow, HasNext};
+ghost use Rattle.gx_seen.specs.Seen.{IsUnseen, AreAllSeen};
 ghost use Rattle.gx_btree.specs.Order.{IsUnder};
 
 use crate::reading::{Shape, read_page};
 use crate::selection::is_up_to;
 use gx_bnode::{branches, child};
-use gx_device::Failed;
 use gx_order::compare_bytes;
 use gx_ports::{PAGE_LEN, Pages, Place, Stop};
+use gx_seen::{is_unseen, seek_unseen};
 use gx_slots::{count, entry};
 use gx_values::{KeyBuf, NoMemory};
 use std::alloc::Global;
@@ -234,37 +235,6 @@ fn push_children(page: &[u8], part: &Part, parts: &mut Vec<Part>) -> Result<(), 
             page: child,
             low: KeyBuf::from_slice(separator),
         })?;
-    }
-    Ok(())
-}
-
-// Whether the owner has a page that wasn't seen.
-fn is_unseen<P: Pages>(pages: &mut P, page: u32, owner: u16, seen: &[bool]) -> Result<bool, Failed>
-    requires page { page < (P.ground pages.old).size }
-    requires len { length seen.now ≡ (P.ground pages.old).size }
-    ensures unseen { IsTrue P.tells → IfOk result
-        (λ unseen. IsTrue unseen ↔ IsUnseen (P.working pages.old) owner seen.now page) }
-    ensures reads { ReadsPages P.PageView pages.old pages.new }
-    ensures faults { CountsPageFaults P.PageView pages.old pages.new result }
-{
-    Ok(pages.owner(page)? == owner && !seen[page as usize])
-}
-
-// Looks whether each page of the owner was seen.
-fn seek_unseen<P: Pages>(pages: &mut P, owner: u16, seen: &[bool]) -> Result<(), Stop>
-    requires len { length seen.now ≡ (P.ground pages.old).size }
-    ensures all { IsTrue P.tells → OnOk result
-        (AreAllSeen (P.working pages.old) owner seen.now) }
-    ensures reads { ReadsPages P.PageView pages.old pages.new }
-    ensures ends { EndsFile P.PageView (HasAllSeen P.PageView pages.old owner seen.now)
-        pages.old pages.new result }
-    ensures not_full { ¬ IsErrOf result Stop.Full }
-    ensures frugal { ¬ IsErrOf result Stop.NoMemory }
-{
-    for page in 0..pages.pages() {
-        if is_unseen(pages, page, owner, seen)? {
-            return Err(Stop::Damaged(pages.block(page)));
-        }
     }
     Ok(())
 }

@@ -1,29 +1,22 @@
 -- Chains that are checked.
-use Rattle.std.proofs.Common.{◌≡◌, ◌≢◌, ◌⊎◌, inl, inr, ℕ, suc, ◌+◌, ◌<◌, ◌≤◌, Bool, true, false, List, [], ◌∷◌, ◌++◌, Option, Some, None, Ok, Err, refl, sym, ap, subst, ◌∙◌, arith, append_assoc}
-use Rattle.std.specs.Prelude.{◌||◌, not, slice_get, IsTrue, Result}
+use Rattle.std.proofs.Common.{◌≡◌, ◌≢◌, ◌⊎◌, inl, inr, ℕ, suc, ◌+◌, Bool, true, false, List, [], ◌∷◌, ◌++◌, refl, sym, ap, subst, ◌∙◌, arith, append_assoc}
+use Rattle.std.specs.Prelude.{◌||◌, not}
 use Rattle.std.specs.BTreeSet.{insert_key}
 use Rattle.std.specs.Global.{Vec}
 use Rattle.std.specs.List.{Contains}
 use Rattle.std.specs.Ordering.{eq_by_cmp, match_ordering}
-use Rattle.std.specs.Result.{IsErrAnd}
 use Rattle.std.specs.declared.cmp.Ordering.TheVariants.{Less, Equal, Greater}
-use Rattle.std.proofs.lemmas.Bool.{cases_eq, true≢false, false≢true}
+use Rattle.std.proofs.lemmas.Bool.{true≢false, false≢true}
 use Rattle.std.proofs.lemmas.List.{append-nil}
 use Rattle.std.proofs.lemmas.List.Elements.{Contains-push_cases, Contains-append_left, Contains-push}
-use Rattle.std.proofs.lemmas.Option.{same_Some, none-some}
-use Rattle.gx_device.specs.Faults.{Rose}
-use Rattle.gx_ports.specs.declared.page_view.PageView.{Ghosts}
-use Rattle.gx_ports.specs.declared.stop.Stop.{Stop}
-use Rattle.gx_ports.specs.declared.stop.Stop.TheVariants.{Fault, Damaged}
-use Rattle.gx_ports.specs.Files.{EndsFile}
-use Rattle.gx_ports.specs.PageCalls.{ReadsPages}
-use Rattle.gx_ports.specs.Sheets.{Sheets}
 use Rattle.gx_ports.specs.Keyed.{key_cmp}
 use Rattle.gx_ports.proofs.KeyLemmas.{only_equal, same_key, tied}
 use Rattle.gx_ports.proofs.KeyedLemmas.{vec_cmp}
 use Rattle.gx_slots.specs.Entries.{Entry, AreDistinct}
-use Rattle.gx_chain.specs.Check.{has_key, IsKeyOf, HasAddedKeys, SharesKey, IsUnseen}
+use Rattle.gx_chain.specs.Check.{has_key, IsKeyOf, HasAddedKeys, SharesKey}
 use Rattle.gx_chain.proofs.ListLemmas.{contains_cases, contains_none, contains_middle}
+-- those who check files of chains find it here
+pub use Rattle.gx_seen.proofs.EndLemmas.{ends_shown}
 
 -- ---- a key more among keys
 
@@ -151,61 +144,3 @@ adding_shares entries left e rest old mid v i step is distinct has = shares i.do
 
 pub adding_last : (entries left : List Entry) (old new : List (Vec ℕ)) → IsAdding entries left old new → left ≡ [] → HasAddedKeys entries old new
 adding_last entries left old new i none = subst (λ (es : List Entry). HasAddedKeys es old new) (sym (i.is ∙ ap (λ (x : List Entry). i.done ++ x) none ∙ append-nil i.done)) i.added
-
--- ---- how calls end
-
-pub ends_shown : {S T : Type 0} (g : Ghosts S) (sound : Type 0) (start now : S) (block : ℕ) → g.faults now ≡ g.faults start → block < (g.ground start).blocks → (sound → ⊥) → EndsFile {T = T} g sound start now (Err (Damaged block))
-ends_shown g sound start now block same below none = record {
-  cause = record {
-    later = omega (arith, same);
-    fault = λ is. absurd (cc);
-    counted = λ is. same;
-    damaged = λ b is has. none has;
-  };
-  bound = λ b is. (let equal : block ≡ b = cc in subst (λ n. n < (g.ground start).blocks) equal below);
-}
-
-pub ends_well : {S T : Type 0} (g : Ghosts S) (sound : Type 0) (start now : S) (x : T) → g.faults now ≡ g.faults start → EndsFile {T = T} g sound start now (Ok x)
-ends_well g sound start now x same = record {
-  cause = record { later = omega (arith, same); fault = λ is. absurd (cc); counted = λ is. same; damaged = λ b is has. absurd (cc) };
-  bound = λ b is. absurd (cc);
-}
-
-failed_ends : {S T : Type 0} (g : Ghosts S) (sound : Type 0) (start now new : S) → g.faults now ≡ g.faults start → g.faults now ≤ g.faults new → Rose (g.faults now) (g.faults new) → EndsFile {T = T} g sound start new (Err Fault)
-failed_ends g sound start now new same later rose = record {
-  cause = record {
-    later = omega (arith, same, later);
-    fault = λ is. subst (λ n. Rose n (g.faults new)) same rose;
-    counted = λ is. absurd (true≢false is);
-    damaged = λ b is has. absurd (cc);
-  };
-  bound = λ b is. absurd (cc);
-}
-
-pub ends_failed : {S T : Type 0} (g : Ghosts S) (sound : Type 0) (start now new : S) (result : Result T Stop) → g.faults now ≡ g.faults start → g.faults now ≤ g.faults new → Rose (g.faults now) (g.faults new)
-    → IsErrAnd result (λ s. s ≡ Fault) → EndsFile {T = T} g sound start new result
-ends_failed g sound start now new (Ok x) same later rose is = absurd is
-ends_failed {T = T} g sound start now new (Err s) same later rose is = subst (λ x. EndsFile {T = T} g sound start new (Err x)) (sym is) (failed_ends {T = T} g sound start now new same later rose)
-
--- ---- each page of the owner is marked
-
-pub marked_or_not : (o : Option Bool) → (o ≡ Some true) ⊎ (o ≢ Some true)
-marked_or_not None = inr (λ e. none-some true e)
-marked_or_not (Some true) = inl refl
-marked_or_not (Some false) = inr (λ e. false≢true (same_Some false true e))
-
-pub record IsSeekingUnseen {S : Type 0} (g : Ghosts S) (owner : ℕ) (seen : List Bool) (start now : S) (page : ℕ) : Type 0 where
-  pub reads : ReadsPages g start now
-  pub faults : g.faults now ≡ g.faults start
-  pub all : IsTrue g.tells → (q : ℕ) → q < page → slice_get (g.working start).owners q ≡ Some owner → slice_get seen q ≡ Some true
-
--- one page more
-pub seen_more : (sheets : Sheets) (owner : ℕ) (seen : List Bool) (page : ℕ) → (IsUnseen sheets owner seen page → ⊥) → ((q : ℕ) → q < page → slice_get sheets.owners q ≡ Some owner → slice_get seen q ≡ Some true)
-    → (q : ℕ) → q < page + 1 → slice_get sheets.owners q ≡ Some owner → slice_get seen q ≡ Some true
-seen_more sheets owner seen page none all q less owned = elim (cases_eq q page) [
-  | inl e ↦ elim (marked_or_not (slice_get seen q)) [
-    | inl is ↦ is
-    | inr off ↦ absurd (none (subst (IsUnseen sheets owner seen) e (owned, off)))
-  ]
-  | inr d ↦ all q (omega (arith, less, d)) owned
-]

@@ -15,7 +15,8 @@ use Rattle.gx_ports.specs.Sheets.{Sheets, Ground, IsPast}
 use Rattle.gx_slots.specs.Page.{IsEntryPage, next_of}
 use Rattle.gx_chain.specs.declared.check.Visits.{Visits}
 use Rattle.gx_chain.specs.Chain.{bytes_at, entries_at, next_at, AreLinked, IsChain}
-use Rattle.gx_chain.specs.Check.{IsWholeChain, HasWholeChain, has_key, HasAddedKeys, SharesKey, AreVisited, IsNext, IsVisitedChain, HasUnseenChain, IsUnseen, AreAllSeen}
+use Rattle.gx_chain.specs.Check.{IsWholeChain, HasWholeChain, has_key, HasAddedKeys, SharesKey, AreVisited, IsNext, IsVisitedChain, HasUnseenChain}
+use Rattle.gx_seen.specs.Seen.{IsUnseen, AreAllSeen}
 use Rattle.gx_chain.proofs.ChainLemmas.{linked_page}
 use Rattle.gx_chain.proofs.ListLemmas.{contains_here, contains_later, contains_none, contains_middle, without_off}
 use Rattle.gx_chain.proofs.WalkLemmas.{IsAtHand, is_some_page}

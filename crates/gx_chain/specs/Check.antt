@@ -91,14 +91,3 @@ pub record HasUnseenChain {S : Type 0} (g : Ghosts S) (p : S) (owner first : ℕ
   pub pages : List ℕ
   pub chain : IsChain (g.ground p) owner (g.working p) first pages
   pub unseen : AreUnseen seen pages
-
--- the owner has the page, which isn't marked
-abbrev pub IsUnseen : Sheets → ℕ → List Bool → ℕ → Type 0
-IsUnseen sheets owner seen page = (slice_get sheets.owners page ≡ Some owner) × (slice_get seen page ≢ Some true)
-
--- each page of the owner is marked
-abbrev pub AreAllSeen : Sheets → ℕ → List Bool → Type 0
-AreAllSeen sheets owner seen = (page : ℕ) → slice_get sheets.owners page ≡ Some owner → slice_get seen page ≡ Some true
-
-abbrev pub HasAllSeen : {S : Type 0} → Ghosts S → S → ℕ → List Bool → Type 0
-HasAllSeen g p owner seen = IsTrue g.tells × AreAllSeen (g.working p) owner seen

@@ -3,15 +3,15 @@ ghost use Rattle.std.specs.Prelude.{◌≡◌, ◌≢◌, ◌↔◌, ℕ, ◌<�
 ghost use Rattle.std.specs.Bool.{OnTrue, OnFalse};
 ghost use Rattle.gx_ports.specs.declared.pages.TheConstants.{PAGE_LEN};
 ghost use Rattle.gx_ports.specs.Files.{EndsFile};
-ghost use Rattle.gx_ports.specs.PageCalls.{ReadsPages, CountsPageFaults};
+ghost use Rattle.gx_ports.specs.PageCalls.{ReadsPages};
 ghost use Rattle.gx_ports.specs.Sheets.{IsPast};
 ghost use Rattle.gx_slots.specs.Page.{IsEntryPage, entries_of};
 ghost use Rattle.gx_chain.specs.Chain.{bytes_at};
-ghost use Rattle.gx_chain.specs.Check.{IsWholeChain, HasWholeChain, HasAddedKeys, SharesKey, AreVisited, IsNext, IsVisitedChain, HasUnseenChain, IsUnseen, AreAllSeen, HasAllSeen};
+ghost use Rattle.gx_chain.specs.Check.{IsWholeChain, HasWholeChain, HasAddedKeys, SharesKey, AreVisited, IsNext, IsVisitedChain, HasUnseenChain};
 
 use crate::read::{behind, read_entries};
-use gx_device::Failed;
 use gx_ports::{PAGE_LEN, Pages, Stop};
+use gx_seen::{is_unseen, seek_unseen};
 use gx_slots::{count, entries};
 use gx_values::NoMemory;
 use std::alloc::{AllocError, Global};
@@ -139,18 +139,6 @@ fn visit<P: Pages>(
     Ok(())
 }
 
-// Whether the owner has a page that wasn't seen.
-fn is_unseen<P: Pages>(pages: &mut P, page: u32, owner: u16, seen: &[bool]) -> Result<bool, Failed>
-    requires page { page < (P.ground pages.old).size }
-    requires len { length seen.now ≡ (P.ground pages.old).size }
-    ensures unseen { IsTrue P.tells → IfOk result
-        (λ unseen. IsTrue unseen ↔ IsUnseen (P.working pages.old) owner seen.now page) }
-    ensures reads { ReadsPages P.PageView pages.old pages.new }
-    ensures faults { CountsPageFaults P.PageView pages.old pages.new result }
-{
-    Ok(pages.owner(page)? == owner && !seen[page as usize])
-}
-
 // Adds the keys of a page. False: one was there already.
 fn add_keys(alloc: Global, page: &[u8], keys: &mut BTreeSet<Vec<u8>>) -> Result<bool, NoMemory>
     requires page { IsEntryPage page.now }
@@ -165,23 +153,4 @@ fn add_keys(alloc: Global, page: &[u8], keys: &mut BTreeSet<Vec<u8>>) -> Result<
         }
     }
     Ok(true)
-}
-
-/// Looks whether each page of the owner was seen. `Damaged`: one wasn't, and the block is its own.
-pub fn seek_unseen<P: Pages>(pages: &mut P, owner: u16, seen: &[bool]) -> Result<(), Stop>
-    requires len { length seen.now ≡ (P.ground pages.old).size }
-    ensures all { IsTrue P.tells → OnOk result
-        (AreAllSeen (P.working pages.old) owner seen.now) }
-    ensures reads { ReadsPages P.PageView pages.old pages.new }
-    ensures ends { EndsFile P.PageView (HasAllSeen P.PageView pages.old owner seen.now)
-        pages.old pages.new result }
-    ensures not_full { ¬ IsErrOf result Stop.Full }
-    ensures frugal { ¬ IsErrOf result Stop.NoMemory }
-{
-    for page in 0..pages.pages() {
-        if is_unseen(pages, page, owner, seen)? {
-            return Err(Stop::Damaged(pages.block(page)));
-        }
-    }
-    Ok(())
 }

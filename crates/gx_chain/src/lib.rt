@@ -11,7 +11,7 @@ mod seek;
 mod walk;
 mod write;
 
-pub use check::{Visits, check_chain, no_visits, seek_unseen, visit_chain};
+pub use check::{Visits, check_chain, no_visits, visit_chain};
 pub use gather::{append_sorted, collect, gather_from};
 pub use make::make_first;
 pub use put::put_in;

@@ -12,7 +12,8 @@ use Rattle.gx_ports.specs.Roots.{roots_of}
 use Rattle.gx_ports.specs.Sheets.{Sheets, Ground}
 use Rattle.gx_chain.specs.Chain.{IsChain, IsOn}
 use Rattle.gx_chain.specs.declared.check.Visits.{Visits}
-use Rattle.gx_chain.specs.Check.{has_key, IsVisitedChain, HasUnseenChain, AreAllSeen, AreUnseen}
+use Rattle.gx_chain.specs.Check.{has_key, IsVisitedChain, HasUnseenChain, AreUnseen}
+use Rattle.gx_seen.specs.Seen.{AreAllSeen}
 use Rattle.gx_chain.specs.Map.{owned_map}
 use Rattle.gx_chain.proofs.VisitLemmas.{unmarked}
 use Rattle.gx_hash.specs.Buckets.{bucket_of}

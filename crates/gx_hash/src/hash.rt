@@ -11,9 +11,10 @@ ghost use Rattle.gx_hash.specs.Hash.{IsHash};
 use crate::buckets::{bucket, root};
 use crate::spans::gather_inside;
 use crate::visits::visit_buckets;
-use gx_chain::{append_sorted, make_first, no_visits, put_in, remove_from, seek_unseen};
+use gx_chain::{append_sorted, make_first, no_visits, put_in, remove_from};
 use gx_device::Failed;
 use gx_ports::{Entries, Pages, Place, Stop};
+use gx_seen::seek_unseen;
 use gx_values::Span;
 use std::alloc::Global;
 

@@ -11,8 +11,9 @@ ghost use Rattle.gx_isam.specs.Visited.{AreVisitedBuckets, HasEntryAt, HasRootAn
 
 use crate::index::{bucket_of, buckets};
 use crate::read::{first_page, read_entries};
-use gx_chain::{Visits, seek_unseen, visit_chain};
+use gx_chain::{Visits, visit_chain};
 use gx_ports::{PAGE_LEN, Pages, Place, Stop};
+use gx_seen::seek_unseen;
 use gx_slots::count;
 use std::alloc::Global;
 use std::collections::BTreeSet;

@@ -4,7 +4,7 @@ use Rattle.gx_ports.specs.Files.{IsWhole}
 use Rattle.gx_ports.specs.Sheets.{Sheets}
 use Rattle.gx_ports.proofs.PageLemmas.{ends_as}
 use Rattle.gx_btree.specs.Bplus.{IsBplus}
-use Rattle.gx_btree.specs.Checking.{AreAllSeen, HasAllSeen}
+use Rattle.gx_seen.specs.Seen.{AreAllSeen, HasAllSeen}
 use Rattle.gx_btree.proofs.checking.check.Goals as goal
 
 pub returns-clause-ok : goal.returns-clause-ok

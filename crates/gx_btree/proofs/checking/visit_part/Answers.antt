@@ -7,7 +7,8 @@ use Rattle.gx_ports.specs.Sheets.{Ground}
 use Rattle.gx_ports.proofs.PageLemmas.{ends_handed_on}
 use Rattle.gx_btree.specs.declared.reading.Shape.{Shape}
 use Rattle.gx_btree.specs.Bplus.{IsTreePage}
-use Rattle.gx_btree.specs.Checking.{IsUnseen, HasNext, IsPassed}
+use Rattle.gx_btree.specs.Checking.{HasNext, IsPassed}
+use Rattle.gx_seen.specs.Seen.{IsUnseen}
 use Rattle.gx_btree.proofs.CallLemmas.{ends_shown}
 use Rattle.gx_btree.proofs.VisitLemmas.{next_reads, next_inside, visited_of, parts_below}
 use Rattle.gx_btree.proofs.checking.visit_part.Goals as goal

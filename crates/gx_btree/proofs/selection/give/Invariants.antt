@@ -1,4 +1,4 @@
-use Rattle.std.proofs.Common.{drop, ◌≡◌}
+use Rattle.std.proofs.Common.{drop}
 use Rattle.gx_btree.proofs.GiveLemmas.{IsGiving}
 use Rattle.gx_btree.proofs.selection.give.Given as goal
 

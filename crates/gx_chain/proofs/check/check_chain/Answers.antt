@@ -3,7 +3,8 @@ use Rattle.std.proofs.lemmas.List.{length-replicate}
 use Rattle.std.proofs.lemmas.Result.{on_ok_weaker}
 use Rattle.gx_ports.specs.Sheets.{Sheets}
 use Rattle.gx_ports.proofs.PageLemmas.{ends_as}
-use Rattle.gx_chain.specs.Check.{HasWholeChain, HasAllSeen, AreAllSeen}
+use Rattle.gx_chain.specs.Check.{HasWholeChain}
+use Rattle.gx_seen.specs.Seen.{HasAllSeen, AreAllSeen}
 use Rattle.gx_chain.proofs.VisitLemmas.{whole_chain, whole_seen}
 use Rattle.gx_chain.proofs.check.check_chain.Goals as goal
 

@@ -5,8 +5,9 @@ use Rattle.gx_ports.specs.Sheets.{Sheets, Ground}
 use Rattle.gx_ports.proofs.PageLemmas.{ends_handed_on, read_pages_joined}
 use Rattle.gx_slots.specs.Page.{IsEntryPage, entries_of}
 use Rattle.gx_chain.specs.Chain.{bytes_at, IsEntryAt}
-use Rattle.gx_chain.specs.Check.{HasAddedKeys, SharesKey, IsNext, IsUnseen}
-use Rattle.gx_chain.proofs.CheckLemmas.{ends_shown}
+use Rattle.gx_chain.specs.Check.{HasAddedKeys, SharesKey, IsNext}
+use Rattle.gx_seen.specs.Seen.{IsUnseen}
+use Rattle.gx_seen.proofs.EndLemmas.{ends_shown}
 use Rattle.gx_chain.proofs.VisitLemmas.{visited_more, next_unseen, next_page, next_filled, next_fresh}
 use Rattle.gx_chain.proofs.ListLemmas.{no_length}
 use Rattle.gx_chain.proofs.check.visit.Goals.{else-number-first-via-then-number-first+else-count-eq0, else-number-first-via-else-number-first}

@@ -6,7 +6,7 @@ use Rattle.gx_ports.proofs.PageLemmas.{pages_read_themselves, read_pages_joined,
 use Rattle.gx_slots.specs.Page.{next_of}
 use Rattle.gx_chain.specs.Chain.{bytes_at, LeadsOn}
 use Rattle.gx_chain.specs.Check.{HasUnseenChain, IsNext}
-use Rattle.gx_chain.proofs.CheckLemmas.{ends_shown, ends_well}
+use Rattle.gx_seen.proofs.EndLemmas.{ends_shown, ends_well}
 use Rattle.gx_chain.proofs.VisitLemmas.{visited_none, whole_hand, next_there, came_on, came_to_end}
 use Rattle.gx_chain.proofs.WalkLemmas.{hand_ends, hand_leads}
 use Rattle.gx_chain.proofs.check.visit_chain.Goals as goal

@@ -3,7 +3,7 @@ use Rattle.std.proofs.lemmas.Result.{on_ok_weaker}
 use Rattle.gx_ports.specs.Files.{IsWhole}
 use Rattle.gx_ports.specs.Sheets.{Sheets}
 use Rattle.gx_ports.proofs.PageLemmas.{ends_as}
-use Rattle.gx_chain.specs.Check.{HasAllSeen, AreAllSeen}
+use Rattle.gx_seen.specs.Seen.{HasAllSeen, AreAllSeen}
 use Rattle.gx_chain.specs.Map.{owned_map}
 use Rattle.gx_hash.specs.Hash.{IsHash}
 use Rattle.gx_hash.proofs.BucketLemmas.{roots_some}

@@ -3,7 +3,7 @@ use Rattle.std.proofs.lemmas.Bool.{false≢true}
 use Rattle.gx_ports.specs.Sheets.{Ground}
 use Rattle.gx_ports.proofs.PageLemmas.{ends_handed_on}
 use Rattle.gx_chain.specs.Check.{HasUnseenChain}
-use Rattle.gx_chain.proofs.CheckLemmas.{ends_shown}
+use Rattle.gx_seen.proofs.EndLemmas.{ends_shown}
 use Rattle.gx_hash.specs.Visited.{HasUnseenBucket}
 use Rattle.gx_hash.proofs.VisitedLemmas.{visited_bucket, keys_placed, unseen_chain}
 use Rattle.gx_hash.proofs.visits.visit_bucket.Goals as goal

@@ -5,7 +5,7 @@ use Rattle.gx_ports.specs.declared.entries.Entries.{Entries}
 use Rattle.gx_ports.specs.Files.{IsWhole}
 use Rattle.gx_ports.specs.LeafMaps.{selected}
 use Rattle.gx_ports.specs.Sheets.{Ground}
-use Rattle.gx_chain.proofs.CheckLemmas.{ends_shown}
+use Rattle.gx_seen.proofs.EndLemmas.{ends_shown}
 use Rattle.gx_isam.specs.Isam.{IsIsam}
 use Rattle.gx_isam.specs.Layout.{AreOrdered}
 use Rattle.gx_isam.proofs.SelectedLemmas.{selected_ordered}

@@ -5,7 +5,7 @@ use Rattle.gx_ports.specs.Sheets.{Ground, Sheets, IsPast}
 use Rattle.gx_ports.proofs.PageLemmas.{ends_handed_on, kept_pages_joined, pages_keep_themselves}
 use Rattle.gx_slots.specs.Page.{next_of}
 use Rattle.gx_chain.specs.Chain.{IsChain, IsEntryAt, LeadsOn}
-use Rattle.gx_chain.proofs.CheckLemmas.{ends_shown}
+use Rattle.gx_seen.proofs.EndLemmas.{ends_shown}
 use Rattle.gx_isam.specs.Index.{first_of}
 use Rattle.gx_isam.specs.Change.{IsLeftOut}
 use Rattle.gx_isam.specs.Layout.{HasIndexAt}
