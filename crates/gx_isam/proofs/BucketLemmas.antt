@@ -21,7 +21,7 @@ use Rattle.gx_chain.specs.Changes.{StaysBeside}
 use Rattle.gx_chain.proofs.ChainLemmas.{at_other, linked_page, same_on, same_on_back, same_chain}
 use Rattle.gx_chain.proofs.CountLemmas.{first_of as entry_of}
 use Rattle.gx_chain.proofs.ListLemmas.{contains_here, contains_later, contains_cases, contains_or_not}
-use Rattle.gx_isam.specs.Index.{IsIndexPage, bucket_among, bucket_count, bucket_of, first_of, separators_in, separators_of, behind_firsts}
+use Rattle.gx_isam_index.specs.Index.{IsIndexPage, bucket_among, bucket_count, bucket_of, first_of, separators_in, separators_of, behind_firsts}
 use Rattle.gx_isam.specs.Isam.{AreBuckets, IsIsam, IsOfChain}
 
 equal_itself : (n : ℕ) → (n == n) ≡ true

@@ -15,7 +15,7 @@ use Rattle.gx_chain.specs.Chain.{bytes_at, IsChain, IsOn, LeadsOn}
 use Rattle.gx_chain.specs.Changes.{IsPutIn, IsRemovedFrom}
 use Rattle.gx_chain.proofs.ChainLemmas.{linked_page}
 use Rattle.gx_chain.proofs.ListLemmas.{contains_here, contains_none}
-use Rattle.gx_isam.specs.Index.{bucket_count, bucket_of, first_of}
+use Rattle.gx_isam_index.specs.Index.{bucket_count, bucket_of, first_of}
 use Rattle.gx_isam.specs.Isam.{IsIsam}
 use Rattle.gx_isam.specs.Change.{IsHungBefore, IsSettled}
 use Rattle.gx_isam.proofs.BucketLemmas.{as_isam, key_isam, bucket_others, found_put, found_removed}

@@ -6,7 +6,8 @@ use Rattle.gx_ports.specs.Files.{SameFor}
 use Rattle.gx_ports.specs.LeafMaps.{LeafMap}
 use Rattle.gx_ports.specs.Sheets.{Sheets, Ground}
 use Rattle.gx_chain.proofs.ChainLemmas.{at_other}
-use Rattle.gx_isam.specs.Fresh.{HasFreshBuckets, IsFresh}
+use Rattle.gx_isam_index.specs.Fresh.{HasFreshBuckets}
+use Rattle.gx_isam.specs.Fresh.{IsFresh}
 use Rattle.gx_isam.specs.Isam.{IsIsam}
 
 pub fresh_same : (ground : Ground) (place : Place) (s t : Sheets) (held map : LeafMap) → ground.tables ≤ place.root → SameFor ground place.owner s t → IsIsam ground place s held → IsFresh place s map → IsFresh place t map

@@ -13,7 +13,7 @@ use Rattle.gx_chain.specs.Chain.{bytes_at, entries_at, AreLinked, IsChain, IsOn}
 use Rattle.gx_chain.proofs.ChainLemmas.{at_other, same_on, same_on_back, same_chain}
 use Rattle.gx_chain.proofs.ListLemmas.{contains_here, contains_later, contains_cases, contains_none, pairs_cons}
 use Rattle.gx_chain.proofs.WriteLemmas.{slice_get_set, slice_get_set_same}
-use Rattle.gx_isam.specs.Index.{bucket_count, first_of}
+use Rattle.gx_isam_index.specs.Index.{bucket_count, first_of}
 use Rattle.gx_isam.specs.Isam.{IsIsam}
 use Rattle.gx_isam.specs.Change.{IsHungBefore}
 use Rattle.gx_isam.proofs.BucketLemmas.{root_off, IsBucketChanged}

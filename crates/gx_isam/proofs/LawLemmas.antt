@@ -16,7 +16,7 @@ use Rattle.gx_chain.proofs.ChainLemmas.{at_other, same_on, same_on_back, same_ch
 use Rattle.gx_chain.proofs.MapLemmas.{owned_map_is, one_map}
 use Rattle.gx_chain.proofs.WriteLemmas.{slice_get_set, slice_get_set_same}
 use Rattle.gx_slots.specs.Page.{entries_of}
-use Rattle.gx_isam.specs.Index.{IsIndexPage, bucket_count, bucket_of, first_of}
+use Rattle.gx_isam_index.specs.Index.{IsIndexPage, bucket_count, bucket_of, first_of}
 use Rattle.gx_isam.specs.Gathered.{pages_below}
 use Rattle.gx_isam.specs.Isam.{AreBuckets, IsIsam, IsOfChain, IsOnChain}
 use Rattle.gx_isam.specs.Map.{isam_map}

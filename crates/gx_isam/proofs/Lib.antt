@@ -1,6 +1,3 @@
-pub mod SeparatorLemmas
-pub mod ScanLemmas
-pub mod IndexLemmas
 pub mod BucketLemmas
 pub mod SettleLemmas
 pub mod HangLemmas
@@ -12,7 +9,6 @@ pub mod SpanLemmas
 pub mod LawLemmas
 pub mod PlacedLemmas
 pub mod VisitedLemmas
-pub mod LayoutLemmas
 pub mod SelectedLemmas
 pub mod RebuildLemmas
 pub mod FreshLemmas

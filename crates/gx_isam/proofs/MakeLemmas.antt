@@ -15,7 +15,7 @@ use Rattle.gx_ports.specs.Keyed.{key_cmp}
 use Rattle.gx_chain.specs.Chain.{bytes_at, IsChain}
 use Rattle.gx_chain.proofs.ListLemmas.{contains_none}
 use Rattle.gx_chain.proofs.WriteLemmas.{slice_get_set, slice_get_set_same}
-use Rattle.gx_isam.specs.Index.{IsIndexPage, bucket_count, first_of}
+use Rattle.gx_isam_index.specs.Index.{IsIndexPage, bucket_count, first_of}
 use Rattle.gx_isam.specs.Isam.{IsIsam}
 use Rattle.gx_isam.proofs.BucketLemmas.{as_isam}
 

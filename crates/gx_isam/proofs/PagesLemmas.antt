@@ -14,7 +14,7 @@ use Rattle.gx_chain.specs.Collect.{ArePagesApart}
 use Rattle.gx_chain.proofs.ChainLemmas.{linked_page}
 use Rattle.gx_chain.proofs.CountLemmas.{count_listed, keys_few, first_of as entry_of}
 use Rattle.gx_chain.proofs.ListLemmas.{contains_here, contains_later, contains_none, pairs_head, pairs_tail, pairs_cons}
-use Rattle.gx_isam.specs.Index.{bucket_count, first_of}
+use Rattle.gx_isam_index.specs.Index.{bucket_count, first_of}
 use Rattle.gx_isam.specs.Isam.{AreBuckets, IsIsam, IsOfChain, IsOnChain}
 use Rattle.gx_isam.specs.Gathered.{pages_below}
 use Rattle.gx_isam.proofs.BucketLemmas.{once}

@@ -10,7 +10,7 @@ use Rattle.gx_ports.specs.Keyed.{key_cmp}
 use Rattle.gx_ports.proofs.KeyLemmas.{same_key, tied}
 use Rattle.gx_chain.specs.Check.{has_key}
 use Rattle.gx_chain.proofs.ListLemmas.{contains_here, contains_later, contains_cases, contains_none, contains_middle}
-use Rattle.gx_isam.specs.Index.{bucket_of}
+use Rattle.gx_isam_index.specs.Index.{bucket_of}
 
 has_from : (keys : List (Vec ℕ)) (key : List ℕ) → has_key keys key ≡ true → (v : Vec ℕ) × Contains keys v × (key ≡ v.items)
 has_from [] key is = absurd (false≢true is)

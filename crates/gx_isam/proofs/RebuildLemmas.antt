@@ -25,16 +25,17 @@ use Rattle.gx_chain.proofs.CountLemmas.{count_listed}
 use Rattle.gx_chain.proofs.EntryLemmas.{more_from, more_to}
 use Rattle.gx_chain.proofs.ListLemmas.{contains_here, contains_later, contains_none}
 use Rattle.gx_chain.proofs.WriteLemmas.{slice_get_set}
-use Rattle.gx_isam.specs.Index.{IsIndexPage, bucket_count, bucket_of, first_of, separators_of}
-use Rattle.gx_isam.specs.Isam.{AreBuckets, IsIsam, IsOfChain, IsOnChain}
+use Rattle.gx_isam_index.specs.Index.{IsIndexPage, bucket_count, bucket_of, first_of, separators_of}
+use Rattle.gx_isam.specs.Isam.{AreBuckets, IsIsam}
 use Rattle.gx_isam.specs.Change.{IsHungBefore, IsLeftOut}
 use Rattle.gx_isam.specs.Gathered.{pages_below}
-use Rattle.gx_isam.specs.Layout.{AreEntriesOf, AreOrdered, HasIndex, IsBlankFor, IsEmptied, IsFilled, IsFreed, IsPartlyFilled, IsRun, IsWithin}
+use Rattle.gx_isam_index.specs.Layout.{AreOrdered}
+use Rattle.gx_isam.specs.Rebuild.{AreEntriesOf, HasIndex, IsBlankFor, IsEmptied, IsFilled, IsFreed, IsPartlyFilled, IsRun, IsWithin}
 use Rattle.gx_isam.specs.Map.{isam_map}
 use Rattle.gx_isam.proofs.BucketLemmas.{IsBucketChanged, as_isam, bucket_below, bucket_isam, bucket_others, buckets_now, changed, isam_at, on_bucket, owned_now}
 use Rattle.gx_isam.proofs.HangLemmas.{no_pages, hung_bucket, hung_on}
 use Rattle.gx_isam.proofs.LawLemmas.{isam_map_on}
-use Rattle.gx_isam.proofs.LayoutLemmas.{apart_keys, same_entry}
+use Rattle.gx_isam_index.proofs.LayoutLemmas.{apart_keys, same_entry}
 use Rattle.gx_isam.proofs.PagesLemmas.{below_few, below_from, isam_map_is}
 use Rattle.gx_isam.proofs.SelectedLemmas.{selected_those}
 use Rattle.gx_isam.proofs.SettleLemmas.{headed, left_out, on_rest}

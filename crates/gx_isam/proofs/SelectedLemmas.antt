@@ -1,5 +1,5 @@
 -- All entries of a map, as they are selected.
-use Rattle.std.proofs.Common.{◌≡◌, ◌≢◌, ◌↔◌, inl, inr, ℕ, zero, suc, ◌+◌, ◌<◌, Bool, true, false, cond, List, [], ◌∷◌, length, map, take, Option, Some, None, refl, sym, ap, subst, ◌∙◌, arith}
+use Rattle.std.proofs.Common.{◌≡◌, ℕ, zero, suc, ◌+◌, Bool, true, false, cond, List, [], ◌∷◌, map, Some, refl, sym, ap, subst, ◌∙◌, arith}
 use Rattle.std.specs.Prelude.{T, filter, slice_get}
 use Rattle.std.specs.FinMap as fin
 use Rattle.std.specs.FinMap.Entries.{below_all}
@@ -7,7 +7,7 @@ use Rattle.std.specs.List.{All, Contains}
 use Rattle.std.specs.Ordering.{is_lt, eq_by_cmp}
 use Rattle.std.specs.declared.cmp.Ordering.{Ordering}
 use Rattle.std.specs.declared.cmp.Ordering.TheVariants.{Less, Equal, Greater}
-use Rattle.std.proofs.lemmas.Option.{none-some, same_Some, get_or_from_slice_get, slice_get_within}
+use Rattle.std.proofs.lemmas.Option.{none-some, same_Some}
 use Rattle.gx_values.specs.Keys.{is_inside}
 use Rattle.gx_ports.specs.declared.leaves.Entry.{Entry as LeafEntry}
 use Rattle.gx_ports.specs.declared.pages.Place.{Place}
@@ -17,14 +17,14 @@ use Rattle.gx_ports.specs.Sheets.{Sheets, Ground}
 use Rattle.gx_ports.proofs.KeyLemmas.{same_key, tied}
 use Rattle.gx_ports.proofs.KeyedLemmas.{first_of_both, second_of_both}
 use Rattle.gx_slots.specs.Entries.{Entry, IsFit}
-use Rattle.gx_slots.specs.Page.{IsEntryPage, entries_of}
 use Rattle.gx_slots.proofs.PageLemmas.{page_of}
 use Rattle.gx_chain.specs.Chain.{bytes_at, entries_at}
 use Rattle.gx_chain.proofs.ChainLemmas.{linked_page}
-use Rattle.gx_isam.specs.Index.{first_of}
+use Rattle.gx_isam_index.specs.Index.{first_of}
 use Rattle.gx_isam.specs.Isam.{IsIsam}
-use Rattle.gx_isam.specs.Layout.{AreEntriesOf, AreOrdered, FitsPage, keys_of}
-use Rattle.gx_isam.proofs.LayoutLemmas.{not_itself}
+use Rattle.gx_isam_index.specs.Layout.{AreOrdered, keys_of}
+use Rattle.gx_isam.specs.Rebuild.{AreEntriesOf}
+use Rattle.gx_isam_index.proofs.LayoutLemmas.{not_itself}
 
 abbrev Pairs : Type 0
 Pairs = List (List ℕ × List ℕ)

@@ -15,7 +15,7 @@ use Rattle.gx_chain.specs.Changes.{StaysBeside}
 use Rattle.gx_chain.proofs.ChainLemmas.{at_other, same_on, same_on_back, same_chain}
 use Rattle.gx_chain.proofs.ListLemmas.{contains_here, contains_later, contains_cases, contains_none, pairs_head, pairs_tail}
 use Rattle.gx_chain.proofs.WriteLemmas.{slice_get_set, slice_get_set_same}
-use Rattle.gx_isam.specs.Index.{IsIndexPage, bucket_count, first_of, separators_of}
+use Rattle.gx_isam_index.specs.Index.{IsIndexPage, bucket_count, first_of, separators_of}
 use Rattle.gx_isam.specs.Isam.{IsIsam}
 use Rattle.gx_isam.specs.Change.{IsLeftOut, IsSettled}
 use Rattle.gx_isam.proofs.BucketLemmas.{root_off, IsBucketChanged}

@@ -3,7 +3,7 @@ use Rattle.std.proofs.Common.{◌≡◌, ◌↔◌, inl, inr, ℕ, suc, ◌+◌,
 use Rattle.std.specs.Prelude.{◌&&◌, IsTrue}
 use Rattle.std.specs.FinMap.{get}
 use Rattle.std.specs.List.{Contains, count_by}
-use Rattle.std.specs.Ordering.{is_eq, is_le, eq_by_cmp}
+use Rattle.std.specs.Ordering.{is_eq, is_le}
 use Rattle.std.specs.declared.cmp.Ordering.{Ordering}
 use Rattle.std.specs.declared.cmp.Ordering.TheVariants.{Less, Equal, Greater}
 use Rattle.std.proofs.lemmas.Bool.{cases_Bool, false≢true}
@@ -23,7 +23,7 @@ use Rattle.gx_chain.specs.Collect.{inside_of, inside_on, ArePagesApart, HasAppen
 use Rattle.gx_chain.proofs.ChainLemmas.{linked_page}
 use Rattle.gx_chain.proofs.CollectLemmas.{collected}
 use Rattle.gx_chain.proofs.SelectLemmas.{pages_selected}
-use Rattle.gx_isam.specs.Index.{bucket_among, bucket_count, bucket_of, first_of, last_among, last_bucket, separators_of}
+use Rattle.gx_isam_index.specs.Index.{bucket_among, bucket_count, bucket_of, first_of, last_among, last_bucket, separators_of}
 use Rattle.gx_isam.specs.Gathered.{pages_below, AreGathered}
 use Rattle.gx_isam.specs.Isam.{IsIsam, IsOfChain}
 use Rattle.gx_isam.proofs.BucketLemmas.{once}

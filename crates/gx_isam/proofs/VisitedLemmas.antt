@@ -15,7 +15,7 @@ use Rattle.gx_chain.specs.declared.check.Visits.{Visits}
 use Rattle.gx_chain.specs.Check.{has_key, IsVisitedChain, HasUnseenChain, AreUnseen}
 use Rattle.gx_chain.proofs.ListLemmas.{contains_here, contains_none}
 use Rattle.gx_chain.proofs.VisitLemmas.{unmarked}
-use Rattle.gx_isam.specs.Index.{IsIndexPage, bucket_count, bucket_of, first_of}
+use Rattle.gx_isam_index.specs.Index.{IsIndexPage, bucket_count, bucket_of, first_of}
 use Rattle.gx_isam.specs.Isam.{IsIsam, IsOfChain}
 use Rattle.gx_isam.specs.Map.{isam_map}
 use Rattle.gx_isam.specs.Visited.{ArePlaced, IsVisitedBucket, HasUnseenBucket, AreVisitedBuckets, IsRootAndSeen, HasEntryAt}

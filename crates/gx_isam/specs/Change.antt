@@ -6,7 +6,7 @@ use Rattle.gx_ports.specs.Sheets.{Sheets, Ground, IsPast, IsClaimed, IsOwnedAnew
 use Rattle.gx_slots.specs.Entries.{Entry}
 use Rattle.gx_chain.specs.Chain.{bytes_at, entries_at, next_at}
 use Rattle.gx_chain.specs.Changes.{IsRewritten}
-use Rattle.gx_isam.specs.Index.{IsIndexPage, bucket_count, first_of, separators_of}
+use Rattle.gx_isam_index.specs.Index.{IsIndexPage, bucket_count, first_of, separators_of}
 
 -- the first page that a number of an index leads to
 abbrev pub IsFirst : Ground → ℕ → Option ℕ → Type 0

@@ -7,7 +7,7 @@ use Rattle.gx_ports.specs.declared.pages.Place.{Place}
 use Rattle.gx_ports.specs.LeafMaps.{LeafMap}
 use Rattle.gx_ports.specs.Sheets.{Sheets, Ground}
 use Rattle.gx_chain.specs.Chain.{bytes_at, entries_at, IsChain, IsOn}
-use Rattle.gx_isam.specs.Index.{IsIndexPage, bucket_count, bucket_of, first_of}
+use Rattle.gx_isam_index.specs.Index.{IsIndexPage, bucket_count, bucket_of, first_of}
 
 -- a page is one of the first chains
 pub record IsOfChain (pages : ℕ → List ℕ) (count page : ℕ) : Type 0 where

@@ -1,8 +1,7 @@
-pub mod Index
 pub mod Isam
 pub mod Change
 pub mod Gathered
 pub mod Visited
 pub mod Map
 pub mod Fresh
-pub mod Layout
+pub mod Rebuild

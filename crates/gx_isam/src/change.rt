@@ -7,12 +7,12 @@ ghost use Rattle.gx_ports.specs.PageCalls.{KeepsPages, CountsPageFaults};
 ghost use Rattle.gx_ports.specs.Sheets.{IsPast, HasNone};
 ghost use Rattle.gx_slots.specs.Page.{IsEntryPage, entries_of};
 ghost use Rattle.gx_chain.specs.Chain.{bytes_at, IsEntryAt};
-ghost use Rattle.gx_isam.specs.Index.{IsIndexPage, bucket_count, separators_of, first_of};
+ghost use Rattle.gx_isam_index.specs.Index.{IsIndexPage, bucket_count, separators_of, first_of};
 ghost use Rattle.gx_isam.specs.Change.{IsHungBefore, IsLeftOut, IsSettled};
 
-use crate::index::{first, set_first};
 use crate::read::read_entries;
 use gx_device::Failed;
+use gx_isam_index::{first, set_first};
 use gx_ports::{PAGE_LEN, Pages, Place, Stop};
 use gx_slots::{add, clear, count, next, set_next};
 

@@ -3,9 +3,7 @@
 #![tactic(auto)]
 
 mod change;
-mod index;
 mod isam;
-mod layout;
 mod read;
 mod rebuild;
 mod spans;

@@ -6,11 +6,11 @@ ghost use Rattle.gx_ports.specs.PageCalls.{ReadsPages};
 ghost use Rattle.gx_ports.specs.Sheets.{IsPast};
 ghost use Rattle.gx_slots.specs.Page.{IsEntryPage};
 ghost use Rattle.gx_chain.specs.Chain.{bytes_at, IsEntryAt, LeadsOn};
-ghost use Rattle.gx_isam.specs.Index.{IsIndexPage, bucket_count, first_of};
+ghost use Rattle.gx_isam_index.specs.Index.{IsIndexPage, bucket_count, first_of};
 ghost use Rattle.gx_isam.specs.Isam.{IsIndexAt};
 ghost use Rattle.gx_isam.specs.Change.{IsFirst};
 
-use crate::index::{first, is_index};
+use gx_isam_index::{first, is_index};
 use gx_ports::{PAGE_LEN, Pages, Stop};
 use gx_slots::{NONE, is_entries};
 

@@ -8,13 +8,14 @@ ghost use Rattle.gx_ports.specs.LeafMaps.{LeafMap};
 ghost use Rattle.gx_ports.specs.PageCalls.{KeepsPages};
 ghost use Rattle.gx_ports.specs.Sheets.{IsPast, HasNone};
 ghost use Rattle.gx_slots.specs.Page.{IsEntryPage, entries_of};
-ghost use Rattle.gx_isam.specs.Index.{IsIndexPage, bucket_count};
+ghost use Rattle.gx_isam_index.specs.Index.{IsIndexPage, bucket_count};
 ghost use Rattle.gx_isam.specs.Isam.{IsIsam};
-ghost use Rattle.gx_isam.specs.Layout.{AreOrdered, HasIndexAt, HasIndex, IsBlankFor, IsEmptied, IsFilled, IsFreed, IsPartlyFilled, IsRun};
+ghost use Rattle.gx_isam_index.specs.Layout.{AreOrdered};
+ghost use Rattle.gx_isam.specs.Rebuild.{HasIndexAt, HasIndex, IsBlankFor, IsEmptied, IsFilled, IsFreed, IsPartlyFilled, IsRun};
 
 use crate::change::{hang_before, leave_out};
-use crate::index::{bucket_of, buckets};
 use crate::read::{first_page, read_entries, read_index};
+use gx_isam_index::{bucket_of, buckets};
 use gx_ports::{Entries, PAGE_LEN, Pages, Place, Stop};
 use gx_slots::{add, clear, next};
 

@@ -8,12 +8,12 @@ ghost use Rattle.gx_ports.specs.Sheets.{IsPast};
 ghost use Rattle.gx_chain.specs.Chain.{IsChain, HasChain};
 ghost use Rattle.gx_chain.specs.Collect.{inside_on};
 ghost use Rattle.gx_isam.specs.Gathered.{AreGathered};
-ghost use Rattle.gx_isam.specs.Index.{IsIndexPage, bucket_count, first_of};
+ghost use Rattle.gx_isam_index.specs.Index.{IsIndexPage, bucket_count, first_of};
 ghost use Rattle.gx_isam.specs.Isam.{IsIsam};
 
-use crate::index::{bucket_of, last_bucket};
 use crate::read::{first_page, read_index};
 use gx_chain::gather_from;
+use gx_isam_index::{bucket_of, last_bucket};
 use gx_ports::{Entry, PAGE_LEN, Pages, Place, Stop};
 use gx_values::Span;
 use std::alloc::Global;

@@ -5,13 +5,13 @@ ghost use Rattle.gx_ports.specs.PageCalls.{ReadsPages};
 ghost use Rattle.gx_ports.specs.Sheets.{IsPast};
 ghost use Rattle.gx_chain.specs.Chain.{bytes_at, entries_at};
 ghost use Rattle.gx_chain.specs.Check.{has_key};
-ghost use Rattle.gx_isam.specs.Index.{IsIndexPage, bucket_count, bucket_of};
+ghost use Rattle.gx_isam_index.specs.Index.{IsIndexPage, bucket_count, bucket_of};
 ghost use Rattle.gx_isam.specs.Isam.{IsIsam};
 ghost use Rattle.gx_isam.specs.Visited.{AreVisitedBuckets, HasEntryAt, HasRootAndSeen, HasUnseenBucket, IsRootAndSeen, IsVisitedBucket};
 
-use crate::index::{bucket_of, buckets};
 use crate::read::{first_page, read_entries};
 use gx_chain::{Visits, visit_chain};
+use gx_isam_index::{bucket_of, buckets};
 use gx_ports::{PAGE_LEN, Pages, Place, Stop};
 use gx_seen::seek_unseen;
 use gx_slots::count;

@@ -1,7 +1,7 @@
 use Rattle.std.proofs.Common.{refl, ap, ◌∙◌, arith}
 use Rattle.gx_slots.specs.Page.{entries_of}
 use Rattle.gx_chain.proofs.WriteLemmas.{written}
-use Rattle.gx_isam.specs.Index.{first_of}
+use Rattle.gx_isam_index.specs.Index.{first_of}
 use Rattle.gx_isam.proofs.WriteLemmas.{index_written}
 use Rattle.gx_isam.proofs.change.hang_before.Goals as goal
 

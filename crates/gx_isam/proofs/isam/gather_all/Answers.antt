@@ -7,7 +7,7 @@ use Rattle.gx_ports.specs.LeafMaps.{selected}
 use Rattle.gx_ports.specs.Sheets.{Ground}
 use Rattle.gx_seen.proofs.EndLemmas.{ends_shown}
 use Rattle.gx_isam.specs.Isam.{IsIsam}
-use Rattle.gx_isam.specs.Layout.{AreOrdered}
+use Rattle.gx_isam_index.specs.Layout.{AreOrdered}
 use Rattle.gx_isam.proofs.SelectedLemmas.{selected_ordered}
 use Rattle.gx_isam.proofs.isam.gather_all.Goals as goal
 

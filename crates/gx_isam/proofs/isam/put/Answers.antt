@@ -8,7 +8,7 @@ use Rattle.gx_ports.specs.declared.stop.Stop.TheVariants as stop
 use Rattle.gx_ports.proofs.PageLemmas.{ends_as, ends_handed_on}
 use Rattle.gx_chain.specs.Chain.{bytes_at, IsEntryAt, LeadsOn}
 use Rattle.gx_chain.proofs.OwnerLemmas.{spared}
-use Rattle.gx_isam.specs.Index.{first_of}
+use Rattle.gx_isam_index.specs.Index.{first_of}
 use Rattle.gx_isam.specs.Isam.{IsIsam}
 use Rattle.gx_isam.specs.Change.{IsSettled}
 use Rattle.gx_isam.proofs.ChangeLemmas.{isam_read, isam_back, others_back, leads_on, entry_first, chain_first, put_begun, put_settled}

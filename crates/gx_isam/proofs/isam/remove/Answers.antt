@@ -6,7 +6,7 @@ use Rattle.gx_ports.specs.Files.{IsWhole}
 use Rattle.gx_ports.specs.Sheets.{Sheets, Ground, IsPast}
 use Rattle.gx_ports.proofs.PageLemmas.{ends_as, ends_handed_on}
 use Rattle.gx_chain.specs.Chain.{bytes_at, IsEntryAt, LeadsOn}
-use Rattle.gx_isam.specs.Index.{first_of}
+use Rattle.gx_isam_index.specs.Index.{first_of}
 use Rattle.gx_isam.specs.Isam.{IsIsam}
 use Rattle.gx_isam.specs.Change.{IsSettled}
 use Rattle.gx_isam.proofs.ChangeLemmas.{isam_read, isam_back, others_back, leads_on, entry_first, chain_first, removed_none, removed_settled}

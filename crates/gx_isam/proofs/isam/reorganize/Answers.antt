@@ -5,11 +5,12 @@ use Rattle.gx_ports.specs.Sheets.{Sheets, Ground, HasNone}
 use Rattle.gx_ports.specs.declared.stop.Stop.TheVariants as stop
 use Rattle.gx_ports.proofs.PageLemmas.{ends_as, ends_handed_on}
 use Rattle.gx_chain.specs.Chain.{bytes_at}
-use Rattle.gx_isam.specs.Fresh.{HasFreshBuckets}
+use Rattle.gx_isam_index.specs.Fresh.{HasFreshBuckets}
 use Rattle.gx_isam.specs.Isam.{IsIsam}
-use Rattle.gx_isam.specs.Layout.{IsBlankFor, IsEmptied, keys_of}
+use Rattle.gx_isam_index.specs.Layout.{keys_of}
+use Rattle.gx_isam.specs.Rebuild.{IsBlankFor, IsEmptied}
 use Rattle.gx_isam.proofs.ChangeLemmas.{isam_read}
-use Rattle.gx_isam.proofs.LayoutLemmas.{fresh_stays}
+use Rattle.gx_isam_index.proofs.LayoutLemmas.{fresh_stays}
 use Rattle.gx_isam.proofs.MakeLemmas.{one_root}
 use Rattle.gx_isam.proofs.RebuildLemmas.{blank_for, blank_others, others_itself, others_joined}
 use Rattle.gx_isam.proofs.SelectedLemmas.{keys_selected}

@@ -4,7 +4,7 @@ use Rattle.gx_ports.specs.declared.stop.Stop.TheVariants as stop
 use Rattle.gx_ports.proofs.PageLemmas.{kept_pages_joined, pages_keep_themselves}
 use Rattle.gx_slots.specs.Page.{entries_of}
 use Rattle.gx_isam.specs.Change.{IsHungBefore}
-use Rattle.gx_isam.specs.Layout.{IsPartlyFilled}
+use Rattle.gx_isam.specs.Rebuild.{IsPartlyFilled}
 use Rattle.gx_isam.proofs.RebuildLemmas.{filled_first, filled_last, filled_more, filled_partly}
 use Rattle.gx_isam.proofs.WriteLemmas.{handed_refusal, only_full}
 use Rattle.gx_isam.proofs.rebuild.fill_chains.Goals as goal

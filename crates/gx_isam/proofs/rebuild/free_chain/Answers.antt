@@ -6,9 +6,9 @@ use Rattle.gx_ports.proofs.PageLemmas.{ends_handed_on, kept_pages_joined, pages_
 use Rattle.gx_slots.specs.Page.{next_of}
 use Rattle.gx_chain.specs.Chain.{IsChain, IsEntryAt, LeadsOn}
 use Rattle.gx_seen.proofs.EndLemmas.{ends_shown}
-use Rattle.gx_isam.specs.Index.{first_of}
+use Rattle.gx_isam_index.specs.Index.{first_of}
 use Rattle.gx_isam.specs.Change.{IsLeftOut}
-use Rattle.gx_isam.specs.Layout.{HasIndexAt}
+use Rattle.gx_isam.specs.Rebuild.{HasIndexAt}
 use Rattle.gx_isam.proofs.ChangeLemmas.{leads_on, entry_first}
 use Rattle.gx_isam.proofs.RebuildLemmas.{freeing_chain, freeing_cut, freeing_done, freeing_ends, freeing_first}
 use Rattle.gx_isam.proofs.rebuild.free_chain.Goals as goal

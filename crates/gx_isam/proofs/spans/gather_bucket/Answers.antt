@@ -6,7 +6,7 @@ use Rattle.gx_ports.specs.Sheets.{IsPast}
 use Rattle.gx_ports.proofs.PageLemmas.{ends_handed_on}
 use Rattle.gx_chain.specs.Chain.{IsChain, HasChain, LeadsOn}
 use Rattle.gx_chain.specs.Collect.{inside_on}
-use Rattle.gx_isam.specs.Index.{first_of}
+use Rattle.gx_isam_index.specs.Index.{first_of}
 use Rattle.gx_isam.proofs.HangLemmas.{no_pages}
 use Rattle.gx_isam.proofs.ChangeLemmas.{leads_on}
 use Rattle.gx_isam.proofs.spans.gather_bucket.Goals as goal

@@ -1,10 +1,10 @@
-use Rattle.std.proofs.Common.{rules, ◌≡◌, ◌<◌, ◌≤◌, ◌+◌, ◌++◌, [], ap, refl, subst, sym, ◌∙◌, arith, List, ℕ}
+use Rattle.std.proofs.Common.{rules, ◌≡◌, ◌<◌, ◌+◌, ◌++◌, [], ap, refl, ◌∙◌, arith}
 use Rattle.gx_ports.specs.Files.{IsWhole}
 use Rattle.gx_ports.specs.Sheets.{Sheets}
 use Rattle.gx_ports.proofs.PageLemmas.{read_pages_joined, ends_handed_on}
 use Rattle.gx_chain.specs.Chain.{HasChain}
 use Rattle.gx_chain.specs.Collect.{inside_on}
-use Rattle.gx_isam.specs.Index.{bucket_count, bucket_of, first_of, last_bucket}
+use Rattle.gx_isam_index.specs.Index.{bucket_count, bucket_of, first_of, last_bucket}
 use Rattle.gx_isam.specs.Isam.{IsIsam}
 use Rattle.gx_isam.proofs.SpanLemmas.{inside_more, inside_none, chain_now, gathered}
 use Rattle.gx_isam.proofs.spans.gather_inside.Goals as goal

@@ -1,6 +1,6 @@
 use Rattle.std.proofs.Common.{◌≡◌, ap, refl, sym, ◌∙◌}
 use Rattle.std.proofs.lemmas.Bool.{false≢true}
-use Rattle.gx_isam.specs.Index.{bucket_of}
+use Rattle.gx_isam_index.specs.Index.{bucket_of}
 use Rattle.gx_isam.proofs.PlacedLemmas.{placing_first, placing_more, placing_last, placing_off}
 use Rattle.gx_isam.proofs.visits.are_placed.Goals as goal
 

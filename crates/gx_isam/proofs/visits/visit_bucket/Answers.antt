@@ -8,7 +8,7 @@ use Rattle.gx_ports.proofs.PageLemmas.{ends_as, ends_handed_on}
 use Rattle.gx_slots.specs.Page.{IsEntryPage}
 use Rattle.gx_chain.specs.Chain.{bytes_at, entries_at, LeadsOn}
 use Rattle.gx_seen.proofs.EndLemmas.{ends_shown}
-use Rattle.gx_isam.specs.Index.{first_of}
+use Rattle.gx_isam_index.specs.Index.{first_of}
 use Rattle.gx_isam.specs.Visited.{HasUnseenBucket, HasEntryAt}
 use Rattle.gx_isam.proofs.ChangeLemmas.{leads_on}
 use Rattle.gx_isam.proofs.VisitedLemmas.{visited_nothing, visited_bucket, keys_placed, entry_there}

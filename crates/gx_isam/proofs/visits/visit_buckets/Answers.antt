@@ -3,7 +3,7 @@ use Rattle.std.proofs.lemmas.List.{length-replicate}
 use Rattle.gx_ports.specs.Files.{IsWhole}
 use Rattle.gx_ports.specs.Sheets.{Sheets, Ground, IsPast}
 use Rattle.gx_ports.proofs.PageLemmas.{pages_read_themselves, read_pages_joined, ends_handed_on}
-use Rattle.gx_isam.specs.Index.{bucket_count}
+use Rattle.gx_isam_index.specs.Index.{bucket_count}
 use Rattle.gx_isam.specs.Isam.{IsIsam}
 use Rattle.gx_isam.specs.Visited.{IsVisitedBucket, HasUnseenBucket, AreVisitedBuckets}
 use Rattle.gx_isam.proofs.VisitedLemmas.{visited_none, visited_more, bucket_there}

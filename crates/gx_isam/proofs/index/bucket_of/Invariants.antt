@@ -1,8 +1,0 @@
-use Rattle.std.specs.Ordering.{is_le}
-use Rattle.gx_ports.specs.Keyed.{key_cmp}
-use Rattle.gx_isam.specs.Index.{behind_firsts}
-use Rattle.gx_isam.proofs.IndexLemmas.{IsCounting}
-use Rattle.gx_isam.proofs.index.bucket_of.Given as goal
-
-abbrev pub invariant-loop : goal.invariant-loop
-invariant-loop l = IsCounting (λ separator. is_le (key_cmp separator l.key)) (behind_firsts l.page) l.count l.counter l.rest l.bucket

@@ -1,6 +1,0 @@
-use Rattle.gx_isam.proofs.LayoutLemmas.{IsLongestTo}
-use Rattle.gx_isam.specs.Layout.{keys_of}
-use Rattle.gx_isam.proofs.layout.longest_key.Given as goal
-
-abbrev pub invariant-loop-i : goal.invariant-loop-i
-invariant-loop-i l = IsLongestTo (keys_of l.entries) l.i l.longest

@@ -1,6 +1,0 @@
-use Rattle.gx_isam.proofs.LayoutLemmas.{IsWriting}
-use Rattle.gx_isam.specs.Layout.{keys_of}
-use Rattle.gx_isam.proofs.layout.write_separators.Given as goal
-
-abbrev pub invariant-loop-bucket : goal.invariant-loop-bucket
-invariant-loop-bucket l = IsWriting l.fn.page l.page (keys_of l.entries) l.count l.bucket l.at

@@ -1,0 +1,4 @@
+pub mod SeparatorLemmas
+pub mod ScanLemmas
+pub mod IndexLemmas
+pub mod LayoutLemmas

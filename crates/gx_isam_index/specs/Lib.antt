@@ -1,0 +1,3 @@
+pub mod Index
+pub mod Fresh
+pub mod Layout
