@@ -45,8 +45,8 @@ pub(crate) struct Visits {
 }
 
 /// Looks whether the tree is whole. Each of its pages is read once, from the last keys to the
-/// first, and the owner of each page is asked. `Damaged` has the block of a page that shows that it
-/// isn't.
+/// first, and then the table of owners, a page at a time. `Damaged` has the block of a page that
+/// shows that it isn't.
 pub fn check<P: Pages>(alloc: Global, pages: &mut P, place: &Place) -> Result<(), Stop>
     requires kind { place.now.spec.kind ≡ kinds.Bplus }
     requires place { IsPlace (P.ground pages.old) place.now }
