@@ -10,10 +10,10 @@ use Rattle.std.specs.Cmp.Lexicographic.{nat_list_cmp_total}
 use Rattle.std.specs.FinMap as fin
 use Rattle.std.specs.FinMap.Entries.{below_all}
 use Rattle.gx_ports.specs.Keyed.{key_cmp}
-use Rattle.gx_memory_leaves.specs.Cells.{Cell, Cells, body_entry, bodies, with_cell, put_back, undone, has_place, CanUndo, LeafPair, pair_of}
+use Rattle.gx_memory_leaves.specs.Cells.{Cell, Cells, body_entry, bodies, put_back, undone, without, kept_cells, emptied, HasCell, CanUndo, LeafPair, pair_of}
 use Rattle.gx_memory_leaves.specs.declared.undo.Undo.{Undo}
 use Rattle.gx_memory_leaves.specs.Pairs.{empty_pair}
-use Rattle.gx_ports.proofs.KeyLemmas.{only_equal, same_key, tied, shadowed}
+use Rattle.gx_ports.proofs.KeyLemmas.{only_equal, same_key, tied, shadowed, swapped, apart}
 use Rattle.gx_ports.proofs.KeyedLemmas.{entries_of_sorted, both_of, first_of_both, second_of_both}
 
 -- a cell that may be missing has no body either
@@ -126,99 +126,188 @@ no_bodies : bodies fin.empty ≡ fin.empty
 no_bodies = fin.same_map nat_list_cmp_total only_equal _ _ (λ q.
     get_bodies fin.empty q ∙ ap flat (fin.get-empty key_cmp q) ∙ sym (fin.get-empty key_cmp q))
 
-pub no_pair : pair_of fin.empty [] ≡ empty_pair
+pub no_pair : pair_of fin.empty [] [] ≡ empty_pair
 no_pair = λ i. record { working = no_bodies i; kept = no_bodies i }
 
 -- ---- changes are taken back
 
-get_with : (m : Cells) (k q : List ℕ) (o : Option Cell) → fin.get (with_cell m k o) q ≡ cond (eq_by_cmp key_cmp q k) o (fin.get m q)
-get_with m k q None = fin.get-remove nat_list_cmp_total m k q
-get_with m k q (Some c) = fin.get-insert nat_list_cmp_total m k c q
-
 -- what stood there before is back
-pub back : (m : Cells) (k : List ℕ) (c : Cell) → with_cell (fin.insert m k c) k (fin.get m k) ≡ m
-back m k c = fin.same_map nat_list_cmp_total only_equal _ m (λ q.
-    get_with (fin.insert m k c) k q (fin.get m k)
-    ∙ ap (cond (eq_by_cmp key_cmp q k) (fin.get m k)) (fin.get-insert nat_list_cmp_total m k c q)
-    ∙ sym (shadowed (eq_by_cmp key_cmp q k) (fin.get m k) (Some c) (fin.get m q))
-    ∙ at_key q k _ _ _ (λ e. ap (fin.get m) (sym e)) refl)
+back : (m : Cells) (k : List ℕ) (b c : Cell) → fin.get m k ≡ Some b → fin.insert (fin.insert m k c) k b ≡ m
+back m k b c here = fin.same_map nat_list_cmp_total only_equal _ m (λ q.
+    fin.get-insert nat_list_cmp_total (fin.insert m k c) k b q
+    ∙ ap (cond (eq_by_cmp key_cmp q k) (Some b)) (fin.get-insert nat_list_cmp_total m k c q)
+    ∙ sym (shadowed (eq_by_cmp key_cmp q k) (Some b) (Some c) (fin.get m q))
+    ∙ at_key q k _ _ _ (λ e. sym (ap (fin.get m) e ∙ here)) refl)
+
+-- a cell that was made is taken out
+out_again : (m : Cells) (k : List ℕ) (c : Cell) → fin.get m k ≡ None → fin.remove (fin.insert m k c) k ≡ m
+out_again m k c none = fin.same_map nat_list_cmp_total only_equal _ m (λ q.
+    fin.get-remove nat_list_cmp_total (fin.insert m k c) k q
+    ∙ ap (cond (eq_by_cmp key_cmp q k) None) (fin.get-insert nat_list_cmp_total m k c q)
+    ∙ sym (shadowed (eq_by_cmp key_cmp q k) None (Some c) (fin.get m q))
+    ∙ at_key q k _ _ _ (λ e. sym (ap (fin.get m) e ∙ none)) refl)
+
+-- a cell is written over with what it has
+same_again : (m : Cells) (k : List ℕ) (b : Cell) → fin.get m k ≡ Some b → fin.insert m k b ≡ m
+same_again m k b here = fin.same_map nat_list_cmp_total only_equal _ m (λ q.
+    fin.get-insert nat_list_cmp_total m k b q
+    ∙ at_key q k _ _ _ (λ e. sym (ap (fin.get m) e ∙ here)) refl)
+
+-- a cell is put in and another one taken out, of two keys, in either order
+in_and_out : (m : Cells) (j k : List ℕ) (b : Cell) → eq_by_cmp key_cmp k j ≡ false → fin.remove (fin.insert m j b) k ≡ fin.insert (fin.remove m k) j b
+in_and_out m j k b differ = fin.same_map nat_list_cmp_total only_equal _ _ (λ q.
+    fin.get-remove nat_list_cmp_total (fin.insert m j b) k q
+    ∙ ap (cond (eq_by_cmp key_cmp q k) None) (fin.get-insert nat_list_cmp_total m j b q)
+    ∙ sym (swapped (eq_by_cmp key_cmp q j) (eq_by_cmp key_cmp q k) (Some b) None (fin.get m q) (apart q k j differ))
+    ∙ ap (cond (eq_by_cmp key_cmp q j) (Some b)) (sym (fin.get-remove nat_list_cmp_total m k q))
+    ∙ sym (fin.get-insert nat_list_cmp_total (fin.remove m k) j b q))
+
+-- a key with a cell isn't one without
+two_keys : (m : Cells) (j k : List ℕ) → HasCell m j → fin.get m k ≡ None → eq_by_cmp key_cmp k j ≡ false
+two_keys m j k has none = elim (eq_by_cmp key_cmp k j) as (λ b. eq_by_cmp key_cmp k j ≡ b → b ≡ false) [
+  | true ↦ λ t. sym has ∙ ap (λ x. is_some (fin.get m x)) (sym (same_key k j t)) ∙ ap is_some none
+  | false ↦ λ _. refl
+] refl
+
+some_cond : (b : Bool) (c : Cell) (o : Option Cell) → is_some o ≡ true → is_some (cond b (Some c) o) ≡ true
+some_cond true c o e = refl
+some_cond false c o e = e
+
+still_there : (m : Cells) (k : List ℕ) (c : Cell) (q : List ℕ) → HasCell m q → HasCell (fin.insert m k c) q
+still_there m k c q has = ap is_some (fin.get-insert nat_list_cmp_total m k c q) ∙ some_cond (eq_by_cmp key_cmp q k) c (fin.get m q) has
+
+there : (m : Cells) (k : List ℕ) (c : Cell) → HasCell (fin.insert m k c) k
+there m k c = ap is_some (fin.get-insert nat_list_cmp_total m k c k ∙ ap (λ b. cond b (Some c) (fin.get m k)) (tied k))
+
+can_still : (us : List Undo) (m : Cells) (k : List ℕ) (c : Cell) → CanUndo us m → CanUndo us (fin.insert m k c)
+can_still [] m k c can = tt
+can_still (u ∷ us) m k c can = (still_there m k c u.key can.0, can_still us m k c can.1)
+
+can_more : (us : List Undo) (u : Undo) (m : Cells) → CanUndo us m → HasCell m u.key → CanUndo (us ++ u ∷ []) m
+can_more [] u m can here = (here, tt)
+can_more (v ∷ vs) u m can here = (can.0, can_more vs u m can.1 here)
+
+can_last : (us : List Undo) (u : Undo) (m : Cells) → CanUndo (us ++ u ∷ []) m → CanUndo us m × HasCell m u.key
+can_last [] u m can = (tt, can.0)
+can_last (v ∷ vs) u m can = let rest = can_last vs u m can.1 in ((can.0, rest.0), rest.1)
 
 undone_last : (us : List Undo) (u : Undo) (m : Cells) → undone (us ++ u ∷ []) m ≡ undone us (put_back u m)
 undone_last [] u m = refl
 undone_last (v ∷ vs) u m = ap (put_back v) (undone_last vs u m)
 
-can_last : (us : List Undo) (u : Undo) (m : Cells) → CanUndo (us ++ u ∷ []) m → CanUndo us (put_back u m) × (has_place u.before (fin.get m u.key) ≡ true)
-can_last [] u m can = (tt, can.0)
-can_last (v ∷ vs) u m can =
-    let rest = can_last vs u m can.1 in
-    ((subst (λ (x : Cells). has_place v.before (fin.get x v.key) ≡ true) (undone_last vs u m) can.0, rest.0), rest.1)
+without_last : (ks : List (List ℕ)) (k : List ℕ) (m : Cells) → without (ks ++ k ∷ []) m ≡ without ks (fin.remove m k)
+without_last [] k m = refl
+without_last (j ∷ js) k m = ap (λ (x : Cells). fin.remove x j) (without_last js k m)
 
-can_more : (us : List Undo) (u : Undo) (m : Cells) → CanUndo us (put_back u m) → has_place u.before (fin.get m u.key) ≡ true → CanUndo (us ++ u ∷ []) m
-can_more [] u m can here = (here, tt)
-can_more (v ∷ vs) u m can here = (subst (λ (x : Cells). has_place v.before (fin.get x v.key) ≡ true) (sym (undone_last vs u m)) can.0, can_more vs u m can.1 here)
+-- changes of other cells are taken back beside one that was made
+beside : (us : List Undo) (m : Cells) (k : List ℕ) (c : Cell) → CanUndo us m → fin.get m k ≡ None → fin.remove (undone us (fin.insert m k c)) k ≡ undone us m
+beside [] m k c can none = out_again m k c none
+beside (u ∷ us) m k c can none =
+    in_and_out (undone us (fin.insert m k c)) u.key k u.before (two_keys m u.key k can.0 none)
+    ∙ ap (λ (x : Cells). fin.insert x u.key u.before) (beside us m k c can.1 none)
 
-has_some : (o : Option Cell) (c : Cell) → has_place o (Some c) ≡ true
-has_some None c = refl
-has_some (Some b) c = refl
+-- a cell more was made
+pub made_more : (ks mid ls : List (List ℕ)) (us vs : List Undo) (m n : Cells) (k noted : List ℕ) (c : Cell) → mid ≡ ks → ls ≡ mid ++ noted ∷ [] → noted ≡ k → vs ≡ us → n ≡ fin.insert m k c → fin.get m k ≡ None → CanUndo us m
+    → (kept_cells ls vs n ≡ kept_cells ks us m) × CanUndo vs n
+made_more ks mid ls us vs m n k noted c same pushed key same_undos inserted none can = (
+  (λ i. without (pushed i) (undone (same_undos i) (inserted i)))
+      ∙ (λ i. without (same i ++ key i ∷ []) (undone us (fin.insert m k c)))
+      ∙ without_last ks k (undone us (fin.insert m k c))
+      ∙ ap (without ks) (beside us m k c can none),
+  subst (λ (ws : List Undo). CanUndo ws n) (sym same_undos) (subst (CanUndo us) (sym inserted) (can_still us m k c can)),
+)
 
 -- one change more, noted with what stood there before
-module _ (us : List Undo) (u : Undo) (m : Cells) (k : List ℕ) (c : Cell) (key : u.key ≡ k) (before : u.before ≡ fin.get m k) where
-  taken_back : put_back u (fin.insert m k c) ≡ m
-  taken_back = (λ i. with_cell (fin.insert m k c) (key i) (before i)) ∙ back m k c
-
-  undone_more : undone (us ++ u ∷ []) (fin.insert m k c) ≡ undone us m
-  undone_more = undone_last us u (fin.insert m k c) ∙ ap (undone us) taken_back
-
-  can_undo_more : CanUndo us m → CanUndo (us ++ u ∷ []) (fin.insert m k c)
-  can_undo_more can =
-      let there : fin.get (fin.insert m k c) u.key ≡ Some c = ap (fin.get (fin.insert m k c)) key ∙ fin.get-insert nat_list_cmp_total m k c k ∙ ap (λ b. cond b (Some c) (fin.get m k)) (tied k) in
-      can_more us u (fin.insert m k c) (subst (CanUndo us) (sym taken_back) can) (ap (has_place u.before) there ∙ has_some u.before c)
-
--- the same, of the code's lists and maps
-pub noted : (us mid vs : List Undo) (u : Undo) (m n : Cells) (k : List ℕ) (c : Cell) → mid ≡ us → vs ≡ mid ++ u ∷ [] → n ≡ fin.insert m k c → u.key ≡ k → u.before ≡ fin.get m k → CanUndo us m → (undone vs n ≡ undone us m) × CanUndo vs n
-noted us mid vs u m n k c same pushed inserted key before can = (
-  (λ i. undone (pushed i) (inserted i)) ∙ ap (λ (ws : List Undo). undone (ws ++ u ∷ []) (fin.insert m k c)) same ∙ undone_more us u m k c key before,
-  subst (λ (ws : List Undo). CanUndo ws n) (sym (pushed ∙ ap (λ (ws : List Undo). ws ++ u ∷ []) same)) (subst (CanUndo (us ++ u ∷ [])) (sym inserted) (can_undo_more us u m k c key before can)),
-)
+pub noted_more : (us mid vs : List Undo) (u : Undo) (m n : Cells) (k : List ℕ) (c : Cell) → mid ≡ us → vs ≡ mid ++ u ∷ [] → n ≡ fin.insert m k c → u.key ≡ k → fin.get m k ≡ Some u.before → CanUndo us m
+    → (undone vs n ≡ undone us m) × CanUndo vs n
+noted_more us mid vs u m n k c same pushed inserted key before can =
+    let here : HasCell (fin.insert m k c) u.key = subst (HasCell (fin.insert m k c)) (sym key) (there m k c) in (
+      (λ i. undone (pushed i) (inserted i))
+          ∙ ap (λ (ws : List Undo). undone (ws ++ u ∷ []) (fin.insert m k c)) same
+          ∙ undone_last us u (fin.insert m k c)
+          ∙ ap (undone us) (ap (λ x. fin.insert (fin.insert m k c) x u.before) key ∙ back m k u.before c before),
+      subst (λ (ws : List Undo). CanUndo ws n) (sym (pushed ∙ ap (λ (ws : List Undo). ws ++ u ∷ []) same))
+          (subst (CanUndo (us ++ u ∷ [])) (sym inserted) (can_more us u (fin.insert m k c) (can_still us m k c can) here)),
+    )
 
 -- the last change is taken back
 pub taken : (all us : List Undo) (u : Undo) (m n start : Cells) → all ≡ us ++ u ∷ [] → n ≡ put_back u m → CanUndo all m → undone all m ≡ start → CanUndo us n × (undone us n ≡ start)
 taken all us u m n start is now can so_far =
     let last = can_last us u m (subst (λ (ws : List Undo). CanUndo ws m) is can) in (
-      subst (CanUndo us) (sym now) last.0,
+      subst (CanUndo us) (sym now) (can_still us m u.key u.before last.0),
       ap (undone us) now ∙ sym (undone_last us u m) ∙ ap (λ (ws : List Undo). undone ws m) (sym is) ∙ so_far,
     )
 
 -- there is a cell where one is put back
-pub last_place : (all us : List Undo) (u : Undo) (m : Cells) → all ≡ us ++ u ∷ [] → CanUndo all m → has_place u.before (fin.get m u.key) ≡ true
+pub last_place : (all us : List Undo) (u : Undo) (m : Cells) → all ≡ us ++ u ∷ [] → CanUndo all m → HasCell m u.key
 last_place all us u m is can = (can_last us u m (subst (λ (ws : List Undo). CanUndo ws m) is can)).1
 
-pub no_place : (o : Option Cell) (b : Cell) (here : Option Cell) → o ≡ Some b → here ≡ None → has_place o here ≡ true → ⊥
-no_place o b here some none there =
-    let clash : false ≡ true = sym (λ i. has_place (some i) (none i)) ∙ there in
+pub no_place : (here : Option Cell) → here ≡ None → is_some here ≡ true → ⊥
+no_place here none has =
+    let clash : false ≡ true = sym (ap is_some none) ∙ has in
     cc
+
+-- the cell that was made last is taken out
+pub taken_out : (all ks : List (List ℕ)) (k : List ℕ) (m n start : Cells) → all ≡ ks ++ k ∷ [] → n ≡ fin.remove m k → without all m ≡ start → without ks n ≡ start
+taken_out all ks k m n start is now so_far = ap (without ks) now ∙ sym (without_last ks k m) ∙ ap (λ (js : List (List ℕ)). without js m) (sym is) ∙ so_far
+
+-- ---- a body is taken away
+
+pub emptied_here : (m : Cells) (k : List ℕ) (b : Cell) → fin.get m k ≡ Some b → fin.insert m k None ≡ emptied m k b
+emptied_here m k None here = same_again m k None here
+emptied_here m k (Some x) here = refl
+
+pub removed_body : (m n : Cells) (k : List ℕ) (b : Cell) → b ≡ flat (fin.get m k) → n ≡ emptied m k b → bodies n ≡ fin.remove (bodies m) k
+removed_body m n k None flat_is now = ap bodies now ∙ sym (remove_absent m k (ap is_some (sym flat_is)))
+removed_body m n k (Some x) flat_is now = ap bodies now ∙ remove_body m k
+
+flat_some : (o : Option Cell) (b : Cell) → b ≡ flat o → is_some b ≡ true → o ≡ Some b
+flat_some None b e some =
+    let clash : false ≡ true = sym (ap is_some e) ∙ some in
+    cc
+flat_some (Some c) b e some = ap Some (sym e)
+
+emptied_some : (m : Cells) (k : List ℕ) (b : Cell) → is_some b ≡ true → emptied m k b ≡ fin.insert m k None
+emptied_some m k None e = cc
+emptied_some m k (Some x) e = refl
+
+emptied_none : (m : Cells) (k : List ℕ) (b : Cell) → is_some b ≡ false → emptied m k b ≡ m
+emptied_none m k None e = refl
+emptied_none m k (Some x) e = cc
+
+-- a body that was taken away is noted
+pub removal_noted : (us mid vs : List Undo) (u : Undo) (m n : Cells) (k : List ℕ) → mid ≡ us → vs ≡ mid ++ u ∷ [] → n ≡ emptied m k u.before → u.key ≡ k → u.before ≡ flat (fin.get m k) → is_some u.before ≡ true → CanUndo us m
+    → (undone vs n ≡ undone us m) × CanUndo vs n
+removal_noted us mid vs u m n k same pushed now key before some can =
+    noted_more us mid vs u m n k None same pushed (now ∙ emptied_some m k u.before some) key (flat_some (fin.get m k) u.before before some) can
+
+-- where there was none, nothing is noted
+pub nothing_noted : (us vs : List Undo) (m n : Cells) (k : List ℕ) (b : Cell) → vs ≡ us → n ≡ emptied m k b → is_some b ≡ false → CanUndo us m
+    → (undone vs n ≡ undone us m) × CanUndo vs n
+nothing_noted us vs m n k b same now none can =
+    let is : n ≡ m = now ∙ emptied_none m k b none in (
+      (λ i. undone (same i) (is i)),
+      subst (λ (ws : List Undo). CanUndo ws n) (sym same) (subst (CanUndo us) (sym is) can),
+    )
 
 -- ---- the pair of maps after a call
 
-pub put_view : {A E : Type 0} (r : Result A E) (m n : Cells) (us vs : List Undo) (j k b body : List ℕ) (p : LeafPair) → OnOk r (n ≡ fin.insert m j (Some b)) → undone vs n ≡ undone us m → j ≡ k → b ≡ body → pair_of m us ≡ p → OnOk r (pair_of n vs ≡ record { working = fin.insert p.working k body; kept = p.kept })
-put_view (Ok a) m n us vs j k b body p ok kept key same is =
-    let working : bodies n ≡ fin.insert p.working k body = ap bodies ok ∙ put_body m j b ∙ (λ i. fin.insert (is i).working (key i) (same i)) in
-    let kept : bodies (undone vs n) ≡ p.kept = ap bodies kept ∙ ap (λ (l : LeafPair). l.kept) is in
-    λ i. record { working = working i; kept = kept i }
-put_view (Err e) m n us vs j k b body p ok kept key same is = tt
+pub put_view : {A E : Type 0} (r : Result A E) (m n : Cells) (ks ls : List (List ℕ)) (us vs : List Undo) (j k : List ℕ) (b : Cell) (body : List ℕ) (p : LeafPair) → OnOk r (n ≡ fin.insert m j b) → kept_cells ls vs n ≡ kept_cells ks us m → j ≡ k → b ≡ Some body → pair_of m ks us ≡ p
+    → OnOk r (pair_of n ls vs ≡ record { working = fin.insert p.working k body; kept = p.kept })
+put_view (Ok a) m n ks ls us vs j k b body p ok kept key same is =
+    let working : bodies n ≡ fin.insert p.working k body = ap bodies ok ∙ ap (λ (x : Cell). bodies (fin.insert m j x)) same ∙ put_body m j body ∙ (λ i. fin.insert (is i).working (key i) body) in
+    let stays : bodies (kept_cells ls vs n) ≡ p.kept = ap bodies kept ∙ ap (λ (l : LeafPair). l.kept) is in
+    λ i. record { working = working i; kept = stays i }
+put_view (Err e) m n ks ls us vs j k b body p ok kept key same is = tt
 
-pub remove_view : {A E : Type 0} (r : Result A E) (m n : Cells) (us vs : List Undo) (j k : List ℕ) (p : LeafPair) → OnOk r (n ≡ fin.insert m j None) → undone vs n ≡ undone us m → j ≡ k → pair_of m us ≡ p → OnOk r (pair_of n vs ≡ record { working = fin.remove p.working k; kept = p.kept })
-remove_view (Ok a) m n us vs j k p ok kept key is =
-    let working : bodies n ≡ fin.remove p.working k = ap bodies ok ∙ remove_body m j ∙ (λ i. fin.remove (is i).working (key i)) in
-    let kept : bodies (undone vs n) ≡ p.kept = ap bodies kept ∙ ap (λ (l : LeafPair). l.kept) is in
-    λ i. record { working = working i; kept = kept i }
-remove_view (Err e) m n us vs j k p ok kept key is = tt
+pub remove_view : {A E : Type 0} (r : Result A E) (m n : Cells) (ks : List (List ℕ)) (us vs : List Undo) (j k : List ℕ) (p : LeafPair) → OnOk r (bodies n ≡ fin.remove (bodies m) j) → undone vs n ≡ undone us m → j ≡ k → pair_of m ks us ≡ p
+    → OnOk r (pair_of n ks vs ≡ record { working = fin.remove p.working k; kept = p.kept })
+remove_view (Ok a) m n ks us vs j k p ok kept key is =
+    let working : bodies n ≡ fin.remove p.working k = ok ∙ (λ i. fin.remove (is i).working (key i)) in
+    let stays : bodies (kept_cells ks vs n) ≡ p.kept = ap (λ (x : Cells). bodies (without ks x)) kept ∙ ap (λ (l : LeafPair). l.kept) is in
+    λ i. record { working = working i; kept = stays i }
+remove_view (Err e) m n ks us vs j k p ok kept key is = tt
 
-pub same_view : {A E : Type 0} (r : Result A E) (m n : Cells) (us vs : List Undo) (p : LeafPair) → OnErr r (n ≡ m) → undone vs n ≡ undone us m → pair_of m us ≡ p → OnErr r (pair_of n vs ≡ p)
-same_view (Ok a) m n us vs p err kept is = tt
-same_view (Err e) m n us vs p err kept is = (λ i. record { working = bodies (err i); kept = bodies (kept i) }) ∙ is
-
-pub absent_view : (m : Cells) (us : List Undo) (k : List ℕ) (p : LeafPair) → is_some (flat (fin.get m k)) ≡ false → pair_of m us ≡ p → p ≡ record { working = fin.remove p.working k; kept = p.kept }
-absent_view m us k p none is =
-    let working : p.working ≡ fin.remove p.working k = sym (ap (λ (l : LeafPair). fin.remove l.working k) (sym is) ∙ remove_absent m k none ∙ ap (λ (l : LeafPair). l.working) is) in
-    λ i. record { working = working i; kept = p.kept }
+pub same_view : {A E : Type 0} (r : Result A E) (m n : Cells) (ks ls : List (List ℕ)) (us vs : List Undo) (p : LeafPair) → OnErr r (n ≡ m) → kept_cells ls vs n ≡ kept_cells ks us m → pair_of m ks us ≡ p → OnErr r (pair_of n ls vs ≡ p)
+same_view (Ok a) m n ks ls us vs p err kept is = tt
+same_view (Err e) m n ks ls us vs p err kept is = (λ i. record { working = bodies (err i); kept = bodies (kept i) }) ∙ is

@@ -36,28 +36,37 @@ IsAscending es = IsStrictlySortedBy key_cmp (keys_of es)
 abbrev pub bodies : Cells → LeafMap
 bodies cells = from_entries (filter_map body_entry (entries cells))
 
-abbrev pub with_cell : Cells → List ℕ → Option Cell → Cells
-with_cell cells key None = remove cells key
-with_cell cells key (Some cell) = insert cells key cell
-
 -- one change is taken back
 abbrev pub put_back : Undo → Cells → Cells
-put_back undo cells = with_cell cells undo.key undo.before
+put_back undo cells = insert cells undo.key undo.before
 
 -- all of them are, the last one first
 abbrev pub undone : List Undo → Cells → Cells
 undone [] cells = cells
 undone (undo ∷ undos) cells = put_back undo (undone undos cells)
 
--- a cell that stood there before can be put back without a new one
-abbrev pub has_place : Option Cell → Option Cell → Bool
-has_place None here = true
-has_place (Some before) here = is_some here
+-- without the cells that were made, the last one first
+abbrev pub without : List (List ℕ) → Cells → Cells
+without [] cells = cells
+without (key ∷ keys) cells = remove (without keys cells) key
 
+-- what a transaction that made these cells, and then changed some, began with
+abbrev pub kept_cells : List (List ℕ) → List Undo → Cells → Cells
+kept_cells made undos cells = without made (undone undos cells)
+
+-- a key's cell with its body taken away, where it has one
+abbrev pub emptied : Cells → List ℕ → Cell → Cells
+emptied cells key None = cells
+emptied cells key (Some body) = insert cells key None
+
+-- a key has a cell
+abbrev pub HasCell : Cells → List ℕ → Type 0
+HasCell cells key = is_some (get cells key) ≡ true
+
+-- each change is of a cell that is there, so that it can be taken back without a new one
 abbrev pub CanUndo : List Undo → Cells → Type 0
 CanUndo [] cells = Unit {0}
-CanUndo (undo ∷ undos) cells =
-    (has_place undo.before (get (undone undos cells) undo.key) ≡ true) × CanUndo undos cells
+CanUndo (undo ∷ undos) cells = HasCell cells undo.key × CanUndo undos cells
 
 -- the keys ascend, and the changes can be taken back
 pub record IsOpen (es : List (List ℕ × Cell)) (undos : List Undo) : Type 0 where
@@ -69,8 +78,8 @@ pub record LeafPair : Type 0 where
   pub working : LeafMap
   pub kept : LeafMap
 
-abbrev pub pair_of : Cells → List Undo → LeafPair
-pair_of cells undos = record { working = bodies cells; kept = bodies (undone undos cells) }
+abbrev pub pair_of : Cells → List (List ℕ) → List Undo → LeafPair
+pair_of cells made undos = record { working = bodies cells; kept = bodies (kept_cells made undos cells) }
 
 -- a leaf once a transaction has ended
 abbrev pub ended : End → LeafPair → LeafPair

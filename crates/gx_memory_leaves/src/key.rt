@@ -6,6 +6,7 @@ ghost use Rattle.std.specs.Cmp.Lexicographic.{nat_list_cmp_total};
 ghost use Rattle.gx_ports.specs.Keyed.{key_cmp};
 ghost use Rattle.gx_memory_leaves.specs.Fronts.{padded};
 
+use crate::bytes::MaybeBytes;
 use gx_order::compare_bytes;
 use gx_values::NoMemory;
 use std::alloc::Global;
@@ -21,7 +22,7 @@ const FRONT: usize = 8;
 pub struct Key {
     front: [u8; FRONT],
     // all bytes, where they aren't the eight of the front
-    bytes: Option<Vec<u8>>,
+    bytes: MaybeBytes,
 }
 
 impl Model for Key {
@@ -43,12 +44,12 @@ impl Key {
         if bytes.len() == FRONT {
             return Ok(Key {
                 front: front(bytes),
-                bytes: None,
+                bytes: MaybeBytes::none(alloc),
             });
         }
         Ok(Key {
             front: front(bytes),
-            bytes: Some(bytes.to_vec(alloc)?),
+            bytes: MaybeBytes::from_slice(alloc, bytes)?,
         })
     }
 
@@ -56,7 +57,7 @@ impl Key {
     pub fn as_slice(&self) -> &[u8]
         ensures { result.now ≡ self.now }
     {
-        match &self.bytes {
+        match self.bytes.as_slice() {
             None => &self.front,
             Some(bytes) => bytes,
         }

@@ -1,25 +1,28 @@
 // One leaf in memory: an ordered map from each key to its cell, and what the open transaction
 // replaced there, so that its end looks no key up that it keeps, and takes no memory.
-ghost use Rattle.std.specs.Prelude.{◌≡◌, ◌≤◌, ◌++◌, [], length, true, None, is_some, OnOk, OnErr};
+ghost use Rattle.std.specs.Prelude.{◌≡◌, ◌≤◌, ◌++◌, [], length, None, is_some, OnOk, OnErr};
 ghost use Rattle.std.specs.Option.{option_and_then};
 ghost use Rattle.std.specs.FinMap.{insert, remove, get};
 ghost use Rattle.gx_ports.specs.LeafMaps.{selected, Extends};
-ghost use Rattle.gx_memory_leaves.specs.Cells.{cells_of, IsAscending, bodies, with_cell, undone, has_place, IsOpen, ended, is_up_to};
+ghost use Rattle.gx_memory_leaves.specs.Cells.{cells_of, IsAscending, bodies, undone, without, kept_cells, emptied, HasCell, IsOpen, ended, is_up_to};
 ghost use Rattle.gx_memory_leaves.specs.Pairs.{empty_pair};
 
 use crate::key::Key;
 use crate::undo::{Cell, End, Undo};
 use gx_order::compare_bytes;
 use gx_ports::Entries;
-use gx_values::{NoMemory, Octets, Span};
+use gx_values::{NoMemory, Span};
 use std::alloc::Global;
 use std::collections::BTreeMap;
 use std::marker::Model;
+use std::mem;
 
 #[derive(Drop)]
 pub struct Leaf {
     cells: BTreeMap<Key, Cell>,
-    // the changes of the open transaction, the last one last
+    // the keys whose cells the open transaction made: nothing stood there before
+    made: Vec<Key>,
+    // its changes of cells that stood there, the last one last
     undos: Vec<Undo>,
 }
 
@@ -32,7 +35,7 @@ impl Model for Leaf {
 
     ghost coded = { Prim.hlevel (codes, coded_leaf_map) };
 
-    ghost view = { λ l. pair_of (cells_of l.cells.entries) l.undos.items };
+    ghost view = { λ l. pair_of (cells_of l.cells.entries) l.made.items l.undos.items };
 
     ghost invariant = { λ l. IsOpen l.cells.entries l.undos.items };
 }
@@ -43,6 +46,7 @@ impl Leaf {
     {
         Leaf {
             cells: BTreeMap::new(alloc),
+            made: Vec::new(alloc),
             undos: Vec::new(alloc),
         }
     }
@@ -53,8 +57,15 @@ impl Leaf {
         ensures err { OnErr result (self.new ≡ self.old) }
     {
         let key = Key::from_slice(alloc, key)?;
-        let body = Octets::from_slice(alloc, body)?;
-        replace(alloc, &mut self.cells, &mut self.undos, key, Some(body))
+        let body = Cell::from_slice(alloc, body)?;
+        replace(
+            alloc,
+            &mut self.cells,
+            &mut self.made,
+            &mut self.undos,
+            key,
+            body,
+        )
     }
 
     pub fn remove(&mut self, alloc: Global, key: &[u8]) -> Result<(), NoMemory>
@@ -63,10 +74,7 @@ impl Leaf {
         ensures err { OnErr result (self.new ≡ self.old) }
     {
         let key = Key::from_slice(alloc, key)?;
-        if !has_body(&self.cells, &key) {
-            return Ok(());
-        }
-        replace(alloc, &mut self.cells, &mut self.undos, key, None)
+        remove_body(alloc, &mut self.cells, &mut self.undos, key)
     }
 
     pub fn select(&self, alloc: Global, span: &Span, out: &mut Entries) -> Result<(), NoMemory>
@@ -81,8 +89,14 @@ impl Leaf {
         ensures { self.new ≡ ended end self.old }
     {
         match end {
-            End::Commit => keep(&mut self.cells, &mut self.undos),
-            End::Abort => undo(&mut self.cells, &mut self.undos),
+            End::Commit => {
+                keep(&mut self.cells, &mut self.undos);
+                self.made.clear();
+            }
+            End::Abort => {
+                undo(&mut self.cells, &mut self.undos);
+                take_out(&mut self.cells, &mut self.made);
+            }
         }
     }
 }
@@ -100,6 +114,7 @@ fn has_body(cells: &BTreeMap<Key, Cell>, key: &Key) -> bool
 fn replace(
     alloc: Global,
     cells: &mut BTreeMap<Key, Cell>,
+    made: &mut Vec<Key>,
     undos: &mut Vec<Undo>,
     key: Key,
     cell: Cell,
@@ -108,20 +123,63 @@ fn replace(
     ensures ok { OnOk result
         (cells_of cells.new.entries ≡ insert (cells_of cells.old.entries) key cell) }
     ensures err { OnErr result (cells_of cells.new.entries ≡ cells_of cells.old.entries) }
+    ensures kept { kept_cells made.new.items undos.new.items (cells_of cells.new.entries)
+        ≡ kept_cells made.old.items undos.old.items (cells_of cells.old.entries) }
+    ensures open { IsOpen cells.new.entries undos.new.items }
+{
+    let noted = Key::from_slice(alloc, key.as_slice())?;
+    made.try_reserve(1)?;
+    undos.try_reserve(1)?;
+    match cells.insert(key, cell)? {
+        None => made.push(noted)?,
+        Some(before) => undos.push(Undo {
+            key: noted,
+            before,
+            removes: false,
+        })?,
+    }
+    Ok(())
+}
+
+// Takes a key's body away, and notes it.
+fn remove_body(
+    alloc: Global,
+    cells: &mut BTreeMap<Key, Cell>,
+    undos: &mut Vec<Undo>,
+    key: Key,
+) -> Result<(), NoMemory>
+    requires { IsOpen cells.old.entries undos.old.items }
+    ensures ok { OnOk result (bodies (cells_of cells.new.entries)
+        ≡ remove (bodies (cells_of cells.old.entries)) key) }
+    ensures err { OnErr result (cells_of cells.new.entries ≡ cells_of cells.old.entries) }
     ensures undone { undone undos.new.items (cells_of cells.new.entries)
         ≡ undone undos.old.items (cells_of cells.old.entries) }
     ensures open { IsOpen cells.new.entries undos.new.items }
 {
-    let noted = Key::from_slice(alloc, key.as_slice())?;
     undos.try_reserve(1)?;
-    let removes = cell.is_none();
-    let before = cells.insert(key, cell)?;
-    undos.push(Undo {
-        key: noted,
-        before,
-        removes,
-    })?;
+    let before = take_body(alloc, cells, &key);
+    if before.is_some() {
+        undos.push(Undo {
+            key,
+            before,
+            removes: true,
+        })?;
+    }
     Ok(())
+}
+
+// Takes a key's body out of its cell, if it has one.
+fn take_body(alloc: Global, cells: &mut BTreeMap<Key, Cell>, key: &Key) -> Cell
+    requires { IsAscending cells.old.entries }
+    ensures body { result ≡ option_and_then (λ c. c) (get (cells_of cells.old.entries) key.now) }
+    ensures cells { cells_of cells.new.entries
+        ≡ emptied (cells_of cells.old.entries) key.now result }
+    ensures ascending { IsAscending cells.new.entries }
+{
+    match cells.get_mut(key) {
+        Some(cell) => mem::replace(cell, Cell::none(alloc)),
+        None => Cell::none(alloc),
+    }
 }
 
 // Ends the transaction with its changes kept. A key whose body went then has no cell.
@@ -149,7 +207,7 @@ fn drop_removed(cells: &mut BTreeMap<Key, Cell>, key: &Key)
     }
 }
 
-// Ends the transaction with its changes taken back.
+// Takes the changes back.
 fn undo(cells: &mut BTreeMap<Key, Cell>, undos: &mut Vec<Undo>)
     requires { IsOpen cells.old.entries undos.old.items }
     ensures cells { cells_of cells.new.entries
@@ -162,19 +220,28 @@ fn undo(cells: &mut BTreeMap<Key, Cell>, undos: &mut Vec<Undo>)
     }
 }
 
-fn put_back(cells: &mut BTreeMap<Key, Cell>, key: &Key, before: Option<Cell>)
-    requires place { has_place before (get (cells_of cells.old.entries) key.now) ≡ true }
+fn put_back(cells: &mut BTreeMap<Key, Cell>, key: &Key, before: Cell)
+    requires place { HasCell (cells_of cells.old.entries) key.now }
     requires ascending { IsAscending cells.old.entries }
     ensures cells { cells_of cells.new.entries
-        ≡ with_cell (cells_of cells.old.entries) key.now before }
+        ≡ insert (cells_of cells.old.entries) key.now before }
     ensures ascending { IsAscending cells.new.entries }
 {
-    let Some(before) = before else {
-        cells.remove(key);
-        return;
-    };
     if let Some(cell) = cells.get_mut(key) {
         *cell = before;
+    }
+}
+
+// Takes the cells out that were made.
+fn take_out(cells: &mut BTreeMap<Key, Cell>, made: &mut Vec<Key>)
+    requires { IsAscending cells.old.entries }
+    ensures cells { cells_of cells.new.entries
+        ≡ without made.old.items (cells_of cells.old.entries) }
+    ensures made { made.new.items ≡ [] }
+    ensures ascending { IsAscending cells.new.entries }
+{
+    while let Some(key) = made.pop() {
+        cells.remove(&key);
     }
 }
 
@@ -195,8 +262,8 @@ fn select_cells(
         if !is_up_to(span.hi.as_slice(), bytes) {
             return Ok(());
         }
-        if let Some(body) = cell {
-            out.push(bytes, body.as_slice())?;
+        if let Some(body) = cell.as_slice() {
+            out.push(bytes, body)?;
         }
     }
     Ok(())

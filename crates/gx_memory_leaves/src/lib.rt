@@ -1,6 +1,7 @@
 //! Leaves in memory, over any device.
 #![tactic(auto)]
 
+mod bytes;
 mod key;
 mod leaf;
 mod plain;

@@ -1,15 +1,15 @@
 // What the open transaction replaced in a leaf in memory, so that it can be put back.
+use crate::bytes::MaybeBytes;
 use crate::key::Key;
-use gx_values::Octets;
 
 /// What stands at a key: its body, or none where the open transaction took it away.
-pub type Cell = Option<Octets>;
+pub type Cell = MaybeBytes;
 
-/// A change of the open transaction, with what stood at its key before.
+/// A change of a cell in the open transaction, with what stood there before.
 #[derive(Drop)]
 pub struct Undo {
     pub key: Key,
-    pub before: Option<Cell>,
+    pub before: Cell,
     /// whether the change took the body away
     pub removes: bool,
 }

@@ -1,4 +1,5 @@
-use Rattle.std.proofs.Common.{◌≡◌, rules, ◌∷◌, [], ◌∙◌, refl, true, false, Some, None}
+use Rattle.std.proofs.Common.{◌≡◌, ap, sym, rules, ◌∷◌, [], ◌∙◌, refl, true, false, Some, None}
+use Rattle.std.specs.Option.{option_copied}
 use Rattle.gx_memory_leaves.specs.Cells.{is_up_to}
 use Rattle.gx_memory_leaves.proofs.SelectLemmas.{from_key, begun, gone_on, passed_over, ended_outside, ended_last, range_gives}
 use Rattle.gx_memory_leaves.proofs.leaf.select_cells.Goals as goal
@@ -25,10 +26,9 @@ pub loop-key-preserved-in-Continue-branch-2 : goal.loop-key-preserved-in-Continu
 loop-key-preserved-in-Continue-branch-2 c =
     let step : c.loop-key.key-iterator ≡ (c.in-Some.key.now, c.in-Some.cell.now) ∷ c.next.new.self = search rules in
     let up : is_up_to c.args.span.now.hi c.in-Some.key.now ≡ true = search rules in
-    let some : c.in-Some.cell.now ≡ Some c.in-Some-cell.body = search rules in
+    let some : c.in-Some.cell.now ≡ Some c.in-Some-as_slice.body.now = sym c.as_slice-in-loop-key-2.ensures ∙ ap option_copied c.in-Some-as_slice.is in
     let same_key : c.as_slice-bytes.result.now ≡ c.in-Some.key.now = search rules in
-    let same_body : c.as_slice-in-Some-cell.result.now ≡ c.in-Some-cell.body = search rules in
-    gone_on _ _ _ _ _ _ _ c.in-Some.key.now c.in-Some.cell.now c.loop-key.invariant step (record { key = c.as_slice-bytes.result.now; body = c.as_slice-in-Some-cell.result.now }) c.in-Some-cell.body _ up some same_key same_body c.in_ok-push.ensures.ok
+    gone_on _ _ _ _ _ _ _ c.in-Some.key.now c.in-Some.cell.now c.loop-key.invariant step (record { key = c.as_slice-bytes.result.now; body = c.in-Some-as_slice.body.now }) c.in-Some-as_slice.body.now _ up some same_key refl c.in_ok-push.ensures.ok
 
 pub returns-in_err-push-clause-extends : goal.returns-in_err-push-clause-extends
 returns-in_err-push-clause-extends c = (c.loop-key.invariant.front.0, c.in_err-push.ensures.err ∙ c.loop-key.invariant.front.1)

@@ -5,5 +5,6 @@ use Rattle.gx_memory_leaves.proofs.leaf.Leaf.new.Goals as goal
 
 pub returns : goal.returns
 returns c =
-    let none : c.new-2.result.items ≡ [] = search rules in
-    (λ i. pair_of (cells_of (c.new.ensures.empty i)) (none i)) ∙ no_pair
+    let made : c.new-2.result.items ≡ [] = search rules in
+    let none : c.new-3.result.items ≡ [] = search rules in
+    (λ i. pair_of (cells_of (c.new.ensures.empty i)) (made i) (none i)) ∙ no_pair
