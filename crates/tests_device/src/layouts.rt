@@ -146,12 +146,8 @@ fn an_entry_is_committed(rt: &impl Abort, alloc: Global, frames: u32) -> Result<
 }
 
 #[test]
-fn an_entry_is_committed_by_eight_frames(rt: HostRuntime) -> Result<(), Fail> {
-    an_entry_is_committed(&rt, rt.alloc(), 8)
-}
-
-#[test]
-fn an_entry_is_committed_by_more_frames(rt: HostRuntime) -> Result<(), Fail> {
+fn an_entry_is_committed_by_eight_frames_and_by_more(rt: HostRuntime) -> Result<(), Fail> {
+    an_entry_is_committed(&rt, rt.alloc(), 8)?;
     an_entry_is_committed(&rt, rt.alloc(), 64)
 }
 
@@ -182,12 +178,8 @@ fn the_smallest_device_fills(rt: &impl Abort, alloc: Global, frames: u32) -> Res
 }
 
 #[test]
-fn the_smallest_device_fills_by_eight_frames(rt: HostRuntime) -> Result<(), Fail> {
-    the_smallest_device_fills(&rt, rt.alloc(), 8)
-}
-
-#[test]
-fn the_smallest_device_fills_by_more_frames(rt: HostRuntime) -> Result<(), Fail> {
+fn the_smallest_device_fills_by_eight_frames_and_by_more(rt: HostRuntime) -> Result<(), Fail> {
+    the_smallest_device_fills(&rt, rt.alloc(), 8)?;
     the_smallest_device_fills(&rt, rt.alloc(), 64)
 }
 

@@ -2,7 +2,7 @@
 use crate::databases::{blocks_of, machine, make_on, open_on};
 use crate::shelf::Shelf;
 use gx_device::Machine;
-use gx_store::Unopened;
+use gx_store::{Unopened, close};
 use std::alloc::Global;
 use std::process::Abort;
 use std::test::Fail;
@@ -11,103 +11,132 @@ const SCHEMA: &[u8] = b"file f (k int)\n";
 
 const HEAP: &[u8] = b"f = heap\n";
 
-const BPLUS: &[u8] = b"f = bplus\n";
-
 /// Whether all bytes from this place on are zeros.
 pub(crate) fn is_filled(bytes: &[u8], from: usize) -> bool {
     bytes.iter().skip(from).all(|byte| *byte == 0)
 }
 
-// Expects these blocks on the device.
-fn expect_blocks(
-    rt: &impl Abort,
-    alloc: Global,
-    machine: Shelf,
-    blocks: &[[u8; 4096]],
-) -> Result<(), Fail> {
-    let mut machine = machine;
-    let found = blocks_of(alloc, &mut machine)?;
-    assert!(rt; found.as_slice() == blocks);
-    Ok(())
+/// What is there before it is opened.
+#[derive(Clone, Copy)]
+enum Before {
+    /// A database of `SCHEMA` and `HEAP`.
+    Database,
+    /// A device of so many blocks of zeros.
+    Zeros(u32),
+    /// No device.
+    Nothing,
 }
 
-// Opens the device under the texts, which is refused, and writes nothing.
-fn expect_unopened(
-    rt: &impl Abort,
-    alloc: Global,
-    machine: Shelf,
-    texts: (&[u8], &[u8]),
+// A database that is refused: what is there, the texts that it is opened under, and why.
+#[derive(Clone, Copy)]
+struct Case {
+    before: Before,
+    schema: &'static [u8],
+    equation: &'static [u8],
     why: Unopened,
-) -> Result<(), Fail> {
-    let mut machine = machine;
-    let before = blocks_of(alloc, &mut machine)?;
-    match open_on(alloc, machine, texts) {
-        Ok(_) => Err("the device was opened".into()),
-        Err((machine, refused)) => {
-            assert!(rt; refused == why);
-            expect_blocks(rt, alloc, machine, before.as_slice())
+}
+
+const CASES: [Case; 5] = [
+    // The kept texts have 15 and 9 bytes, the others 15 and 10: the last byte of the lengths is the
+    // first one that differs.
+    Case {
+        before: Before::Database,
+        schema: SCHEMA,
+        equation: b"f = bplus\n",
+        why: Unopened::OtherTexts(3),
+    },
+    Case {
+        before: Before::Database,
+        schema: b"file f (k int, t text 5)\n",
+        equation: HEAP,
+        why: Unopened::OtherTexts(1),
+    },
+    Case {
+        before: Before::Zeros(101),
+        schema: SCHEMA,
+        equation: HEAP,
+        why: Unopened::NoDatabase,
+    },
+    Case {
+        before: Before::Zeros(40),
+        schema: SCHEMA,
+        equation: HEAP,
+        why: Unopened::Size,
+    },
+    Case {
+        before: Before::Nothing,
+        schema: SCHEMA,
+        equation: HEAP,
+        why: Unopened::Missing,
+    },
+];
+
+// Makes a database, and expects this answer.
+fn make_again(rt: &impl Abort, alloc: Global, shelf: Shelf, want: Result<(), Unopened>) -> Shelf {
+    let (answer, shelf) = make_on(alloc, shelf, 101, (SCHEMA, HEAP));
+    assert!(rt; answer == want);
+    shelf
+}
+
+fn shelf_of(rt: &impl Abort, alloc: Global, before: Before) -> Result<Shelf, Fail> {
+    let mut shelf = machine(alloc)?;
+    match before {
+        Before::Database => Ok(make_again(rt, alloc, shelf, Ok(()))),
+        Before::Zeros(blocks) => {
+            assert!(rt; shelf.attach(alloc, "d", Some(blocks)).is_ok());
+            Ok(shelf)
+        }
+        Before::Nothing => Ok(shelf),
+    }
+}
+
+// Opens the device under the texts, which is refused for this reason.
+fn expect_unopened(rt: &impl Abort, alloc: Global, shelf: Shelf, case: Case) -> Shelf {
+    match open_on(alloc, shelf, (case.schema, case.equation)) {
+        Ok(store) => {
+            assert!(rt; false, "the device was opened");
+            close(store)
+        }
+        Err((shelf, why)) => {
+            assert!(rt; why == case.why);
+            shelf
         }
     }
 }
 
-fn made(rt: &impl Abort, alloc: Global) -> Result<Shelf, Fail> {
-    let (answer, machine) = make_on(alloc, machine(alloc)?, 101, (SCHEMA, HEAP));
-    assert!(rt; answer.is_ok());
-    Ok(machine)
+// Expects that the device has these blocks.
+fn expect_blocks(
+    rt: &impl Abort,
+    alloc: Global,
+    shelf: &mut Shelf,
+    blocks: &[[u8; 4096]],
+) -> Result<(), Fail> {
+    let found = blocks_of(alloc, shelf)?;
+    assert!(rt; found.as_slice() == blocks);
+    Ok(())
 }
 
-// The kept texts have 15 and 9 bytes, the others 15 and 10: the last byte of the lengths is the
-// first one that differs.
-#[test]
-fn another_equation_is_refused(rt: HostRuntime) -> Result<(), Fail> {
-    let machine = made(&rt, rt.alloc())?;
-    let texts = (SCHEMA, BPLUS);
-    expect_unopened(&rt, rt.alloc(), machine, texts, Unopened::OtherTexts(3))
-}
-
-#[test]
-fn another_schema_is_refused(rt: HostRuntime) -> Result<(), Fail> {
-    let machine = made(&rt, rt.alloc())?;
-    let texts = (b"file f (k int, t text 5)\n".as_slice(), HEAP);
-    expect_unopened(&rt, rt.alloc(), machine, texts, Unopened::OtherTexts(1))
-}
-
-// A machine with a device of zeros.
-fn with_zeros(rt: &impl Abort, alloc: Global, blocks: u32) -> Result<Shelf, Fail> {
-    let mut machine = machine(alloc)?;
-    assert!(rt; machine.attach(alloc, "d", Some(blocks)).is_ok());
-    Ok(machine)
+// Expects the refusal, and that nothing is written.
+fn expect_refusal(rt: &impl Abort, alloc: Global, shelf: Shelf, case: Case) -> Result<(), Fail> {
+    let mut shelf = shelf;
+    let blocks = blocks_of(alloc, &mut shelf)?;
+    let mut shelf = expect_unopened(rt, alloc, shelf, case);
+    expect_blocks(rt, alloc, &mut shelf, blocks.as_slice())
 }
 
 #[test]
-fn a_device_of_zeros_is_refused(rt: HostRuntime) -> Result<(), Fail> {
-    let machine = with_zeros(&rt, rt.alloc(), 101)?;
-    expect_unopened(
-        &rt,
-        rt.alloc(),
-        machine,
-        (SCHEMA, HEAP),
-        Unopened::NoDatabase,
-    )
-}
-
-#[test]
-fn a_device_of_another_size_is_refused(rt: HostRuntime) -> Result<(), Fail> {
-    let machine = with_zeros(&rt, rt.alloc(), 40)?;
-    expect_unopened(&rt, rt.alloc(), machine, (SCHEMA, HEAP), Unopened::Size)
-}
-
-#[test]
-fn a_name_without_a_device_is_refused(rt: HostRuntime) -> Result<(), Fail> {
-    let machine = machine(rt.alloc())?;
-    expect_unopened(&rt, rt.alloc(), machine, (SCHEMA, HEAP), Unopened::Missing)
+fn databases_are_refused(rt: HostRuntime) -> Result<(), Fail> {
+    for case in CASES {
+        let shelf = shelf_of(&rt, rt.alloc(), case.before)?;
+        expect_refusal(&rt, rt.alloc(), shelf, case)?;
+    }
+    Ok(())
 }
 
 #[test]
 fn a_name_with_a_device_is_not_made(rt: HostRuntime) -> Result<(), Fail> {
-    let mut machine = made(&rt, rt.alloc())?;
-    let before = blocks_of(rt.alloc(), &mut machine)?;
-    let (answer, machine) = make_on(rt.alloc(), machine, 101, (SCHEMA, HEAP));
-    assert!(rt; answer == Err(Unopened::Exists));
-    expect_blocks(&rt, rt.alloc(), machine, before.as_slice())
+    let mut shelf = shelf_of(&rt, rt.alloc(), Before::Database)?;
+    let blocks = blocks_of(rt.alloc(), &mut shelf)?;
+    let mut shelf = make_again(&rt, rt.alloc(), shelf, Err(Unopened::Exists));
+    expect_blocks(&rt, rt.alloc(), &mut shelf, blocks.as_slice())
 }
