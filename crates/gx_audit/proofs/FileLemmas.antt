@@ -63,7 +63,8 @@ module _ (file : FileDef) (keyed : 0 < length file.fields) where
   rows_sorted [] fits up = tt
   rows_sorted (r ∷ rs) fits up = both_true (below_all value_cmp (key_at r) (map row_of rs)) (fin.is_sorted value_cmp (map row_of rs)) (below rs (λ s h. fits s (inr h)) up.0) (rows_sorted rs (λ s h. fits s (inr h)) up.1)
     where
-      below : (xs : List Rec) → ((s : Rec) → In s xs → IsOf (file_form file) s) → AllByRecursion (λ q. rec_cmp r q ≡ Less) xs → T (below_all value_cmp (key_at r) (map row_of xs))
+      below : (xs : List Rec) → ((s : Rec) → In s xs → IsOf (file_form file) s) → AllByRecursion (λ q. rec_cmp r q ≡ Less) xs
+          → T (below_all value_cmp (key_at r) (map row_of xs))
       below [] each all = tt
       below (x ∷ xs) each all = both_true (is_lt (value_cmp (key_at r) (key_at x))) (below_all value_cmp (key_at r) (map row_of xs))
           (less_is _ (one_value r x (key_at r) (key_at x) (key_is r (fits r (inl refl))) (key_is x (each x (inl refl))) all.0)) (below xs (λ s h. each s (inr h)) all.1)
@@ -72,9 +73,11 @@ keys_of_rows : (rs : List Rec) → map key_at rs ≡ map (λ (row : Row). row.0)
 keys_of_rows [] = refl
 keys_of_rows (r ∷ rs) = ap (λ (ks : List Value). key_at r ∷ ks) (keys_of_rows rs)
 
-module _ (file : FileDef) (keyed : 0 < length file.fields) (t : Tree AnyMapping) (form : tree_form any_rule t ≡ file_form file) (whole : Type 0) (maps : List LeafMap) where
+module _ (file : FileDef) (keyed : 0 < length file.fields) (t : Tree AnyMapping) (form : tree_form any_rule t ≡ file_form file)
+    (whole : Type 0) (maps : List LeafMap) where
   -- what was found is a file
-  pub keys_found : (found : List Rec) (keys : List Value) → AreHeld any_rule t whole maps found → keys ≡ map key_at found → AreKeys file t whole maps (Some keys)
+  pub keys_found : (found : List Rec) (keys : List Value) → AreHeld any_rule t whole maps found → keys ≡ map key_at found
+      → AreKeys file t whole maps (Some keys)
   keys_found found keys are is = λ w.
       let fits : (r : Rec) → In r found → IsOf (file_form file) r = λ r h. subst (λ f. IsOf f r) form (are.fit r h) in
       let f : File = fin.from_sorted {R = value_cmp} (map row_of found) in

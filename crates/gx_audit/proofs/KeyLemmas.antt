@@ -82,7 +82,8 @@ keys_in f g to k h =
     let same : row.0.0 ≡ other.0.0 = one_key row.0.0 other.0.0 (ap (λ (r : Rec). r.key) other.2) in
     subst (λ x. In x (keys_of g)) (sym (row.2 ∙ same)) (in_map (λ (q : Row). q.0) other.0 (fin.entries g) other.1)
 
-pub keys_told : (file : FileDef) (t : Tree AnyMapping) (maps : List LeafMap) (f g : File) → 0 < length file.fields → IsValid any_rule t → tree_form any_rule t ≡ file_form file → IsInternal file t maps f → IsInternal file t maps g → keys_of f ≡ keys_of g
+pub keys_told : (file : FileDef) (t : Tree AnyMapping) (maps : List LeafMap) (f g : File) → 0 < length file.fields → IsValid any_rule t
+    → tree_form any_rule t ≡ file_form file → IsInternal file t maps f → IsInternal file t maps g → keys_of f ≡ keys_of g
 keys_told file t maps f g keyed valid form is_f is_g =
     let set : (h : File) → IsInternal file t maps h → IsSet (tree_form any_rule t) (records_of h) = λ h is. subst (λ x. IsSet x (records_of h)) (sym form) (set_of file h keyed is.fit) in
     ascends_unique value_cmp_total (keys_of f) (keys_of g) (keys_up f) (keys_up g)

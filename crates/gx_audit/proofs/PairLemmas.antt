@@ -33,14 +33,16 @@ key_fits file f k fit h =
     subst (Fits (key_kind file)) (sym row.2) (all_at (IsRowOf file) (fin.entries f) row.0 fit row.1).0
 
 -- the keys that stand at the place of a file
-pub keys_at : (keys : List (List Value)) (fs : List File) (i j : ℕ) (ks : List Value) → keys ≡ map keys_of fs → i ≡ j → j < length keys → ks ≡ get_or keys i ks → ks ≡ keys_of (get_or fs j fin.empty)
+pub keys_at : (keys : List (List Value)) (fs : List File) (i j : ℕ) (ks : List Value) → keys ≡ map keys_of fs → i ≡ j → j < length keys
+    → ks ≡ get_or keys i ks → ks ≡ keys_of (get_or fs j fin.empty)
 keys_at keys fs i j ks are same lt is =
     let there : j < length fs = omega (arith, lt, ap (λ (xs : List (List Value)). length xs) are, length-map fs keys_of) in
     is ∙ (λ k. get_or (are k) (same k) ks) ∙ get_or-map keys_of fs j fin.empty ks there
 
 -- ---- one link
 
-module _ (schema : Schema) (built : Built) (leaves : ℕ) (for : AreFor schema built leaves) (maps : List LeafMap) (fs : List File) (files : AreFiles schema built.files maps fs) (i : ℕ) (lt : i < length schema.links)
+module _ (schema : Schema) (built : Built) (leaves : ℕ) (for : AreFor schema built leaves) (maps : List LeafMap) (fs : List File)
+    (files : AreFiles schema built.files maps fs) (i : ℕ) (lt : i < length schema.links)
     (l : AnyLinkset) (rule_is : any_link_rule l ≡ rule_at schema built.links i) (valid : IsValidLinkset l) (held : (link : Link) (ms : List LeafMap) → IsHeldAt built.links i link ms ↔ IsHeldBy l link ms)
     (members owners : List Value) (members_are : members ≡ keys_of (get_or fs (link_at schema i).member fin.empty)) (owners_are : owners ≡ keys_of (get_or fs (link_at schema i).owner fin.empty)) (whole : Type 0) where
   abbrev def : LinkDef
@@ -67,7 +69,8 @@ module _ (schema : Schema) (built : Built) (leaves : ℕ) (for : AreFor schema b
   pub no_pairs : ArePairs (any_link_rule l) (IsHeldBy l) whole maps None → IsPairCount schema built whole maps fs i None
   no_pairs none w link is = none w (link, is_link link is, (held link maps).0 is.held)
 
-  pub pairs_among : (pairs : List (Value × Value)) → ArePairs (any_link_rule l) (IsHeldBy l) whole maps (Some pairs) → AreAmong members owners pairs → IsPairCount schema built whole maps fs i (Some (length pairs))
+  pub pairs_among : (pairs : List (Value × Value)) → ArePairs (any_link_rule l) (IsHeldBy l) whole maps (Some pairs)
+      → AreAmong members owners pairs → IsPairCount schema built whole maps fs i (Some (length pairs))
   pairs_among pairs are among w =
       let a = are w in (
         a.link,
@@ -82,7 +85,9 @@ module _ (schema : Schema) (built : Built) (leaves : ℕ) (for : AreFor schema b
         ap (λ (ps : List (Value × Value)). length ps) a.those ∙ sym (fin.len-entries a.link),
       )
 
-  pub pairs_apart : (pairs : List (Value × Value)) → ArePairs (any_link_rule l) (IsHeldBy l) whole maps (Some pairs) → (IsStrictlySortedBy value_cmp members → IsStrictlySortedBy value_cmp owners → ¬ AreAmong members owners pairs) → IsPairCount schema built whole maps fs i None
+  pub pairs_apart : (pairs : List (Value × Value)) → ArePairs (any_link_rule l) (IsHeldBy l) whole maps (Some pairs)
+      → (IsStrictlySortedBy value_cmp members → IsStrictlySortedBy value_cmp owners → ¬ AreAmong members owners pairs)
+      → IsPairCount schema built whole maps fs i None
   pairs_apart pairs are apart w link is =
       let a = are w in
       let same : a.link ≡ link = (any_link_laws l valid).told a.link link maps a.is_link (is_link link is) a.is_held ((held link maps).0 is.held) in

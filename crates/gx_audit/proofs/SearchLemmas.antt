@@ -63,7 +63,8 @@ abbrev pub behind : List Value → List Value
 behind rest = take (length rest - 1) (drop 1 rest)
 
 -- a list in two parts, of which the second begins with this item
-pub split_here : (keys front rest : List Value) (n : ℕ) (m : Value) → front ≡ take n keys → rest ≡ drop n keys → 0 < length rest → m ≡ get_or rest 0 m → keys ≡ front ++ m ∷ behind rest
+pub split_here : (keys front rest : List Value) (n : ℕ) (m : Value) → front ≡ take n keys → rest ≡ drop n keys → 0 < length rest
+    → m ≡ get_or rest 0 m → keys ≡ front ++ m ∷ behind rest
 split_here keys front rest n m f r some is =
     let all : behind rest ≡ drop 1 rest = take_all (length rest - 1) (drop 1 rest) (omega (arith, length-drop 1 rest)) in
     sym (take-append-drop n keys) ∙ (λ i. sym f i ++ sym r i) ∙ ap (λ (ks : List Value). front ++ ks) (drop_more rest 0 m some ∙ (λ i. sym is i ∷ sym all i))

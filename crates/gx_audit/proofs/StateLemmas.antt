@@ -23,7 +23,8 @@ use Rattle.gx_audit.specs.Audits.{keys_of, AreFirstFiles, AreFiles, AreAllKeys, 
 -- ---- lists with one item more
 
 -- what is true of the first items, and of one more
-each_more : {A : Type 0} (P : ℕ → A → Type 0) (none : A) (n : ℕ) (xs : List A) (x : A) → length xs ≡ n → ((i : ℕ) → i < n → P i (get_or xs i none)) → P n x → (i : ℕ) → i < n + 1 → P i (get_or (xs ++ x ∷ []) i none)
+each_more : {A : Type 0} (P : ℕ → A → Type 0) (none : A) (n : ℕ) (xs : List A) (x : A) → length xs ≡ n
+    → ((i : ℕ) → i < n → P i (get_or xs i none)) → P n x → (i : ℕ) → i < n + 1 → P i (get_or (xs ++ x ∷ []) i none)
 each_more P none n xs x many each one i lt = elim (nat_cases i n) [
   | inl e ↦ subst (P i) (sym (get_or_push xs x none i (many ∙ sym e))) (subst (λ j. P j x) (sym e) one)
   | inr ne ↦ let below : i < n = omega (arith, lt, ne) in subst (P i) (sym (get_or_append_left xs (x ∷ []) none i (omega (arith, below, many)))) (each i below)
@@ -32,7 +33,8 @@ each_more P none n xs x many each one i lt = elim (nat_cases i n) [
 -- ---- files
 
 -- of a file, its tree and the maps under other names
-pub internal_as : (file other : FileDef) (t u : Tree AnyMapping) (maps now : List LeafMap) (f : File) → other ≡ file → u ≡ t → now ≡ maps → IsInternal file t maps f → IsInternal other u now f
+pub internal_as : (file other : FileDef) (t u : Tree AnyMapping) (maps now : List LeafMap) (f : File) → other ≡ file → u ≡ t → now ≡ maps
+    → IsInternal file t maps f → IsInternal other u now f
 internal_as file other t u maps now f e d m is =
     subst (λ x. IsInternal x u now f) (sym e) (subst (λ (x : Tree AnyMapping). IsInternal file x now f) (sym d) (subst (λ (x : List LeafMap). IsInternal file t x f) (sym m) is))
 
@@ -40,7 +42,8 @@ module _ (schema : Schema) (nodes : List (Node AnyMapping)) (maps : List LeafMap
   pub no_files : AreFirstFiles schema nodes maps 0 []
   no_files = record { many = refl; each = λ i lt. absurd (omega arith) }
 
-  pub file_more : (n : ℕ) (fs : List File) (f : File) → AreFirstFiles schema nodes maps n fs → IsInternal (file_at schema n) (tree_at nodes n) maps f → AreFirstFiles schema nodes maps (n + 1) (fs ++ f ∷ [])
+  pub file_more : (n : ℕ) (fs : List File) (f : File) → AreFirstFiles schema nodes maps n fs
+      → IsInternal (file_at schema n) (tree_at nodes n) maps f → AreFirstFiles schema nodes maps (n + 1) (fs ++ f ∷ [])
   file_more n fs f are is = record {
     many = omega (arith, are.many, length-append fs (f ∷ []));
     each = each_more (λ i g. IsInternal (file_at schema i) (tree_at nodes i) maps g) fin.empty n fs f are.many are.each is;
@@ -52,7 +55,8 @@ module _ (schema : Schema) (built : Built) (maps : List LeafMap) (fs : List File
   pub no_links : AreFirstLinks schema built maps fs 0 []
   no_links = record { many = refl; each = λ i lt. absurd (omega arith) }
 
-  pub link_more : (n : ℕ) (ls : List Link) (link : Link) → AreFirstLinks schema built maps fs n ls → IsLinkAt schema built maps fs n link → AreFirstLinks schema built maps fs (n + 1) (ls ++ link ∷ [])
+  pub link_more : (n : ℕ) (ls : List Link) (link : Link) → AreFirstLinks schema built maps fs n ls → IsLinkAt schema built maps fs n link
+      → AreFirstLinks schema built maps fs (n + 1) (ls ++ link ∷ [])
   link_more n ls link are is = record {
     many = omega (arith, are.many, length-append ls (link ∷ []));
     each = each_more (λ i l. IsLinkAt schema built maps fs i l) fin.empty n ls link are.many are.each is;
@@ -82,12 +86,16 @@ module _ (schema : Schema) (built : Built) (leaves : ℕ) (maps : List LeafMap) 
   no_state whole none w has = none w has.0.files (files_are has.0 has.1)
 
   -- the files are there, and the links aren't
-  pub no_link_state : (whole : Type 0) (keys : List (List Value)) → AreAllKeys schema built.files whole maps (Some keys) → ((fs : List File) → AreFiles schema built.files maps fs → keys ≡ map keys_of fs → ArePairCounts schema built whole maps fs None) → whole → ¬ HaveState schema built maps
+  pub no_link_state : (whole : Type 0) (keys : List (List Value)) → AreAllKeys schema built.files whole maps (Some keys)
+      → ((fs : List File) → AreFiles schema built.files maps fs → keys ≡ map keys_of fs → ArePairCounts schema built whole maps fs None)
+      → whole → ¬ HaveState schema built maps
   no_link_state whole keys found none w has =
       let fs = found w in
       none has.0.files (files_are has.0 has.1) (fs.2 ∙ same_keys fs.0 has.0.files fs.1 (files_are has.0 has.1)) w has.0.links (links_are has.0 has.1)
 
-  pub state_found : (whole : Type 0) (keys : List (List Value)) (found : List ℕ) → AreAllKeys schema built.files whole maps (Some keys) → ((fs : List File) → AreFiles schema built.files maps fs → keys ≡ map keys_of fs → ArePairCounts schema built whole maps fs (Some found)) → whole → IsFound schema built maps keys found
+  pub state_found : (whole : Type 0) (keys : List (List Value)) (found : List ℕ) → AreAllKeys schema built.files whole maps (Some keys)
+      → ((fs : List File) → AreFiles schema built.files maps fs → keys ≡ map keys_of fs → ArePairCounts schema built whole maps fs (Some found))
+      → whole → IsFound schema built maps keys found
   state_found whole keys found read counts w =
       let fs = read w in
       let ls = counts fs.0 fs.1 fs.2 w in

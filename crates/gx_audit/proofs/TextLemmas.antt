@@ -28,14 +28,16 @@ link_name schema i l lt is = ap (λ (x : LinkDef). x.name) (get_or_read schema.l
 
 -- ---- counts
 
-pub records_counted : (keys : List (List Value)) (s : State) (i : ℕ) (ks : List Value) → i < length keys → keys ≡ map keys_of s.files → ks ≡ get_or keys i ks → length ks ≡ fin.len (file_in s i)
+pub records_counted : (keys : List (List Value)) (s : State) (i : ℕ) (ks : List Value) → i < length keys → keys ≡ map keys_of s.files
+    → ks ≡ get_or keys i ks → length ks ≡ fin.len (file_in s i)
 records_counted keys s i ks lt are is =
     let f = file_in s i in
     let there : i < length s.files = omega (arith, lt, ap (λ (xs : List (List Value)). length xs) are, length-map s.files keys_of) in
     let same : ks ≡ keys_of f = is ∙ ap (λ (xs : List (List Value)). get_or xs i ks) are ∙ get_or-map keys_of s.files i fin.empty ks there in
     ap (λ (xs : List Value). length xs) same ∙ length-map (fin.entries f) (λ row. row.0) ∙ sym (fin.len-entries f)
 
-pub members_counted : (counts : List ℕ) (s : State) (i n : ℕ) → i < length counts → counts ≡ map fin.len s.links → n ≡ get_or counts i n → n ≡ fin.len (link_in s i)
+pub members_counted : (counts : List ℕ) (s : State) (i n : ℕ) → i < length counts → counts ≡ map fin.len s.links → n ≡ get_or counts i n
+    → n ≡ fin.len (link_in s i)
 members_counted counts s i n lt are is =
     let there : i < length s.links = omega (arith, lt, ap (λ (xs : List ℕ). length xs) are, length-map s.links fin.len) in
     is ∙ ap (λ (xs : List ℕ). get_or xs i n) are ∙ get_or-map fin.len s.links i fin.empty n there

@@ -1,5 +1,5 @@
 // The audit of a database.
-ghost use Rattle.std.specs.Prelude.{◌≡◌, ◌<◌, true, false, Ok, length, IsTrue, IfSome, IfOk, OnOk};
+ghost use Rattle.std.specs.Prelude.{◌≡◌, ◌↔◌, ◌<◌, true, false, Ok, length, IsTrue, IfSome, IfOk, OnOk};
 ghost use Rattle.gx_ports.specs.Calls.{OnlyReads};
 ghost use Rattle.gx_states.specs.Internal.{AreFor, HaveState};
 ghost use Rattle.gx_audit.specs.Audits.{IsAnswer, HasAsMany, IsSound};
@@ -40,9 +40,11 @@ pub fn audit<B: Leaves>(
     ensures whole { IsTrue B.tells → B.steady leaves.old → 0 < length (B.working leaves.old) →
         OnOk result (B.whole leaves.old) }
 
-    // What is stored of leaves that aren't whole stays.
+    // What is stored of leaves that aren't whole stays, and what they share.
     ensures untouched { IsTrue B.tells → B.steady leaves.old → 0 < length (B.working leaves.old) →
         ¬ B.whole leaves.old → B.stored leaves.new ≡ B.stored leaves.old }
+    ensures steady { IsTrue B.tells → B.steady leaves.old → 0 < length (B.working leaves.old) →
+        ¬ B.whole leaves.old → B.steady leaves.new }
 
     ensures unsaid { ¬ (result ≡ Ok true) → out.new ≡ out.old }
     ensures reads { OnlyReads B.View (B.whole leaves.old) leaves.old leaves.new result }
@@ -61,6 +63,7 @@ fn check_leaves<B: Leaves>(alloc: Global, leaves: &mut B) -> Result<(), Stop>
     ensures whole { IsTrue B.tells → B.steady leaves.old → 0 < length (B.working leaves.old) →
         OnOk result (B.whole leaves.old) }
     ensures stored { B.stored leaves.new ≡ B.stored leaves.old }
+    ensures steady { B.steady leaves.old ↔ B.steady leaves.new }
     ensures reads { OnlyReads B.View (B.whole leaves.old) leaves.old leaves.new result }
 {
     for leaf in 0..leaves.leaves() {

@@ -9,6 +9,7 @@ invariant-loop-leaf g l = let b = g.B.View in record {
   each : (i : ℕ) → b.whole_at l.fn.leaves i ↔ b.whole_at l.leaves i;
   reads : Reads b l.fn.leaves l.leaves;
   whole : b.whole l.fn.leaves → b.whole l.leaves;
+  steady : b.steady l.fn.leaves ↔ b.steady l.leaves;
   stored : b.stored l.leaves ≡ b.stored l.fn.leaves;
   counted : b.faults l.leaves ≡ b.faults l.fn.leaves;
 }

@@ -1,0 +1,5 @@
+pub mod BehindLemmas
+mod IndexedLaws
+mod ExplainLemmas
+pub mod ExplainOnceLemmas
+pub mod ExplainEndLemmas

@@ -1,0 +1,147 @@
+// What is said of a script that is explained: how each `find` looks for its records.
+ghost use Rattle.std.specs.Prelude.{◌≡◌, ◌≤◌, ◌<◌, ◌^◌, ℕ, Err, length, false, IsTrue, IfOk, IfErr};
+ghost use Rattle.gx_schema.specs.WellFormed.{IsWellFormed};
+ghost use Rattle.gx_commands.specs.Commands.{IsOfSchema, IsFindOf, conds_of, inside_after};
+ghost use Rattle.gx_commands.specs.Lines.{longest_line, script_lines};
+ghost use Rattle.gx_types.specs.Nodes.{AreNodes};
+ghost use Rattle.gx_planner.specs.Plans.{least_plan};
+ghost use Rattle.gx_planner.specs.Texts.{plan_text};
+ghost use Rattle.gx_commands.specs.declared.command.LineWhy.{LineWhy};
+ghost use Rattle.gx_play.specs.Plays.{IsBadAt, is_play_fault};
+ghost use Rattle.gx_play.specs.Say.{OnlySays};
+ghost use Rattle.gx_explain.specs.Explained.{command_text};
+ghost use Rattle.gx_explain.specs.Explaining.{fields_in, IsLineExplained, HasEndCause, SaysPlans};
+
+use gx_commands::{Command, Find, ScriptLines};
+use gx_device::Device;
+use gx_finds::indexed_fields;
+use gx_planner::{plan, plan_line};
+use gx_play::{PlayEnd, next_line, placed_command, say_all};
+use gx_ports::Stop;
+use gx_schema::Schema;
+use gx_states::{file_def, file_node};
+use gx_types::Built;
+use gx_values::{NoMemory, Octets};
+use std::alloc::Global;
+
+// What is said of a line, and whether a transaction is open behind it.
+#[derive(Drop)]
+struct ExplainedLine {
+    text: Octets,
+    inside: bool,
+}
+
+/// Says the plan of each `find` of a script of the schema, whose files are stored in these nodes, up
+/// to the script's end or the line that ends it. No line is carried out, and each plan is said whole
+/// before the next line is read. On a device that tells its content: after `Ok` and `Line` exactly
+/// the plans up to there were said; after `Stop` those of the first lines, and after `Stop(Fault)` a
+/// front of them. Of a stop, `Fault` comes only where the count of faults rose, and the other one is
+/// `NoMemory`.
+pub fn explain_lines<D: Device>(
+    alloc: Global,
+    schema: &Schema,
+    built: &Built,
+    script: &[u8],
+    device: &mut D,
+) -> Result<(), PlayEnd>
+    requires well_formed { IsWellFormed schema.now }
+    requires nodes { AreNodes schema.now built.now.files (length built.now.specs) }
+    ensures said { IsTrue D.tells →
+        SaysPlans schema.now (fields_in schema.now built.now.files) (script_lines script.now)
+        (D.content device.old) (D.content device.new) result }
+    ensures cause { IfErr result (HasEndCause (D.faults device.old) (D.faults device.new)) }
+    ensures counted { is_play_fault result ≡ false → D.faults device.new ≡ D.faults device.old }
+    ensures later { D.faults device.old ≤ D.faults device.new }
+    ensures rest { OnlySays (D.content device.old) (D.content device.new) }
+{
+    let mut lines = ScriptLines::new(script);
+    let mut number = 0u32;
+    let mut inside = false;
+    while let Some(line) = next_line(&mut lines, number)? {
+        number += 1;
+        let explained = explained_line(alloc, schema, built, inside, number, line)?;
+        let Ok(()) = say_all(device, explained.text.as_slice()) else {
+            return Err(PlayEnd::Stop(Stop::Fault));
+        };
+        inside = explained.inside;
+    }
+    Ok(())
+}
+
+// What is said of the line of this number, which stands inside a transaction or outside, as is told.
+fn explained_line(
+    alloc: Global,
+    schema: &Schema,
+    built: &Built,
+    inside: bool,
+    number: u32,
+    line: &[u8],
+) -> Result<ExplainedLine, PlayEnd>
+    requires well_formed { IsWellFormed schema.now }
+    requires nodes { AreNodes schema.now built.now.files (length built.now.specs) }
+    requires short { length line.now ≤ longest_line }
+    ensures explained { IfOk result
+        (IsLineExplained schema.now (fields_in schema.now built.now.files) inside number line.now) }
+    ensures bad { (n : ℕ) (why : LineWhy) → result ≡ Err (PlayEnd.Line n why) →
+        IsBadAt schema.now inside number line.now n why }
+    ensures unread { (stop : Stop) → result ≡ Err (PlayEnd.Stop stop) → stop ≡ Stop.NoMemory }
+{
+    let command = placed_command(alloc, schema, inside, number, line)?;
+    match command_text(alloc, schema, built, number, &command) {
+        Ok(text) => Ok(ExplainedLine {
+            text,
+            inside: inside_after(inside, &command),
+        }),
+        Err(NoMemory) => Err(PlayEnd::Stop(Stop::NoMemory)),
+    }
+}
+
+// What is said of the command of the line of this number: the plan of a `find`.
+fn command_text(
+    alloc: Global,
+    schema: &Schema,
+    built: &Built,
+    number: u32,
+    command: &Command,
+) -> Result<Octets, NoMemory>
+    requires of_schema { IsOfSchema schema.now command.now }
+    requires few { length (conds_of command.now) < 2 ^ 16 }
+    requires nodes { AreNodes schema.now built.now.files (length built.now.specs) }
+    ensures { IfOk result (λ text.
+        text ≡ command_text schema.now (fields_in schema.now built.now.files) number command.now) }
+{
+    match command {
+        Command::Find(find) => find_line(alloc, schema, built, number, find),
+        _ => Ok(Octets(Vec::new(alloc))),
+    }
+}
+
+// The line of the plan of a `find`, which stands in the line of this number.
+fn find_line(
+    alloc: Global,
+    schema: &Schema,
+    built: &Built,
+    number: u32,
+    find: &Find,
+) -> Result<Octets, NoMemory>
+    requires find { IsFindOf schema.now find.now }
+    requires few { length find.now.conds < 2 ^ 16 }
+    requires nodes { AreNodes schema.now built.now.files (length built.now.specs) }
+    ensures { IfOk result (λ text. text ≡ plan_text schema.now number find.now
+        (least_plan find.now (fields_in schema.now built.now.files find.now.file))) }
+{
+    let file = file_def(schema, find.file);
+    let indexed = indexed_fields(alloc, file, file_node(built, find.file))?;
+    plan_line(alloc, schema, number, find, plan(find, &indexed))
+}
+
+// Whether a transaction is open behind the command.
+fn inside_after(inside: bool, command: &Command) -> bool
+    ensures { result ≡ inside_after inside command.now }
+{
+    match command {
+        Command::Begin => true,
+        Command::Commit | Command::Abort => false,
+        _ => inside,
+    }
+}

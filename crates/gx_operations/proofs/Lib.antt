@@ -1,0 +1,5 @@
+pub mod NameLemmas
+pub mod StoreLemmas
+mod MakeLemmas
+mod ExamineLemmas
+mod WorkingLemmas

@@ -1,0 +1,51 @@
+use Rattle.std.proofs.Common.{rules, None, sym, ap, subst, ◌∙◌, arith}
+use Rattle.gx_device.specs.Faults.{Rose}
+use Rattle.gx_memory_leaves.specs.Plain.{kept_of}
+use Rattle.gx_states.specs.Internal.{AreInternal}
+use Rattle.gx_model.specs.States.{State, empty_state}
+use Rattle.gx_play.specs.Plays.{IsPlayedAs}
+use Rattle.gx_states.proofs.StartLemmas.{start_state}
+use Rattle.gx_play.proofs.OverLemmas.{held_as, unheard}
+use Rattle.gx_play.specs.declared.ending.Ending.TheVariants as ending
+use Rattle.gx_operations.proofs.play.play_script.Goals as goal
+
+pub returns-in-Ok-clause-answered : goal.returns-in-Ok-clause-answered
+returns-in-Ok-clause-answered g c = λ told.
+    let content = g.M.Device.content in
+    let start = empty_state c.args.schema in
+    let left = c.play_over-leaves.result.1 in
+    held_as c.args.schema c.args.built None start
+    (λ (s : State). AreInternal c.args.schema c.args.built (kept_of left) s × Unit {0}) (λ s. Unit {0})
+    (content c.args.machine).script (content c.args.machine).now.said (content c.into_device.result).now.said c.play_over-leaves.result.0 (λ s held. tt)
+    (subst (λ m. IsPlayedAs c.args.schema c.args.built None start (λ (s : State). AreInternal c.args.schema c.args.built (kept_of left) s × Unit {0}) (content c.args.machine).script (content c.args.machine).now.said (content m).now.said c.play_over-leaves.result.0) (sym c.into_device.ensures)
+    (subst (λ m. IsPlayedAs c.args.schema c.args.built None start (λ (s : State). AreInternal c.args.schema c.args.built (kept_of left) s × Unit {0}) (content m).script (content m).now.said (content left.device).now.said c.play_over-leaves.result.0) c.in-Ok.ensures.device
+    (c.play_over-leaves.ensures.answered told start (record {
+      working_is = subst (λ w. AreInternal c.args.schema c.args.built w start) (sym c.in-Ok.ensures.working) (start_state c.args.schema c.args.built _ _ c.requires.built);
+      kept_same = c.in-Ok.ensures.kept ∙ sym c.in-Ok.ensures.working;
+      whole_is = tt;
+      kept_whole_is = tt;
+    }))))
+
+pub returns-in-Ok-clause-heard : goal.returns-in-Ok-clause-heard
+returns-in-Ok-clause-heard g c = λ told e.
+    ap (λ m. (g.M.Device.content m).script) c.into_device.ensures
+    ∙ c.play_over-leaves.ensures.heard told (empty_state c.args.schema) (record {
+      working_is = subst (λ w. AreInternal c.args.schema c.args.built w (empty_state c.args.schema)) (sym c.in-Ok.ensures.working) (start_state c.args.schema c.args.built _ _ c.requires.built);
+      kept_same = c.in-Ok.ensures.kept ∙ sym c.in-Ok.ensures.working;
+      whole_is = tt;
+      kept_whole_is = tt;
+    }) e
+
+pub returns-in-Ok-clause-fault : goal.returns-in-Ok-clause-fault
+returns-in-Ok-clause-fault g c = λ e.
+    subst (λ m. Rose (g.M.Device.faults c.args.machine) (g.M.Device.faults m)) (sym c.into_device.ensures)
+    (subst (λ m. Rose (g.M.Device.faults m) (g.M.Device.faults c.play_over-leaves.result.1.device)) c.in-Ok.ensures.device (c.play_over-leaves.ensures.fault e))
+
+pub returns-in-Ok-clause-counted : goal.returns-in-Ok-clause-counted
+returns-in-Ok-clause-counted g c = λ e. ap g.M.Device.faults c.into_device.ensures ∙ c.play_over-leaves.ensures.counted e ∙ ap g.M.Device.faults c.in-Ok.ensures.device
+
+pub returns-in-Ok-clause-later : goal.returns-in-Ok-clause-later
+returns-in-Ok-clause-later g c = omega (arith, c.play_over-leaves.ensures.later, ap g.M.Device.faults c.into_device.ensures, ap g.M.Device.faults c.in-Ok.ensures.device)
+
+pub returns-clause-answered : goal.returns-clause-answered
+returns-clause-answered g c = λ told. unheard c.args.schema c.args.built None (empty_state c.args.schema) (λ s. Unit {0}) _ _ _ 0 0 ending.NoMemory (ap (λ m. (g.M.Device.content m).now.said) (search rules)) tt tt

@@ -1,0 +1,4 @@
+pub mod Settled
+pub mod Making
+pub mod Examined
+pub mod Working

@@ -1,0 +1,113 @@
+// A device that is made, and the workload that is played on it.
+ghost use Rattle.std.specs.Prelude.{◌≡◌, ◌≤◌, false, length, replicate, IsTrue, IsErrOf};
+ghost use Rattle.std.specs.FinMap.{empty};
+ghost use Rattle.gx_device.specs.Content.{Silent};
+ghost use Rattle.gx_device.specs.Faults.{Rose};
+ghost use Rattle.gx_work.specs.Schema.{work_schema};
+ghost use Rattle.gx_store.specs.Device.{Reopens};
+ghost use Rattle.gx_store.specs.Store.{CanAttach, Attaches};
+ghost use Rattle.gx_requests.specs.Checked.{IsStored};
+ghost use Rattle.gx_play.specs.Endings.{is_fault};
+ghost use Rattle.gx_operations.specs.Working.{IsPlayedOn, IsWorking};
+
+use gx_device::Machine;
+use gx_play::Ending;
+use gx_requests::{Stored, unopened_ending};
+use gx_store::{close, make, open_attached};
+use gx_values::Octets;
+use gx_working::play_work;
+use std::alloc::Global;
+
+/// Makes a device of that name with so many blocks, plays the workload of so many records on it, and closes
+/// it. After a line of its summary and after `Full` the device, which wasn't there, is settled with the last
+/// state that the play kept; after `Device` it is as it was. After want of memory a new one holds no
+/// database, an empty one, or the last state that first lines kept.
+pub fn make_and_play<'a, M: Machine + Drop>(
+    alloc: Global,
+    stored: Stored,
+    device: &str,
+    blocks: u32,
+    records: u32,
+    machine: M,
+) -> (Result<Octets, Ending<'a>>, M)
+    requires stored { IsStored stored }
+    requires schema { stored.schema ≡ work_schema }
+    requires few { records ≤ 10000 }
+    ensures worked { CanAttach M.tells (M.content machine) →
+        IsWorking stored device.now blocks records (M.content machine) (M.content result.1)
+        result.0 }
+    ensures attaches { CanAttach M.tells (M.content machine) →
+        Attaches device.now (M.content machine) (M.content result.1) }
+    ensures fault { IsErrOf result.0 Ending.Fault → Rose (M.faults machine) (M.faults result.1) }
+    ensures counted { is_fault result.0 ≡ false → M.faults result.1 ≡ M.faults machine }
+    ensures later { M.faults machine ≤ M.faults result.1 }
+{
+    let Stored {
+        schema,
+        built,
+        schema_text,
+        equation_text,
+    } = stored;
+    let (made, machine) = make(
+        alloc,
+        machine,
+        device,
+        blocks,
+        schema_text.as_slice(),
+        equation_text.as_slice(),
+        &built.specs.0,
+    );
+    match made {
+        Ok(()) => {
+            let stored = Stored {
+                schema,
+                built,
+                schema_text,
+                equation_text,
+            };
+            play_made(alloc, stored, records, machine)
+        }
+        Err(why) => (Err(unopened_ending(why)), machine),
+    }
+}
+
+// Plays the workload on the attached device, which holds an empty database, and closes it.
+fn play_made<'a, M: Machine + Drop>(
+    alloc: Global,
+    stored: Stored,
+    records: u32,
+    machine: M,
+) -> (Result<Octets, Ending<'a>>, M)
+    requires stored { IsStored stored }
+    requires schema { stored.schema ≡ work_schema }
+    requires few { records ≤ 10000 }
+    ensures worked { IsTrue M.tells →
+        Reopens stored.schema_text stored.equation_text stored.built.specs
+        (replicate (length stored.built.specs) empty) (M.content machine).now.blocks →
+        IsPlayedOn stored (length (M.content machine).now.blocks) records
+        (M.content result.1).now.blocks result.0 }
+    ensures silent { Silent (M.content machine) (M.content result.1) }
+    ensures fault { IsErrOf result.0 Ending.Fault → Rose (M.faults machine) (M.faults result.1) }
+    ensures counted { is_fault result.0 ≡ false → M.faults result.1 ≡ M.faults machine }
+    ensures later { M.faults machine ≤ M.faults result.1 }
+{
+    let Stored {
+        schema,
+        built,
+        schema_text,
+        equation_text,
+    } = stored;
+    match open_attached(
+        alloc,
+        machine,
+        schema_text.as_slice(),
+        equation_text.as_slice(),
+        &built.specs.0,
+    ) {
+        Ok(store) => {
+            let (worked, store) = play_work(alloc, schema, built, records, store);
+            (worked, close(store))
+        }
+        Err((machine, why)) => (Err(unopened_ending(why)), machine),
+    }
+}
