@@ -31,7 +31,8 @@ use Rattle.gx_requests.specs.Words.{explaining, making}
 use Rattle.gx_top.specs.Explained.{IsToExplain}
 use Rattle.gx_top.proofs.StayLemmas.{devices_same, starts_same}
 use Rattle.gx_top.proofs.TryLemmas.{refused_says, memory_says, unprepared_front, check_done, check_front}
-use Rattle.gx_top.proofs.RowLemmas.{behind, done_row, stopped_row, short_row, full_row, front_row}
+use Rattle.gx_explain.proofs.BehindLemmas.{behind}
+use Rattle.gx_top.proofs.RowLemmas.{done_row, stopped_row, short_row, full_row, front_row}
 use Rattle.gx_top.proofs.CompleteLemmas.{task_not_worked, checked_not_worked, worked_not_refused, task_not_inspected, checked_not_inspected, inspected_not_refused, refused_status, unprepared_memory, unprepared_refuses, accepted_not_refused, checkable_not_refused, wrong_not_refused, checked_no_task, checked_not_made, checked_not_wrong, made_no_task, task_not_explained, checked_not_explained, made_not_explained, start_not_wrong, one_task, not_stopped, not_good, said_complete}
 
 done_not_outside : (s : Status) → s ≡ status.Done → s ≢ status.Outside

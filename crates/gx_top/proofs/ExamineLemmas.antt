@@ -1,19 +1,12 @@
 -- A device that was opened and examined, or that wasn't had: what was found, and what is left of it.
-use Rattle.std.proofs.Common.{◌≡◌, ℕ, true, not, List, [], ◌++◌, length, Option, Some, None, Result, Ok, Err, refl, sym, ap, subst, ◌∙◌}
+use Rattle.std.proofs.Common.{◌≡◌, ℕ, true, not, List, length, Option, Some, None, Result, Ok, Err, refl, sym, ap, subst, ◌∙◌}
 use Rattle.std.specs.Prelude.{◌≢◌}
 use Rattle.gx_device.specs.Content.{Content, Shelf, SameContent, Silent, device_at}
 use Rattle.gx_ports.specs.declared.kinds.LeafSpec.{LeafSpec}
 use Rattle.gx_ports.specs.LeafMaps.{LeafMap, Limits}
-use Rattle.gx_ports.specs.declared.stop.Stop.{Stop}
-use Rattle.gx_ports.specs.declared.stop.Stop.TheVariants as stop
-use Rattle.gx_schema.specs.declared.schema.Schema.{Schema}
 use Rattle.gx_schema.specs.Printing.{schema_text}
 use Rattle.gx_equation.specs.Printing.{equation_text}
-use Rattle.gx_types.specs.declared.built.Built.{Built}
 use Rattle.gx_model.specs.States.{State}
-use Rattle.gx_audit.specs.Audits.{IsSound}
-use Rattle.gx_audit.specs.Texts.{inspect_text}
-use Rattle.gx_play.specs.declared.play.PlayEnd.TheVariants as play_end
 use Rattle.gx_states.specs.Internal.{AreInternal}
 use Rattle.gx_store.specs.Device.{Reopens, IsSettled, ReadAlike}
 use Rattle.gx_store.specs.Opening.{AreOpened, IsUnopened}
@@ -29,38 +22,25 @@ use Rattle.gx_play.specs.declared.ending.Ending.{Ending}
 use Rattle.gx_play.specs.declared.ending.Ending.TheVariants as ending
 use Rattle.gx_play.specs.declared.status.Status.{Status}
 use Rattle.gx_play.specs.declared.status.Status.TheVariants as status
-use Rattle.gx_play.specs.Endings.{unopened_ending, ending_of, IsEnded}
+use Rattle.gx_play.specs.Endings.{unopened_ending, IsEnded}
 use Rattle.gx_play.specs.Say.{SameDevices}
 use Rattle.gx_requests.specs.declared.opened.Stored.{Stored}
 use Rattle.gx_requests.specs.Checked.{IsStoredFor}
 use Rattle.gx_requests.specs.Words.{Action, inspecting, request_words}
-use Rattle.gx_top.specs.Tasks.{Task, IsHeldOn, limits_on}
+use Rattle.gx_top.specs.Tasks.{Task, IsHeldOn}
+use Rattle.gx_operations.specs.Settled.{limits_on}
 use Rattle.gx_top.specs.Devices.{IsWrongOn, IsBefore}
 use Rattle.gx_top.specs.Ran.{StaysWrong}
-use Rattle.gx_top.specs.Found.{IsExamined, IsTold}
-use Rattle.gx_top.specs.Inspected.{IsToInspect, inspected, IsInspected, LeavesInspected, LeavesInspectedBy}
+use Rattle.gx_operations.specs.Examined.{IsExamined}
+use Rattle.gx_top.specs.Found.{IsTold}
+use Rattle.gx_top.specs.Inspected.{IsToInspect, inspected, IsInspected, IsStoredOn, LeavesInspected, LeavesInspectedBy}
 use Rattle.gx_top.proofs.StoredLemmas.{same_internal}
-use Rattle.gx_top.proofs.StayLemmas.{devices_same, reads_itself, reads_between, held_still}
+use Rattle.gx_top.proofs.StayLemmas.{devices_same, ReadsAlike, reads_itself, reads_between, held_still}
 use Rattle.gx_top.proofs.CompleteLemmas.{same_words, had_not_wrong}
-use Rattle.gx_top.proofs.RanLemmas.{other_at, stays_itself}
+use Rattle.gx_operations.proofs.NameLemmas.{other_at}
+use Rattle.gx_top.proofs.RanLemmas.{stays_itself}
 use Rattle.gx_top.proofs.UnopenedLemmas.{IsTried, gone, stays, device_ended}
 use Rattle.gx_top.proofs.InspectLemmas.{device_once, one_inspection, IsUninspected, uninspected_row, IsFoundOf, found_row}
-
--- ---- an examination of leaves
-
-pub sound_examined : (schema : Schema) (built : Built) (maps : List LeafMap) (whole : Type 0) (before text : List ℕ) → before ≡ [] → whole → IsSound schema built maps before text → IsExamined schema built maps whole (Ok text)
-sound_examined schema built maps whole before text none is sound = record {
-  is_whole = is;
-  state = sound.state;
-  internal = sound.is;
-  text_is = sound.said ∙ ap (λ (b : List ℕ). b ++ inspect_text schema built.specs built.owners maps sound.state) none;
-}
-
-pub stop_examined : (schema : Schema) (built : Built) (maps : List LeafMap) (whole : Type 0) (why : Stop) → (why ≡ stop.Full → ⊥) → ((block : ℕ) → why ≡ stop.Damaged block → whole → ⊥) → IsExamined schema built maps whole (Err (ending_of (play_end.Stop why)))
-stop_examined schema built maps whole stop.NoMemory room damage = tt
-stop_examined schema built maps whole stop.Fault room damage = tt
-stop_examined schema built maps whole stop.Full room damage = absurd (room refl)
-stop_examined schema built maps whole (stop.Damaged block) room damage = λ is s internal. damage block refl is
 
 -- ---- a device that was opened
 
@@ -72,6 +52,8 @@ pub record IsSeen (device : List ℕ) (x : Stored) (middle opened mid : Content)
   pub had : OfBlocks device middle (AreOpened schema equation specs)
   pub reopens : whole → (blocks : List (List ℕ)) → device_at middle.now device ≡ Some blocks → Reopens schema equation specs maps blocks
   pub holds : (blocks : List (List ℕ)) (others : List LeafMap) → device_at middle.now device ≡ Some blocks → Reopens schema equation specs others blocks → whole × (others ≡ maps)
+  pub alike : (blocks : List (List ℕ)) → device_at middle.now device ≡ Some blocks → OfBlocks device opened (ReadAlike blocks)
+  pub untouched : ¬ whole → ReadAlike opened.now.blocks mid.now.blocks
   pub silent : Silent opened mid
   pub examined : IsExamined x.schema x.built maps whole found
   pub settled : whole → IsSettled schema equation specs maps mid.now.blocks
@@ -89,6 +71,15 @@ reopens_before device schema equation specs maps blocks opened named alike settl
     let same : alike.0 ≡ opened.now.blocks = some_blocks alike.0 opened.now.blocks (sym alike.1 ∙ named_at opened.now device named) in
     let is : ReadAlike blocks opened.now.blocks = subst (ReadAlike blocks) same alike.2 in
     reopens_alike schema equation specs maps opened.now.blocks blocks (alike_back blocks opened.now.blocks is) (settled_reopens schema equation specs maps opened.now.blocks settled)
+
+alike_on : (old mid new : List (List ℕ)) → ReadAlike old mid → ReadAlike mid new → ReadAlike old new
+alike_on old mid new first then = record { count = then.count ∙ first.count; head = then.head ∙ first.head; pages = then.pages ∙ first.pages }
+
+-- what opened it opens it again
+stored_still : (t : Task) (device : List ℕ) (old new : Content) (maps : List LeafMap) → ReadsAlike device old new → IsStoredOn t device old maps → IsStoredOn t device new maps
+stored_still t device old new maps reads stored =
+    let is = reads.alike stored.0 stored.1 in
+    (is.0, is.1, reopens_alike (schema_text t.schema) (equation_text t.definitions) t.typing.specs maps stored.0 is.0 is.2 stored.2)
 
 not_failed : (why : Unopened) → (unopened_ending why ≡ ending.Fault → ⊥) → not (is_fault why) ≡ true
 not_failed unopened.Fault never = absurd (never refl)
@@ -129,6 +120,12 @@ module _ (words : List (List ℕ)) (device : List ℕ) (x : Stored) (old middle 
   held_there : (r : IsToInspect words old.aside.texts) (c : Content) (limit : Option Limits) (s : State) → IsHeldOn Asked device c limit s → IsHeldOn (inspected r) device c limit s
   held_there r c limit s is = subst (λ t. IsHeldOn t device c limit s) (sym (one_inspection words old.aside.texts r Request).tasks) is
 
+  stored_here : (r : IsToInspect words old.aside.texts) (c : Content) (maps : List LeafMap) → IsStoredOn (inspected r) device c maps → IsStoredOn Asked device c maps
+  stored_here r c maps is = subst (λ t. IsStoredOn t device c maps) (one_inspection words old.aside.texts r Request).tasks is
+
+  stored_there : (r : IsToInspect words old.aside.texts) (c : Content) (maps : List LeafMap) → IsStoredOn Asked device c maps → IsStoredOn (inspected r) device c maps
+  stored_there r c maps is = subst (λ t. IsStoredOn t device c maps) (sym (one_inspection words old.aside.texts r Request).tasks) is
+
   -- ---- a device that isn't had
 
   back : (blocks : List (List ℕ)) → device_at middle.now device ≡ Some blocks → device_at old.now device ≡ Some blocks
@@ -150,18 +147,21 @@ module _ (words : List (List ℕ)) (device : List ℕ) (x : Stored) (old middle 
     pub unopened_script : new.script ≡ old.script
     unopened_script = ended.script ∙ tried.attaches.script ∙ same.script
 
+    reads_still : s ≢ status.Outside → ReadsAlike device old new
+    reads_still outside =
+        reads_between device old middle mid new (ap (λ n. device_at n device) same.now) (devices_same mid new devices device)
+        (record { absent = tried.absent; alike = tried.kept (not_failed why (λ f. outside (ended.fault f))) })
+
     holds_still : s ≢ status.Outside → (limit : Option Limits) (state : State) → IsHeldOn Asked device old limit state → IsHeldOn Asked device new limit state
-    holds_still outside limit state held =
-        held_still Asked device old new limit state
-        (reads_between device old middle mid new (ap (λ n. device_at n device) same.now) (devices_same mid new devices device)
-        (record { absent = tried.absent; alike = tried.kept (not_failed why (λ f. outside (ended.fault f))) }))
-        held
+    holds_still outside limit state held = held_still Asked device old new limit state (reads_still outside) held
 
     pub unopened_left : LeavesInspected words device old new s
     unopened_left = record {
       refused = λ e. absurd (refused_never Asked device old new s unopened_row e);
       wrong = λ e r wrong is_wrong. stays Asked device old middle mid new why same.now tried devices is (device_ended why s e ended.status_is) wrong (wrong_here r wrong (one_inspection words old.aside.texts r Request).devices is_wrong);
       holds = λ outside r limit state held. (limit, held_there r new limit state (holds_still outside limit state (held_here r old limit state held)));
+      keeps = λ outside r maps stored. stored_there r new maps (stored_still Asked device old new maps (reads_still outside) (stored_here r old maps stored));
+      reads = λ outside r none blocks there. (reads_still outside).alike blocks there;
       missing = gone Asked device old middle mid new why same.now tried devices is;
       others = λ other differ. devices_same mid new devices other ∙ tried.attaches.others other differ ∙ ap (λ n. device_at n other) same.now;
     }
@@ -257,6 +257,27 @@ module _ (words : List (List ℕ)) (device : List ℕ) (x : Stored) (old middle 
           },
         )
 
+    -- it reopens to the maps to which it did
+    keeps_on : (new : Content) → SameDevices mid new → (others : List LeafMap) → IsStoredOn Asked device old others → IsStoredOn Asked device new others
+    keeps_on new devices others is =
+        let at = seen.holds is.0 others (there is.0 is.1) is.2 in (
+          mid.now.blocks,
+          devices_same mid new devices device ∙ mid_there,
+          subst (λ (ms : List LeafMap). Reopens (schema_text x.schema) (equation_text p.definitions) p.typing.specs ms mid.now.blocks) (sym at.1)
+              (settled_reopens (schema_text x.schema) (equation_text p.definitions) p.typing.specs maps mid.now.blocks (seen.settled at.0)),
+        )
+
+    -- and where it reopened to none it reads as it did
+    reads_on : (new : Content) → SameDevices mid new → ((others : List LeafMap) → ¬ IsStoredOn Asked device old others) → (blocks : List (List ℕ)) → device_at old.now device ≡ Some blocks → OfBlocks device new (ReadAlike blocks)
+    reads_on new devices none blocks is =
+        let alike = seen.alike blocks (there blocks is) in
+        let same_blocks : alike.0 ≡ opened.now.blocks = some_blocks alike.0 opened.now.blocks (sym alike.1 ∙ named_at opened.now device seen.named) in (
+          mid.now.blocks,
+          devices_same mid new devices device ∙ mid_there,
+          alike_on blocks opened.now.blocks mid.now.blocks (subst (ReadAlike blocks) same_blocks alike.2)
+              (seen.untouched (λ is_whole. none maps (blocks, is, seen.reopens is_whole blocks (there blocks is)))),
+        )
+
     never_none : device_at old.now device ≡ None → ⊥
     never_none none = never (sym none ∙ back seen.had.0 seen.had.1)
       where
@@ -268,6 +289,8 @@ module _ (words : List (List ℕ)) (device : List ℕ) (x : Stored) (old middle 
       refused = λ e. absurd (refused_never Asked device old new s (examined_row new s devices told) e);
       wrong = λ e r wrong is. found_late wrong (wrong_here r wrong (one_inspection words old.aside.texts r Request).devices is) new;
       holds = λ outside r limit state held. let now = holds_on new devices limit state (held_here r old limit state held) in (now.0, held_there r new now.0 state now.1);
+      keeps = λ outside r others stored. stored_there r new others (keeps_on new devices others (stored_here r old others stored));
+      reads = λ outside r none blocks is. reads_on new devices (λ others stored. none others (stored_there r old others stored)) blocks is;
       missing = λ none. absurd (never_none none);
       others = λ other differ. other_at opened.now new.now device other seen.named (devices.shelf ∙ seen.silent.shelf) differ ∙ seen.attaches.others other differ ∙ ap (λ n. device_at n other) same.now;
     }
@@ -279,6 +302,8 @@ unprepared_inspected words device old mid new s before same = record {
   refused = λ e. record { blocks = same.blocks ∙ ap (λ n. n.blocks) before; shelf = same.shelf ∙ ap (λ n. n.shelf) before };
   wrong = λ e r wrong is. stays_itself device old new (stays_at device) wrong;
   holds = λ outside r limit state held. (limit, held_still (inspected r) device old new limit state (reads_itself device old new (stays_at device)) held);
+  keeps = λ outside r maps stored. stored_still (inspected r) device old new maps (reads_itself device old new (stays_at device)) stored;
+  reads = λ outside r none blocks there. (reads_itself device old new (stays_at device)).alike blocks there;
   missing = λ none. stays_at device ∙ none;
   others = λ other differ. stays_at other;
 }

@@ -8,14 +8,15 @@ use Rattle.gx_types.specs.declared.built.Built.{Built}
 use Rattle.gx_model.specs.Play.{End, good, stopped}
 use Rattle.gx_play.specs.declared.status.Status.{Status}
 use Rattle.gx_play.specs.declared.status.Status.TheVariants as status
-use Rattle.gx_top.specs.Explained.{indexed_fields, IsExplainText, IsStoppedText, IsShortText, IsSomeText, IsScriptExplained, IsToExplain, Explains, IsExplainable}
-use Rattle.gx_top.specs.Explaining.{fields_in}
+use Rattle.gx_explain.specs.Explained.{indexed_fields, IsExplainText, IsStoppedText, IsShortText, IsSomeText, IsScriptExplained}
+use Rattle.gx_top.specs.Explained.{IsToExplain, Explains, IsExplainable}
+use Rattle.gx_explain.specs.Explaining.{fields_in}
 use Rattle.gx_requests.specs.Checked.{IsPrepared}
 use Rattle.gx_top.specs.Tries.{IsSaid, IsEnd, IsDueStatus, IsAsDue}
 use Rattle.gx_requests.specs.Words.{explaining}
 use Rattle.gx_top.proofs.CompleteLemmas.{one_acceptance, accepted_not_refused, task_not_explained, checked_not_explained, made_not_explained, wrong_not_explained, explained_not_inspected, explained_not_worked}
-use Rattle.gx_top.proofs.ExplainEndLemmas.{same_fields}
-use Rattle.gx_top.proofs.ExplainOnceLemmas.{text_once}
+use Rattle.gx_explain.proofs.ExplainEndLemmas.{same_fields}
+use Rattle.gx_explain.proofs.ExplainOnceLemmas.{text_once}
 
 -- ---- what is explained
 

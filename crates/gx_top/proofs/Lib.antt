@@ -6,16 +6,10 @@ mod CompleteLemmas
 mod OnceLemmas
 mod EndLemmas
 mod TaskLemmas
-mod StoreLemmas
 mod MakeLemmas
 mod RanLemmas
 mod UnopenedLemmas
 mod InspectLemmas
 mod ExamineLemmas
 mod WorkLemmas
-mod WorkingLemmas
-mod IndexedLaws
-mod ExplainLemmas
-mod ExplainOnceLemmas
-mod ExplainEndLemmas
 mod ExplainRequestLemmas

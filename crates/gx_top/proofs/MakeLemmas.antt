@@ -1,6 +1,6 @@
 -- A device that is made: what was said of it, that the status is due, and what stands on the devices.
-use Rattle.std.proofs.Common.{◌≡◌, ℕ, List, [], true, false, Result, Ok, Err, Some, None, Option, refl, sym, ap, subst, ◌∙◌, inl, inr, length, get_or}
-use Rattle.std.specs.Prelude.{◌⊎◌, ◌≢◌, OnOk, IfErr, IsSome, is_some}
+use Rattle.std.proofs.Common.{◌≡◌, ℕ, List, [], true, false, Some, None, Option, refl, sym, ap, subst, ◌∙◌, inl, inr, length, get_or}
+use Rattle.std.specs.Prelude.{◌⊎◌, ◌≢◌, IsSome, is_some}
 use Rattle.gx_device.specs.Content.{Content, Texts, device_at}
 use Rattle.gx_tokens.specs.Numbers.{digits_value}
 use Rattle.gx_ports.specs.declared.kinds.LeafSpec.{LeafSpec}
@@ -11,11 +11,7 @@ use Rattle.gx_typing.specs.Typed.{leaves, typing_with}
 use Rattle.gx_states.proofs.StartLemmas.{start_state}
 use Rattle.gx_layout.specs.Layout.{pages_of}
 use Rattle.gx_store.specs.Device.{IsSize, IsMadeOn, IsNoneOrEmpty}
-use Rattle.gx_store.specs.Making.{IsUnmade}
-use Rattle.gx_store.specs.Opening.{is_untouched}
-use Rattle.gx_store.specs.Store.{Attaches, OfBlocks}
-use Rattle.gx_store.specs.declared.unopened.Unopened.{Unopened}
-use Rattle.gx_store.specs.declared.unopened.Unopened.TheVariants as unopened
+use Rattle.gx_store.specs.Store.{Attaches}
 use Rattle.gx_play.specs.declared.ending.DeviceWhy.{DeviceWhy}
 use Rattle.gx_play.specs.declared.ending.DeviceWhy.TheVariants as device_why
 use Rattle.gx_play.specs.declared.ending.Ending.{Ending}
@@ -24,9 +20,11 @@ use Rattle.gx_requests.specs.declared.opened.Stored.{Stored}
 use Rattle.gx_play.specs.declared.status.Status.{Status}
 use Rattle.gx_play.specs.declared.status.Status.TheVariants as status
 use Rattle.gx_requests.specs.Checked.{IsStoredFor, IsStored}
-use Rattle.gx_top.specs.Devices.{IsToMake, IsUnmakable, IsWrong, IsBefore, CanMake}
+use Rattle.gx_top.specs.Devices.{IsToMake, IsWrong, IsBefore, CanMake}
+use Rattle.gx_operations.specs.Making.{IsUnmakable}
 use Rattle.gx_play.specs.Endings.{status_of, IsEnded}
-use Rattle.gx_top.specs.Made.{making_ending, IsMaking, IsNewDatabase, LeavesMade, LeavesMadeBy}
+use Rattle.gx_operations.specs.Making.{IsMaking}
+use Rattle.gx_top.specs.Made.{IsNewDatabase, LeavesMade, LeavesMadeBy}
 use Rattle.gx_requests.specs.Requests.{IsUnprepared}
 use Rattle.gx_play.specs.Say.{SameDevices}
 use Rattle.gx_top.specs.Tasks.{Task, IsTask, IsToPlay}
@@ -35,40 +33,6 @@ use Rattle.gx_requests.specs.Words.{Action, checking, trying, explaining, making
 use Rattle.gx_top.proofs.CompleteLemmas.{same_words, one_acceptance, accepted_not_refused, made_not_explained, made_not_inspected, made_not_worked}
 use Rattle.gx_top.proofs.StayLemmas.{devices_same}
 use Rattle.gx_top.proofs.EndLemmas.{IsUnhad, unplayed, not_done, not_device}
-
--- ---- what making a device did
-
--- why it isn't made, and how the request ends then
-module _ (schema equation : List ℕ) (specs : List LeafSpec) (device : List ℕ) (count : ℕ) (old new : Content) where
-  not_made : (why : Unopened) → IsUnmade device count specs old why → (is_untouched why ≡ true → device_at new.now device ≡ device_at old.now device) → IsMaking schema equation specs device count old new (making_ending count (Err why))
-  not_made unopened.Exists un same = (un, same refl)
-  not_made unopened.Size un same = (un, same refl)
-  not_made unopened.Fault un same = tt
-  not_made unopened.NoMemory un same = tt
-  not_made unopened.Missing un same = absurd un
-  not_made unopened.NoDatabase un same = absurd un
-  not_made (unopened.OtherTexts place) un same = absurd un
-
-  made : (r : Result (Unit {0}) Unopened) → OnOk r (OfBlocks device new (IsMadeOn count schema equation specs)) → OnOk r (device_at old.now device ≡ None) → OnOk r (IsSize specs count) → IfErr r (IsUnmade device count specs old) → IfErr r (λ why. is_untouched why ≡ true → device_at new.now device ≡ device_at old.now device)
-      → IsMaking schema equation specs device count old new (making_ending count r)
-  made (Ok x) is free size un same = (refl, refl, size, free, is)
-  made (Err why) is free size un same = not_made why un same
-
--- the same of texts and kinds of leaves that are read out of what is stored
-pub making_told : (x : Stored) (schema equation : List ℕ) (specs : List LeafSpec) (device : List ℕ) (count : ℕ) (old new : Content) (r : Result (Unit {0}) Unopened) → schema ≡ x.schema_text → equation ≡ x.equation_text → specs ≡ x.built.specs
-    → OnOk r (OfBlocks device new (IsMadeOn count schema equation specs)) → OnOk r (device_at old.now device ≡ None) → OnOk r (IsSize specs count) → IfErr r (IsUnmade device count specs old) → IfErr r (λ why. is_untouched why ≡ true → device_at new.now device ≡ device_at old.now device)
-    → IsMaking x.schema_text x.equation_text x.built.specs device count old new (making_ending count r)
-making_told x schema equation specs device count old new r p q k is free size un same =
-    subst (λ (s : List ℕ). IsMaking s x.equation_text x.built.specs device count old new (making_ending count r)) p
-    (subst (λ (e : List ℕ). IsMaking schema e x.built.specs device count old new (making_ending count r)) q
-    (subst (λ (ks : List LeafSpec). IsMaking schema equation ks device count old new (making_ending count r)) k
-    (made schema equation specs device count old new r is free size un same)))
-
-pub left_told : (x : Stored) (schema equation : List ℕ) (specs : List LeafSpec) (blocks : List (List ℕ)) → schema ≡ x.schema_text → equation ≡ x.equation_text → specs ≡ x.built.specs → IsNoneOrEmpty schema equation specs blocks → IsNoneOrEmpty x.schema_text x.equation_text x.built.specs blocks
-left_told x schema equation specs blocks p q k is =
-    subst (λ (s : List ℕ). IsNoneOrEmpty s x.equation_text x.built.specs blocks) p
-    (subst (λ (e : List ℕ). IsNoneOrEmpty schema e x.built.specs blocks) q
-    (subst (λ (ks : List LeafSpec). IsNoneOrEmpty schema equation ks blocks) k is))
 
 -- ---- how it may end
 

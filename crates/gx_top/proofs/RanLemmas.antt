@@ -1,12 +1,7 @@
 -- What `run` leaves on the devices.
-use Rattle.std.proofs.Common.{◌≡◌, ◌≢◌, ◌∙◌, ℕ, Bool, true, false, List, Option, Some, None, Result, Ok, Err, cond, refl, sym, ap, subst}
+use Rattle.std.proofs.Common.{◌≡◌, ◌∙◌, ℕ, List, Option, Some, None, Result, Ok, Err, sym, ap, subst}
 use Rattle.std.specs.Prelude.{IfErr}
-use Rattle.std.specs.FinMap as fin
-use Rattle.std.specs.Ordering.{eq_by_cmp}
-use Rattle.std.specs.Cmp.Lexicographic.{nat_list_cmp_total}
-use Rattle.gx_device.specs.Content.{Moment, Content, Shelf, device_at, with_named}
-use Rattle.gx_ports.specs.Keyed.{key_cmp}
-use Rattle.gx_ports.proofs.KeyLemmas.{same_key}
+use Rattle.gx_device.specs.Content.{Content, device_at}
 use Rattle.gx_store.specs.Store.{Attaches}
 use Rattle.gx_store.proofs.AlikeLemmas.{alike_itself, recovery_itself}
 use Rattle.gx_store.specs.declared.unopened.Unopened.{Unopened}
@@ -24,24 +19,7 @@ use Rattle.gx_requests.specs.Words.{Action, checking, trying, explaining, making
 use Rattle.gx_top.proofs.CompleteLemmas.{same_words}
 use Rattle.gx_top.proofs.EndLemmas.{IsStopStatus, stop_status}
 use Rattle.gx_top.proofs.StayLemmas.{devices_same}
-
--- ---- devices of other names
-
-not_so : (b : Bool) → (b ≡ true → ⊥) → b ≡ false
-not_so true never = absurd (never refl)
-not_so false never = refl
-
--- they don't stand on the attached one
-off_name : (m : Moment) (name other : List ℕ) → m.shelf.name ≡ Some name → other ≢ name → device_at m other ≡ fin.get m.shelf.devices other
-off_name m name other named differ =
-    let off : eq_by_cmp key_cmp other name ≡ false = not_so (eq_by_cmp key_cmp other name) (λ e. differ (same_key other name e)) in
-    ap (λ n. fin.get (with_named n m.blocks m.shelf.devices) other) named
-    ∙ fin.get-insert nat_list_cmp_total m.shelf.devices name m.blocks other
-    ∙ ap (λ (b : Bool). cond b (Some m.blocks) (fin.get m.shelf.devices other)) off
-
-pub other_at : (m n : Moment) (name other : List ℕ) → m.shelf.name ≡ Some name → n.shelf ≡ m.shelf → other ≢ name → device_at n other ≡ device_at m other
-other_at m n name other named shelf differ =
-    off_name n name other (ap (λ (s : Shelf). s.name) shelf ∙ named) differ ∙ ap (λ (s : Shelf). fin.get s.devices other) shelf ∙ sym (off_name m name other named differ)
+use Rattle.gx_operations.proofs.NameLemmas.{other_at}
 
 -- ---- a request that was refused
 

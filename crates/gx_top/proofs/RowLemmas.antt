@@ -1,8 +1,7 @@
 -- What was said of a script that was played: its answers, and behind them the line of its end.
-use Rattle.std.proofs.Common.{◌≡◌, ℕ, zero, suc, ◌+◌, List, [], ◌∷◌, ◌++◌, length, take, Result, Ok, Err, Option, Some, None, refl, sym, ap, ◌∙◌, arith, inl, inr}
+use Rattle.std.proofs.Common.{◌≡◌, ℕ, ◌+◌, List, [], ◌∷◌, ◌++◌, length, take, Result, Ok, Err, Option, Some, None, refl, sym, ap, ◌∙◌, arith, inl, inr}
 use Rattle.std.specs.Prelude.{◌≢◌, min}
-use Rattle.std.proofs.lemmas.List.{append-nil, append_assoc, take_all, take-append-le}
-use Rattle.std.proofs.Math.Seq.{take-append-add}
+use Rattle.std.proofs.lemmas.List.{append-nil, take-append-le}
 use Rattle.gx_device.specs.Content.{Content}
 use Rattle.gx_ports.specs.LeafMaps.{Limits}
 use Rattle.gx_schema.specs.declared.schema.Schema.{Schema}
@@ -21,20 +20,7 @@ use Rattle.gx_play.specs.Endings.{line_of, status_of, memory_line, full_line}
 use Rattle.gx_play.specs.Say.{IsCut}
 use Rattle.gx_play.specs.Played.{SaysFront, SaysKeeping, IsPlay, AreFirst, IsPlayText, IsStoppedText, IsShortText, IsFullText, IsPlayedText}
 use Rattle.gx_play.specs.Plays.{IsPlayedOut, IsPlayedFirst, IsPlayedFull, IsPlayedFront, IsPlayedAs}
-
--- a line behind what was said before
-pub behind : (before mid now first line : List ℕ) → mid ≡ before ++ first → now ≡ mid ++ line → now ≡ before ++ (first ++ line)
-behind before mid now first line is said = said ∙ ap (λ t. t ++ line) is ∙ append_assoc before first line
-
--- a front of a line behind what was said before
-pub front_behind : (before mid now first line : List ℕ) (n : ℕ) → mid ≡ before ++ first → now ≡ mid ++ take n line → now ≡ before ++ take (length first + n) (first ++ line)
-front_behind before mid now first line n is said = said ∙ ap (λ t. t ++ take n line) is ∙ append_assoc before first (take n line) ∙ ap (λ t. before ++ t) (sym (take-append-add first line n))
-
--- as much as there is of so many
-pub taken : (xs : List ℕ) (n m : ℕ) → m ≡ min n (length xs) → take n xs ≡ take m xs
-taken [] n m e = take_all n [] (omega arith) ∙ sym (take_all m [] (omega arith))
-taken (x ∷ xs) zero m e = ap (λ k. take k (x ∷ xs)) (let z : zero ≡ m = omega (arith, e) in z)
-taken (x ∷ xs) (suc n) m e = ap (λ (ys : List ℕ). x ∷ ys) (taken xs n (min n (length xs)) refl) ∙ ap (λ k. take k (x ∷ xs)) (let z : suc (min n (length xs)) ≡ m = omega (arith, e) in z)
+use Rattle.gx_explain.proofs.BehindLemmas.{behind, front_behind, taken}
 
 -- the answers of a play are those of the first lines that ran
 first_parts : (all : Lines) (ran : List (List ℕ)) (next : Result (Option (List ℕ)) LineWhy) → AreFirstLines all ran next → (later : List (List ℕ)) × (all.lines ≡ ran ++ later)

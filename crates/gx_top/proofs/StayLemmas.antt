@@ -11,7 +11,8 @@ use Rattle.gx_store.specs.Store.{OfBlocks}
 use Rattle.gx_store.proofs.AlikeLemmas.{alike_itself, alike_back, reopens_alike}
 use Rattle.gx_play.specs.Say.{SameDevices}
 use Rattle.gx_requests.specs.Words.{Action, checking, trying, explaining, making, running, inspecting, working}
-use Rattle.gx_top.specs.Tasks.{Task, IsHeldOn, IsStart, StartsAlike, limits_on}
+use Rattle.gx_top.specs.Tasks.{Task, IsHeldOn, IsStart, StartsAlike}
+use Rattle.gx_operations.specs.Settled.{limits_on}
 
 -- what is said changes no device
 pub devices_same : (old new : Content) → SameDevices old new → (name : List ℕ) → device_at new.now name ≡ device_at old.now name

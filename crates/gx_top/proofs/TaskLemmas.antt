@@ -26,7 +26,8 @@ use Rattle.gx_requests.specs.Checked.{IsPrepared, IsStoredFor}
 use Rattle.gx_play.specs.Endings.{IsPlayEnding, IsFinished, unopened_ending}
 use Rattle.gx_play.specs.Plays.{IsPlayedAs}
 use Rattle.gx_play.specs.Say.{SameDevices}
-use Rattle.gx_top.specs.Tasks.{Task, IsTask, IsHeldOn, IsSettledIn, IsSettledOn, limits_on}
+use Rattle.gx_top.specs.Tasks.{Task, IsTask, IsHeldOn, IsSettledOn}
+use Rattle.gx_operations.specs.Settled.{IsSettledIn, limits_on}
 use Rattle.gx_top.specs.Devices.{IsWrongOn, IsWrong, IsBefore}
 use Rattle.gx_requests.specs.Words.{Action, trying, running}
 use Rattle.gx_top.proofs.StoredLemmas.{same_internal}

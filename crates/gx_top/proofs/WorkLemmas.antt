@@ -1,5 +1,5 @@
 -- A request to play the workload: what is said, that its status is the one that is due, and what is left.
-use Rattle.std.proofs.Common.{◌≡◌, ℕ, List, [], ◌++◌, take, Some, Result, Ok, Err, refl, sym, ap, subst, ◌∙◌, inl, inr}
+use Rattle.std.proofs.Common.{◌≡◌, ℕ, List, [], ◌++◌, take, Option, Some, None, Result, Ok, Err, refl, sym, ap, subst, ◌∙◌, inl, inr}
 use Rattle.std.specs.Prelude.{◌⊎◌, ◌≢◌, IsSome}
 use Rattle.gx_tokens.specs.Numbers.{digits_value}
 use Rattle.std.proofs.lemmas.List.{append-nil}
@@ -12,7 +12,7 @@ use Rattle.gx_model.specs.States.{State, empty_state}
 use Rattle.gx_play.specs.Built.{IsBuiltOf}
 use Rattle.gx_work.specs.Schema.{work_schema}
 use Rattle.gx_work.specs.Workload.{work_script}
-use Rattle.gx_store.specs.Device.{IsSettled, IsSize}
+use Rattle.gx_store.specs.Device.{IsSettled, IsSize, IsNoneOrEmpty}
 use Rattle.gx_store.specs.Store.{Attaches}
 use Rattle.gx_play.specs.declared.ending.DeviceWhy.{DeviceWhy}
 use Rattle.gx_play.specs.declared.ending.DeviceWhy.TheVariants as device_why
@@ -26,11 +26,12 @@ use Rattle.gx_play.specs.Say.{IsCut, SameDevices}
 use Rattle.gx_requests.specs.declared.opened.Stored.{Stored}
 use Rattle.gx_requests.specs.Checked.{IsStoredFor}
 use Rattle.gx_requests.specs.Words.{Action, working, request_words, IsCount, IsRecordCount}
-use Rattle.gx_top.specs.Tasks.{Task, IsSettledOn, limits_on}
-use Rattle.gx_top.specs.Devices.{IsUnmakable}
+use Rattle.gx_top.specs.Tasks.{Task, IsSettledOn}
+use Rattle.gx_operations.specs.Settled.{limits_on}
+use Rattle.gx_operations.specs.Making.{IsUnmakable}
 use Rattle.gx_top.specs.Found.{IsTold}
-use Rattle.gx_top.specs.Worked.{IsToWork, worked, IsWorkText, IsWorkFull, IsWorkedText, IsFreeFor, IsWorked, Works, CanWork, IsUnworkable, LeavesWorked, LeavesWorkedBy}
-use Rattle.gx_top.specs.Working.{IsSettledOf, IsPlayedOn, IsNewDevice, IsWorking}
+use Rattle.gx_top.specs.Worked.{IsToWork, worked, IsWorkText, IsWorkFull, IsWorkedText, IsFreeFor, IsWorked, Works, CanWork, IsUnworkable, IsWorkFirst, HoldsWork, LeavesWorked, LeavesWorkedBy}
+use Rattle.gx_operations.specs.Working.{IsSettledOf, HoldsFirst, IsPlayedOn, IsNewDevice, IsWorking}
 use Rattle.gx_top.specs.Tries.{IsSaid, IsEnd, IsDueStatus, IsAsDue}
 use Rattle.gx_top.proofs.StayLemmas.{devices_same}
 use Rattle.gx_top.proofs.MakeLemmas.{not_both}
@@ -133,6 +134,73 @@ work_due words old new s w due can outside = by_due due can
     by_due status.Memory due = absurd due
     by_due status.Full due = absurd due
     by_due status.Outside due = absurd due
+
+-- ---- how it may end
+
+-- the device that can't be had stays
+device_left : (x : Stored) (device : List ℕ) (count records : ℕ) (middle mid new : Content) (r : Result (List ℕ) Ending) (s : Status) → IsWorking x device count records middle mid r → IsTold r mid new s → s ≡ status.Device → device_at mid.now device ≡ device_at middle.now device
+device_left x device count records middle mid new (Ok line) s is (inl told) e = never (sym e ∙ told.0)
+  where
+    never : {A : Type 0} → status.Device ≡ status.Done → A
+    never f = absurd (let g : ⊥ = cc in g)
+device_left x device count records middle mid new (Ok line) s is (inr told) e = never (sym e ∙ told.0)
+  where
+    never : {A : Type 0} → status.Device ≡ status.Outside → A
+    never f = absurd (let g : ⊥ = cc in g)
+device_left x device count records middle mid new (Err why) s is told e = by_why why is (sym (told.status_is (λ f. not_outside (sym e ∙ f)) (λ f. not_memory (sym e ∙ f))) ∙ e)
+  where
+    not_outside : status.Device ≡ status.Outside → ⊥
+    not_outside f = cc
+
+    not_memory : status.Device ≡ status.Memory → ⊥
+    not_memory f = cc
+
+    by_why : (why : Ending) → IsWorking x device count records middle mid (Err why) → status_of why ≡ status.Device → device_at mid.now device ≡ device_at middle.now device
+    by_why (ending.Device why) is d = is.1
+    by_why ending.Full is d = absurd (let g : ⊥ = cc in g)
+    by_why ending.NoMemory is d = absurd (let g : ⊥ = cc in g)
+    by_why ending.Fault is d = absurd (let g : ⊥ = cc in g)
+    by_why ending.Words is d = absurd is
+    by_why (ending.Missing name) is d = absurd is
+    by_why (ending.TooLong name) is d = absurd is
+    by_why (ending.Schema line why) is d = absurd is
+    by_why (ending.Equation line why) is d = absurd is
+    by_why (ending.Type line why) is d = absurd is
+    by_why ending.TextsTooLong is d = absurd is
+    by_why (ending.Accepted summary) is d = absurd is
+    by_why (ending.Line number why) is d = absurd is
+    by_why (ending.Made blocks pages) is d = absurd is
+
+-- such a request isn't refused
+told_unrefused : (x : Stored) (device : List ℕ) (count records : ℕ) (middle mid new : Content) (r : Result (List ℕ) Ending) → IsWorking x device count records middle mid r → IsTold r mid new status.Refused → ⊥
+told_unrefused x device count records middle mid new (Ok line) is (inl told) = never told.0
+  where
+    never : status.Refused ≡ status.Done → ⊥
+    never f = cc
+told_unrefused x device count records middle mid new (Ok line) is (inr told) = never told.0
+  where
+    never : status.Refused ≡ status.Outside → ⊥
+    never f = cc
+told_unrefused x device count records middle mid new (Err why) is told = by_why why is (told.status_is (λ f. cc) (λ f. cc))
+  where
+    by_why : (why : Ending) → IsWorking x device count records middle mid (Err why) → status.Refused ≡ status_of why → ⊥
+    by_why (ending.Device why) is d = cc
+    by_why ending.Full is d = cc
+    by_why ending.NoMemory is d = cc
+    by_why ending.Fault is d = cc
+    by_why ending.Words is d = is
+    by_why (ending.Missing name) is d = is
+    by_why (ending.TooLong name) is d = is
+    by_why (ending.Schema line why) is d = is
+    by_why (ending.Equation line why) is d = is
+    by_why (ending.Type line why) is d = is
+    by_why ending.TextsTooLong is d = is
+    by_why (ending.Accepted summary) is d = is
+    by_why (ending.Line number why) is d = is
+    by_why (ending.Made blocks pages) is d = is
+
+not_there : (blocks : List (List ℕ)) → ◌≡◌ {A = Option (List (List ℕ))} None (Some blocks) → ⊥
+not_there blocks e = cc
 
 -- ---- what was played, and what is said of it
 
@@ -259,102 +327,74 @@ module _ (words : List (List ℕ)) (device digits number : List ℕ) (count reco
     pub working_of : (r : Result (List ℕ) Ending) (s : Status) → IsWorking x device count records middle mid r → IsTold r mid new s → Works words old new s
     working_of r s is told = record { blocks = count; records = records; request = Request; row = work_row r s is told }
 
--- ---- what is left of the devices
+    -- ---- what is left of the devices
 
--- the device that can't be had stays
-device_left : (x : Stored) (device : List ℕ) (count records : ℕ) (middle mid new : Content) (r : Result (List ℕ) Ending) (s : Status) → IsWorking x device count records middle mid r → IsTold r mid new s → s ≡ status.Device → device_at mid.now device ≡ device_at middle.now device
-device_left x device count records middle mid new (Ok line) s is (inl told) e = never (sym e ∙ told.0)
-  where
-    never : {A : Type 0} → status.Device ≡ status.Done → A
-    never f = absurd (let g : ⊥ = cc in g)
-device_left x device count records middle mid new (Ok line) s is (inr told) e = never (sym e ∙ told.0)
-  where
-    never : {A : Type 0} → status.Device ≡ status.Outside → A
-    never f = absurd (let g : ⊥ = cc in g)
-device_left x device count records middle mid new (Err why) s is told e = by_why why is (sym (told.status_is (λ f. not_outside (sym e ∙ f)) (λ f. not_memory (sym e ∙ f))) ∙ e)
-  where
-    not_outside : status.Device ≡ status.Outside → ⊥
-    not_outside f = cc
+    holds_first : (blocks : List (List ℕ)) → device_at mid.now device ≡ Some blocks → HoldsFirst x records blocks → HoldsWork Asked device records new blocks
+    holds_first blocks there (inl none) = inl (typed (λ schema equation specs. IsNoneOrEmpty schema equation specs blocks) none)
+    holds_first blocks there (inr first) = inr (record { answers = first.answers; first = first.first; settled = settled_on blocks first.first.final.kept there first.holds })
 
-    not_memory : status.Device ≡ status.Memory → ⊥
-    not_memory f = cc
+    full_first : (made : IsNewDevice x device count middle mid (λ after. IsPlayedOn x count records after (Err ending.Full))) → IsWorkFirst Asked device records new
+    full_first made =
+        let out = made.left.2 in
+        record {
+          answers = out.answers;
+          first = record { ran = out.full.ran; later = out.full.later; parts = out.full.parts; final = out.final; runs = out.full.runs };
+          settled = settled_on made.left.0 out.final.kept made.left.1 out.holds;
+        }
 
-    by_why : (why : Ending) → IsWorking x device count records middle mid (Err why) → status_of why ≡ status.Device → device_at mid.now device ≡ device_at middle.now device
-    by_why (ending.Device why) is d = is.1
-    by_why ending.Full is d = absurd (let g : ⊥ = cc in g)
-    by_why ending.NoMemory is d = absurd (let g : ⊥ = cc in g)
-    by_why ending.Fault is d = absurd (let g : ⊥ = cc in g)
-    by_why ending.Words is d = absurd is
-    by_why (ending.Missing name) is d = absurd is
-    by_why (ending.TooLong name) is d = absurd is
-    by_why (ending.Schema line why) is d = absurd is
-    by_why (ending.Equation line why) is d = absurd is
-    by_why (ending.Type line why) is d = absurd is
-    by_why ending.TextsTooLong is d = absurd is
-    by_why (ending.Accepted summary) is d = absurd is
-    by_why (ending.Line number why) is d = absurd is
-    by_why (ending.Made blocks pages) is d = absurd is
+    first_by : (why : Ending) → IsWorking x device count records middle mid (Err why) → (why ≡ ending.Fault → ⊥) → device_at middle.now device ≡ None → (blocks : List (List ℕ)) → device_at mid.now device ≡ Some blocks → HoldsWork Asked device records new blocks
+    first_by ending.NoMemory is fault none blocks there = holds_first blocks there (is none blocks there)
+    first_by ending.Full is fault none blocks there = inr (full_first is)
+    first_by (ending.Device why) is fault none blocks there = absurd (not_there blocks (sym none ∙ sym is.1 ∙ there))
+    first_by ending.Fault is fault none blocks there = absurd (fault refl)
+    first_by ending.Words is fault none blocks there = absurd is
+    first_by (ending.Missing name) is fault none blocks there = absurd is
+    first_by (ending.TooLong name) is fault none blocks there = absurd is
+    first_by (ending.Schema line why) is fault none blocks there = absurd is
+    first_by (ending.Equation line why) is fault none blocks there = absurd is
+    first_by (ending.Type line why) is fault none blocks there = absurd is
+    first_by ending.TextsTooLong is fault none blocks there = absurd is
+    first_by (ending.Accepted summary) is fault none blocks there = absurd is
+    first_by (ending.Line number why) is fault none blocks there = absurd is
+    first_by (ending.Made blocks pages) is fault none others there = absurd is
 
--- such a request isn't refused
-told_unrefused : (x : Stored) (device : List ℕ) (count records : ℕ) (middle mid new : Content) (r : Result (List ℕ) Ending) → IsWorking x device count records middle mid r → IsTold r mid new status.Refused → ⊥
-told_unrefused x device count records middle mid new (Ok line) is (inl told) = never told.0
-  where
-    never : status.Refused ≡ status.Done → ⊥
-    never f = cc
-told_unrefused x device count records middle mid new (Ok line) is (inr told) = never told.0
-  where
-    never : status.Refused ≡ status.Outside → ⊥
-    never f = cc
-told_unrefused x device count records middle mid new (Err why) is told = by_why why is (told.status_is (λ f. cc) (λ f. cc))
-  where
-    by_why : (why : Ending) → IsWorking x device count records middle mid (Err why) → status.Refused ≡ status_of why → ⊥
-    by_why (ending.Device why) is d = cc
-    by_why ending.Full is d = cc
-    by_why ending.NoMemory is d = cc
-    by_why ending.Fault is d = cc
-    by_why ending.Words is d = is
-    by_why (ending.Missing name) is d = is
-    by_why (ending.TooLong name) is d = is
-    by_why (ending.Schema line why) is d = is
-    by_why (ending.Equation line why) is d = is
-    by_why (ending.Type line why) is d = is
-    by_why ending.TextsTooLong is d = is
-    by_why (ending.Accepted summary) is d = is
-    by_why (ending.Line number why) is d = is
-    by_why (ending.Made blocks pages) is d = is
+    memory_left : (r : Result (List ℕ) Ending) → IsWorking x device count records middle mid r → IsTold r mid new status.Memory → device_at middle.now device ≡ None → (blocks : List (List ℕ)) → device_at mid.now device ≡ Some blocks → HoldsWork Asked device records new blocks
+    memory_left (Ok line) is (inl told) none blocks there = absurd (let e : status.Memory ≡ status.Done = told.0 in cc)
+    memory_left (Ok line) is (inr told) none blocks there = absurd (let e : status.Memory ≡ status.Outside = told.0 in cc)
+    memory_left (Err why) is told none blocks there = first_by why is (λ f. let e : status.Memory ≡ status.Outside = told.fault f in cc) none blocks there
 
-pub work_left : (x : Stored) (device : List ℕ) (count records : ℕ) (middle mid new : Content) (r : Result (List ℕ) Ending) (s : Status) → IsWorking x device count records middle mid r → Attaches device middle mid → SameDevices mid new → IsTold r mid new s → LeavesWorked device middle new s
-work_left x device count records middle mid new r s is attaches devices told = record {
-  refused = λ e. absurd (told_unrefused x device count records middle mid new r is (subst (IsTold r mid new) e told));
-  wrong = λ e. devices_same mid new devices device ∙ device_left x device count records middle mid new r s is told e;
-  others = λ other differ. devices_same mid new devices other ∙ attaches.others other differ;
-}
+    pub work_left : Attaches device middle mid → (r : Result (List ℕ) Ending) (s : Status) → IsWorking x device count records middle mid r → IsTold r mid new s → LeavesWorked words device old new s
+    work_left attaches r s is told = record {
+      refused = λ e. absurd (told_unrefused x device count records middle mid new r is (subst (IsTold r mid new) e told));
+      wrong = λ e. devices_same mid new devices device ∙ device_left x device count records middle mid new r s is told e ∙ ap (λ n. device_at n device) same.now;
+      memory = λ e none blocks there others many q.
+          let one = one_work words old.aside.texts count others records many Request q in
+          subst (λ (y : Task × ℕ). HoldsWork y.0 device y.1 new blocks) (λ i. (one.tasks i, one.numbers i))
+          (memory_left r is (subst (IsTold r mid new) e told) (ap (λ n. device_at n device) same.now ∙ none) blocks (sym (devices_same mid new devices device) ∙ there));
+      others = λ other differ. devices_same mid new devices other ∙ attaches.others other differ ∙ ap (λ n. device_at n other) same.now;
+    }
 
--- nothing was attached
-pub unprepared_worked : (device : List ℕ) (old mid new : Content) (s : Status) → mid.now ≡ old.now → SameDevices mid new → LeavesWorked device old new s
-unprepared_worked device old mid new s before same = record {
+-- ---- a request that isn't carried out
+
+pub unprepared_worked : (words : List (List ℕ)) (device : List ℕ) (old mid new : Content) (s : Status) → mid.now ≡ old.now → SameDevices mid new → LeavesWorked words device old new s
+unprepared_worked words device old mid new s before same = record {
   refused = λ e. record { blocks = same.blocks ∙ ap (λ n. n.blocks) before; shelf = same.shelf ∙ ap (λ n. n.shelf) before };
   wrong = λ e. stays_at device;
+  memory = λ e none blocks there count records r. absurd (not_there blocks (sym (stays_at device ∙ none) ∙ there));
   others = λ other differ. stays_at other;
 }
   where
     stays_at : (name : List ℕ) → device_at new.now name ≡ device_at old.now name
     stays_at name = devices_same mid new same name ∙ ap (λ n. device_at n name) before
 
--- nothing was changed before
-pub leaves_from : (device : List ℕ) (old mid new : Content) (s : Status) → mid.now ≡ old.now → LeavesWorked device mid new s → LeavesWorked device old new s
-leaves_from device old mid new s before left = record {
-  refused = λ e. let same = left.refused e in record { blocks = same.blocks ∙ ap (λ n. n.blocks) before; shelf = same.shelf ∙ ap (λ n. n.shelf) before };
-  wrong = λ e. left.wrong e ∙ ap (λ n. device_at n device) before;
-  others = λ other differ. left.others other differ ∙ ap (λ n. device_at n other) before;
-}
-
 -- ---- of the words
 
-pub worked_by_words : (words : List (List ℕ)) (device digits number other blocks many schema name equation term : List ℕ) (old new : Content) (s : Status) → words ≡ request_words (working device digits number) schema equation → words ≡ request_words (working other blocks many) name term → LeavesWorked device old new s → LeavesWorked other old new s
+pub worked_by_words : (words : List (List ℕ)) (device digits number other blocks many schema name equation term : List ℕ) (old new : Content) (s : Status) → words ≡ request_words (working device digits number) schema equation → words ≡ request_words (working other blocks many) name term
+    → LeavesWorked (request_words (working device digits number) schema equation) device old new s → LeavesWorked words other old new s
 unfolding asks_of
 worked_by_words words device digits number other blocks many schema name equation term old new s is too left =
-    subst (λ d. LeavesWorked d old new s) (ap (λ (a : Asks). a.device) (ap asks_of (same_words words (working device digits number) (working other blocks many) schema name equation term is too).actions)) left
+    subst (λ d. LeavesWorked words d old new s) (ap (λ (a : Asks). a.device) (ap asks_of (same_words words (working device digits number) (working other blocks many) schema name equation term is too).actions))
+    (subst (λ (ws : List (List ℕ)). LeavesWorked ws device old new s) (sym is) left)
 
 pub not_worked : (words : List (List ℕ)) (a : Action) (schema equation : List ℕ) (old new : Content) (s : Status) → words ≡ request_words a schema equation → ((device digits number : List ℕ) → a ≡ working device digits number → ⊥) → LeavesWorkedBy words old new s
 not_worked words a schema equation old new s is never = λ device digits number name term counted too free. absurd (never device digits number (same_words words a (working device digits number) schema name equation term is too).actions)

@@ -1,7 +1,6 @@
 -- Devices that aren't what was asked for, and what `make` says.
 use Rattle.std.specs.Prelude.{◌≡◌, ◌⊎◌, ℕ, List, ◌++◌, Option}
 use Rattle.gx_device.specs.Content.{Content, Texts}
-use Rattle.gx_ports.specs.declared.kinds.LeafSpec.{LeafSpec}
 use Rattle.gx_ports.specs.LeafMaps.{Limits}
 use Rattle.gx_schema.specs.declared.schema.Schema.{Schema}
 use Rattle.gx_schema.specs.Printing.{schema_text}
@@ -11,7 +10,6 @@ use Rattle.gx_typing.specs.declared.typing.Typing.{Typing}
 use Rattle.gx_model.specs.States.{State}
 use Rattle.gx_layout.specs.Layout.{pages_of}
 use Rattle.gx_store.specs.Opening.{IsUnopened}
-use Rattle.gx_store.specs.Making.{IsUnmade}
 use Rattle.gx_store.specs.declared.unopened.Unopened.TheVariants as unopened
 use Rattle.gx_play.specs.declared.ending.DeviceWhy.{DeviceWhy}
 use Rattle.gx_play.specs.declared.ending.DeviceWhy.TheVariants as device_why
@@ -19,6 +17,7 @@ use Rattle.gx_play.specs.Endings.{device_line, made_line}
 use Rattle.gx_requests.specs.Words.{making, running, IsCount}
 use Rattle.gx_requests.specs.Requests.{IsAccepted}
 use Rattle.gx_top.specs.Tasks.{Task, IsTask, IsHeldOn}
+use Rattle.gx_operations.specs.Making.{IsUnmakable}
 
 -- ---- what `make` says
 
@@ -54,12 +53,6 @@ pub record IsWrongToRun (words : List (List ℕ)) (before : Content) (why : Devi
   pub device : List ℕ
   pub action_is : task.action ≡ running device
   pub wrong : IsWrongOn device task before why
-
--- why no device of that name is made, with so many blocks
-abbrev pub IsUnmakable : List LeafSpec → List ℕ → ℕ → Content → DeviceWhy → Type 0
-IsUnmakable specs device blocks before device_why.Exists = IsUnmade device blocks specs before unopened.Exists
-IsUnmakable specs device blocks before device_why.Size = IsUnmade device blocks specs before unopened.Size
-IsUnmakable specs device blocks before why = ⊥
 
 -- the same of a request to make one
 abbrev pub IsWrongToMake : {words : List (List ℕ)} {texts : Texts} {blocks : ℕ} → IsToMake words texts blocks → Content → DeviceWhy → Type 0

@@ -1,12 +1,16 @@
 -- What `inspect` says of a device, and what it leaves.
-use Rattle.std.specs.Prelude.{◌≡◌, ◌≢◌, ◌⊎◌, ℕ, List, None, Option}
+use Rattle.std.specs.Prelude.{◌≡◌, ◌≢◌, ◌⊎◌, ℕ, List, Some, None, Option}
 use Rattle.gx_device.specs.Content.{Content, Texts, device_at}
-use Rattle.gx_ports.specs.LeafMaps.{Limits}
+use Rattle.gx_ports.specs.LeafMaps.{LeafMap, Limits}
 use Rattle.gx_schema.specs.declared.schema.Schema.{Schema}
+use Rattle.gx_schema.specs.Printing.{schema_text}
 use Rattle.gx_equation.specs.Trees.{DefinitionTree}
+use Rattle.gx_equation.specs.Printing.{equation_text}
 use Rattle.gx_typing.specs.declared.typing.Typing.{Typing}
 use Rattle.gx_model.specs.States.{State}
 use Rattle.gx_audit.specs.Texts.{inspect_text}
+use Rattle.gx_store.specs.Device.{ReadAlike, Reopens}
+use Rattle.gx_store.specs.Store.{OfBlocks}
 use Rattle.gx_play.specs.declared.ending.DeviceWhy.{DeviceWhy}
 use Rattle.gx_play.specs.declared.status.Status.{Status}
 use Rattle.gx_play.specs.declared.status.Status.TheVariants as status
@@ -73,12 +77,19 @@ IsUnsoundDevice words before = (r : IsToInspect words before.aside.texts) × (wh
 
 -- ---- what is left of the devices
 
--- All devices stay where the request is refused, one that is wrong stays as `run` leaves it, one that held a state holds it
--- unless a call of the machine failed, none is made, and those of other names stay.
+-- the blocks of the device of that name reopen to these maps
+abbrev pub IsStoredOn : Task → List ℕ → Content → List LeafMap → Type 0
+IsStoredOn t device c maps = OfBlocks device c (Reopens (schema_text t.schema) (equation_text t.definitions) t.typing.specs maps)
+
+-- All devices stay where the request is refused, one that is wrong stays as `run` leaves it, none is made, and those of other
+-- names stay. Unless a call of the machine failed: one that held a state holds it, one that reopened to maps reopens to them, and
+-- one that reopened to none reads as before.
 pub record LeavesInspected (words : List (List ℕ)) (device : List ℕ) (old new : Content) (s : Status) : Type 0 where
   pub refused : s ≡ status.Refused → SameDevices old new
   pub wrong : s ≡ status.Device → (r : IsToInspect words old.aside.texts) (why : DeviceWhy) → IsWrongOn device (inspected r) old why → StaysWrong why device old new
   pub holds : s ≢ status.Outside → (r : IsToInspect words old.aside.texts) (limit : Option Limits) (state : State) → IsHeldOn (inspected r) device old limit state → (now : Option Limits) × IsHeldOn (inspected r) device new now state
+  pub keeps : s ≢ status.Outside → (r : IsToInspect words old.aside.texts) (maps : List LeafMap) → IsStoredOn (inspected r) device old maps → IsStoredOn (inspected r) device new maps
+  pub reads : s ≢ status.Outside → (r : IsToInspect words old.aside.texts) → ((maps : List LeafMap) → ¬ IsStoredOn (inspected r) device old maps) → (blocks : List (List ℕ)) → device_at old.now device ≡ Some blocks → OfBlocks device new (ReadAlike blocks)
   pub missing : device_at old.now device ≡ None → device_at new.now device ≡ None
   pub others : (other : List ℕ) → other ≢ device → device_at new.now other ≡ device_at old.now other
 

@@ -1,6 +1,4 @@
-pub mod Indexed
 pub mod Explained
-pub mod Explaining
 pub mod Tasks
 pub mod Devices
 pub mod Made
@@ -8,5 +6,5 @@ pub mod Ran
 pub mod Inspected
 pub mod Found
 pub mod Worked
-pub mod Working
 pub mod Tries
+pub mod Fulfilled

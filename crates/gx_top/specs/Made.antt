@@ -1,38 +1,17 @@
 -- What `make` leaves on the devices.
-use Rattle.std.specs.Prelude.{◌≡◌, ◌≢◌, ℕ, List, length, replicate, Some, None, Result, Ok, Err}
+use Rattle.std.specs.Prelude.{◌≡◌, ◌≢◌, ℕ, List, length, replicate, Some, None}
 use Rattle.std.specs.FinMap.{empty}
 use Rattle.gx_device.specs.Content.{Content, device_at}
-use Rattle.gx_ports.specs.declared.kinds.LeafSpec.{LeafSpec}
 use Rattle.gx_schema.specs.Printing.{schema_text}
 use Rattle.gx_equation.specs.Printing.{equation_text}
 use Rattle.gx_model.specs.States.{empty_state}
-use Rattle.gx_layout.specs.Layout.{pages_of}
-use Rattle.gx_store.specs.Device.{IsSize, IsMadeOn, IsNoneOrEmpty}
-use Rattle.gx_store.specs.Store.{OfBlocks}
-use Rattle.gx_store.specs.declared.unopened.Unopened.{Unopened}
-use Rattle.gx_play.specs.declared.ending.Ending.{Ending}
-use Rattle.gx_play.specs.declared.ending.Ending.TheVariants as ending
+use Rattle.gx_store.specs.Device.{IsMadeOn, IsNoneOrEmpty}
 use Rattle.gx_play.specs.declared.status.Status.{Status}
 use Rattle.gx_play.specs.declared.status.Status.TheVariants as status
-use Rattle.gx_play.specs.Endings.{unopened_ending}
 use Rattle.gx_play.specs.Say.{SameDevices}
 use Rattle.gx_requests.specs.Words.{making, request_words, IsCounted}
 use Rattle.gx_top.specs.Tasks.{IsInternalOf}
-use Rattle.gx_top.specs.Devices.{IsToMake, IsUnmakable}
-
--- how the request ends where making its device ended so
-abbrev pub making_ending : ℕ → Result (Unit {0}) Unopened → Ending
-making_ending blocks (Ok x) = ending.Made blocks (pages_of blocks)
-making_ending blocks (Err why) = unopened_ending why
-
--- What making a device of so many blocks did, by how the request ends: there was none of that name, and an empty database
--- is on it under these texts; or why not, and then it is as it was.
-abbrev pub IsMaking : List ℕ → List ℕ → List LeafSpec → List ℕ → ℕ → Content → Content → Ending → Type 0
-IsMaking schema equation specs device count old new (ending.Made blocks pages) = (blocks ≡ count) × (pages ≡ pages_of count) × IsSize specs count × (device_at old.now device ≡ None) × OfBlocks device new (IsMadeOn count schema equation specs)
-IsMaking schema equation specs device count old new (ending.Device why) = IsUnmakable specs device count old why × (device_at new.now device ≡ device_at old.now device)
-IsMaking schema equation specs device count old new ending.Fault = Unit {0}
-IsMaking schema equation specs device count old new ending.NoMemory = Unit {0}
-IsMaking schema equation specs device count old new why = ⊥
+use Rattle.gx_top.specs.Devices.{IsToMake}
 
 -- an empty database was made on the device that the words name, and there was none of that name
 pub record IsNewDatabase (words : List (List ℕ)) (old new : Content) : Type 0 where

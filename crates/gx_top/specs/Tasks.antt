@@ -1,9 +1,7 @@
 -- Which script is to be played, under which texts, and from which state on.
-use Rattle.std.specs.Prelude.{◌≡◌, ◌↔◌, ℕ, ◌+◌, List, length, Option, Some, None}
+use Rattle.std.specs.Prelude.{◌≡◌, ◌↔◌, ℕ, List, length, Option, Some, None}
 use Rattle.gx_device.specs.Content.{Content, Texts, device_at}
-use Rattle.gx_ports.specs.declared.kinds.LeafSpec.{LeafSpec}
 use Rattle.gx_ports.specs.LeafMaps.{LeafMap, Limits}
-use Rattle.gx_ports.specs.Roots.{root_pages}
 use Rattle.gx_schema.specs.declared.schema.Schema.{Schema}
 use Rattle.gx_schema.specs.Printing.{schema_text}
 use Rattle.gx_equation.specs.Trees.{DefinitionTree}
@@ -13,10 +11,10 @@ use Rattle.gx_types.specs.declared.built.Built.{Built}
 use Rattle.gx_play.specs.Built.{IsBuiltOf}
 use Rattle.gx_model.specs.States.{State, empty_state}
 use Rattle.gx_states.specs.Internal.{AreInternal}
-use Rattle.gx_layout.specs.Layout.{pages_of}
 use Rattle.gx_store.specs.Device.{Reopens, IsSettled}
 use Rattle.gx_requests.specs.Words.{Action, checking, trying, explaining, making, running, inspecting, working}
 use Rattle.gx_requests.specs.Requests.{IsAccepted}
+use Rattle.gx_operations.specs.Settled.{limits_on}
 
 -- a script that is to be played, and what the texts mean under which it is
 pub record Task : Type 0 where
@@ -48,10 +46,6 @@ pub record IsInternalOf (schema : Schema) (ds : List DefinitionTree) (maps : Lis
   pub trees : IsBuiltOf schema ds built
   pub is : AreInternal schema built maps s
 
--- the pages of a device of so many blocks, and those that the leaves take from the start on
-abbrev pub limits_on : List LeafSpec → ℕ → Limits
-limits_on specs blocks = record { pages = pages_of blocks; fixed = 16 + root_pages specs; blocks = blocks }
-
 -- the blocks of the device of that name reopen to the internal form of the state
 pub record IsHeldOn (t : Task) (device : List ℕ) (before : Content) (limit : Option Limits) (s : State) : Type 0 where
   pub blocks : List (List ℕ)
@@ -81,11 +75,6 @@ abbrev pub StartsAlike : Task → Content → Content → Type 0
 StartsAlike t old new = (limit : Option Limits) (s : State) → IsFrom t old limit s ↔ IsFrom t new limit s
 
 -- ---- what is left of it
-
--- the blocks are settled with maps in which these nodes hold the state
-abbrev pub IsSettledIn : Schema → Built → List ℕ → List ℕ → List LeafSpec → List (List ℕ) → State → Type 0
-IsSettledIn schema built schema_text equation_text specs blocks s =
-    (maps : List LeafMap) × IsSettled schema_text equation_text specs maps blocks × AreInternal schema built maps s
 
 -- the device of that name is settled with the internal form of the state
 pub record IsSettledOn (t : Task) (device : List ℕ) (after : Content) (s : State) : Type 0 where

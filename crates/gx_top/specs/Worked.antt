@@ -2,24 +2,27 @@
 use Rattle.std.specs.Prelude.{◌≡◌, ◌≢◌, ◌⊎◌, ℕ, List, Some, None}
 use Rattle.gx_device.specs.Content.{Content, Texts, device_at}
 use Rattle.gx_schema.specs.declared.schema.Schema.{Schema}
+use Rattle.gx_schema.specs.Printing.{schema_text}
 use Rattle.gx_equation.specs.Trees.{DefinitionTree}
+use Rattle.gx_equation.specs.Printing.{equation_text}
 use Rattle.gx_typing.specs.declared.typing.Typing.{Typing}
 use Rattle.gx_model.specs.States.{empty_state}
 use Rattle.gx_model.specs.Play.{Playing, good}
 use Rattle.gx_work.specs.Schema.{work_schema}
 use Rattle.gx_work.specs.Workload.{work_script}
 use Rattle.gx_work.specs.Summary.{work_text}
-use Rattle.gx_store.specs.Device.{IsSize}
+use Rattle.gx_store.specs.Device.{IsSize, IsNoneOrEmpty}
 use Rattle.gx_play.specs.declared.ending.DeviceWhy.{DeviceWhy}
 use Rattle.gx_play.specs.declared.status.Status.{Status}
 use Rattle.gx_play.specs.declared.status.Status.TheVariants as status
 use Rattle.gx_play.specs.Endings.{device_line, full_line, memory_line}
-use Rattle.gx_play.specs.Played.{Says, SaysFront, IsPlay, IsFull}
+use Rattle.gx_play.specs.Played.{Says, SaysFront, IsPlay, AreFirst, IsFull}
 use Rattle.gx_play.specs.Say.{SameDevices}
 use Rattle.gx_requests.specs.Words.{working, request_words, IsCount, IsRecordCount, IsCounted}
 use Rattle.gx_requests.specs.Requests.{IsAccepted}
-use Rattle.gx_top.specs.Tasks.{Task, IsSettledOn, limits_on}
-use Rattle.gx_top.specs.Devices.{IsUnmakable}
+use Rattle.gx_top.specs.Tasks.{Task, IsSettledOn}
+use Rattle.gx_operations.specs.Settled.{limits_on}
+use Rattle.gx_operations.specs.Making.{IsUnmakable}
 
 -- a request to play so many records of the workload on a device that is made with so many blocks
 pub record IsToWork (words : List (List ℕ)) (texts : Texts) (blocks records : ℕ) : Type 0 where
@@ -106,13 +109,25 @@ pub record IsUnworkable (words : List (List ℕ)) (before : Content) : Type 0 wh
 
 -- ---- what is left of the devices
 
+-- First lines of the workload were played from the empty state, and the device is settled with the last state that these kept.
+pub record IsWorkFirst (t : Task) (device : List ℕ) (records : ℕ) (after : Content) : Type 0 where
+  pub answers : List ℕ
+  pub first : AreFirst work_schema (empty_state work_schema) (work_script records) answers
+  pub settled : IsSettledOn t device after first.final.kept
+
+-- what the blocks of a device hold that is there after want of memory and wasn't before: that, or no database or an empty one
+abbrev pub HoldsWork : Task → List ℕ → ℕ → Content → List (List ℕ) → Type 0
+HoldsWork t device records after blocks =
+    IsNoneOrEmpty (schema_text t.schema) (equation_text t.definitions) t.typing.specs blocks ⊎ IsWorkFirst t device records after
+
 -- All devices stay where the request is refused, one that is there or can't be had stays as it was, and those of other names
--- stay.
-pub record LeavesWorked (device : List ℕ) (old new : Content) (s : Status) : Type 0 where
+-- stay. After Memory one that wasn't there holds what first lines kept, or no database or an empty one.
+pub record LeavesWorked (words : List (List ℕ)) (device : List ℕ) (old new : Content) (s : Status) : Type 0 where
   pub refused : s ≡ status.Refused → SameDevices old new
   pub wrong : s ≡ status.Device → device_at new.now device ≡ device_at old.now device
+  pub memory : s ≡ status.Memory → device_at old.now device ≡ None → (blocks : List (List ℕ)) → device_at new.now device ≡ Some blocks → (count records : ℕ) (r : IsToWork words old.aside.texts count records) → HoldsWork (worked r) device records new blocks
   pub others : (other : List ℕ) → other ≢ device → device_at new.now other ≡ device_at old.now other
 
 -- the same where the words ask for it
 abbrev pub LeavesWorkedBy : List (List ℕ) → Content → Content → Status → Type 0
-LeavesWorkedBy words old new s = (device digits number schema equation : List ℕ) → IsCounted (working device digits number) → words ≡ request_words (working device digits number) schema equation → old.now.shelf.name ≡ None → LeavesWorked device old new s
+LeavesWorkedBy words old new s = (device digits number schema equation : List ℕ) → IsCounted (working device digits number) → words ≡ request_words (working device digits number) schema equation → old.now.shelf.name ≡ None → LeavesWorked words device old new s

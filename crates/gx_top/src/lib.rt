@@ -4,7 +4,6 @@
 
 mod check;
 mod explain;
-mod explanation;
 mod finish;
 mod inspect;
 mod laws;

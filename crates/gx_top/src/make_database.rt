@@ -1,20 +1,15 @@
 // The request to make a device with an empty database.
-ghost use Rattle.std.specs.Prelude.{◌≡◌, ◌≢◌, ◌≤◌, List, ℕ, false, Some, None};
-ghost use Rattle.gx_device.specs.Content.{device_at};
+ghost use Rattle.std.specs.Prelude.{◌≡◌, ◌≢◌, ◌≤◌, List, ℕ};
 ghost use Rattle.gx_device.specs.Faults.{Rose};
-ghost use Rattle.gx_layout.specs.Layout.{pages_of};
-ghost use Rattle.gx_store.specs.Device.{IsNoneOrEmpty};
-ghost use Rattle.gx_store.specs.Store.{CanAttach, Attaches};
+ghost use Rattle.gx_store.specs.Store.{CanAttach};
 ghost use Rattle.gx_requests.specs.Words.{IsCount, making, request_words};
-ghost use Rattle.gx_requests.specs.Checked.{IsStored};
-ghost use Rattle.gx_play.specs.Endings.{is_outside};
-ghost use Rattle.gx_top.specs.Made.{making_ending, IsMaking, LeavesMade};
+ghost use Rattle.gx_top.specs.Made.{LeavesMade};
 ghost use Rattle.gx_top.specs.Tries.{IsEnd, IsAsDue};
 
 use gx_device::Machine;
-use gx_play::{Ending, Status, end};
-use gx_requests::{Stored, prepare_stored, unopened_ending};
-use gx_store::{Unopened, make};
+use gx_operations::make_stored;
+use gx_play::{Status, end};
+use gx_requests::prepare_stored;
 use std::alloc::Global;
 
 /// Makes a device of that name with so many blocks, and an empty database on it under the texts of
@@ -54,61 +49,4 @@ pub fn make_database<M: Machine + Drop>(
             (status, machine)
         }
     }
-}
-
-// Makes the device and an empty database of what is stored on it, and tells how the request ends.
-fn make_stored<'a, M: Machine + Drop>(
-    alloc: Global,
-    stored: Stored,
-    device: &str,
-    blocks: u32,
-    machine: M,
-) -> (Ending<'a>, M)
-    requires { IsStored stored }
-    ensures made { CanAttach M.tells (M.content machine) →
-        IsMaking stored.schema_text stored.equation_text stored.built.specs device.now
-        blocks (M.content machine) (M.content result.1) result.0 }
-    ensures attaches { CanAttach M.tells (M.content machine) →
-        Attaches device.now (M.content machine) (M.content result.1) }
-    ensures left { CanAttach M.tells (M.content machine) →
-        device_at (M.content machine).now device.now ≡ None → (made : List (List ℕ)) →
-        device_at (M.content result.1).now device.now ≡ Some made → IsNoneOrEmpty
-        stored.schema_text stored.equation_text stored.built.specs made }
-    ensures fault { result.0 ≡ Ending.Fault → Rose (M.faults machine) (M.faults result.1) }
-    ensures counted { is_outside result.0 ≡ false → M.faults result.1 ≡ M.faults machine }
-    ensures later { M.faults machine ≤ M.faults result.1 }
-{
-    let Stored {
-        built,
-        schema_text,
-        equation_text,
-        ..
-    } = stored;
-    let (made, machine) = make(
-        alloc,
-        machine,
-        device,
-        blocks,
-        schema_text.as_slice(),
-        equation_text.as_slice(),
-        &built.specs.0,
-    );
-    (making_ending(made, blocks), machine)
-}
-
-// How the request ends where making its device ended so.
-fn making_ending<'a>(made: Result<(), Unopened>, blocks: u32) -> Ending<'a>
-    ensures { result ≡ making_ending blocks made }
-{
-    match made {
-        Ok(()) => Ending::Made(blocks, page_count(blocks)),
-        Err(why) => unopened_ending(why),
-    }
-}
-
-// How many pages a device of so many blocks has.
-fn page_count(blocks: u32) -> u32
-    ensures { result ≡ pages_of blocks }
-{
-    blocks.saturating_sub(7) / 2
 }

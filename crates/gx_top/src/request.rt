@@ -59,12 +59,14 @@ use std::alloc::Global;
 /// Whatever it answers, no device is made, and those of other names are as they were.
 ///
 /// After `Done` of `inspect` the device is settled with the state that it held. With any status but
-/// `Outside` one that held a state holds it, and one that is wrong is as `run` leaves it. Whatever it
-/// answers, no device is made, and those of other names are as they were.
+/// `Outside` one that held a state holds it, one that can be opened is opened with what it held, one that
+/// can't reads as before, and one that is wrong is as `run` leaves it. Whatever it answers, no device is
+/// made, and those of other names are as they were.
 ///
 /// After `Done` and `Full` of `work` its device is settled with the last kept state of the workload's play.
-/// After `Refused` all devices are as they were, after `Device` so is the one of its name, and those of
-/// other names always.
+/// After `Memory` one that is new holds no database, an empty one, or the last state that some first lines
+/// of that play kept. After `Refused` all devices are as they were, after `Device` so is the one of its
+/// name, and those of other names always.
 ///
 /// What is said of `run` after it has opened its device holds where that held a state. `Outside` comes
 /// only where a call of the machine failed in this one, and with any other status none did: the count of

@@ -1,35 +1,19 @@
 // The request to play a script on a device.
-ghost use Rattle.std.specs.Prelude.{◌≡◌, ◌≢◌, ◌≤◌, List, ℕ, [], Ok, Some, false, length, IsTrue, IfErr, IsErrOf};
-ghost use Rattle.gx_device.specs.Content.{Content, SameContent};
+ghost use Rattle.std.specs.Prelude.{◌≡◌, ◌≢◌, ◌≤◌};
 ghost use Rattle.gx_device.specs.Faults.{Rose};
-ghost use Rattle.gx_device.specs.Quiet.{IsPrefix};
-ghost use Rattle.gx_ports.specs.LeafMaps.{LeafMap};
-ghost use Rattle.gx_schema.specs.WellFormed.{IsWellFormed};
-ghost use Rattle.gx_leaves.specs.Wholeness.{limits_of};
-ghost use Rattle.gx_leaves.specs.Paged.{pages_of, places_in, working_of, head_of};
-ghost use Rattle.gx_leaves.specs.Places.{specs_of};
-ghost use Rattle.gx_store.specs.Device.{IsHeadOf};
-ghost use Rattle.gx_pages.specs.Paged.{ground_of};
-ghost use Rattle.gx_pages.specs.View.{journal_of};
-ghost use Rattle.gx_store.specs.Store.{CanAttach, HoldsMaps, machine_of};
-ghost use Rattle.gx_model.specs.States.{State};
-ghost use Rattle.gx_states.specs.Internal.{AreInternal};
-ghost use Rattle.gx_states.specs.Internal.{AreFor};
+ghost use Rattle.gx_store.specs.Store.{CanAttach};
 ghost use Rattle.gx_requests.specs.Words.{running, request_words};
-ghost use Rattle.gx_requests.specs.Checked.{IsStored, IsStoredFor};
-ghost use Rattle.gx_play.specs.Endings.{IsPlayEnding, is_fault};
-ghost use Rattle.gx_play.specs.Plays.{IsPlayedAs};
-ghost use Rattle.gx_top.specs.Tasks.{IsSettledIn};
+ghost use Rattle.gx_requests.specs.Checked.{IsStored};
 ghost use Rattle.gx_top.specs.Ran.{LeavesRun};
-ghost use Rattle.gx_top.specs.Tries.{IsEnd, IsAsDue};
+ghost use Rattle.gx_top.specs.Tries.{IsEnd, IsAsDue, CountsOutside};
+ghost use Rattle.gx_top.specs.Fulfilled.{Fulfils};
 
 use crate::finish::finish;
 use gx_device::Machine;
-use gx_play::{Ending, Status, end, play_over};
+use gx_operations::play_stored;
+use gx_play::{Status, end};
 use gx_requests::{Stored, prepare_stored, unopened_ending};
-use gx_schema::Schema;
-use gx_store::{Store, close, open};
-use gx_types::Built;
+use gx_store::open;
 use std::alloc::Global;
 
 /// Recovers the device of that name, hears the script, and plays it there under the texts of these
@@ -77,21 +61,9 @@ fn run_stored<M: Machine + Drop>(
     machine: M,
 ) -> (Status, M)
     requires { IsStored stored }
-    ensures said { CanAttach M.tells (M.content machine) →
-        (words : List (List ℕ)) (old : Content) → SameContent old (M.content machine) →
-        IsStoredFor words old.aside.texts (running device.now) stored →
-        IsEnd words old (M.content result.1) result.0 }
-    ensures due { CanAttach M.tells (M.content machine) →
-        (words : List (List ℕ)) (old : Content) → SameContent old (M.content machine) →
-        IsStoredFor words old.aside.texts (running device.now) stored →
-        IsAsDue words old result.0 }
-    ensures left { CanAttach M.tells (M.content machine) →
-        (words : List (List ℕ)) (old : Content) → SameContent old (M.content machine) →
-        IsStoredFor words old.aside.texts (running device.now) stored →
-        LeavesRun words device.now old (M.content result.1) result.0 }
-    ensures outside { result.0 ≡ Status.Outside → Rose (M.faults machine) (M.faults result.1) }
-    ensures counted { result.0 ≢ Status.Outside → M.faults result.1 ≡ M.faults machine }
-    ensures later { M.faults machine ≤ M.faults result.1 }
+    ensures fulfilled { Fulfils M.tells (running device.now) stored
+        (λ words. LeavesRun words device.now) (M.content machine) (M.content result.1) result.0 }
+    ensures failures { CountsOutside (M.faults machine) (M.faults result.1) result.0 }
 {
     let Stored {
         schema,
@@ -117,37 +89,4 @@ fn run_stored<M: Machine + Drop>(
             (status, machine)
         }
     }
-}
-
-// Hears the script, plays it on the device, and closes it.
-fn play_stored<'a, M: Machine + Drop>(
-    alloc: Global,
-    schema: Schema,
-    built: Built,
-    store: Store<M>,
-) -> (Result<(), Ending<'a>>, M)
-    requires built { AreFor schema built (length (working_of store)) }
-    requires well_formed { IsWellFormed schema }
-    ensures answered { IsTrue M.tells → (s : State) (maps : List LeafMap) →
-        HoldsMaps maps store → AreInternal schema built maps s → (texts : List ℕ × List ℕ) →
-        IsHeadOf texts.0 texts.1 (specs_of (places_in store)) (head_of store) →
-        IsPlayedAs schema built
-        (Some (limits_of (ground_of (journal_of (pages_of store))) (places_in store))) s
-        (IsSettledIn schema built texts.0 texts.1 (specs_of (places_in store))
-        (M.content result.1).now.blocks) (M.content (machine_of store)).script
-        (M.content (machine_of store)).now.said (M.content result.1).now.said result.0 }
-    ensures heard { IsTrue M.tells → (s : State) (maps : List LeafMap) → HoldsMaps maps store →
-        AreInternal schema built maps s → result.0 ≡ Ok tt →
-        (M.content result.1).script ≡ [] }
-    ensures begins { IsTrue M.tells →
-        IsPrefix (M.content (machine_of store)).now.said (M.content result.1).now.said }
-    ensures shelf { (M.content result.1).now.shelf ≡ (M.content (machine_of store)).now.shelf }
-    ensures ending { IfErr result.0 IsPlayEnding }
-    ensures fault { IsErrOf result.0 Ending.Fault →
-        Rose (M.faults (machine_of store)) (M.faults result.1) }
-    ensures counted { is_fault result.0 ≡ false → M.faults result.1 ≡ M.faults (machine_of store) }
-    ensures later { M.faults (machine_of store) ≤ M.faults result.1 }
-{
-    let (played, store) = play_over(alloc, schema, built, store);
-    (played, close(store))
 }

@@ -10,14 +10,14 @@ returns-in-Ok-clause-said g c = λ can.
     let words = request_words (inspecting c.args.device.now) c.args.schema.now c.args.equation.now in
     let mid = g.M.Device.content c.prepare_stored.new.machine in
     let free : CanAttach g.M.Device.tells mid = record { told = can.told; free = ap (λ n. n.shelf.name) c.in-Ok.ensures.content.now ∙ can.free } in
-    c.inspect_stored.ensures.said free words (g.M.Device.content c.args.machine) c.in-Ok.ensures.content (c.in-Ok.ensures.ready can.told (inspecting c.args.device.now) tt)
+    (c.inspect_stored.ensures.fulfilled free words (g.M.Device.content c.args.machine) c.in-Ok.ensures.content (c.in-Ok.ensures.ready can.told (inspecting c.args.device.now) tt)).said
 
 pub returns-in-Ok-clause-due : goal.returns-in-Ok-clause-due
 returns-in-Ok-clause-due g c = λ can.
     let words = request_words (inspecting c.args.device.now) c.args.schema.now c.args.equation.now in
     let mid = g.M.Device.content c.prepare_stored.new.machine in
     let free : CanAttach g.M.Device.tells mid = record { told = can.told; free = ap (λ n. n.shelf.name) c.in-Ok.ensures.content.now ∙ can.free } in
-    c.inspect_stored.ensures.due free words (g.M.Device.content c.args.machine) c.in-Ok.ensures.content (c.in-Ok.ensures.ready can.told (inspecting c.args.device.now) tt)
+    (c.inspect_stored.ensures.fulfilled free words (g.M.Device.content c.args.machine) c.in-Ok.ensures.content (c.in-Ok.ensures.ready can.told (inspecting c.args.device.now) tt)).due
 
 pub returns-in-Err-clause-said : goal.returns-in-Err-clause-said
 returns-in-Err-clause-said g c = λ can.
@@ -54,7 +54,7 @@ returns-in-Ok-clause-left g c = λ can.
     let words = request_words (inspecting c.args.device.now) c.args.schema.now c.args.equation.now in
     let mid = g.M.Device.content c.prepare_stored.new.machine in
     let free : CanAttach g.M.Device.tells mid = record { told = can.told; free = ap (λ n. n.shelf.name) c.in-Ok.ensures.content.now ∙ can.free } in
-    c.inspect_stored.ensures.left free words (g.M.Device.content c.args.machine) c.in-Ok.ensures.content (c.in-Ok.ensures.ready can.told (inspecting c.args.device.now) tt)
+    (c.inspect_stored.ensures.fulfilled free words (g.M.Device.content c.args.machine) c.in-Ok.ensures.content (c.in-Ok.ensures.ready can.told (inspecting c.args.device.now) tt)).left
 
 pub returns-in-Err-clause-left : goal.returns-in-Err-clause-left
 returns-in-Err-clause-left g c = λ can.

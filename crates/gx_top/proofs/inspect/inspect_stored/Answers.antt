@@ -12,8 +12,8 @@ use Rattle.gx_top.proofs.ExamineLemmas.{IsSeen, reopens_before, Request, typed_t
 use Rattle.gx_top.proofs.UnopenedLemmas.{IsTried}
 use Rattle.gx_top.proofs.inspect.inspect_stored.Goals as goal
 
-pub returns-in-Ok-clause-said : goal.returns-in-Ok-clause-said
-returns-in-Ok-clause-said g c = λ can words old same stored.
+pub returns-in-Ok-clause-fulfilled : goal.returns-in-Ok-clause-fulfilled
+returns-in-Ok-clause-fulfilled g c = λ can words old same stored.
     let content = g.M.Device.content in
     let middle = content c.args.machine in
     let store = c.in-Ok.store in
@@ -32,6 +32,8 @@ returns-in-Ok-clause-said g c = λ can words old same stored.
       had = c.in-Ok.ensures.opened can;
       reopens = λ whole blocks there. reopens_before c.args.device.now schema equation specs (working_of store) blocks opened (c.in-Ok.ensures.named can) (c.in-Ok.ensures.kept can refl blocks there) (c.in-Ok.ensures.settled can whole);
       holds = λ blocks others there reopens. let is = c.in-Ok.ensures.holds can blocks others there reopens in (is.whole, sym is.working);
+      alike = λ blocks there. c.in-Ok.ensures.kept can refl blocks there;
+      untouched = c.examine_store-found.ensures.untouched can.told (c.in-Ok.ensures.just_opened can).steady;
       silent = c.examine_store-found.ensures.silent;
       examined = c.examine_store-found.ensures.examined can.told (c.in-Ok.ensures.just_opened can).steady;
       settled = λ whole.
@@ -40,70 +42,15 @@ returns-in-Ok-clause-said g c = λ can words old same stored.
           (c.examine_store-found.ensures.settled (schema, equation) (subst (λ k. IsHeadOf schema equation k (head_of store)) (sym c.in-Ok.ensures.specs) (c.in-Ok.ensures.head can)) ((c.in-Ok.ensures.just_opened can).was_whole whole)));
     }) in
     let row : Inspects words old after c.tell-status.result = (Request words c.args.device.now x old middle stored same, examined_row words c.args.device.now x old middle stored same opened mid (working_of store) whole found seen after c.tell-status.result c.tell-status.ensures.devices (c.tell-status.ensures.told can.told)) in
-    inspect_end words old after c.tell-status.result row
-    (examined_script words c.args.device.now x old middle stored same opened mid (working_of store) whole found seen after c.tell-status.ensures.rest.script)
+    record {
+      said = inspect_end words old after c.tell-status.result row
+          (examined_script words c.args.device.now x old middle stored same opened mid (working_of store) whole found seen after c.tell-status.ensures.rest.script);
+      due = inspect_due words old after c.tell-status.result row;
+      left = examined_left words c.args.device.now x old middle stored same opened mid (working_of store) whole found seen after c.tell-status.result c.tell-status.ensures.devices (c.tell-status.ensures.told can.told);
+    }
 
-pub returns-in-Ok-clause-due : goal.returns-in-Ok-clause-due
-returns-in-Ok-clause-due g c = λ can words old same stored.
-    let content = g.M.Device.content in
-    let middle = content c.args.machine in
-    let store = c.in-Ok.store in
-    let opened = content (machine_of store) in
-    let mid = content c.examine_store-found.result.1 in
-    let after = content c.tell-status.new.machine in
-    let x = c.args.stored in
-    let schema = c.as_slice.result.now in
-    let equation = c.as_slice-2.result.now in
-    let specs = c.deref.result.now in
-    let whole = IsWhole store in
-    let found = c.examine_store-found.result.0 in
-    let seen = typed_texts words c.args.device.now x old middle stored same (IsSeen c.args.device.now x middle opened mid (working_of store) whole found) schema equation specs c.as_slice.ensures c.as_slice-2.ensures (search rules) (record {
-      attaches = c.in-Ok.ensures.attaches can;
-      named = c.in-Ok.ensures.named can;
-      had = c.in-Ok.ensures.opened can;
-      reopens = λ whole blocks there. reopens_before c.args.device.now schema equation specs (working_of store) blocks opened (c.in-Ok.ensures.named can) (c.in-Ok.ensures.kept can refl blocks there) (c.in-Ok.ensures.settled can whole);
-      holds = λ blocks others there reopens. let is = c.in-Ok.ensures.holds can blocks others there reopens in (is.whole, sym is.working);
-      silent = c.examine_store-found.ensures.silent;
-      examined = c.examine_store-found.ensures.examined can.told (c.in-Ok.ensures.just_opened can).steady;
-      settled = λ whole.
-          subst (λ (ms : List LeafMap). IsSettled schema equation specs ms mid.now.blocks) (c.in-Ok.ensures.just_opened can).kept_is
-          (subst (λ (k : List LeafSpec). IsSettled schema equation k (kept_of store) mid.now.blocks) c.in-Ok.ensures.specs
-          (c.examine_store-found.ensures.settled (schema, equation) (subst (λ k. IsHeadOf schema equation k (head_of store)) (sym c.in-Ok.ensures.specs) (c.in-Ok.ensures.head can)) ((c.in-Ok.ensures.just_opened can).was_whole whole)));
-    }) in
-    let row : Inspects words old after c.tell-status.result = (Request words c.args.device.now x old middle stored same, examined_row words c.args.device.now x old middle stored same opened mid (working_of store) whole found seen after c.tell-status.result c.tell-status.ensures.devices (c.tell-status.ensures.told can.told)) in
-    inspect_due words old after c.tell-status.result row
-
-pub returns-in-Ok-clause-left : goal.returns-in-Ok-clause-left
-returns-in-Ok-clause-left g c = λ can words old same stored.
-    let content = g.M.Device.content in
-    let middle = content c.args.machine in
-    let store = c.in-Ok.store in
-    let opened = content (machine_of store) in
-    let mid = content c.examine_store-found.result.1 in
-    let after = content c.tell-status.new.machine in
-    let x = c.args.stored in
-    let schema = c.as_slice.result.now in
-    let equation = c.as_slice-2.result.now in
-    let specs = c.deref.result.now in
-    let whole = IsWhole store in
-    let found = c.examine_store-found.result.0 in
-    let seen = typed_texts words c.args.device.now x old middle stored same (IsSeen c.args.device.now x middle opened mid (working_of store) whole found) schema equation specs c.as_slice.ensures c.as_slice-2.ensures (search rules) (record {
-      attaches = c.in-Ok.ensures.attaches can;
-      named = c.in-Ok.ensures.named can;
-      had = c.in-Ok.ensures.opened can;
-      reopens = λ whole blocks there. reopens_before c.args.device.now schema equation specs (working_of store) blocks opened (c.in-Ok.ensures.named can) (c.in-Ok.ensures.kept can refl blocks there) (c.in-Ok.ensures.settled can whole);
-      holds = λ blocks others there reopens. let is = c.in-Ok.ensures.holds can blocks others there reopens in (is.whole, sym is.working);
-      silent = c.examine_store-found.ensures.silent;
-      examined = c.examine_store-found.ensures.examined can.told (c.in-Ok.ensures.just_opened can).steady;
-      settled = λ whole.
-          subst (λ (ms : List LeafMap). IsSettled schema equation specs ms mid.now.blocks) (c.in-Ok.ensures.just_opened can).kept_is
-          (subst (λ (k : List LeafSpec). IsSettled schema equation k (kept_of store) mid.now.blocks) c.in-Ok.ensures.specs
-          (c.examine_store-found.ensures.settled (schema, equation) (subst (λ k. IsHeadOf schema equation k (head_of store)) (sym c.in-Ok.ensures.specs) (c.in-Ok.ensures.head can)) ((c.in-Ok.ensures.just_opened can).was_whole whole)));
-    }) in
-    examined_left words c.args.device.now x old middle stored same opened mid (working_of store) whole found seen after c.tell-status.result c.tell-status.ensures.devices (c.tell-status.ensures.told can.told)
-
-pub returns-in-Err-clause-said : goal.returns-in-Err-clause-said
-returns-in-Err-clause-said g c = λ can words old same stored.
+pub returns-in-Err-clause-fulfilled : goal.returns-in-Err-clause-fulfilled
+returns-in-Err-clause-fulfilled g c = λ can words old same stored.
     let content = g.M.Device.content in
     let middle = content c.args.machine in
     let mid = content c.in-Err.machine in
@@ -127,58 +74,9 @@ returns-in-Err-clause-said g c = λ can words old same stored.
       script = c.end-status.ensures.rest.script;
     }) in
     let row : Inspects words old after c.end-status.result = (Request words c.args.device.now x old middle stored same, unopened_row words c.args.device.now x old middle stored same mid after c.in-Err.why c.end-status.result tried c.end-status.ensures.devices un ended) in
-    inspect_end words old after c.end-status.result row
-    (unopened_script words c.args.device.now x old middle stored same mid after c.in-Err.why c.end-status.result tried c.end-status.ensures.devices un ended)
-
-pub returns-in-Err-clause-due : goal.returns-in-Err-clause-due
-returns-in-Err-clause-due g c = λ can words old same stored.
-    let content = g.M.Device.content in
-    let middle = content c.args.machine in
-    let mid = content c.in-Err.machine in
-    let after = content c.end-status.new.machine in
-    let x = c.args.stored in
-    let un = typed_texts words c.args.device.now x old middle stored same (λ schema equation specs. IsUnopened c.args.device.now schema equation specs middle c.in-Err.why) c.as_slice.result.now c.as_slice-2.result.now c.deref.result.now c.as_slice.ensures c.as_slice-2.ensures (search rules) (c.in-Err.ensures.unopened can) in
-    let tried : IsTried c.args.device.now middle mid c.in-Err.why = record {
-      attaches = c.in-Err.ensures.attaches can;
-      untouched = c.in-Err.ensures.untouched can;
-      absent = c.in-Err.ensures.absent can;
-      kept = c.in-Err.ensures.kept can;
-      recovered = c.in-Err.ensures.recovered can;
-    } in
-    let ended = subst (λ w. IsEnded w mid after c.end-status.result) c.unopened_ending.ensures (record {
-      status_is = c.end-status.ensures.status;
-      said = c.end-status.ensures.said can.told;
-      memory = c.end-status.ensures.memory can.told;
-      cut = c.end-status.ensures.cut can.told;
-      fault = c.end-status.ensures.fault;
-      silent = c.end-status.ensures.silent can.told;
-      script = c.end-status.ensures.rest.script;
-    }) in
-    let row : Inspects words old after c.end-status.result = (Request words c.args.device.now x old middle stored same, unopened_row words c.args.device.now x old middle stored same mid after c.in-Err.why c.end-status.result tried c.end-status.ensures.devices un ended) in
-    inspect_due words old after c.end-status.result row
-
-pub returns-in-Err-clause-left : goal.returns-in-Err-clause-left
-returns-in-Err-clause-left g c = λ can words old same stored.
-    let content = g.M.Device.content in
-    let middle = content c.args.machine in
-    let mid = content c.in-Err.machine in
-    let after = content c.end-status.new.machine in
-    let x = c.args.stored in
-    let un = typed_texts words c.args.device.now x old middle stored same (λ schema equation specs. IsUnopened c.args.device.now schema equation specs middle c.in-Err.why) c.as_slice.result.now c.as_slice-2.result.now c.deref.result.now c.as_slice.ensures c.as_slice-2.ensures (search rules) (c.in-Err.ensures.unopened can) in
-    let tried : IsTried c.args.device.now middle mid c.in-Err.why = record {
-      attaches = c.in-Err.ensures.attaches can;
-      untouched = c.in-Err.ensures.untouched can;
-      absent = c.in-Err.ensures.absent can;
-      kept = c.in-Err.ensures.kept can;
-      recovered = c.in-Err.ensures.recovered can;
-    } in
-    let ended = subst (λ w. IsEnded w mid after c.end-status.result) c.unopened_ending.ensures (record {
-      status_is = c.end-status.ensures.status;
-      said = c.end-status.ensures.said can.told;
-      memory = c.end-status.ensures.memory can.told;
-      cut = c.end-status.ensures.cut can.told;
-      fault = c.end-status.ensures.fault;
-      silent = c.end-status.ensures.silent can.told;
-      script = c.end-status.ensures.rest.script;
-    }) in
-    unopened_left words c.args.device.now x old middle stored same mid after c.in-Err.why c.end-status.result tried c.end-status.ensures.devices un ended
+    record {
+      said = inspect_end words old after c.end-status.result row
+          (unopened_script words c.args.device.now x old middle stored same mid after c.in-Err.why c.end-status.result tried c.end-status.ensures.devices un ended);
+      due = inspect_due words old after c.end-status.result row;
+      left = unopened_left words c.args.device.now x old middle stored same mid after c.in-Err.why c.end-status.result tried c.end-status.ensures.devices un ended;
+    }

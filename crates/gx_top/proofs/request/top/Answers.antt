@@ -218,7 +218,7 @@ pub returns-in-Some-Work-clause-worked : goal.returns-in-Some-Work-clause-worked
 returns-in-Some-Work-clause-worked g c = λ told device digits number schema equation counted too free.
     let is = subst (IsRequest (texts_of c.args.words.now)) c.in-Some-Work.field-0-is c.in-Some-Work.ensures.some in
     worked_by_words (texts_of c.args.words.now) _ is.0 is.1 device digits number [] schema _ equation (g.M.Device.content c.args.machine) (g.M.Device.content c.work.result.1) c.work.result.0 is.4 too
-    (c.work.ensures.left (record { told = told; free = free }))
+    (c.work.ensures.left (record { told = told; free = free }) is.0 is.1 is.2 is.3)
 
 pub returns-in-None-clause-worked : goal.returns-in-None-clause-worked
 returns-in-None-clause-worked g c = λ told device digits number schema equation counted too free. absurd (c.in-None.ensures.none refl (working device digits number) schema equation counted too)

@@ -8,16 +8,16 @@ use Rattle.gx_store.specs.Device.{IsHeadOf}
 use Rattle.gx_store.specs.Store.{HoldsMaps, machine_of}
 use Rattle.gx_play.specs.Endings.{IsEnded}
 use Rattle.gx_play.specs.Plays.{IsPlayedAs}
-use Rattle.gx_top.specs.Tasks.{IsSettledIn}
+use Rattle.gx_operations.specs.Settled.{IsSettledIn}
 use Rattle.gx_top.proofs.EndLemmas.{IsUnhad, run_end, run_due, unhad_end, unhad_due}
-use Rattle.gx_top.proofs.StoreLemmas.{limit_on}
+use Rattle.gx_operations.proofs.StoreLemmas.{limit_on}
 use Rattle.gx_top.proofs.TaskLemmas.{run_task, run_is_task, not_wrong, device_run, on_store_told, opened_told, unopened_told, unopened_unhad}
 use Rattle.gx_top.proofs.RanLemmas.{played_left}
-use Rattle.gx_top.proofs.UnopenedLemmas.{unopened_starts, unopened_left}
+use Rattle.gx_top.proofs.UnopenedLemmas.{IsTried, unopened_starts, unopened_left}
 use Rattle.gx_top.proofs.run_script.run_stored.Goals as goal
 
-pub returns-in-Ok-clause-said : goal.returns-in-Ok-clause-said
-returns-in-Ok-clause-said g c = λ can words old same stored.
+pub returns-in-Ok-clause-fulfilled : goal.returns-in-Ok-clause-fulfilled
+returns-in-Ok-clause-fulfilled g c = λ can words old same stored.
     let content = g.M.Device.content in
     let middle = content c.args.machine in
     let store = c.in-Ok.store in
@@ -28,8 +28,8 @@ returns-in-Ok-clause-said g c = λ can words old same stored.
     let equation = c.as_slice-2.result.now in
     let specs = c.deref.result.now in
     let limit = limits_of (ground_of (journal_of (pages_of store))) (places_in store) in
-    run_end words (run_task words old.aside.texts c.args.device.now x stored) old mid (content c.finish-status.new.machine) c.play_stored-machine.result.0 c.finish-status.result
-    (device_run words c.args.device.now x old middle stored same opened mid limit (λ (maps : List LeafMap). HoldsMaps maps store) c.play_stored-machine.result.0
+    let run =
+    device_run words c.args.device.now x old middle stored same opened mid limit (λ (maps : List LeafMap). HoldsMaps maps store) c.play_stored-machine.result.0
     (on_store_told c.args.device.now x schema equation specs middle opened mid limit (λ (maps : List LeafMap). HoldsMaps maps store) c.play_stored-machine.result.0 c.as_slice.ensures c.as_slice-2.ensures (search rules) (record {
       said = (c.in-Ok.ensures.attaches can).said;
       script = (c.in-Ok.ensures.attaches can).script;
@@ -43,110 +43,34 @@ returns-in-Ok-clause-said g c = λ can words old same stored.
           subst (λ k. IsPlayedAs x.schema x.built (Some limit) s (IsSettledIn x.schema x.built schema equation k mid.now.blocks) opened.script opened.now.said mid.now.said c.play_stored-machine.result.0) c.in-Ok.ensures.specs
           (c.play_stored-machine.ensures.answered can.told s maps reaches internal (schema, equation) (subst (λ k. IsHeadOf schema equation k (head_of store)) (sym c.in-Ok.ensures.specs) (c.in-Ok.ensures.head can)));
       heard = λ s maps reaches internal ok. c.play_stored-machine.ensures.heard can.told s maps reaches internal ok;
-    })) (content c.finish-status.new.machine) c.finish-status.result c.play_stored-machine.ensures.ending (c.finish-status.ensures.finished can.told) c.finish-status.ensures.devices)
-
-pub returns-in-Ok-clause-due : goal.returns-in-Ok-clause-due
-returns-in-Ok-clause-due g c = λ can words old same stored.
-    let content = g.M.Device.content in
-    let middle = content c.args.machine in
-    let store = c.in-Ok.store in
-    let opened = content (machine_of store) in
-    let mid = content c.play_stored-machine.result.1 in
-    let x = c.args.stored in
-    let schema = c.as_slice.result.now in
-    let equation = c.as_slice-2.result.now in
-    let specs = c.deref.result.now in
-    let limit = limits_of (ground_of (journal_of (pages_of store))) (places_in store) in
-    run_due words (run_task words old.aside.texts c.args.device.now x stored) old mid (content c.finish-status.new.machine) c.play_stored-machine.result.0 c.finish-status.result
-    (device_run words c.args.device.now x old middle stored same opened mid limit (λ (maps : List LeafMap). HoldsMaps maps store) c.play_stored-machine.result.0
-    (on_store_told c.args.device.now x schema equation specs middle opened mid limit (λ (maps : List LeafMap). HoldsMaps maps store) c.play_stored-machine.result.0 c.as_slice.ensures c.as_slice-2.ensures (search rules) (record {
-      said = (c.in-Ok.ensures.attaches can).said;
-      script = (c.in-Ok.ensures.attaches can).script;
-      named = c.in-Ok.ensures.named can;
-      shelf = c.play_stored-machine.ensures.shelf;
-      begins = c.play_stored-machine.ensures.begins can.told;
-      had = c.in-Ok.ensures.opened can;
-      holds = λ blocks maps there reopens. c.in-Ok.ensures.holds can blocks maps there reopens;
-      limit_is = λ blocks there. limit_on c.args.device.now middle blocks (ground_of (journal_of (pages_of store))) (places_in store) specs there (c.in-Ok.ensures.ground can) c.in-Ok.ensures.specs;
-      answered = λ s maps reaches internal.
-          subst (λ k. IsPlayedAs x.schema x.built (Some limit) s (IsSettledIn x.schema x.built schema equation k mid.now.blocks) opened.script opened.now.said mid.now.said c.play_stored-machine.result.0) c.in-Ok.ensures.specs
-          (c.play_stored-machine.ensures.answered can.told s maps reaches internal (schema, equation) (subst (λ k. IsHeadOf schema equation k (head_of store)) (sym c.in-Ok.ensures.specs) (c.in-Ok.ensures.head can)));
-      heard = λ s maps reaches internal ok. c.play_stored-machine.ensures.heard can.told s maps reaches internal ok;
-    })) (content c.finish-status.new.machine) c.finish-status.result c.play_stored-machine.ensures.ending (c.finish-status.ensures.finished can.told) c.finish-status.ensures.devices)
-
-pub returns-in-Err-clause-said : goal.returns-in-Err-clause-said
-returns-in-Err-clause-said g c = λ can words old same stored.
-    let content = g.M.Device.content in
-    let had = unopened_unhad words c.args.device.now c.args.stored old (content c.args.machine) stored same c.in-Err.why
-    (unopened_told c.args.device.now c.args.stored c.as_slice.result.now c.as_slice-2.result.now c.deref.result.now (content c.args.machine) c.in-Err.why c.as_slice.ensures c.as_slice-2.ensures (search rules) (c.in-Err.ensures.unopened can)) in
-    unhad_end words old (content c.in-Err.machine) (content c.end-status.new.machine) c.unopened_ending.result c.end-status.result
-    (subst (IsUnhad words old) (sym c.unopened_ending.ensures) had)
-    ((c.in-Err.ensures.attaches can).said ∙ ap (λ n. n.said) same.now)
-    ((c.in-Err.ensures.attaches can).script ∙ same.script)
-    (unopened_starts words c.args.device.now c.args.stored old (content c.args.machine) stored same (content c.in-Err.machine) (content c.end-status.new.machine) c.in-Err.why c.end-status.result
-    (record {
-      attaches = c.in-Err.ensures.attaches can;
-      untouched = c.in-Err.ensures.untouched can;
-      absent = c.in-Err.ensures.absent can;
-      kept = c.in-Err.ensures.kept can;
-      recovered = c.in-Err.ensures.recovered can;
-    })
-    c.end-status.ensures.devices (λ f. c.end-status.ensures.fault (c.unopened_ending.ensures ∙ f)))
-    (record {
-      status_is = c.end-status.ensures.status;
-      said = c.end-status.ensures.said can.told;
-      memory = c.end-status.ensures.memory can.told;
-      cut = c.end-status.ensures.cut can.told;
-      fault = c.end-status.ensures.fault;
-      silent = c.end-status.ensures.silent can.told;
-      script = c.end-status.ensures.rest.script;
-    })
-
-pub returns-in-Err-clause-due : goal.returns-in-Err-clause-due
-returns-in-Err-clause-due g c = λ can words old same stored.
-    let content = g.M.Device.content in
-    let had = unopened_unhad words c.args.device.now c.args.stored old (content c.args.machine) stored same c.in-Err.why
-    (unopened_told c.args.device.now c.args.stored c.as_slice.result.now c.as_slice-2.result.now c.deref.result.now (content c.args.machine) c.in-Err.why c.as_slice.ensures c.as_slice-2.ensures (search rules) (c.in-Err.ensures.unopened can)) in
-    unhad_due words old (content c.in-Err.machine) (content c.end-status.new.machine) c.unopened_ending.result c.end-status.result
-    (run_task words old.aside.texts c.args.device.now c.args.stored stored)
-    (subst (IsUnhad words old) (sym c.unopened_ending.ensures) had)
-    (run_is_task words c.args.device.now c.args.stored old (content c.args.machine) stored same)
-    (record {
-      status_is = c.end-status.ensures.status;
-      said = c.end-status.ensures.said can.told;
-      memory = c.end-status.ensures.memory can.told;
-      cut = c.end-status.ensures.cut can.told;
-      fault = c.end-status.ensures.fault;
-      silent = c.end-status.ensures.silent can.told;
-      script = c.end-status.ensures.rest.script;
-    })
-
-pub returns-in-Ok-clause-left : goal.returns-in-Ok-clause-left
-returns-in-Ok-clause-left g c = λ can words old same stored.
-    let content = g.M.Device.content in
-    let middle = content c.args.machine in
+    })) (content c.finish-status.new.machine) c.finish-status.result c.play_stored-machine.ensures.ending (c.finish-status.ensures.finished can.told) c.finish-status.ensures.devices in
     let had = c.in-Ok.ensures.opened can in
-    played_left words c.args.device.now old middle (content (machine_of c.in-Ok.store)) (content c.play_stored-machine.result.1) (content c.finish-status.new.machine) c.play_stored-machine.result.0 c.finish-status.result
-    same.now had.0 had.1
-    (not_wrong words c.args.device.now c.args.stored old middle stored same
-    (opened_told c.args.device.now c.args.stored c.as_slice.result.now c.as_slice-2.result.now c.deref.result.now middle c.as_slice.ensures c.as_slice-2.ensures (search rules) had))
-    (c.in-Ok.ensures.attaches can) (c.in-Ok.ensures.named can) c.play_stored-machine.ensures.shelf c.finish-status.ensures.devices c.play_stored-machine.ensures.ending (c.finish-status.ensures.finished can.told)
+    record {
+      said = run_end words (run_task words old.aside.texts c.args.device.now x stored) old mid (content c.finish-status.new.machine) c.play_stored-machine.result.0 c.finish-status.result run;
+      due = run_due words (run_task words old.aside.texts c.args.device.now x stored) old mid (content c.finish-status.new.machine) c.play_stored-machine.result.0 c.finish-status.result run;
+      left = played_left words c.args.device.now old middle (content (machine_of c.in-Ok.store)) (content c.play_stored-machine.result.1) (content c.finish-status.new.machine) c.play_stored-machine.result.0 c.finish-status.result
+          same.now had.0 had.1
+          (not_wrong words c.args.device.now c.args.stored old middle stored same
+          (opened_told c.args.device.now c.args.stored c.as_slice.result.now c.as_slice-2.result.now c.deref.result.now middle c.as_slice.ensures c.as_slice-2.ensures (search rules) had))
+          (c.in-Ok.ensures.attaches can) (c.in-Ok.ensures.named can) c.play_stored-machine.ensures.shelf c.finish-status.ensures.devices c.play_stored-machine.ensures.ending (c.finish-status.ensures.finished can.told);
+    }
 
-pub returns-in-Err-clause-left : goal.returns-in-Err-clause-left
-returns-in-Err-clause-left g c = λ can words old same stored.
+pub returns-in-Err-clause-fulfilled : goal.returns-in-Err-clause-fulfilled
+returns-in-Err-clause-fulfilled g c = λ can words old same stored.
     let content = g.M.Device.content in
-    unopened_left words c.args.device.now c.args.stored old (content c.args.machine) stored same (content c.in-Err.machine) (content c.end-status.new.machine) c.in-Err.why
-    (record {
+    let middle = content c.args.machine in
+    let mid = content c.in-Err.machine in
+    let after = content c.end-status.new.machine in
+    let told = unopened_told c.args.device.now c.args.stored c.as_slice.result.now c.as_slice-2.result.now c.deref.result.now middle c.in-Err.why c.as_slice.ensures c.as_slice-2.ensures (search rules) (c.in-Err.ensures.unopened can) in
+    let unhad = subst (IsUnhad words old) (sym c.unopened_ending.ensures) (unopened_unhad words c.args.device.now c.args.stored old middle stored same c.in-Err.why told) in
+    let tried : IsTried c.args.device.now middle mid c.in-Err.why = record {
       attaches = c.in-Err.ensures.attaches can;
       untouched = c.in-Err.ensures.untouched can;
       absent = c.in-Err.ensures.absent can;
       kept = c.in-Err.ensures.kept can;
       recovered = c.in-Err.ensures.recovered can;
-    })
-    c.end-status.ensures.devices
-    (unopened_told c.args.device.now c.args.stored c.as_slice.result.now c.as_slice-2.result.now c.deref.result.now (content c.args.machine) c.in-Err.why c.as_slice.ensures c.as_slice-2.ensures (search rules) (c.in-Err.ensures.unopened can))
-    c.end-status.result
-    (subst (λ w. IsEnded w (content c.in-Err.machine) (content c.end-status.new.machine) c.end-status.result) c.unopened_ending.ensures (record {
+    } in
+    let ended : IsEnded c.unopened_ending.result mid after c.end-status.result = record {
       status_is = c.end-status.ensures.status;
       said = c.end-status.ensures.said can.told;
       memory = c.end-status.ensures.memory can.told;
@@ -154,4 +78,25 @@ returns-in-Err-clause-left g c = λ can words old same stored.
       fault = c.end-status.ensures.fault;
       silent = c.end-status.ensures.silent can.told;
       script = c.end-status.ensures.rest.script;
-    }))
+    } in
+    record {
+      said = unhad_end words old mid after c.unopened_ending.result c.end-status.result
+          unhad
+          ((c.in-Err.ensures.attaches can).said ∙ ap (λ n. n.said) same.now)
+          ((c.in-Err.ensures.attaches can).script ∙ same.script)
+          (unopened_starts words c.args.device.now c.args.stored old middle stored same mid after c.in-Err.why c.end-status.result
+          tried
+          c.end-status.ensures.devices (λ f. c.end-status.ensures.fault (c.unopened_ending.ensures ∙ f)))
+          ended;
+      due = unhad_due words old mid after c.unopened_ending.result c.end-status.result
+          (run_task words old.aside.texts c.args.device.now c.args.stored stored)
+          unhad
+          (run_is_task words c.args.device.now c.args.stored old middle stored same)
+          ended;
+      left = unopened_left words c.args.device.now c.args.stored old middle stored same mid after c.in-Err.why
+          tried
+          c.end-status.ensures.devices
+          told
+          c.end-status.result
+          (subst (λ w. IsEnded w mid after c.end-status.result) c.unopened_ending.ensures ended);
+    }

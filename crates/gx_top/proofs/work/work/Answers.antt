@@ -2,7 +2,7 @@ use Rattle.std.proofs.Common.{[], ap, ◌∙◌}
 use Rattle.gx_store.specs.Store.{CanAttach}
 use Rattle.gx_requests.specs.Words.{working, request_words}
 use Rattle.gx_top.proofs.EndLemmas.{unprepared_end, unprepared_due}
-use Rattle.gx_top.proofs.WorkLemmas.{unprepared_worked, leaves_from}
+use Rattle.gx_top.proofs.WorkLemmas.{unprepared_worked}
 use Rattle.gx_top.proofs.work.work.Goals as goal
 
 pub returns-in-Ok-clause-said : goal.returns-in-Ok-clause-said
@@ -10,20 +10,21 @@ returns-in-Ok-clause-said g c = λ can digits number counted recorded.
     let words = request_words (working c.args.device.now digits number) [] c.args.equation.now in
     let mid = g.M.Device.content c.prepare_work.new.machine in
     let free : CanAttach g.M.Device.tells mid = record { told = can.told; free = ap (λ n. n.shelf.name) c.in-Ok.ensures.content.now ∙ can.free } in
-    c.work_stored.ensures.said free words (g.M.Device.content c.args.machine) c.in-Ok.ensures.content digits number counted recorded (c.in-Ok.ensures.ready can.told (working c.args.device.now digits number) ((_, counted), (_, recorded)))
+    (c.work_stored.ensures.fulfilled digits number counted recorded free words (g.M.Device.content c.args.machine) c.in-Ok.ensures.content (c.in-Ok.ensures.ready can.told (working c.args.device.now digits number) ((_, counted), (_, recorded)))).said
 
 pub returns-in-Ok-clause-due : goal.returns-in-Ok-clause-due
 returns-in-Ok-clause-due g c = λ can digits number counted recorded.
     let words = request_words (working c.args.device.now digits number) [] c.args.equation.now in
     let mid = g.M.Device.content c.prepare_work.new.machine in
     let free : CanAttach g.M.Device.tells mid = record { told = can.told; free = ap (λ n. n.shelf.name) c.in-Ok.ensures.content.now ∙ can.free } in
-    c.work_stored.ensures.due free words (g.M.Device.content c.args.machine) c.in-Ok.ensures.content digits number counted recorded (c.in-Ok.ensures.ready can.told (working c.args.device.now digits number) ((_, counted), (_, recorded)))
+    (c.work_stored.ensures.fulfilled digits number counted recorded free words (g.M.Device.content c.args.machine) c.in-Ok.ensures.content (c.in-Ok.ensures.ready can.told (working c.args.device.now digits number) ((_, counted), (_, recorded)))).due
 
 pub returns-in-Ok-clause-left : goal.returns-in-Ok-clause-left
-returns-in-Ok-clause-left g c = λ can.
+returns-in-Ok-clause-left g c = λ can digits number counted recorded.
+    let words = request_words (working c.args.device.now digits number) [] c.args.equation.now in
     let mid = g.M.Device.content c.prepare_work.new.machine in
     let free : CanAttach g.M.Device.tells mid = record { told = can.told; free = ap (λ n. n.shelf.name) c.in-Ok.ensures.content.now ∙ can.free } in
-    leaves_from c.args.device.now (g.M.Device.content c.args.machine) mid _ _ c.in-Ok.ensures.content.now (c.work_stored.ensures.left free)
+    (c.work_stored.ensures.fulfilled digits number counted recorded free words (g.M.Device.content c.args.machine) c.in-Ok.ensures.content (c.in-Ok.ensures.ready can.told (working c.args.device.now digits number) ((_, counted), (_, recorded)))).left
 
 pub returns-in-Err-clause-said : goal.returns-in-Err-clause-said
 returns-in-Err-clause-said g c = λ can digits number counted recorded.
@@ -56,5 +57,5 @@ returns-in-Err-clause-due g c = λ can digits number counted recorded.
     })
 
 pub returns-in-Err-clause-left : goal.returns-in-Err-clause-left
-returns-in-Err-clause-left g c = λ can.
-    unprepared_worked c.args.device.now (g.M.Device.content c.args.machine) (g.M.Device.content c.prepare_work.new.machine) (g.M.Device.content c.end-status.new.machine) c.end-status.result c.in-Err.ensures.content.now c.end-status.ensures.devices
+returns-in-Err-clause-left g c = λ can digits number counted recorded.
+    unprepared_worked (request_words (working c.args.device.now digits number) [] c.args.equation.now) c.args.device.now (g.M.Device.content c.args.machine) (g.M.Device.content c.prepare_work.new.machine) (g.M.Device.content c.end-status.new.machine) c.end-status.result c.in-Err.ensures.content.now c.end-status.ensures.devices
