@@ -32,7 +32,12 @@ fn is_character(byte: u8) -> bool
 pub fn are_characters(line: &[u8]) -> bool
     ensures { result ≡ list_all is_character line.now }
 {
-    line.iter().all(|byte| is_character(*byte))
+    // No byte ends the loop early, so it is compiled to a few instructions for many bytes.
+    let mut are = true;
+    for byte in line {
+        are &= is_character(*byte);
+    }
+    are
 }
 
 // What follows the blanks at the front.

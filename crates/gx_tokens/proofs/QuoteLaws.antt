@@ -1,9 +1,10 @@
 -- Quoted texts and what they mean are one to one.
-use Rattle.std.proofs.Common.{◌≡◌, ℕ, suc, Bool, true, false, eqb, List, [], ◌∷◌, ◌++◌, ◌<◌, Option, Some, None, Result, Ok, Err, IfOk, length, append-nil, arith, refl, sym, ap, ◌∙◌, inl, inr}
-use Rattle.std.specs.Prelude.{IsTrue, slice_index, ◌==◌, cond}
-use Rattle.std.specs.Option.{option_and_then}
-use Rattle.std.specs.List.{AllByRecursion}
+use Rattle.std.proofs.Common.{◌≡◌, ℕ, zero, suc, ◌+◌, ◌-◌, Bool, true, false, eqb, List, [], ◌∷◌, ◌++◌, ◌<◌, Option, Some, None, Result, Ok, Err, IfOk, length, take, drop, append-nil, arith, refl, sym, ap, subst, ◌∙◌, inl, inr}
+use Rattle.std.specs.Prelude.{IsTrue, slice_index, ◌==◌, ◌&&◌, cond}
+use Rattle.std.specs.Option.{option_and_then, unwrap_or}
+use Rattle.std.specs.List.{AllByRecursion, list_all}
 use Rattle.std.proofs.lemmas.Bool.{cond_both, eqb-true, eqb-false, ne_eqb}
+use Rattle.std.proofs.lemmas.List.{take_all, length-drop}
 use Rattle.memchr.specs.Find.{IsFirstByte, is_byte}
 use Rattle.gx_tokens.specs.Lexemes.{is_printable, after_quote, after_second, after_quoted}
 use Rattle.gx_tokens.specs.Quotes.{doubled, unquoted}
@@ -61,6 +62,61 @@ IsQuoted-doubled (b ∷ bs) each =
     cond_both (eqb b 34) (34 ∷ 34 ∷ doubled bs) (b ∷ doubled bs) (IsQuoted false)
     (λ is. inl (refl, (refl, ih)))
     (λ no. inr (eqb-false b 34 no, each.0, ih))
+
+-- ---- the first quote
+
+-- the quote at a place before which there is none
+quote_at : (bytes : List ℕ) (at : ℕ) → at < length bytes → ((k : ℕ) → k < at → (slice_index bytes k == 34) ≡ true → ⊥) → (slice_index bytes at == 34) ≡ true
+    → after_quote bytes ≡ cond (list_all is_printable (take at bytes)) (Some (drop (suc at) bytes)) None
+quote_at [] at within none is = absurd (omega arith)
+quote_at (b ∷ bs) zero within none is = rw is refl
+quote_at (b ∷ bs) (suc at) within none is = elim (b == 34) as (λ t. (b == 34) ≡ t → cond t (Some bs) (cond (is_printable b) (after_quote bs) None)
+    ≡ cond (is_printable b && list_all is_printable (take at bs)) (Some (drop (suc at) bs)) None) [
+      | true ↦ λ quote. absurd (none 0 (omega arith) quote)
+      | false ↦ λ _. elim (is_printable b) as (λ t. cond t (after_quote bs) None ≡ cond (t && list_all is_printable (take at bs)) (Some (drop (suc at) bs)) None) [
+        | true ↦ quote_at bs at (omega arith) (λ k lt. none (suc k) (omega arith)) is
+        | false ↦ refl
+      ]
+    ] refl
+
+-- the same, of a search for a quote
+pub quote_found : (bytes : List ℕ) (found : Option ℕ) (at : ℕ) → IsFirstByte (is_byte 34) bytes found → found ≡ Some at
+    → (at < length bytes) × (after_quote bytes ≡ cond (list_all is_printable (take at bytes)) (Some (drop (suc at) bytes)) None)
+quote_found bytes None at first e = cc
+quote_found bytes (Some k) at first e =
+    let same : k ≡ at = ap (λ o. unwrap_or o 0) e in
+    subst (λ n. (n < length bytes) × (after_quote bytes ≡ cond (list_all is_printable (take n bytes)) (Some (drop (suc n) bytes)) None)) same
+    (first.0.high, quote_at bytes k first.0.high (λ j lt. first.0.before j (omega arith) lt) first.1)
+
+-- what follows the quote that was found, where all bytes before it are printable
+pub behind_printable : (bytes : List ℕ) (found : Option ℕ) (at : ℕ) → IsFirstByte (is_byte 34) bytes found → found ≡ Some at → true ≡ list_all is_printable (take at bytes)
+    → Some (take (length bytes - (at + 1)) (drop (at + 1) bytes)) ≡ after_quote bytes
+behind_printable bytes found at first e all =
+    let told = quote_found bytes found at first e in
+    let next : at + 1 ≡ suc at = omega arith in
+    ap (λ (xs : List ℕ). Some xs) (take_all (length bytes - (at + 1)) (drop (at + 1) bytes) (omega (arith, length-drop (at + 1) bytes)) ∙ ap (λ (n : ℕ). drop n bytes) next)
+    ∙ ap (λ t. cond t (Some (drop (suc at) bytes)) None) all ∙ sym told.1
+
+-- and where one isn't
+pub behind_others : (bytes : List ℕ) (found : Option ℕ) (at : ℕ) → IsFirstByte (is_byte 34) bytes found → found ≡ Some at → false ≡ list_all is_printable (take at bytes)
+    → None ≡ after_quote bytes
+behind_others bytes found at first e some =
+    let told = quote_found bytes found at first e in
+    ap (λ t. cond t (Some (drop (suc at) bytes)) None) some ∙ sym told.1
+
+no_quote : (bytes : List ℕ) → ((k : ℕ) → k < length bytes → (slice_index bytes k == 34) ≡ true → ⊥) → after_quote bytes ≡ None
+no_quote [] none = refl
+no_quote (b ∷ bs) none = elim (b == 34) as (λ t. (b == 34) ≡ t → cond t (Some bs) (cond (is_printable b) (after_quote bs) None) ≡ None) [
+  | true ↦ λ is. absurd (none 0 (omega arith) is)
+  | false ↦ λ _. elim (is_printable b) as (λ t. cond t (after_quote bs) None ≡ None) [
+    | true ↦ no_quote bs (λ k lt. none (suc k) (omega arith))
+    | false ↦ refl
+  ]
+] refl
+
+pub no_quote_found : (bytes : List ℕ) (found : Option ℕ) → IsFirstByte (is_byte 34) bytes found → found ≡ None → after_quote bytes ≡ None
+no_quote_found bytes None none _ = no_quote bytes (λ k lt. none k (omega arith) lt)
+no_quote_found bytes (Some at) none e = cc
 
 -- ---- the quote that ends a text
 

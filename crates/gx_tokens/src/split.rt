@@ -1,7 +1,9 @@
 // Words, numbers and quoted texts at the front of a text.
 ghost use Rattle.std.specs.Prelude.{◌≡◌, ◌<◌, ◌≤◌, length, false, option_map, IfSome};
-ghost use Rattle.std.specs.List.{prefix_len};
+ghost use Rattle.std.specs.List.{prefix_len, list_all};
 ghost use Rattle.gx_tokens.specs.Lexemes.{is_word_byte, is_digit, is_printable, continues_run, after_quote, after_second, after_quoted, split_word, split_number, split_quoted};
+
+use memchr::memchr;
 
 const LONGEST_WORD: usize = 16;
 
@@ -47,20 +49,32 @@ fn digits_len(bytes: &[u8]) -> usize
     bytes.len()
 }
 
+// Whether each byte is printable. The loop has no other end, so it is compiled to a few instructions for many bytes.
+fn are_printable(bytes: &[u8]) -> bool
+    ensures { result ≡ list_all is_printable bytes.now }
+{
+    let mut are = true;
+    for byte in bytes {
+        are &= is_printable(*byte);
+    }
+    are
+}
+
 // What follows the first quote; none where there is none, or a byte before it isn't printable.
 fn after_quote(bytes: &[u8]) -> Option<&[u8]>
     ensures value { option_map (λ r. r.now) result ≡ after_quote bytes.now }
     ensures shorter { IfSome result (λ r. length r.now < length bytes.now) }
 {
-    for (at, byte) in bytes.iter().enumerate() {
-        if *byte == b'"' {
-            return Some(&bytes[at + 1..]);
+    match memchr(b'"', bytes) {
+        Some(at) => {
+            if are_printable(&bytes[..at]) {
+                Some(&bytes[at + 1..])
+            } else {
+                None
+            }
         }
-        if !is_printable(*byte) {
-            return None;
-        }
+        None => None,
     }
-    None
 }
 
 // What follows the second quote of a pair, where the first one stands right before; none where there
