@@ -14,7 +14,7 @@ use Rattle.gx_commands.specs.declared.command.Command.TheVariants as command
 use Rattle.gx_ports.specs.declared.stop.Stop.{Stop}
 use Rattle.gx_ports.specs.declared.stop.Stop.TheVariants as stop
 use Rattle.gx_ports.specs.declared.view.View.{Ghosts}
-use Rattle.gx_ports.specs.Calls.{OnlyReads}
+use Rattle.gx_ports.specs.Calls.{ReadsMaps}
 use Rattle.gx_types.specs.declared.built.Built.{Built}
 use Rattle.gx_model.specs.States.{State, Row, file_in, link_in}
 use Rattle.gx_model.specs.Found.{is_owner, is_chosen, meets_conds, meets_of}
@@ -31,7 +31,7 @@ use Rattle.gx_answers.specs.Work.{IsBounded}
 module _ {S : Type 0} (g : Ghosts S) (schema : Schema) (built : Built) (c : Command) (a b : S) where
   -- what stops a call on which the command stands
   pub answers_stopped : {U : Type 0} {known : Type 0} {why : Stop} (result : Result (List ℕ) Stop) → IsErrAnd result (λ s. s ≡ why)
-      → (g.whole a × HaveState schema built (g.working a) → known) → OnlyReads {T = U} g known a b (Err why)
+      → (g.whole a × HaveState schema built (g.working a) → known) → ReadsMaps {T = U} g known a b (Err why)
       → Answers g schema built c a b result
   answers_stopped (Ok x) err more one = absurd err
   answers_stopped {U = U} (Err s) err more one = record {
@@ -41,7 +41,7 @@ module _ {S : Type 0} (g : Ghosts S) (schema : Schema) (built : Built) (c : Comm
   }
 
   -- an answer
-  pub answers_ok : {U : Type 0} (known : Type 0) (x : U) (text : List ℕ) → OnlyReads g known a b (Ok x)
+  pub answers_ok : {U : Type 0} (known : Type 0) (x : U) (text : List ℕ) → ReadsMaps g known a b (Ok x)
       → ((s : State) → g.whole a → AreInternal schema built (g.working a) s → IsAnswer schema s c text)
       → ((s : State) → g.whole a → AreInternal schema built (g.working a) s
       → IsBounded schema built (length (g.working a)) s c (g.work a) (g.work b))
@@ -68,7 +68,7 @@ module _ {S : Type 0} (g : Ghosts S) (schema : Schema) (built : Built) (c : Comm
 
   -- an answer that a last function makes
   pub answers_line : {U : Type 0} (known : Type 0) (x : U) (result : Result (List ℕ) Stop)
-      → OnlyReads g known a b (Ok x)
+      → ReadsMaps g known a b (Ok x)
       → ((s : State) → g.whole a → AreInternal schema built (g.working a) s
       → IfOk result (IsAnswer schema s c))
       → ((s : State) → g.whole a → AreInternal schema built (g.working a) s

@@ -5,7 +5,7 @@ use Rattle.gx_commands.specs.declared.command.Command.{Command}
 use Rattle.gx_commands.specs.declared.command.Command.TheVariants as command
 use Rattle.gx_ports.specs.declared.stop.Stop.{Stop}
 use Rattle.gx_ports.specs.declared.view.View.{Ghosts}
-use Rattle.gx_ports.specs.Calls.{OnlyReads}
+use Rattle.gx_ports.specs.Calls.{ReadsMaps}
 use Rattle.gx_types.specs.declared.built.Built.{Built}
 use Rattle.gx_planner.specs.declared.plans.Plan.{Plan}
 use Rattle.gx_planner.specs.declared.plans.Plan.TheVariants.{Key}
@@ -20,7 +20,7 @@ pub record Answers {S : Type 0} (g : Ghosts S) (schema : Schema) (built : Built)
   pub answered : (s : State) → g.whole old → AreInternal schema built (g.working old) s → IfOk result (IsAnswer schema s c)
   pub few_steps : (s : State) → g.whole old → AreInternal schema built (g.working old) s
       → OnOk result (IsBounded schema built (length (g.working old)) s c (g.work old) (g.work new))
-  pub reads : OnlyReads g (g.whole old × HaveState schema built (g.working old)) old new result
+  pub reads : ReadsMaps g (g.whole old × HaveState schema built (g.working old)) old new result
 
 -- whether the command follows a link to answer
 abbrev pub follows_link : Command → Bool

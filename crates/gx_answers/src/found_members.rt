@@ -5,7 +5,7 @@ ghost use Rattle.std.specs.List.{AllByRecursion};
 ghost use Rattle.gx_values.specs.Values.{Fits};
 ghost use Rattle.gx_schema.specs.Lookups.{key_kind};
 ghost use Rattle.gx_commands.specs.Commands.{IsCondOf};
-ghost use Rattle.gx_ports.specs.Calls.{OnlyReads};
+ghost use Rattle.gx_ports.specs.Calls.{ReadsMaps};
 ghost use Rattle.gx_model.specs.States.{File as FileMap, Link as LinkMap};
 ghost use Rattle.gx_scan.specs.Steps.{HaveAtMost};
 ghost use Rattle.gx_pairs.specs.Stored.{file_of, node_tree, IsStoredLink, AreLinked, HaveLink, OwnersHaveAtMost};
@@ -56,7 +56,7 @@ pub(crate) fn add_found_members<B: Leaves, L: Linkset>(
         (length (filter (meets_plan (is_member_of link of.now.owner) find.now
         (plan_for (node_tree stored.now.members) (file_of stored.now.members) find.now))
         (fin.entries members))) most (length (B.working leaves.old))) }
-    ensures reads { OnlyReads B.View
+    ensures reads { ReadsMaps B.View
         (B.whole leaves.old × HaveLink L.rule L.held stored.now (B.working leaves.old))
         leaves.old leaves.new result }
 {

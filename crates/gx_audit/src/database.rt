@@ -1,6 +1,6 @@
 // The audit of a database.
 ghost use Rattle.std.specs.Prelude.{◌≡◌, ◌↔◌, ◌<◌, true, false, Ok, length, IsTrue, IfSome, IfOk, OnOk};
-ghost use Rattle.gx_ports.specs.Calls.{OnlyReads};
+ghost use Rattle.gx_ports.specs.Calls.{ReadsMaps};
 ghost use Rattle.gx_states.specs.Internal.{AreFor, HaveState};
 ghost use Rattle.gx_audit.specs.Audits.{IsAnswer, HasAsMany, IsSound};
 
@@ -47,7 +47,7 @@ pub fn audit<B: Leaves>(
         ¬ B.whole leaves.old → B.steady leaves.new }
 
     ensures unsaid { ¬ (result ≡ Ok true) → out.new ≡ out.old }
-    ensures reads { OnlyReads B.View (B.whole leaves.old) leaves.old leaves.new result }
+    ensures reads { ReadsMaps B.View (B.whole leaves.old) leaves.old leaves.new result }
 {
     check_leaves(alloc, leaves)?;
     let Some(found) = found_state(alloc, schema, built, leaves)? else {
@@ -64,7 +64,7 @@ fn check_leaves<B: Leaves>(alloc: Global, leaves: &mut B) -> Result<(), Stop>
         OnOk result (B.whole leaves.old) }
     ensures stored { B.stored leaves.new ≡ B.stored leaves.old }
     ensures steady { B.steady leaves.old ↔ B.steady leaves.new }
-    ensures reads { OnlyReads B.View (B.whole leaves.old) leaves.old leaves.new result }
+    ensures reads { ReadsMaps B.View (B.whole leaves.old) leaves.old leaves.new result }
 {
     for leaf in 0..leaves.leaves() {
         leaves.check(alloc, leaf)?;
@@ -90,7 +90,7 @@ fn found_state<B: Leaves>(
     ensures found { IfOk result
         (IsAnswer schema.now built.now (B.whole leaves.old) (B.working leaves.old)) }
     ensures many { IfOk result (λ answer. IfSome answer (HasAsMany schema.now)) }
-    ensures reads { OnlyReads B.View (B.whole leaves.old) leaves.old leaves.new result }
+    ensures reads { ReadsMaps B.View (B.whole leaves.old) leaves.old leaves.new result }
 {
     let Some(keys) = file_keys(alloc, schema, built, leaves)? else {
         return Ok(None);

@@ -1,7 +1,7 @@
 // The records of the files of a schema.
 ghost use Rattle.std.specs.Prelude.{◌≡◌, ◌<◌, ℕ, length, map, IfSome, IfOk};
 ghost use Rattle.gx_values.specs.declared.records.Rec.{Rec as Record};
-ghost use Rattle.gx_ports.specs.Calls.{OnlyReads};
+ghost use Rattle.gx_ports.specs.Calls.{ReadsMaps};
 ghost use Rattle.gx_mapping.specs.Rule.{In, IsOf};
 ghost use Rattle.gx_stack.specs.Seen.{tree_of};
 ghost use Rattle.gx_typing.specs.Dues.{file_form};
@@ -46,7 +46,7 @@ pub(crate) fn file_keys<B: Leaves>(
         (AreAllKeys schema.now built.now.files (B.whole leaves.old) (B.working leaves.old)) }
     ensures many { IfOk result
         (λ found. IfSome found (λ keys. length keys ≡ length schema.now.files)) }
-    ensures reads { OnlyReads B.View (B.whole leaves.old) leaves.old leaves.new result }
+    ensures reads { ReadsMaps B.View (B.whole leaves.old) leaves.old leaves.new result }
 {
     let mut keys = Vec::new(alloc);
     for file in 0..built.files.0.len() {
@@ -70,7 +70,7 @@ fn node_keys<B: Leaves>(
     requires tree { IsTreeFor file.now (tree_of node.now) (length (B.working leaves.old)) }
     ensures keys { IfOk result
         (AreKeys file.now (tree_of node.now) (B.whole leaves.old) (B.working leaves.old)) }
-    ensures reads { OnlyReads B.View (B.whole leaves.old) leaves.old leaves.new result }
+    ensures reads { ReadsMaps B.View (B.whole leaves.old) leaves.old leaves.new result }
 {
     match node.held(alloc, leaves)? {
         Some(records) => Ok(Some(keys_of(alloc, file, records)?)),

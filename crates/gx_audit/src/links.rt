@@ -2,7 +2,7 @@
 ghost use Rattle.std.specs.Prelude.{◌≡◌, ◌<◌, ℕ, true, false, List, length, map, IfSome, IfOk};
 ghost use Rattle.std.specs.List.Sorted.{IsStrictlySortedBy};
 ghost use Rattle.gx_values.specs.Values.{value_cmp};
-ghost use Rattle.gx_ports.specs.Calls.{OnlyReads};
+ghost use Rattle.gx_ports.specs.Calls.{ReadsMaps};
 ghost use Rattle.gx_model.specs.States.{File};
 ghost use Rattle.gx_states.specs.Internal.{AreFor};
 ghost use Rattle.gx_audit.specs.Audits.{keys_of, AreAmong, AreFiles, IsPairCount, ArePairCounts};
@@ -47,7 +47,7 @@ pub(crate) fn pair_counts<B: Leaves>(
         (ArePairCounts schema.now built.now (B.whole leaves.old) (B.working leaves.old) fs) }
     ensures many { IfOk result
         (λ found. IfSome found (λ counts. length counts ≡ length schema.now.links)) }
-    ensures reads { OnlyReads B.View (B.whole leaves.old) leaves.old leaves.new result }
+    ensures reads { ReadsMaps B.View (B.whole leaves.old) leaves.old leaves.new result }
 {
     let mut counts = Vec::new(alloc);
     for link in 0..schema.links.0.len() {
@@ -75,7 +75,7 @@ fn pair_count<B: Leaves>(
         AreFiles schema.now built.now.files (B.working leaves.old) fs →
         keys.now ≡ map keys_of fs → IfOk result
         (IsPairCount schema.now built.now (B.whole leaves.old) (B.working leaves.old) fs link) }
-    ensures reads { OnlyReads B.View (B.whole leaves.old) leaves.old leaves.new result }
+    ensures reads { ReadsMaps B.View (B.whole leaves.old) leaves.old leaves.new result }
 {
     let def = &schema.links.0[usize::from(link)];
     let members = &keys.0[usize::from(def.member)];

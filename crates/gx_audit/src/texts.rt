@@ -3,7 +3,7 @@ ghost use Rattle.std.specs.Prelude.{◌≡◌, ◌<◌, ◌++◌, ℕ, [], List,
 ghost use Rattle.std.specs.Fmt.{decimal};
 ghost use Rattle.std.specs.FinMap.{len};
 ghost use Rattle.gx_ports.specs.LeafMaps.{map_at};
-ghost use Rattle.gx_ports.specs.Calls.{OnlyReads};
+ghost use Rattle.gx_ports.specs.Calls.{ReadsMaps};
 ghost use Rattle.gx_equation.specs.declared.heads.Head.TheVariants as heads;
 ghost use Rattle.gx_equation.specs.Printing.{head_text};
 ghost use Rattle.gx_model.specs.States.{State};
@@ -37,7 +37,7 @@ pub(crate) fn inspect_text<B: Leaves>(
     ensures text { (s : State) → B.whole leaves.old → keys.now ≡ map keys_of s.files →
         counts.now ≡ map len s.links → IfOk result (λ text. text.items
         ≡ the_text schema.now built.now.specs built.now.owners (B.working leaves.old) s) }
-    ensures reads { OnlyReads B.View (B.whole leaves.old) leaves.old leaves.new result }
+    ensures reads { ReadsMaps B.View (B.whole leaves.old) leaves.old leaves.new result }
 {
     let mut text = Vec::new(alloc);
     push_leaves(alloc, schema, built, leaves, &mut text)?;
@@ -61,7 +61,7 @@ fn push_leaves<B: Leaves>(
         ≡ text.old.items ++ lines_below
         (leaf_line schema.now built.now.specs built.now.owners (B.working leaves.old))
         (length (B.working leaves.old))) }
-    ensures reads { OnlyReads B.View (B.whole leaves.old) leaves.old leaves.new result }
+    ensures reads { ReadsMaps B.View (B.whole leaves.old) leaves.old leaves.new result }
 {
     for leaf in 0..leaves.leaves() {
         let name = definition_name(schema, built.owners.0[leaf as usize]);
@@ -77,7 +77,7 @@ fn entry_count<B: Leaves>(alloc: Global, leaves: &mut B, leaf: u32) -> Result<us
     requires { leaf < length (B.working leaves.old) }
     ensures count { B.whole leaves.old →
         IfOk result (λ count. count ≡ len (map_at (B.working leaves.old) leaf)) }
-    ensures reads { OnlyReads B.View (B.whole leaves.old) leaves.old leaves.new result }
+    ensures reads { ReadsMaps B.View (B.whole leaves.old) leaves.old leaves.new result }
 {
     let mut entries = Entries::new(alloc);
     leaves.select(alloc, leaf, &whole_span(), &mut entries)?;

@@ -4,7 +4,7 @@ ghost use Rattle.gx_values.specs.Values.{Fits};
 ghost use Rattle.gx_schema.specs.Lookups.{file_at, link_at, key_kind};
 ghost use Rattle.gx_commands.specs.declared.command.Command.TheVariants as command;
 ghost use Rattle.gx_commands.specs.Commands.{IsOfSchema};
-ghost use Rattle.gx_ports.specs.Calls.{OnlyReads};
+ghost use Rattle.gx_ports.specs.Calls.{ReadsMaps};
 ghost use Rattle.gx_model.specs.States.{State, link_in};
 ghost use Rattle.gx_model.specs.Commands.{is_end_of, is_linked};
 ghost use Rattle.gx_states.specs.Internal.{AreInternal, AreFor, HaveState};
@@ -71,7 +71,7 @@ pub(crate) fn is_linked<B: Leaves>(
     ensures found { (s : State) → B.whole leaves.old →
         AreInternal schema.now built.now (B.working leaves.old) s →
         IfOk result (λ linked. linked ≡ is_linked schema.now.links s.links file key.now) }
-    ensures reads { OnlyReads B.View
+    ensures reads { ReadsMaps B.View
         (B.whole leaves.old × HaveState schema.now built.now (B.working leaves.old))
         leaves.old leaves.new result }
 {
@@ -99,7 +99,7 @@ fn is_end_of<B: Leaves>(
     ensures found { (s : State) → B.whole leaves.old →
         AreInternal schema.now built.now (B.working leaves.old) s →
         IfOk result (λ is. is ≡ is_end_of (link_at schema.now link) (link_in s link) file key.now) }
-    ensures reads { OnlyReads B.View
+    ensures reads { ReadsMaps B.View
         (B.whole leaves.old × HaveState schema.now built.now (B.working leaves.old))
         leaves.old leaves.new result }
 {

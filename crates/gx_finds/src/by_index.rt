@@ -6,7 +6,7 @@ ghost use Rattle.std.specs.List.Sorted.{IsPermutation};
 ghost use Rattle.gx_values.specs.declared.values.Op.TheVariants as op;
 ghost use Rattle.gx_schema.specs.Lookups.{field_at};
 ghost use Rattle.gx_commands.specs.Commands.{IsCondOf};
-ghost use Rattle.gx_ports.specs.Calls.{OnlyReads};
+ghost use Rattle.gx_ports.specs.Calls.{ReadsMaps};
 ghost use Rattle.gx_mapping.specs.Rule.{In};
 ghost use Rattle.gx_stack.specs.Tree.{IsValid, leaves_of};
 ghost use Rattle.gx_stack.specs.Seen.{tree_of};
@@ -79,7 +79,7 @@ pub(crate) fn add_by_index<B: Leaves>(
         (B.work leaves.new
         ≤ B.work leaves.old + ((length (rows_meeting (Some cond.now) f) + 1) * length (leaves_of (tree_of node.now))
         + 2 * (length (rows_meeting (Some cond.now) f) * most))) }
-    ensures reads { OnlyReads B.View
+    ensures reads { ReadsMaps B.View
         (B.whole leaves.old × HasFile file.now (tree_of node.now) (B.working leaves.old))
         leaves.old leaves.new result }
 {

@@ -4,7 +4,7 @@ ghost use Rattle.std.specs.FinMap as fin;
 ghost use Rattle.std.specs.List.{AllByRecursion};
 ghost use Rattle.std.specs.List.Sorted.{IsPermutation};
 ghost use Rattle.gx_commands.specs.Commands.{IsCondOf};
-ghost use Rattle.gx_ports.specs.Calls.{OnlyReads};
+ghost use Rattle.gx_ports.specs.Calls.{ReadsMaps};
 ghost use Rattle.gx_stack.specs.Tree.{leaves_of};
 ghost use Rattle.gx_stack.specs.Seen.{tree_of};
 ghost use Rattle.gx_model.specs.States.{File as FileMap};
@@ -52,7 +52,7 @@ pub fn found_text<B: Leaves>(
         (length (rows_meeting
         (condition_of find.now (plan_for (tree_of node.now) file.now find.now)) f))
         most (length (leaves_of (tree_of node.now)))) }
-    ensures reads { OnlyReads B.View
+    ensures reads { ReadsMaps B.View
         (B.whole leaves.old × HasFile file.now (tree_of node.now) (B.working leaves.old))
         leaves.old leaves.new result }
 {
@@ -89,7 +89,7 @@ fn add_found<B: Leaves>(
         (length (rows_meeting
         (condition_of find.now (plan_for (tree_of node.now) file.now find.now)) f))
         most (length (leaves_of (tree_of node.now)))) }
-    ensures reads { OnlyReads B.View
+    ensures reads { ReadsMaps B.View
         (B.whole leaves.old × HasFile file.now (tree_of node.now) (B.working leaves.old))
         leaves.old leaves.new result }
 {

@@ -3,7 +3,7 @@ ghost use Rattle.std.specs.Prelude.{◌≡◌, ◌≤◌, ◌<◌, ◌+◌, ◌*
 ghost use Rattle.std.specs.FinMap as fin;
 ghost use Rattle.std.specs.List.{AllByRecursion, list_any};
 ghost use Rattle.gx_values.specs.Values.{Fits};
-ghost use Rattle.gx_ports.specs.Calls.{OnlyReads};
+ghost use Rattle.gx_ports.specs.Calls.{ReadsMaps};
 ghost use Rattle.gx_mapping.specs.Rule.{In};
 ghost use Rattle.gx_model.specs.States.{Link as LinkMap, is_same};
 ghost use Rattle.gx_model.specs.Found.{is_owner};
@@ -43,7 +43,7 @@ pub fn keep_members<B: Leaves, L: Linkset>(
         OwnersHaveAtMost most (L.rule linkset.now) link → OnOk result
         (B.work leaves.new
         ≤ B.work leaves.old + length rows.items * (most + length (B.working leaves.old))) }
-    ensures reads { OnlyReads B.View
+    ensures reads { ReadsMaps B.View
         (B.whole leaves.old
         × HasLink (L.rule linkset.now) (L.held linkset.now) (B.working leaves.old))
         leaves.old leaves.new result }
@@ -82,7 +82,7 @@ fn keep_owned<B: Leaves, L: Linkset>(
         OwnersHaveAtMost most (L.rule linkset.now) link → OnOk result
         (B.work leaves.new
         ≤ B.work leaves.old + length rows.items * (most + length (B.working leaves.old))) }
-    ensures reads { OnlyReads B.View
+    ensures reads { ReadsMaps B.View
         (B.whole leaves.old
         × HasLink (L.rule linkset.now) (L.held linkset.now) (B.working leaves.old))
         leaves.old leaves.new result }
@@ -119,7 +119,7 @@ fn is_owned<B: Leaves, L: Linkset>(
         L.held linkset.now link (B.working leaves.old) →
         OwnersHaveAtMost most (L.rule linkset.now) link → OnOk result
         (B.work leaves.new ≤ B.work leaves.old + (most + length (B.working leaves.old))) }
-    ensures reads { OnlyReads B.View
+    ensures reads { ReadsMaps B.View
         (B.whole leaves.old
         × HasLink (L.rule linkset.now) (L.held linkset.now) (B.working leaves.old))
         leaves.old leaves.new result }
@@ -153,7 +153,7 @@ fn keep_found<B: Leaves, L: Linkset>(
         L.held linkset.now link (B.working leaves.old) →
         OwnersHaveAtMost most (L.rule linkset.now) link → OnOk result
         (B.work leaves.new ≤ B.work leaves.old + (most + length (B.working leaves.old))) }
-    ensures reads { OnlyReads B.View
+    ensures reads { ReadsMaps B.View
         (B.whole leaves.old
         × HasLink (L.rule linkset.now) (L.held linkset.now) (B.working leaves.old))
         leaves.old leaves.new result }

@@ -5,7 +5,7 @@ ghost use Rattle.std.specs.List.{AllByRecursion};
 ghost use Rattle.gx_values.specs.declared.values.Value.{Value as FieldValue};
 ghost use Rattle.gx_values.specs.Values.{Fits};
 ghost use Rattle.gx_schema.specs.Lookups.{key_kind};
-ghost use Rattle.gx_ports.specs.Calls.{OnlyReads};
+ghost use Rattle.gx_ports.specs.Calls.{ReadsMaps};
 ghost use Rattle.gx_mapping.specs.Rule.{In};
 ghost use Rattle.gx_model.specs.States.{File as FileMap, Link as LinkMap};
 ghost use Rattle.gx_model.specs.Found.{meets_conds};
@@ -58,7 +58,7 @@ pub fn add_members<B: Leaves, L: Linkset>(
         (B.work leaves.new
         ≤ B.work leaves.old + 2 * (length (member_rows members link owner.now) + 1)
         * (most + length (B.working leaves.old))) }
-    ensures reads { OnlyReads B.View
+    ensures reads { ReadsMaps B.View
         (B.whole leaves.old × HaveLink L.rule L.held stored.now (B.working leaves.old))
         leaves.old leaves.new result }
 {
@@ -105,7 +105,7 @@ pub fn add_member_at<B: Leaves, L: Linkset>(
         ≤ B.work leaves.old
         + (length (filter (meets_conds conds.now) (rows_at members key.now)) + 2)
         * (most + length (B.working leaves.old))) }
-    ensures reads { OnlyReads B.View
+    ensures reads { ReadsMaps B.View
         (B.whole leaves.old × HaveLink L.rule L.held stored.now (B.working leaves.old))
         leaves.old leaves.new result }
 {
@@ -139,7 +139,7 @@ fn add_records<B: Leaves>(
         (B.work leaves.new
         ≤ B.work leaves.old
         + length keys.now * (length (leaves_of (node_tree stored.now)) + most)) }
-    ensures reads { OnlyReads B.View
+    ensures reads { ReadsMaps B.View
         (B.whole leaves.old × HaveRecords stored.now (B.working leaves.old) keys.now)
         leaves.old leaves.new result }
 {
@@ -177,7 +177,7 @@ fn add_record<B: Leaves>(
         HaveAtMost most (node_tree stored.now) f → OnOk result
         (B.work leaves.new
         ≤ B.work leaves.old + (length (leaves_of (node_tree stored.now)) + most)) }
-    ensures reads { OnlyReads B.View
+    ensures reads { ReadsMaps B.View
         (B.whole leaves.old
         × HasFile (file_of stored.now) (node_tree stored.now) (B.working leaves.old))
         leaves.old leaves.new result }
@@ -207,7 +207,7 @@ pub fn has_members<B: Leaves, L: Linkset>(
         IsLink (L.rule linkset.now).owner (L.rule linkset.now).member link →
         L.held linkset.now link (B.working leaves.old) →
         IfOk result (λ has. has ≡ has_member link owner.now) }
-    ensures reads { OnlyReads B.View
+    ensures reads { ReadsMaps B.View
         (B.whole leaves.old
         × HasLink (L.rule linkset.now) (L.held linkset.now) (B.working leaves.old))
         leaves.old leaves.new result }

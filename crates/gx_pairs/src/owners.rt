@@ -3,7 +3,7 @@ ghost use Rattle.std.specs.Prelude.{◌≡◌, ◌<◌, ℕ, length, IfOk, is_so
 ghost use Rattle.std.specs.FinMap as fin;
 ghost use Rattle.gx_values.specs.Values.{Fits};
 ghost use Rattle.gx_schema.specs.Lookups.{key_kind};
-ghost use Rattle.gx_ports.specs.Calls.{OnlyReads};
+ghost use Rattle.gx_ports.specs.Calls.{ReadsMaps};
 ghost use Rattle.gx_mapping.specs.Rule.{In};
 ghost use Rattle.gx_model.specs.States.{File as FileMap, Link as LinkMap};
 ghost use Rattle.gx_links.specs.Links.{IsLink};
@@ -42,7 +42,7 @@ pub fn find_owner<B: Leaves, L: Linkset>(
     ensures found { (owners members : FileMap) (link : LinkMap) → B.whole leaves.old →
         AreLinked L.rule L.held stored.now (B.working leaves.old) owners members link →
         IfOk result (IsOwned owners members link member.now) }
-    ensures reads { OnlyReads B.View
+    ensures reads { ReadsMaps B.View
         (B.whole leaves.old × HaveLink L.rule L.held stored.now (B.working leaves.old))
         leaves.old leaves.new result }
 {
@@ -73,7 +73,7 @@ pub fn has_owner<B: Leaves, L: Linkset>(
         IsLink (L.rule linkset.now).owner (L.rule linkset.now).member link →
         L.held linkset.now link (B.working leaves.old) →
         IfOk result (λ has. has ≡ is_some (fin.get link member.now)) }
-    ensures reads { OnlyReads B.View
+    ensures reads { ReadsMaps B.View
         (B.whole leaves.old × HasLink (L.rule linkset.now) (L.held linkset.now) (B.working leaves.old))
         leaves.old leaves.new result }
 {

@@ -2,7 +2,7 @@
 use Rattle.std.proofs.Common.{◌≡◌, Result, Ok, Err, refl, sym, ap, subst, ◌∙◌, arith}
 use Rattle.std.specs.Prelude.{IfOk, OnOk, IsErrAnd}
 use Rattle.gx_device.specs.Faults.{Rose}
-use Rattle.gx_ports.specs.Calls.{Reads, Ends, OnlyReads}
+use Rattle.gx_ports.specs.Calls.{Reads, Ends, ReadsMaps}
 use Rattle.gx_ports.specs.Stops.{is_outside}
 use Rattle.gx_ports.specs.declared.stop.Stop.TheVariants as stop
 use Rattle.gx_ports.specs.declared.stop.Stop.{Stop}
@@ -65,7 +65,7 @@ ends_now g sound old new x y ends = record {
 -- ---- calls that only read
 
 -- what stops a call stops its caller
-pub reads_stopped : {S T U : Type 0} (g : Ghosts S) {known sound : Type 0} {a b : S} {why : Stop} (result : Result T Stop) → IsErrAnd result (λ s. s ≡ why) → (sound → known) → OnlyReads {T = U} g known a b (Err why) → OnlyReads g sound a b result
+pub reads_stopped : {S T U : Type 0} (g : Ghosts S) {known sound : Type 0} {a b : S} {why : Stop} (result : Result T Stop) → IsErrAnd result (λ s. s ≡ why) → (sound → known) → ReadsMaps {T = U} g known a b (Err why) → ReadsMaps g sound a b result
 reads_stopped g (Ok x) err more one = absurd err
 reads_stopped g {known = known} {sound = sound} {a = a} {b = b} {why = why} (Err s) err more one = record {
   reads = one.reads;
@@ -75,7 +75,7 @@ reads_stopped g {known = known} {sound = sound} {a = a} {b = b} {why = why} (Err
 }
 
 -- a call after those that read and answered Ok
-pub reads_after : {S T : Type 0} (g : Ghosts S) {known sound : Type 0} {a b c : S} (result : Result T Stop) → Reads g a b → (g.whole a → g.whole b) → g.faults b ≡ g.faults a → (sound → known) → OnlyReads g known b c result → OnlyReads g sound a c result
+pub reads_after : {S T : Type 0} (g : Ghosts S) {known sound : Type 0} {a b c : S} (result : Result T Stop) → Reads g a b → (g.whole a → g.whole b) → g.faults b ≡ g.faults a → (sound → known) → ReadsMaps g known b c result → ReadsMaps g sound a c result
 reads_after g {c = c} result reads whole counted more one = record {
   reads = reads_joined g reads one.reads;
   ends = record {
@@ -90,5 +90,5 @@ reads_after g {c = c} result reads whole counted more one = record {
 }
 
 -- what stops a call after them stops its caller
-pub reads_stopped_after : {S T U : Type 0} (g : Ghosts S) {known sound : Type 0} {a b c : S} {why : Stop} (result : Result T Stop) → IsErrAnd result (λ s. s ≡ why) → Reads g a b → (g.whole a → g.whole b) → g.faults b ≡ g.faults a → (sound → known) → OnlyReads {T = U} g known b c (Err why) → OnlyReads g sound a c result
+pub reads_stopped_after : {S T U : Type 0} (g : Ghosts S) {known sound : Type 0} {a b c : S} {why : Stop} (result : Result T Stop) → IsErrAnd result (λ s. s ≡ why) → Reads g a b → (g.whole a → g.whole b) → g.faults b ≡ g.faults a → (sound → known) → ReadsMaps {T = U} g known b c (Err why) → ReadsMaps g sound a c result
 reads_stopped_after {U = U} g result err reads whole counted more one = reads_stopped {U = U} g result err (λ h. h) (reads_after g _ reads whole counted more one)

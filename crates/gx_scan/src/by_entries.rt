@@ -2,7 +2,7 @@
 ghost use Rattle.std.specs.Prelude.{◌≡◌, ◌≤◌, ◌+◌, ◌*◌, ◌∷◌, ◌++◌, [], ℕ, length, filter, OnOk};
 ghost use Rattle.gx_values.specs.Values.{Fits};
 ghost use Rattle.gx_schema.specs.Lookups.{key_kind};
-ghost use Rattle.gx_ports.specs.Calls.{OnlyReads};
+ghost use Rattle.gx_ports.specs.Calls.{ReadsMaps};
 ghost use Rattle.gx_ports.specs.LeafMaps.{Extends};
 ghost use Rattle.gx_stack.specs.Tree.{leaves_of};
 ghost use Rattle.gx_stack.specs.Seen.{tree_of};
@@ -50,7 +50,7 @@ pub(crate) fn add_by_entries<B: Leaves>(
         (B.work leaves.new
         ≤ B.work leaves.old + (length (leaves_of (tree_of node.now)) + length (rows_inside span.now f) * most)) }
     ensures front { Extends rows.old.items rows.new.items }
-    ensures reads { OnlyReads B.View
+    ensures reads { ReadsMaps B.View
         (B.whole leaves.old × HasFile file.now (tree_of node.now) (B.working leaves.old))
         leaves.old leaves.new result }
 {
@@ -84,7 +84,7 @@ pub(crate) fn add_at_key<B: Leaves>(
         HaveAtMost most (tree_of node.now) f → OnOk result
         (B.work leaves.new
         ≤ B.work leaves.old + (length (leaves_of (tree_of node.now)) + most)) }
-    ensures reads { OnlyReads B.View
+    ensures reads { ReadsMaps B.View
         (B.whole leaves.old × HasFile file.now (tree_of node.now) (B.working leaves.old))
         leaves.old leaves.new result }
 {
@@ -117,7 +117,7 @@ fn add_at<B: Leaves>(
         ≤ B.work leaves.old
         + (1 + length (filter (is_key_inside span.now) (rows_at (tree_of node.now) place.leaf f)))) }
     ensures front { Extends rows.old.items rows.new.items }
-    ensures reads { OnlyReads B.View
+    ensures reads { ReadsMaps B.View
         (B.whole leaves.old × HasFile file.now (tree_of node.now) (B.working leaves.old))
         leaves.old leaves.new result }
 {

@@ -4,7 +4,7 @@ ghost use Rattle.gx_values.specs.Values.{AreFit};
 ghost use Rattle.gx_values.specs.Spans.{IsValueSpan};
 ghost use Rattle.gx_values.specs.declared.values.Value.{Value as FieldValue};
 ghost use Rattle.gx_schema.specs.Lookups.{field_at};
-ghost use Rattle.gx_ports.specs.Calls.{OnlyReads};
+ghost use Rattle.gx_ports.specs.Calls.{ReadsMaps};
 ghost use Rattle.gx_mapping.specs.Rule.{In};
 ghost use Rattle.gx_stack.specs.Tree.{leaves_of};
 ghost use Rattle.gx_stack.specs.Seen.{tree_of};
@@ -65,7 +65,7 @@ pub fn rows_where<B: Leaves>(
         (B.work leaves.new
         ≤ B.work leaves.old + ((length (rows_with field span.now f) + 1) * length (leaves_of (tree_of node.now))
         + 2 * (length (rows_with field span.now f) * most))) }
-    ensures reads { OnlyReads B.View
+    ensures reads { ReadsMaps B.View
         (B.whole leaves.old × HasFile file.now (tree_of node.now) (B.working leaves.old))
         leaves.old leaves.new result }
 {
@@ -118,7 +118,7 @@ fn add_by_keys<B: Leaves>(
         HaveAtMost most (tree_of node.now) f → OnOk result
         (B.work leaves.new
         ≤ B.work leaves.old + length keys.now * (length (leaves_of (tree_of node.now)) + most)) }
-    ensures reads { OnlyReads B.View
+    ensures reads { ReadsMaps B.View
         (B.whole leaves.old × HasFile file.now (tree_of node.now) (B.working leaves.old))
         leaves.old leaves.new result }
 {
@@ -153,7 +153,7 @@ fn add_by_key<B: Leaves>(
         HaveAtMost most (tree_of node.now) f → OnOk result
         (B.work leaves.new
         ≤ B.work leaves.old + (length (leaves_of (tree_of node.now)) + most)) }
-    ensures reads { OnlyReads B.View
+    ensures reads { ReadsMaps B.View
         (B.whole leaves.old × HasFile file.now (tree_of node.now) (B.working leaves.old))
         leaves.old leaves.new result }
 {
