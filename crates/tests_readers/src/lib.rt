@@ -1,5 +1,6 @@
-//! Tests of values and of the readers of texts, by their public calls. There is no code here beside
-//! them. Refused texts stand in `examples/refused`, where the proved program is held against them.
+//! Tests of the readers of texts and of what prints them, by their public calls. There is no code here
+//! beside them. Refused texts stand in `examples/refused`, where the proved program is held against
+//! them.
 #![tactic(auto)]
 
 #[cfg(test)]
@@ -10,9 +11,5 @@ mod row;
 mod schemas;
 #[cfg(test)]
 mod scripts;
-#[cfg(test)]
-mod tokens;
-#[cfg(test)]
-mod values;
 #[cfg(test)]
 mod workload;
