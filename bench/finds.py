@@ -14,8 +14,8 @@ from scripts import RECORDS, SCHEMA, Work
 
 EQUATION = "part = index(quantity, index(name, actual(bplus), bplus), bplus)\n"
 INDEXES = ["create index by_quantity on part (quantity);", "create index by_name on part (name);"]
-ONES = 20_000
-RANGES = 2_000
+ONES = 100_000
+RANGES = 10_000
 # no run takes longer than a minute
 LIMIT = ["timeout", "60"]
 
