@@ -86,13 +86,6 @@ impl<B: Leaves + Drop> Engine<B> {
         self.inside
     }
 
-    /// How many commits there were, up to 2 ^ 64 - 1.
-    pub fn commits(&self) -> u64
-        ensures { result ≡ commits_of self.now }
-    {
-        self.commits
-    }
-
     /// Carries out a command of the schema, where the transaction rule lets it stand, and appends its
     /// answer, which is that of the abstract database; the leaves stand for what comes after it.
     ///

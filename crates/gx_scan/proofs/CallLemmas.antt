@@ -1,0 +1,38 @@
+-- Calls, one after the other, and how they end.
+use Rattle.std.proofs.Common.{Result, Ok, Err}
+use Rattle.std.specs.Prelude.{IfOk, OnOk}
+use Rattle.gx_ports.specs.Calls.{Ends}
+use Rattle.gx_ports.specs.declared.stop.Stop.{Stop}
+use Rattle.gx_ports.specs.declared.view.View.{Ghosts}
+
+pub ok_both : {A E : Type 0} (r : Result A E) (P Q R : A → Type 0) → IfOk r P → IfOk r Q → ((x : A) → P x → Q x → R x) → IfOk r R
+ok_both (Ok x) P Q R p q more = more x p q
+ok_both (Err e) P Q R p q more = tt
+
+pub ok_one : {A E : Type 0} (r : Result A E) (P R : A → Type 0) → IfOk r P → ((x : A) → P x → R x) → IfOk r R
+ok_one (Ok x) P R p more = more x p
+ok_one (Err e) P R p more = tt
+
+pub ok_alone : {A E : Type 0} (r : Result A E) (P R : Type 0) → OnOk r P → (P → R) → OnOk r R
+ok_alone (Ok x) P R p more = more p
+ok_alone (Err e) P R p more = tt
+
+-- how a call ends is told of another sound state
+pub ends_so : {S T : Type 0} (g : Ghosts S) (known sound : Type 0) (old new : S) (result : Result T Stop) → (sound → known) → Ends g known old new result → Ends g sound old new result
+ends_so g known sound old new result more ends = record {
+  whole = ends.whole;
+  later = ends.later;
+  fault = ends.fault;
+  counted = ends.counted;
+  damaged = λ block e h. ends.damaged block e (more h);
+}
+
+-- what was answered in the place of another answer
+pub ends_now : {S T U : Type 0} (g : Ghosts S) (sound : Type 0) (old new : S) (x : T) (y : U) → Ends g sound old new (Ok x) → Ends g sound old new (Ok y)
+ends_now g sound old new x y ends = record {
+  whole = ends.whole;
+  later = ends.later;
+  fault = λ e. absurd cc;
+  counted = ends.counted;
+  damaged = λ block e. absurd cc;
+}
