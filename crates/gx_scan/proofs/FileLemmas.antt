@@ -55,7 +55,7 @@ same_value k q e = value_cmp_same k q (is_equal (value_cmp k q) e)
 pub value_itself : (k : Value) → eq_by_cmp value_cmp k k ≡ true
 value_itself k = ap is_eq (tied_itself value_cmp_total k)
 
-no_bool : (b : Bool) → (b ≡ true → ⊥) → b ≡ false
+pub no_bool : (b : Bool) → (b ≡ true → ⊥) → b ≡ false
 no_bool true h = absurd (h refl)
 no_bool false h = refl
 
@@ -78,7 +78,7 @@ one_key k q e = ap (λ (l : List Value). get_or l 0 k) e
 
 -- ---- rows and look-ups
 
-below_in : {K X : Type 0} (R : K → K → Ordering) (x : K) (es : List (K × X)) (r : K × X) → T (below_all R x es) → In r es → R x r.0 ≡ Less
+pub below_in : {K X : Type 0} (R : K → K → Ordering) (x : K) (es : List (K × X)) (r : K × X) → T (below_all R x es) → In r es → R x r.0 ≡ Less
 below_in R x [] r h there = absurd there
 below_in {K} {X} R x (s ∷ es) r h (inl same) = subst (λ (q : K × X). R x q.0 ≡ Less) (sym same) (is_less _ (first_of_both _ _ h))
 below_in R x (s ∷ es) r h (inr there) = below_in R x es r (second_of_both _ _ h) there

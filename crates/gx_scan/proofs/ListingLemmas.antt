@@ -21,6 +21,17 @@ pub same_filter : {A : Type 0} (p q : A → Bool) (xs : List A) → ((x : A) →
 same_filter p q [] same = refl
 same_filter {A} p q (x ∷ xs) same = (λ i. cond (same x (inl refl) i) (x ∷ filter p xs) (filter p xs)) ∙ ap (λ (l : List A). cond (q x) (x ∷ l) l) (same_filter p q xs (λ y h. same y (inr h)))
 
+one_fewer : {A : Type 0} (x : A) (ps qs : List A) (a b : Bool) → (a ≡ true → b ≡ true) → length ps ≤ length qs → length (cond a (x ∷ ps) ps) ≤ length (cond b (x ∷ qs) qs)
+one_fewer x ps qs true true more le = omega (arith, le)
+one_fewer x ps qs true false more le = absurd (let e : false ≡ true = more refl in cc)
+one_fewer x ps qs false true more le = omega (arith, le)
+one_fewer x ps qs false false more le = le
+
+-- where each that passes one test passes another, no more pass it
+pub fewer_pass : {A : Type 0} (p q : A → Bool) (xs : List A) → ((x : A) → In x xs → p x ≡ true → q x ≡ true) → length (filter p xs) ≤ length (filter q xs)
+fewer_pass p q [] more = omega arith
+fewer_pass p q (x ∷ xs) more = one_fewer x (filter p xs) (filter q xs) (p x) (q x) (more x (inl refl)) (fewer_pass p q xs (λ y h. more y (inr h)))
+
 pub filter_true : {A : Type 0} (xs : List A) → filter (λ _. true) xs ≡ xs
 filter_true [] = refl
 filter_true {A} (x ∷ xs) = ap (λ (l : List A). x ∷ l) (filter_true xs)

@@ -3,6 +3,7 @@ use Rattle.std.proofs.Common.{[], ◌≡◌, ℕ, zero, suc, ◌+◌, ◌-◌, �
 use Rattle.std.proofs.lemmas.List.{map-append, take_all, take_more, length-take}
 use Rattle.std.proofs.lemmas.Bool.{eqb-true, eq-eqb, true≢false}
 use Rattle.std.specs.List.{flat_map, AllByRecursion}
+use Rattle.std.specs.Option.{option_map}
 use Rattle.std.specs.FinMap as fin
 use Rattle.std.specs.FinMap.Entries.{below_all}
 use Rattle.std.specs.Prelude.{T, filter, Bool, if◌then◌else◌, Option, None, SomeIff, IfSome}
@@ -34,7 +35,7 @@ use Rattle.gx_actual.specs.Rules.{actual_rec}
 use Rattle.gx_stack.specs.Tree.{Tree, Kids, leaf, layer, kid, no_kids, leaves_of, kids_leaves, tree_form, entries_of, kid_entries, entry_in, leaf_body, IsBytesUpTo, IsLeafData, IsLeafForm, IsValid, AreValid}
 use Rattle.gx_stack.specs.Seen.{tree_of, kids_from}
 use Rattle.gx_stack.specs.Internal.{IsUnion}
-use Rattle.gx_gather.proofs.Lists.{in_left, in_right, in_cases, in_map, from_map, in_each, from_each, in_filter, filter_in, all_at, all_of}
+use Rattle.gx_gather.proofs.Lists.{in_left, in_right, in_cases, in_map, from_map, in_each, from_each, in_filter, filter_in, all_at, all_of, some_same}
 use Rattle.gx_gather.proofs.Orders.{Ascends, ascends_filter, ascends_unique}
 use Rattle.gx_stack.proofs.Seen.{seen_layer, seen_leaf, layer_form, count_kids, child_there, child_valid, kid_entries_at}
 use Rattle.gx_stack.proofs.Unique.{entry_leaf, kid_leaf}
@@ -466,3 +467,10 @@ module _ (file : FileDef) (t : Tree AnyMapping) (leaves : ℕ) (maps : List Leaf
       (entries_ascend (slice_cmp nat_cmp) (fin.entries (map_at maps p.leaf)) (fin.entries_sorted (map_at maps p.leaf)))
       (rows_ascend file p.lengths (rows_at t p.leaf f) storable.key (rows_fit p.leaf) (ascends_filter key_cmp (λ (r : Row). nat_eq (leaf_of t r) p.leaf) (fin.entries f) (entries_ascend value_cmp (fin.entries f) (fin.entries_sorted f))))
       (entry_from union p at) (row_entry union p at)
+
+-- ---- places that are lent
+
+pub places_lent : {A B : Type 0} (f : A → List Place) (g : B → List Place) (P : List Place → Type 0) (o : Option A) (p : Option B) → option_map f o ≡ option_map g p → IfSome p (λ y. P (g y)) → IfSome o (λ x. P (f x))
+places_lent f g P None p same are = tt
+places_lent f g P (Some x) None same are = cc
+places_lent f g P (Some x) (Some y) same are = subst P (sym (some_same (f x) (g y) same)) are

@@ -1,8 +1,8 @@
 // Finding by entries: where records stand whole in leaves, conditions are tested on the bytes of entries.
-ghost use Rattle.std.specs.Prelude.{◌≡◌, ◌≤◌, ◌+◌, ◌*◌, ◌∷◌, ◌++◌, [], ℕ, length, filter, OnOk, IsErrOf};
+ghost use Rattle.std.specs.Prelude.{◌≡◌, ◌≤◌, ◌+◌, ◌*◌, ◌∷◌, ◌++◌, [], ℕ, length, filter, OnOk};
 ghost use Rattle.gx_values.specs.Values.{Fits};
 ghost use Rattle.gx_schema.specs.Lookups.{key_kind};
-ghost use Rattle.gx_ports.specs.Calls.{Reads, Ends};
+ghost use Rattle.gx_ports.specs.Calls.{OnlyReads};
 ghost use Rattle.gx_ports.specs.LeafMaps.{Extends};
 ghost use Rattle.gx_stack.specs.Tree.{leaves_of};
 ghost use Rattle.gx_stack.specs.Seen.{tree_of};
@@ -50,12 +50,9 @@ pub(crate) fn add_by_entries<B: Leaves>(
         (B.work leaves.new
         ≤ B.work leaves.old + (length (leaves_of (tree_of node.now)) + length (rows_inside span.now f) * most)) }
     ensures front { Extends rows.old.items rows.new.items }
-    ensures reads { Reads B.View leaves.old leaves.new }
-    ensures ends { Ends B.View
+    ensures reads { OnlyReads B.View
         (B.whole leaves.old × HasFile file.now (tree_of node.now) (B.working leaves.old))
         leaves.old leaves.new result }
-    ensures block { (n : ℕ) → IsErrOf result (Stop.Damaged n) → B.whole leaves.old → n ≡ 0 }
-    ensures not_full { ¬ IsErrOf result Stop.Full }
 {
     for place in places {
         add_at(alloc, file, node, *place, span, conds, leaves, rows)?;
@@ -87,12 +84,9 @@ pub(crate) fn add_at_key<B: Leaves>(
         HaveAtMost most (tree_of node.now) f → OnOk result
         (B.work leaves.new
         ≤ B.work leaves.old + (length (leaves_of (tree_of node.now)) + most)) }
-    ensures reads { Reads B.View leaves.old leaves.new }
-    ensures ends { Ends B.View
+    ensures reads { OnlyReads B.View
         (B.whole leaves.old × HasFile file.now (tree_of node.now) (B.working leaves.old))
         leaves.old leaves.new result }
-    ensures block { (n : ℕ) → IsErrOf result (Stop.Damaged n) → B.whole leaves.old → n ≡ 0 }
-    ensures not_full { ¬ IsErrOf result Stop.Full }
 {
     let span = key_span(key);
     add_by_entries(alloc, file, node, places, &span, conds, leaves, rows)
@@ -123,12 +117,9 @@ fn add_at<B: Leaves>(
         ≤ B.work leaves.old
         + (1 + length (filter (is_key_inside span.now) (rows_at (tree_of node.now) place.leaf f)))) }
     ensures front { Extends rows.old.items rows.new.items }
-    ensures reads { Reads B.View leaves.old leaves.new }
-    ensures ends { Ends B.View
+    ensures reads { OnlyReads B.View
         (B.whole leaves.old × HasFile file.now (tree_of node.now) (B.working leaves.old))
         leaves.old leaves.new result }
-    ensures block { (n : ℕ) → IsErrOf result (Stop.Damaged n) → B.whole leaves.old → n ≡ 0 }
-    ensures not_full { ¬ IsErrOf result Stop.Full }
 {
     node.internal_is_union();
     let mut entries = Entries::new(alloc);

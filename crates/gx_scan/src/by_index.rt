@@ -1,10 +1,10 @@
 // Finding by an index: it gives the keys of records, and each record there is tested.
-ghost use Rattle.std.specs.Prelude.{◌≡◌, ◌++◌, ◌<◌, ◌≤◌, ◌+◌, ◌*◌, ℕ, List, true, length, filter, flat_map, IfSome, OnOk, IsErrOf};
+ghost use Rattle.std.specs.Prelude.{◌≡◌, ◌++◌, ◌<◌, ◌≤◌, ◌+◌, ◌*◌, ℕ, List, true, length, filter, flat_map, IfSome, OnOk};
 ghost use Rattle.gx_values.specs.Values.{AreFit};
 ghost use Rattle.gx_values.specs.Spans.{IsValueSpan};
 ghost use Rattle.gx_values.specs.declared.values.Value.{Value as FieldValue};
 ghost use Rattle.gx_schema.specs.Lookups.{field_at};
-ghost use Rattle.gx_ports.specs.Calls.{Reads, Ends};
+ghost use Rattle.gx_ports.specs.Calls.{OnlyReads};
 ghost use Rattle.gx_mapping.specs.Rule.{In};
 ghost use Rattle.gx_stack.specs.Tree.{leaves_of};
 ghost use Rattle.gx_stack.specs.Seen.{tree_of};
@@ -65,12 +65,9 @@ pub fn rows_where<B: Leaves>(
         (B.work leaves.new
         ≤ B.work leaves.old + ((length (rows_with field span.now f) + 1) * length (leaves_of (tree_of node.now))
         + 2 * (length (rows_with field span.now f) * most))) }
-    ensures reads { Reads B.View leaves.old leaves.new }
-    ensures ends { Ends B.View
+    ensures reads { OnlyReads B.View
         (B.whole leaves.old × HasFile file.now (tree_of node.now) (B.working leaves.old))
         leaves.old leaves.new result }
-    ensures block { (n : ℕ) → IsErrOf result (Stop.Damaged n) → B.whole leaves.old → n ≡ 0 }
-    ensures not_full { ¬ IsErrOf result Stop.Full }
 {
     let places = places_of(alloc, node)?;
     let name = field_name(file, field);
@@ -80,7 +77,7 @@ pub fn rows_where<B: Leaves>(
         alloc,
         file,
         node,
-        &places,
+        places.as_deref(),
         keys.0.as_slice(),
         conds,
         leaves,
@@ -101,14 +98,14 @@ fn add_by_keys<B: Leaves>(
     alloc: Global,
     file: &FileDef,
     node: &Node<AnyMapping>,
-    places: &Option<Vec<Place>>,
+    places: Option<&[Place]>,
     keys: &[Values],
     conds: &[Cond],
     leaves: &mut B,
     rows: &mut Vec<Row>,
 ) -> Result<(), Stop>
     requires tree { IsTreeFor file.now (tree_of node.now) (length (B.working leaves.old)) }
-    requires places { IfSome places.now (λ ps. ArePlaces 0 (tree_of node.now) ps.items) }
+    requires places { IfSome places (λ ps. ArePlaces 0 (tree_of node.now) ps.now) }
     requires storable { IsStorable file.now }
     requires fit { (key : List FieldValue) → In key keys.now →
         AreFit (file_form file.now).keys key }
@@ -121,12 +118,9 @@ fn add_by_keys<B: Leaves>(
         HaveAtMost most (tree_of node.now) f → OnOk result
         (B.work leaves.new
         ≤ B.work leaves.old + length keys.now * (length (leaves_of (tree_of node.now)) + most)) }
-    ensures reads { Reads B.View leaves.old leaves.new }
-    ensures ends { Ends B.View
+    ensures reads { OnlyReads B.View
         (B.whole leaves.old × HasFile file.now (tree_of node.now) (B.working leaves.old))
         leaves.old leaves.new result }
-    ensures block { (n : ℕ) → IsErrOf result (Stop.Damaged n) → B.whole leaves.old → n ≡ 0 }
-    ensures not_full { ¬ IsErrOf result Stop.Full }
 {
     for key in keys {
         add_by_key(alloc, file, node, places, key, conds, leaves, rows)?;
@@ -140,14 +134,14 @@ fn add_by_key<B: Leaves>(
     alloc: Global,
     file: &FileDef,
     node: &Node<AnyMapping>,
-    places: &Option<Vec<Place>>,
+    places: Option<&[Place]>,
     key: &Values,
     conds: &[Cond],
     leaves: &mut B,
     rows: &mut Vec<Row>,
 ) -> Result<(), Stop>
     requires tree { IsTreeFor file.now (tree_of node.now) (length (B.working leaves.old)) }
-    requires places { IfSome places.now (λ ps. ArePlaces 0 (tree_of node.now) ps.items) }
+    requires places { IfSome places (λ ps. ArePlaces 0 (tree_of node.now) ps.now) }
     requires storable { IsStorable file.now }
     requires fit { AreFit (file_form file.now).keys key.now }
     ensures rows { (f : FileMap) → B.whole leaves.old →
@@ -159,12 +153,9 @@ fn add_by_key<B: Leaves>(
         HaveAtMost most (tree_of node.now) f → OnOk result
         (B.work leaves.new
         ≤ B.work leaves.old + (length (leaves_of (tree_of node.now)) + most)) }
-    ensures reads { Reads B.View leaves.old leaves.new }
-    ensures ends { Ends B.View
+    ensures reads { OnlyReads B.View
         (B.whole leaves.old × HasFile file.now (tree_of node.now) (B.working leaves.old))
         leaves.old leaves.new result }
-    ensures block { (n : ℕ) → IsErrOf result (Stop.Damaged n) → B.whole leaves.old → n ≡ 0 }
-    ensures not_full { ¬ IsErrOf result Stop.Full }
 {
     let Some(key) = key.0.first() else {
         unreachable!()

@@ -33,28 +33,33 @@ returns-then-branch-clause-rows g c = λ f whole is.
     (c.in_ok-add_chosen_rows.ensures.chosen (filter inside (rows_at t p.leaf f)) fit same).1
     ∙ ap (λ (l : List Row). c.args.rows.now.items ++ l) (filter_twice (meets_conds c.args.conds.now) inside (rows_at t p.leaf f))
 
-pub returns-clause-ends : goal.returns-clause-ends
-returns-clause-ends g c = record {
-  whole = search rules;
-  later = search rules;
-  fault = search rules;
-  counted = search rules;
-  damaged = λ block stops sound.
-      let file = c.args.file.now in
-      let t = tree_of c.args.node.now in
-      let p = c.args.place in
-      let maps = g.B.View.working c.args.leaves.now in
-      let lo = c.args.span.now.lo in
-      let hi = c.args.span.now.hi in
-      let inside = λ (r : Row). is_inside lo hi (bytes_of r.0) in
-      let f = sound.1.0 in
-      let is = sound.1.1 in
-      let union = (c.internal_is_union.ensures (records_of f) maps).0 is.held in
-      let stored = place_entries file t _ maps f c.requires.storable c.requires.tree is.fit union p c.requires.place in
-      let same = span_entries _ p.lengths (rows_at t p.leaf f) lo hi _ _ _ stored c.new-entries.ensures (c.in_ok-select.ensures.ok sound.0) refl in
-      let fit = filter_fits file inside (rows_at t p.leaf f) (rows_fit file t _ maps f c.requires.storable c.requires.tree is.fit p.leaf) in
-      let all = (c.in_ok-add_chosen_rows.ensures.chosen (filter inside (rows_at t p.leaf f)) fit same).0 in
-      true≢false (sym all ∙ c.if-branch.false);
+pub returns-clause-reads : goal.returns-clause-reads
+returns-clause-reads g c = record {
+  reads = search rules;
+  ends = record {
+    whole = search rules;
+    later = search rules;
+    fault = search rules;
+    counted = search rules;
+    damaged = λ block stops sound.
+        let file = c.args.file.now in
+        let t = tree_of c.args.node.now in
+        let p = c.args.place in
+        let maps = g.B.View.working c.args.leaves.now in
+        let lo = c.args.span.now.lo in
+        let hi = c.args.span.now.hi in
+        let inside = λ (r : Row). is_inside lo hi (bytes_of r.0) in
+        let f = sound.1.0 in
+        let is = sound.1.1 in
+        let union = (c.internal_is_union.ensures (records_of f) maps).0 is.held in
+        let stored = place_entries file t _ maps f c.requires.storable c.requires.tree is.fit union p c.requires.place in
+        let same = span_entries _ p.lengths (rows_at t p.leaf f) lo hi _ _ _ stored c.new-entries.ensures (c.in_ok-select.ensures.ok sound.0) refl in
+        let fit = filter_fits file inside (rows_at t p.leaf f) (rows_fit file t _ maps f c.requires.storable c.requires.tree is.fit p.leaf) in
+        let all = (c.in_ok-add_chosen_rows.ensures.chosen (filter inside (rows_at t p.leaf f)) fit same).0 in
+        true≢false (sym all ∙ c.if-branch.false);
+  };
+  block = search rules;
+  not_full = search rules;
 }
 
 pub returns-then-branch-clause-steps : goal.returns-then-branch-clause-steps

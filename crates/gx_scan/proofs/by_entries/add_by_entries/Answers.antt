@@ -1,9 +1,7 @@
-use Rattle.std.proofs.Common.{rules, ◌≡◌, ◌∙◌, ◌++◌, ◌+◌, [], List, Err, filter, get_or, refl, sym, ap, subst, arith, length, length-append, append-nil, append_assoc}
+use Rattle.std.proofs.Common.{◌∙◌, ◌++◌, ◌+◌, [], List, filter, get_or, refl, sym, ap, subst, arith, length, length-append, append-nil, append_assoc}
 use Rattle.std.specs.FinMap as fin
 use Rattle.std.proofs.lemmas.List.{length-take, length-map}
 use Rattle.std.proofs.lemmas.List.Sorted.{length_permutation}
-use Rattle.std.proofs.lemmas.Result.{err_from_is_err_and}
-use Rattle.gx_ports.specs.declared.stop.Stop.TheVariants as stop
 use Rattle.gx_ports.specs.LeafMaps.{LeafMap}
 use Rattle.gx_ports.proofs.CallLemmas.{reads_itself, reads_joined}
 use Rattle.gx_stack.specs.Seen.{tree_of}
@@ -16,6 +14,7 @@ use Rattle.gx_scan.specs.Within.{is_within}
 use Rattle.gx_scan.specs.Steps.{is_key_inside, rows_inside}
 use Rattle.gx_gather.proofs.Lists.{in_filter}
 use Rattle.gx_scan.proofs.PlaceLemmas.{IsOnce, data_once, data_few, leaf_there, get_or_any, number}
+use Rattle.gx_scan.proofs.CallLemmas.{reads_stopped_after}
 use Rattle.gx_scan.proofs.StepLemmas.{whole_most}
 use Rattle.gx_scan.proofs.ListingLemmas.{none_chosen, place_chosen, all_chosen}
 use Rattle.gx_scan.proofs.by_entries.add_by_entries.Goals as goal
@@ -71,26 +70,17 @@ loop-place-preserved g c =
             omega (arith, so_far.2, now, length-append so_far.0 more, length-take i ps, length-take (i + 1) ps),
           );
       front = (inv.front.0 ++ e.front.0, e.front.1 ∙ ap (λ (l : List Row). l ++ e.front.0) inv.front.1 ∙ append_assoc c.args.rows.now.items inv.front.0 e.front.0);
-      reads = reads_joined b inv.reads e.reads;
-      whole = λ h. e.ends.whole (inv.whole h);
-      counted = e.ends.counted refl ∙ inv.counted;
+      reads = reads_joined b inv.reads e.reads.reads;
+      whole = λ h. e.reads.ends.whole (inv.whole h);
+      counted = e.reads.ends.counted refl ∙ inv.counted;
     }
 
-pub returns-in_err-add_at-clause-ends : goal.returns-in_err-add_at-clause-ends
-returns-in_err-add_at-clause-ends g c = record {
-  whole = search rules;
-  later = search rules;
-  fault = search rules;
-  counted = search rules;
-  damaged = λ block e sound.
-      let inv = c.loop-place.invariant in
-      let p = err_from_is_err_and c.from_residual.result c.from_residual.ensures.1 in
-      let both = sym p.1 ∙ e in
-      let why : p.0 ≡ stop.Damaged block = cc in
-      let f = sound.1.0 in
-      c.in_err-add_at.ensures.ends.damaged block (ap Err (sym p.2 ∙ why))
-      (inv.whole sound.0, (f, subst (λ (maps : List LeafMap). IsInternal c.args.file.now (tree_of c.args.node.now) maps f) (sym inv.reads.working) sound.1.1));
-}
+pub returns-in_err-add_at-clause-reads : goal.returns-in_err-add_at-clause-reads
+returns-in_err-add_at-clause-reads g c =
+    let inv = c.loop-place.invariant in
+    reads_stopped_after g.B.View c.from_residual.result c.from_residual.ensures.1 inv.reads inv.whole inv.counted
+    (λ sound. (inv.whole sound.0, (sound.1.0, subst (λ (maps : List LeafMap). IsInternal c.args.file.now (tree_of c.args.node.now) maps sound.1.0) (sym inv.reads.working) sound.1.1)))
+    c.in_err-add_at.ensures.reads
 
 pub returns-clause-rows : goal.returns-clause-rows
 returns-clause-rows g c = λ f whole is.

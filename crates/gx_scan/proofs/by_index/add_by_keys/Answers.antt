@@ -1,6 +1,4 @@
-use Rattle.std.proofs.Common.{rules, ◌≡◌, ◌∙◌, ◌+◌, Err, List, length, refl, sym, ap, subst, arith}
-use Rattle.std.proofs.lemmas.Result.{err_from_is_err_and}
-use Rattle.gx_ports.specs.declared.stop.Stop.TheVariants as stop
+use Rattle.std.proofs.Common.{◌∙◌, ◌+◌, List, length, refl, sym, subst, arith}
 use Rattle.gx_ports.specs.LeafMaps.{LeafMap}
 use Rattle.gx_ports.proofs.CallLemmas.{reads_itself, reads_joined}
 use Rattle.gx_stack.specs.Tree.{leaves_of}
@@ -8,6 +6,7 @@ use Rattle.gx_stack.specs.Seen.{tree_of}
 use Rattle.gx_gather.proofs.Lists.{in_read}
 use Rattle.gx_model.specs.Found.{meets_conds}
 use Rattle.gx_scan.specs.Files.{IsInternal}
+use Rattle.gx_scan.proofs.CallLemmas.{reads_stopped_after}
 use Rattle.gx_scan.proofs.StepLemmas.{taken_more, taken_all}
 use Rattle.gx_scan.proofs.WhereLemmas.{rows_next, rows_done}
 use Rattle.gx_scan.proofs.by_index.add_by_keys.Goals as goal
@@ -42,25 +41,17 @@ loop-key-preserved g c =
       steps = λ f most whole is few.
           let now = e.steps f most (inv.whole whole) (subst (λ (maps : List LeafMap). IsInternal c.args.file.now t maps f) (sym inv.reads.working) is) few in
           taken_more keys i (length (leaves_of t) + most) _ _ _ c.loop-key-test.true (inv.steps f most whole is few) now;
-      reads = reads_joined g.B.View inv.reads e.reads;
-      whole = λ h. e.ends.whole (inv.whole h);
-      counted = e.ends.counted refl ∙ inv.counted;
+      reads = reads_joined g.B.View inv.reads e.reads.reads;
+      whole = λ h. e.reads.ends.whole (inv.whole h);
+      counted = e.reads.ends.counted refl ∙ inv.counted;
     }
 
-pub returns-in_err-add_by_key-clause-ends : goal.returns-in_err-add_by_key-clause-ends
-returns-in_err-add_by_key-clause-ends g c = record {
-  whole = search rules;
-  later = search rules;
-  fault = search rules;
-  counted = search rules;
-  damaged = λ block e sound.
-      let inv = c.loop-key.invariant in
-      let p = err_from_is_err_and c.from_residual.result c.from_residual.ensures.1 in
-      let both = sym p.1 ∙ e in
-      let why : p.0 ≡ stop.Damaged block = cc in
-      c.in_err-add_by_key.ensures.ends.damaged block (ap Err (sym p.2 ∙ why))
-      (inv.whole sound.0, (sound.1.0, subst (λ (maps : List LeafMap). IsInternal c.args.file.now (tree_of c.args.node.now) maps sound.1.0) (sym inv.reads.working) sound.1.1));
-}
+pub returns-in_err-add_by_key-clause-reads : goal.returns-in_err-add_by_key-clause-reads
+returns-in_err-add_by_key-clause-reads g c =
+    let inv = c.loop-key.invariant in
+    reads_stopped_after g.B.View c.from_residual.result c.from_residual.ensures.1 inv.reads inv.whole inv.counted
+    (λ sound. (inv.whole sound.0, (sound.1.0, subst (λ (maps : List LeafMap). IsInternal c.args.file.now (tree_of c.args.node.now) maps sound.1.0) (sym inv.reads.working) sound.1.1)))
+    c.in_err-add_by_key.ensures.reads
 
 pub returns-clause-rows : goal.returns-clause-rows
 returns-clause-rows g c = λ f whole is.

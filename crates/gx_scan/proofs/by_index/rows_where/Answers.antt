@@ -1,15 +1,14 @@
-use Rattle.std.proofs.Common.{rules, ◌≡◌, ◌∙◌, ◌++◌, ◌+◌, ◌*◌, ◌≤◌, List, ℕ, true, Err, length, filter, sym, ap, subst}
+use Rattle.std.proofs.Common.{rules, ◌≡◌, ◌∙◌, ◌++◌, ◌+◌, ◌*◌, ◌≤◌, List, ℕ, true, length, filter, refl, sym, ap, subst}
 use Rattle.std.specs.Prelude.{flat_map}
-use Rattle.std.proofs.lemmas.Result.{err_from_is_err_and}
 use Rattle.gx_values.specs.declared.values.Value.{Value}
 use Rattle.gx_values.specs.Values.{AreFit}
-use Rattle.gx_ports.specs.declared.stop.Stop.TheVariants as stop
 use Rattle.gx_ports.specs.LeafMaps.{LeafMap}
 use Rattle.gx_mapping.specs.Rule.{In}
 use Rattle.gx_stack.specs.Seen.{tree_of}
 use Rattle.gx_stack.specs.Internal.{IsSet}
 use Rattle.gx_model.specs.Found.{meets_conds}
 use Rattle.gx_scan.specs.Files.{IsInternal, records_of}
+use Rattle.gx_scan.specs.Entries.{ArePlaces}
 use Rattle.gx_scan.specs.Where.{rows_at_key}
 use Rattle.gx_mapping.specs.Rule.{kind_in}
 use Rattle.gx_stack.specs.Tree.{leaves_of, tree_form}
@@ -17,6 +16,8 @@ use Rattle.gx_stack.specs.Indexed.{is_indexed, AreKeysOf}
 use Rattle.gx_types.specs.Any.{any_rule}
 use Rattle.gx_scan.proofs.FileLemmas.{set_of}
 use Rattle.gx_scan.specs.Steps.{rows_with}
+use Rattle.gx_scan.proofs.CallLemmas.{reads_stopped, reads_stopped_after}
+use Rattle.gx_scan.proofs.PlaceLemmas.{places_lent}
 use Rattle.gx_scan.proofs.StepLemmas.{keys_many, keys_total, where_steps}
 use Rattle.gx_scan.proofs.WhereLemmas.{named_at, span_named, found_where}
 use Rattle.gx_scan.proofs.by_index.rows_where.Goals as goal
@@ -31,6 +32,9 @@ keys_where-requires-clause-span g c = λ kind e.
 pub keys_where-requires-clause-indexed : goal.keys_where-requires-clause-indexed
 keys_where-requires-clause-indexed g c = subst (λ (name : List ℕ). is_indexed any_rule (tree_of c.args.node.now) name ≡ true) (sym c.field_name-name.ensures) c.requires.indexed
 
+pub add_by_keys-requires-clause-places : goal.add_by_keys-requires-clause-places
+add_by_keys-requires-clause-places g c = places_lent (λ ps. ps.now) (λ ps. ps.items) (ArePlaces 0 (tree_of c.args.node.now)) c.as_deref.result c.in_ok-places.places c.as_deref.ensures.value c.in_ok-places.ensures
+
 pub add_by_keys-requires-clause-fit : goal.add_by_keys-requires-clause-fit
 add_by_keys-requires-clause-fit g c = λ key h.
     let found = c.in_ok-keys_where.ensures.found in
@@ -38,21 +42,15 @@ add_by_keys-requires-clause-fit g c = λ key h.
     let slice : c.as_slice.result.now ≡ c.keys_where.new.out = search rules in
     subst (λ form. AreFit form.keys key) c.requires.tree.form (found.fit key (subst (In key) (slice ∙ all) h))
 
-pub returns-in_err-keys_where-clause-ends : goal.returns-in_err-keys_where-clause-ends
-returns-in_err-keys_where-clause-ends g c = record {
-  whole = search rules;
-  later = search rules;
-  fault = search rules;
-  counted = search rules;
-  damaged = λ block e sound.
-      let p = err_from_is_err_and c.from_residual-in_err-keys_where.result c.from_residual-in_err-keys_where.ensures.1 in
-      let both = sym p.1 ∙ e in
-      let why : p.0 ≡ stop.Damaged block = cc in
-      let f = sound.1.0 in
-      let is = sound.1.1 in
-      let set = subst (λ form. IsSet form (records_of f)) (sym c.requires.tree.form) (set_of c.args.file.now f c.requires.storable.keyed is.fit) in
-      c.in_err-keys_where.ensures.ends.damaged block (ap Err (sym p.2 ∙ why)) (sound.0, (records_of f, set, is.held));
-}
+pub returns-in_err-keys_where-clause-reads : goal.returns-in_err-keys_where-clause-reads
+returns-in_err-keys_where-clause-reads g c =
+    let e = c.in_err-keys_where.ensures in
+    reads_stopped g.B.View c.from_residual-in_err-keys_where.result c.from_residual-in_err-keys_where.ensures.1
+    (λ sound.
+    let f = sound.1.0 in
+    let set = subst (λ form. IsSet form (records_of f)) (sym c.requires.tree.form) (set_of c.args.file.now f c.requires.storable.keyed sound.1.1.fit) in
+    (sound.0, (records_of f, set, sound.1.1.held)))
+    (record { reads = e.reads; ends = e.ends; block = e.block; not_full = e.not_full })
 
 pub returns-clause-rows : goal.returns-clause-rows
 returns-clause-rows g c = λ f whole is.
@@ -66,21 +64,12 @@ returns-clause-rows g c = λ f whole is.
     found_where file t c.args.field c.args.span.now c.args.conds.now f _ _ keys.found.keys _ _ c.requires.tree.form (named_at file c.args.field c.requires.named c.requires.past_key c.requires.in_file) is.fit (subst (λ (name : List ℕ). AreKeysOf any_rule t name c.args.span.now (records_of f) (g.B.View.work c.args.leaves.now) (g.B.View.work c.keys_where.new.leaves) keys.found.keys) c.field_name-name.ensures (keys.found.those whole (records_of f) set is.held))
     (now ∙ ap (λ (ks : List (List Value)). c.args.rows.now.items ++ filter (meets_conds c.args.conds.now) (flat_map (rows_at_key f) ks)) all)
 
-pub returns-in_err-add_by_keys-clause-ends : goal.returns-in_err-add_by_keys-clause-ends
-returns-in_err-add_by_keys-clause-ends g c =
+pub returns-in_err-add_by_keys-clause-reads : goal.returns-in_err-add_by_keys-clause-reads
+returns-in_err-add_by_keys-clause-reads g c =
     let keys = c.in_ok-keys_where.ensures in
-    let e = c.in_err-add_by_keys.ensures.ends in record {
-      whole = search rules;
-      later = search rules;
-      fault = search rules;
-      counted = search rules;
-      damaged = λ block is sound.
-          let p = err_from_is_err_and c.from_residual-in_err-add_by_keys.result c.from_residual-in_err-add_by_keys.ensures.1 in
-          let both = sym p.1 ∙ is in
-          let why : p.0 ≡ stop.Damaged block = cc in
-          let f = sound.1.0 in
-          e.damaged block (ap Err (sym p.2 ∙ why)) (keys.ends.whole sound.0, (f, subst (λ (maps : List LeafMap). IsInternal c.args.file.now (tree_of c.args.node.now) maps f) (sym keys.reads.working) sound.1.1));
-    }
+    reads_stopped_after g.B.View c.from_residual-in_err-add_by_keys.result c.from_residual-in_err-add_by_keys.ensures.1 keys.reads keys.ends.whole (keys.ends.counted refl)
+    (λ sound. (keys.ends.whole sound.0, (sound.1.0, subst (λ (maps : List LeafMap). IsInternal c.args.file.now (tree_of c.args.node.now) maps sound.1.0) (sym keys.reads.working) sound.1.1)))
+    c.in_err-add_by_keys.ensures.reads
 
 pub returns-clause-steps : goal.returns-clause-steps
 returns-clause-steps g c = λ f most whole is few.

@@ -1,12 +1,11 @@
-use Rattle.std.proofs.Common.{rules, ◌≡◌, ◌∙◌, ◌++◌, List, Err, sym, ap, subst, arith}
-use Rattle.std.proofs.lemmas.Result.{err_from_is_err_and}
+use Rattle.std.proofs.Common.{◌∙◌, ◌++◌, List, sym, ap, subst, arith}
 use Rattle.gx_values.specs.declared.records.Rec.{Rec}
-use Rattle.gx_ports.specs.declared.stop.Stop.TheVariants as stop
 use Rattle.gx_stack.specs.Internal.{IsSet}
 use Rattle.gx_stack.specs.Selected.{IsKeySpan}
 use Rattle.gx_scan.specs.Files.{records_of}
 use Rattle.gx_scan.specs.Records.{record_at}
 use Rattle.gx_stack.specs.Seen.{tree_of}
+use Rattle.gx_scan.proofs.CallLemmas.{reads_stopped}
 use Rattle.gx_scan.proofs.FileLemmas.{span_of_key, set_of, one_found}
 use Rattle.gx_scan.proofs.StepLemmas.{one_total}
 use Rattle.gx_scan.proofs.records.find_record.Goals as goal
@@ -15,21 +14,15 @@ pub select-requires-clause-span : goal.select-requires-clause-span
 select-requires-clause-span g c =
     subst (λ form. IsKeySpan form c.key_span.result) (sym c.requires.tree.form) (span_of_key c.args.file.now c.args.key.now c.key_span.result c.requires.storable.keyed c.requires.storable.key c.requires.key c.key_span.ensures.lo c.key_span.ensures.hi)
 
-pub returns-in_err-select-clause-ends : goal.returns-in_err-select-clause-ends
-returns-in_err-select-clause-ends g c = record {
-  whole = search rules;
-  later = search rules;
-  fault = search rules;
-  counted = search rules;
-  damaged = λ block e sound.
-      let p = err_from_is_err_and c.from_residual.result c.from_residual.ensures.1 in
-      let both = sym p.1 ∙ e in
-      let why : p.0 ≡ stop.Damaged block = cc in
-      let f = sound.1.0 in
-      let is = sound.1.1 in
-      let set = subst (λ form. IsSet form (records_of f)) (sym c.requires.tree.form) (set_of c.args.file.now f c.requires.storable.keyed is.fit) in
-      c.in_err-select.ensures.ends.damaged block (ap Err (sym p.2 ∙ why)) (sound.0, (records_of f, set, is.held));
-}
+pub returns-in_err-select-clause-reads : goal.returns-in_err-select-clause-reads
+returns-in_err-select-clause-reads g c =
+    let e = c.in_err-select.ensures in
+    reads_stopped g.B.View c.from_residual.result c.from_residual.ensures.1
+    (λ sound.
+    let f = sound.1.0 in
+    let set = subst (λ form. IsSet form (records_of f)) (sym c.requires.tree.form) (set_of c.args.file.now f c.requires.storable.keyed sound.1.1.fit) in
+    (sound.0, (records_of f, set, sound.1.1.held)))
+    (record { reads = e.reads; ends = e.ends; block = e.block; not_full = e.not_full })
 
 pub returns-clause-found : goal.returns-clause-found
 returns-clause-found g c = λ f whole is.
