@@ -1,6 +1,7 @@
 -- What leaves hold of a stored link.
 use Rattle.std.proofs.Common.{◌≡◌, ◌<◌, ◌∙◌, ℕ, suc, Bool, true, false, List, [], ◌∷◌, length, Option, Some, None, refl, sym, ap, subst, arith}
 use Rattle.std.specs.Prelude.{not, ◌&&◌, nat_le, is_some, if◌then◌else◌}
+use Rattle.std.specs.Option.{option_map}
 use Rattle.std.specs.FinMap as fin
 use Rattle.std.proofs.Math.Nat.{lt_of_not-le}
 use Rattle.std.proofs.lemmas.Bool.{true≢false}
@@ -8,6 +9,7 @@ use Rattle.std.proofs.lemmas.Bool.Decides.{nat_tests}
 use Rattle.std.proofs.lemmas.List.{length-map}
 use Rattle.gx_values.specs.declared.values.Value.{Value}
 use Rattle.gx_ports.specs.LeafMaps.{LeafMap}
+use Rattle.gx_gather.proofs.Lists.{none_some}
 use Rattle.gx_model.specs.States.{File, pairs_of, most_members}
 use Rattle.gx_model.specs.Commands.{Refusal, no_record, has_owner, too_many_members, first_refusal}
 use Rattle.gx_scan.specs.Files.{HasFile}
@@ -33,6 +35,11 @@ module _ {L : Type 0} (rule : L → LinkRule) (held : L → Link → List LeafMa
 
   pub have_still : new ≡ old → HaveLink rule held s old → HaveLink rule held s new
   have_still same h = (h.0, h.1, h.2, linked_still h.0 h.1 h.2 same h.3)
+
+-- a look-up gives what is there
+pub looked_up : {A B : Type 0} (f : A → B) (o : Option A) (found : Option B) → found ≡ option_map f o → found ≡ None → is_some o ≡ true → ⊥
+looked_up f None found is none there = true≢false (sym there)
+looked_up f (Some x) found is none there = none_some (f x) (sym none ∙ is)
 
 -- ---- why a pair isn't connected
 

@@ -1,11 +1,10 @@
 -- The records of an owner's members, and the steps that finding them takes.
-use Rattle.std.proofs.Common.{[], ◌≡◌, ℕ, zero, suc, ◌+◌, ◌*◌, ◌<◌, ◌≤◌, List, ◌∷◌, ◌++◌, length, map, drop, get_or, cond, Bool, true, false, Option, Some, None, Ok, Err, inl, inr, refl, sym, ap, subst, ◌∙◌, arith, append_assoc, append-nil}
-use Rattle.std.specs.Prelude.{T, filter, flat_map, ◌&&◌, ◌||◌, ◌==◌, not, is_some, IsTrue, Result, OnOk}
+use Rattle.std.proofs.Common.{[], ◌≡◌, ℕ, zero, suc, ◌+◌, ◌*◌, ◌<◌, ◌≤◌, List, ◌∷◌, ◌++◌, length, map, drop, get_or, cond, Bool, true, false, Option, Some, None, inl, inr, refl, sym, ap, subst, ◌∙◌, arith, append_assoc, append-nil}
+use Rattle.std.specs.Prelude.{T, filter, flat_map, ◌&&◌, ◌||◌, ◌==◌, not, is_some, IsTrue}
 use Rattle.std.specs.List.{AllByRecursion, list_any}
 use Rattle.std.specs.Option.{option_map}
 use Rattle.std.specs.declared.cmp.Ordering.TheVariants.{Less}
 use Rattle.std.specs.FinMap as fin
-use Rattle.std.specs.FinMap.Entries.{below_all}
 use Rattle.std.proofs.Math.Dec.{eqb-suc-zero}
 use Rattle.std.proofs.Math.Nat.{mul-le-mul, mul-le-mul_right}
 use Rattle.std.proofs.lemmas.Bool.{true≢false}
@@ -24,18 +23,13 @@ use Rattle.gx_model.specs.Found.{meets_conds, is_owner}
 use Rattle.gx_scan.specs.Files.{rec_of}
 use Rattle.gx_scan.specs.Records.{list_of_one}
 use Rattle.gx_scan.specs.Within.{row_of}
-use Rattle.gx_scan.proofs.FileLemmas.{first_of_both, second_of_both, is_less, find_in, in_find}
+use Rattle.gx_scan.proofs.FileLemmas.{first_of_both, second_of_both, below_in, find_in, in_find}
 use Rattle.gx_scan.proofs.ListingLemmas.{same_filter, filter_twice}
 use Rattle.gx_links.specs.Links.{Link, is_same, members_of}
 use Rattle.gx_links.proofs.MemberLemmas.{members_are, from_members, in_members, same_value, value_itself}
 use Rattle.gx_pairs.specs.Members.{is_member_of, is_chosen_of, AreMembersOf, member_rows, has_member, rows_at, AreThere}
 
 -- ---- rows in the order of their keys
-
-row_below : (x : Value) (es : List Row) (r : Row) → T (below_all value_cmp x es) → In r es → value_cmp x r.0 ≡ Less
-row_below x [] r h there = absurd there
-row_below x (s ∷ es) r h (inl same) = subst (λ (q : Row). value_cmp x q.0 ≡ Less) (sym same) (is_less _ (first_of_both _ _ h))
-row_below x (s ∷ es) r h (inr there) = row_below x es r (second_of_both _ _ h) there
 
 keys_ascend : (test : Row → Bool) (es : List Row) → T (fin.is_sorted value_cmp es) → Ascends value_cmp (map (λ r. r.0) (filter test es))
 keys_ascend test [] h = tt
@@ -45,7 +39,7 @@ keys_ascend test (e ∷ es) h = go (test e) (keys_ascend test es (second_of_both
     go true more = (
       all_of _ (map (λ r. r.0) (filter test es)) (λ y k.
           let q = from_map (λ (r : Row). r.0) y (filter test es) k in
-          subst (λ z. value_cmp e.0 z ≡ Less) (sym q.2) (row_below e.0 es q.0 (first_of_both _ _ h) (in_filter test q.0 es q.1).0)),
+          subst (λ z. value_cmp e.0 z ≡ Less) (sym q.2) (below_in value_cmp e.0 es q.0 (first_of_both _ _ h) (in_filter test q.0 es q.1).0)),
       more,
     )
     go false more = more
@@ -205,10 +199,6 @@ above_none zero e = absurd (true≢false e)
 above_none (suc n) e = omega arith
 
 -- ---- steps
-
-pub ok_so : {A E : Type 0} (r : Result A E) (P Q : Type 0) → OnOk r P → (P → Q) → OnOk r Q
-ok_so (Ok x) P Q p f = f p
-ok_so (Err e) P Q p f = tt
 
 -- of the owner's record alone
 pub owner_steps : (leaves most own_leaves rows before after : ℕ) → own_leaves ≤ leaves → after ≤ before + (own_leaves + most) → after ≤ before + 2 * (rows + 1) * (most + leaves)

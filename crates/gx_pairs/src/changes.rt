@@ -6,7 +6,7 @@ ghost use Rattle.gx_values.specs.declared.values.Value.{Value as FieldValue};
 ghost use Rattle.gx_values.specs.Values.{Fits};
 ghost use Rattle.gx_schema.specs.Lookups.{key_kind};
 ghost use Rattle.gx_ports.specs.LeafMaps.{entry_count, IsCrowdedBy};
-ghost use Rattle.gx_ports.specs.Calls.{Keeps, Reads, Ends};
+ghost use Rattle.gx_ports.specs.Calls.{Keeps, Ends, OnlyReads};
 ghost use Rattle.gx_model.specs.States.{File as FileMap, Link as LinkMap};
 ghost use Rattle.gx_links.specs.Links.{members_of};
 ghost use Rattle.gx_pairs.specs.Stored.{file_of, IsStoredLink, AreLinked, HaveLink, IsRelinked};
@@ -123,12 +123,9 @@ fn has_both<B: Leaves, L: Linkset>(
     ensures found { (owners members : FileMap) (link : LinkMap) → B.whole leaves.old →
         AreLinked L.rule L.held stored.now (B.working leaves.old) owners members link → IfOk result
         (λ both. both ≡ is_some (fin.get owners owner.now) && is_some (fin.get members member.now)) }
-    ensures reads { Reads B.View leaves.old leaves.new }
-    ensures ends { Ends B.View
+    ensures reads { OnlyReads B.View
         (B.whole leaves.old × HaveLink L.rule L.held stored.now (B.working leaves.old))
         leaves.old leaves.new result }
-    ensures block { (n : ℕ) → IsErrOf result (Stop.Damaged n) → B.whole leaves.old → n ≡ 0 }
-    ensures not_full { ¬ IsErrOf result Stop.Full }
 {
     if !has_record(alloc, &stored.owners, owner, leaves)? {
         return Ok(false);
@@ -152,12 +149,9 @@ fn owner_to_leave<B: Leaves, L: Linkset>(
         AreLinked L.rule L.held stored.now (B.working leaves.old) owners members link → IfOk result
         (λ owned. IfOk owned (λ owner. fin.get link member.now ≡ Option.Some owner)) }
     ensures fits { IfOk result (λ owned. IfOk owned (Fits (L.rule stored.now.linkset).owner)) }
-    ensures reads { Reads B.View leaves.old leaves.new }
-    ensures ends { Ends B.View
+    ensures reads { OnlyReads B.View
         (B.whole leaves.old × HaveLink L.rule L.held stored.now (B.working leaves.old))
         leaves.old leaves.new result }
-    ensures block { (n : ℕ) → IsErrOf result (Stop.Damaged n) → B.whole leaves.old → n ≡ 0 }
-    ensures not_full { ¬ IsErrOf result Stop.Full }
 {
     if !has_record(alloc, &stored.members, member, leaves)? {
         return Ok(Err(Refused::NoRecord));

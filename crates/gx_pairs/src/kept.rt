@@ -1,9 +1,9 @@
 // Those of some rows that are members of an owner.
-ghost use Rattle.std.specs.Prelude.{◌≡◌, ◌≤◌, ◌<◌, ◌+◌, ◌*◌, ℕ, length, filter, IfOk, OnOk, IsErrOf, true, false};
+ghost use Rattle.std.specs.Prelude.{◌≡◌, ◌≤◌, ◌<◌, ◌+◌, ◌*◌, ℕ, length, filter, IfOk, OnOk, true, false};
 ghost use Rattle.std.specs.FinMap as fin;
 ghost use Rattle.std.specs.List.{AllByRecursion, list_any};
 ghost use Rattle.gx_values.specs.Values.{Fits};
-ghost use Rattle.gx_ports.specs.Calls.{Reads, Ends};
+ghost use Rattle.gx_ports.specs.Calls.{OnlyReads};
 ghost use Rattle.gx_mapping.specs.Rule.{In};
 ghost use Rattle.gx_model.specs.States.{Link as LinkMap, is_same};
 ghost use Rattle.gx_model.specs.Found.{is_owner};
@@ -43,13 +43,10 @@ pub fn keep_members<B: Leaves, L: Linkset>(
         OwnersHaveAtMost most (L.rule linkset.now) link → OnOk result
         (B.work leaves.new
         ≤ B.work leaves.old + length rows.items * (most + length (B.working leaves.old))) }
-    ensures reads { Reads B.View leaves.old leaves.new }
-    ensures ends { Ends B.View
+    ensures reads { OnlyReads B.View
         (B.whole leaves.old
         × HasLink (L.rule linkset.now) (L.held linkset.now) (B.working leaves.old))
         leaves.old leaves.new result }
-    ensures block { (n : ℕ) → IsErrOf result (Stop.Damaged n) → B.whole leaves.old → n ≡ 0 }
-    ensures not_full { ¬ IsErrOf result Stop.Full }
 {
     if rows.is_empty() {
         return Ok(rows);
@@ -85,13 +82,10 @@ fn keep_owned<B: Leaves, L: Linkset>(
         OwnersHaveAtMost most (L.rule linkset.now) link → OnOk result
         (B.work leaves.new
         ≤ B.work leaves.old + length rows.items * (most + length (B.working leaves.old))) }
-    ensures reads { Reads B.View leaves.old leaves.new }
-    ensures ends { Ends B.View
+    ensures reads { OnlyReads B.View
         (B.whole leaves.old
         × HasLink (L.rule linkset.now) (L.held linkset.now) (B.working leaves.old))
         leaves.old leaves.new result }
-    ensures block { (n : ℕ) → IsErrOf result (Stop.Damaged n) → B.whole leaves.old → n ≡ 0 }
-    ensures not_full { ¬ IsErrOf result Stop.Full }
 {
     let mut kept = Vec::new(alloc);
     for row in rows {
@@ -125,13 +119,10 @@ fn is_owned<B: Leaves, L: Linkset>(
         L.held linkset.now link (B.working leaves.old) →
         OwnersHaveAtMost most (L.rule linkset.now) link → OnOk result
         (B.work leaves.new ≤ B.work leaves.old + (most + length (B.working leaves.old))) }
-    ensures reads { Reads B.View leaves.old leaves.new }
-    ensures ends { Ends B.View
+    ensures reads { OnlyReads B.View
         (B.whole leaves.old
         × HasLink (L.rule linkset.now) (L.held linkset.now) (B.working leaves.old))
         leaves.old leaves.new result }
-    ensures block { (n : ℕ) → IsErrOf result (Stop.Damaged n) → B.whole leaves.old → n ≡ 0 }
-    ensures not_full { ¬ IsErrOf result Stop.Full }
 {
     match linkset.owner(alloc, leaves, member)? {
         Some(found) => Ok(compare(&found, owner).is_eq()),
@@ -162,13 +153,10 @@ fn keep_found<B: Leaves, L: Linkset>(
         L.held linkset.now link (B.working leaves.old) →
         OwnersHaveAtMost most (L.rule linkset.now) link → OnOk result
         (B.work leaves.new ≤ B.work leaves.old + (most + length (B.working leaves.old))) }
-    ensures reads { Reads B.View leaves.old leaves.new }
-    ensures ends { Ends B.View
+    ensures reads { OnlyReads B.View
         (B.whole leaves.old
         × HasLink (L.rule linkset.now) (L.held linkset.now) (B.working leaves.old))
         leaves.old leaves.new result }
-    ensures block { (n : ℕ) → IsErrOf result (Stop.Damaged n) → B.whole leaves.old → n ≡ 0 }
-    ensures not_full { ¬ IsErrOf result Stop.Full }
 {
     let mut members = Values(Vec::new(alloc));
     linkset.members(alloc, leaves, owner, &mut members)?;

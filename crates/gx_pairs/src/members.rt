@@ -1,11 +1,11 @@
 // The members of an owner.
-ghost use Rattle.std.specs.Prelude.{◌≡◌, ◌≤◌, ◌<◌, ◌+◌, ◌*◌, ◌++◌, [], ℕ, length, filter, flat_map, IfOk, OnOk, IsErrOf, is_some, true, false};
+ghost use Rattle.std.specs.Prelude.{◌≡◌, ◌≤◌, ◌<◌, ◌+◌, ◌*◌, ◌++◌, [], ℕ, length, filter, flat_map, IfOk, OnOk, is_some, true, false};
 ghost use Rattle.std.specs.FinMap as fin;
 ghost use Rattle.std.specs.List.{AllByRecursion};
 ghost use Rattle.gx_values.specs.declared.values.Value.{Value as FieldValue};
 ghost use Rattle.gx_values.specs.Values.{Fits};
 ghost use Rattle.gx_schema.specs.Lookups.{key_kind};
-ghost use Rattle.gx_ports.specs.Calls.{Reads, Ends};
+ghost use Rattle.gx_ports.specs.Calls.{OnlyReads};
 ghost use Rattle.gx_mapping.specs.Rule.{In};
 ghost use Rattle.gx_model.specs.States.{File as FileMap, Link as LinkMap};
 ghost use Rattle.gx_model.specs.Found.{meets_conds};
@@ -58,12 +58,9 @@ pub fn add_members<B: Leaves, L: Linkset>(
         (B.work leaves.new
         ≤ B.work leaves.old + 2 * (length (member_rows members link owner.now) + 1)
         * (most + length (B.working leaves.old))) }
-    ensures reads { Reads B.View leaves.old leaves.new }
-    ensures ends { Ends B.View
+    ensures reads { OnlyReads B.View
         (B.whole leaves.old × HaveLink L.rule L.held stored.now (B.working leaves.old))
         leaves.old leaves.new result }
-    ensures block { (n : ℕ) → IsErrOf result (Stop.Damaged n) → B.whole leaves.old → n ≡ 0 }
-    ensures not_full { ¬ IsErrOf result Stop.Full }
 {
     if !has_record(alloc, &stored.owners, owner, leaves)? {
         return Ok(false);
@@ -108,12 +105,9 @@ pub fn add_member_at<B: Leaves, L: Linkset>(
         ≤ B.work leaves.old
         + (length (filter (meets_conds conds.now) (rows_at members key.now)) + 2)
         * (most + length (B.working leaves.old))) }
-    ensures reads { Reads B.View leaves.old leaves.new }
-    ensures ends { Ends B.View
+    ensures reads { OnlyReads B.View
         (B.whole leaves.old × HaveLink L.rule L.held stored.now (B.working leaves.old))
         leaves.old leaves.new result }
-    ensures block { (n : ℕ) → IsErrOf result (Stop.Damaged n) → B.whole leaves.old → n ≡ 0 }
-    ensures not_full { ¬ IsErrOf result Stop.Full }
 {
     if !has_record(alloc, &stored.owners, owner, leaves)? {
         return Ok(false);
@@ -145,12 +139,9 @@ fn add_records<B: Leaves>(
         (B.work leaves.new
         ≤ B.work leaves.old
         + length keys.now * (length (leaves_of (node_tree stored.now)) + most)) }
-    ensures reads { Reads B.View leaves.old leaves.new }
-    ensures ends { Ends B.View
+    ensures reads { OnlyReads B.View
         (B.whole leaves.old × HaveRecords stored.now (B.working leaves.old) keys.now)
         leaves.old leaves.new result }
-    ensures block { (n : ℕ) → IsErrOf result (Stop.Damaged n) → B.whole leaves.old → n ≡ 0 }
-    ensures not_full { ¬ IsErrOf result Stop.Full }
 {
     for key in keys {
         if !add_record(alloc, stored, key, conds, leaves, rows)? {
@@ -186,13 +177,10 @@ fn add_record<B: Leaves>(
         HaveAtMost most (node_tree stored.now) f → OnOk result
         (B.work leaves.new
         ≤ B.work leaves.old + (length (leaves_of (node_tree stored.now)) + most)) }
-    ensures reads { Reads B.View leaves.old leaves.new }
-    ensures ends { Ends B.View
+    ensures reads { OnlyReads B.View
         (B.whole leaves.old
         × HasFile (file_of stored.now) (node_tree stored.now) (B.working leaves.old))
         leaves.old leaves.new result }
-    ensures block { (n : ℕ) → IsErrOf result (Stop.Damaged n) → B.whole leaves.old → n ≡ 0 }
-    ensures not_full { ¬ IsErrOf result Stop.Full }
 {
     let Some(rec) = find_record(alloc, stored.file, stored.node, key, leaves)? else {
         return Ok(false);
@@ -219,13 +207,10 @@ pub fn has_members<B: Leaves, L: Linkset>(
         IsLink (L.rule linkset.now).owner (L.rule linkset.now).member link →
         L.held linkset.now link (B.working leaves.old) →
         IfOk result (λ has. has ≡ has_member link owner.now) }
-    ensures reads { Reads B.View leaves.old leaves.new }
-    ensures ends { Ends B.View
+    ensures reads { OnlyReads B.View
         (B.whole leaves.old
         × HasLink (L.rule linkset.now) (L.held linkset.now) (B.working leaves.old))
         leaves.old leaves.new result }
-    ensures block { (n : ℕ) → IsErrOf result (Stop.Damaged n) → B.whole leaves.old → n ≡ 0 }
-    ensures not_full { ¬ IsErrOf result Stop.Full }
 {
     let mut members = Values(Vec::new(alloc));
     linkset.members(alloc, leaves, owner, &mut members)?;

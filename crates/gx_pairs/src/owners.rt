@@ -1,9 +1,9 @@
 // The owner of a member.
-ghost use Rattle.std.specs.Prelude.{◌≡◌, ◌<◌, ℕ, length, IfOk, IsErrOf, is_some};
+ghost use Rattle.std.specs.Prelude.{◌≡◌, ◌<◌, ℕ, length, IfOk, is_some};
 ghost use Rattle.std.specs.FinMap as fin;
 ghost use Rattle.gx_values.specs.Values.{Fits};
 ghost use Rattle.gx_schema.specs.Lookups.{key_kind};
-ghost use Rattle.gx_ports.specs.Calls.{Reads, Ends};
+ghost use Rattle.gx_ports.specs.Calls.{OnlyReads};
 ghost use Rattle.gx_mapping.specs.Rule.{In};
 ghost use Rattle.gx_model.specs.States.{File as FileMap, Link as LinkMap};
 ghost use Rattle.gx_links.specs.Links.{IsLink};
@@ -42,12 +42,9 @@ pub fn find_owner<B: Leaves, L: Linkset>(
     ensures found { (owners members : FileMap) (link : LinkMap) → B.whole leaves.old →
         AreLinked L.rule L.held stored.now (B.working leaves.old) owners members link →
         IfOk result (IsOwned owners members link member.now) }
-    ensures reads { Reads B.View leaves.old leaves.new }
-    ensures ends { Ends B.View
+    ensures reads { OnlyReads B.View
         (B.whole leaves.old × HaveLink L.rule L.held stored.now (B.working leaves.old))
         leaves.old leaves.new result }
-    ensures block { (n : ℕ) → IsErrOf result (Stop.Damaged n) → B.whole leaves.old → n ≡ 0 }
-    ensures not_full { ¬ IsErrOf result Stop.Full }
 {
     if !has_record(alloc, &stored.members, member, leaves)? {
         return Ok(Owned::NoMember);
@@ -76,12 +73,9 @@ pub fn has_owner<B: Leaves, L: Linkset>(
         IsLink (L.rule linkset.now).owner (L.rule linkset.now).member link →
         L.held linkset.now link (B.working leaves.old) →
         IfOk result (λ has. has ≡ is_some (fin.get link member.now)) }
-    ensures reads { Reads B.View leaves.old leaves.new }
-    ensures ends { Ends B.View
+    ensures reads { OnlyReads B.View
         (B.whole leaves.old × HasLink (L.rule linkset.now) (L.held linkset.now) (B.working leaves.old))
         leaves.old leaves.new result }
-    ensures block { (n : ℕ) → IsErrOf result (Stop.Damaged n) → B.whole leaves.old → n ≡ 0 }
-    ensures not_full { ¬ IsErrOf result Stop.Full }
 {
     Ok(linkset.owner(alloc, leaves, member)?.is_some())
 }

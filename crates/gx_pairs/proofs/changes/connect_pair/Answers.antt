@@ -8,7 +8,7 @@ use Rattle.gx_pairs.proofs.LinkedLemmas.{link_there, have_still, is_free, may_co
 use Rattle.gx_pairs.proofs.changes.connect_pair.Goals as goal
 
 pub has_owner-requires-clause-below : goal.has_owner-requires-clause-below
-has_owner-requires-clause-below g c = λ n h. subst (λ (maps : List LeafMap). n < length maps) (sym c.has_both.ensures.reads.working) (c.requires.stored.below n h)
+has_owner-requires-clause-below g c = λ n h. subst (λ (maps : List LeafMap). n < length maps) (sym c.has_both.ensures.reads.reads.working) (c.requires.stored.below n h)
 
 pub returns-in_err-has_owner-clause-ends : goal.returns-in_err-has_owner-clause-ends
 returns-in_err-has_owner-clause-ends g c =
@@ -18,11 +18,11 @@ returns-in_err-has_owner-clause-ends g c =
     let s = c.args.stored.now in
     let old = b.working c.args.leaves.now in
     let new = b.working c.has_both.new.leaves in
-    let passed = passes b c.has_both.ensures.reads c.in_ok-has_both.ensures.ends in
-    ends_given_after b c.from_residual-in_err-has_owner.result c.from_residual-in_err-has_owner.ensures.1 passed (λ h. (passed.whole h.0, link_there rule held s new (have_still rule held s old new passed.reads.working h.1))) c.in_err-has_owner.ensures.ends
+    let passed = passes b c.has_both.ensures.reads.reads c.in_ok-has_both.ensures.reads.ends in
+    ends_given_after b c.from_residual-in_err-has_owner.result c.from_residual-in_err-has_owner.ensures.1 passed (λ h. (passed.whole h.0, link_there rule held s new (have_still rule held s old new passed.reads.working h.1))) c.in_err-has_owner.ensures.reads.ends
 
 pub connect-requires-clause-below : goal.connect-requires-clause-below
-connect-requires-clause-below g c = λ n h. subst (λ (maps : List LeafMap). n < length maps) (sym (c.has_owner.ensures.reads.working ∙ c.has_both.ensures.reads.working)) (c.requires.stored.below n h)
+connect-requires-clause-below g c = λ n h. subst (λ (maps : List LeafMap). n < length maps) (sym (c.has_owner.ensures.reads.reads.working ∙ c.has_both.ensures.reads.reads.working)) (c.requires.stored.below n h)
 
 pub returns-in_err-connect-clause-ends : goal.returns-in_err-connect-clause-ends
 returns-in_err-connect-clause-ends g c =
@@ -32,7 +32,7 @@ returns-in_err-connect-clause-ends g c =
     let s = c.args.stored.now in
     let old = b.working c.args.leaves.now in
     let new = b.working c.has_owner.new.leaves in
-    let passed = passes_joined b (passes b c.has_both.ensures.reads c.in_ok-has_both.ensures.ends) (passes b c.has_owner.ensures.reads c.in_ok-has_owner.ensures.ends) in
+    let passed = passes_joined b (passes b c.has_both.ensures.reads.reads c.in_ok-has_both.ensures.reads.ends) (passes b c.has_owner.ensures.reads.reads c.in_ok-has_owner.ensures.reads.ends) in
     ends_given_after b c.from_residual-in_err-connect.result c.from_residual-in_err-connect.ensures.1 passed (λ h. (passed.whole h.0, link_there rule held s new (have_still rule held s old new passed.reads.working h.1))) c.in_err-connect.ensures.ends
 
 pub returns-in_err-connect-clause-full : goal.returns-in_err-connect-clause-full
@@ -45,14 +45,14 @@ returns-in_err-connect-clause-full g c = λ owners members link whole are full.
     let m = c.args.member.now in
     let old = b.working c.args.leaves.now in
     let new = b.working c.has_owner.new.leaves in
-    let half = c.has_both.ensures.reads.working in
-    let same = c.has_owner.ensures.reads.working ∙ half in
-    let between = c.in_ok-has_both.ensures.ends.whole whole in
-    let after = c.in_ok-has_owner.ensures.ends.whole between in
+    let half = c.has_both.ensures.reads.reads.working in
+    let same = c.has_owner.ensures.reads.reads.working ∙ half in
+    let between = c.in_ok-has_both.ensures.reads.ends.whole whole in
+    let after = c.in_ok-has_owner.ensures.reads.ends.whole between in
     let both = c.in_ok-has_both.ensures.found owners members link whole are in
     let has = c.in_ok-has_owner.ensures.found link between are.is_link (subst (held link) (sym half) are.link) in
     let can = connect_still rule held old new link m same (record { is_link = are.is_link; is_held = are.link; free = is_free owners members link o m _ _ both (search rules) has (search rules) }) in
-    let limit = c.has_owner.ensures.reads.limit ∙ c.has_both.ensures.reads.limit in
+    let limit = c.has_owner.ensures.reads.reads.limit ∙ c.has_both.ensures.reads.reads.limit in
     let crowded = c.in_err-connect.ensures.full link after can (same_stop c.from_residual-in_err-connect.result stop.Full c.from_residual-in_err-connect.ensures.1 full) in
     (may_connect owners members link o m _ _ both (search rules) has (search rules) crowded.0, crowded_still (b.limit c.args.leaves.now) (b.limit c.has_owner.new.leaves) old new _ limit same crowded.1)
 
@@ -66,10 +66,10 @@ returns-in-Joined-clause-refused g c = λ owners members link whole are.
     let m = c.args.member.now in
     let old = b.working c.args.leaves.now in
     let new = b.working c.has_owner.new.leaves in
-    let half = c.has_both.ensures.reads.working in
-    let same = c.has_owner.ensures.reads.working ∙ half in
-    let between = c.in_ok-has_both.ensures.ends.whole whole in
-    let after = c.in_ok-has_owner.ensures.ends.whole between in
+    let half = c.has_both.ensures.reads.reads.working in
+    let same = c.has_owner.ensures.reads.reads.working ∙ half in
+    let between = c.in_ok-has_both.ensures.reads.ends.whole whole in
+    let after = c.in_ok-has_owner.ensures.reads.ends.whole between in
     let both = c.in_ok-has_both.ensures.found owners members link whole are in
     let has = c.in_ok-has_owner.ensures.found link between are.is_link (subst (held link) (sym half) are.link) in
     let can = connect_still rule held old new link m same (record { is_link = are.is_link; is_held = are.link; free = is_free owners members link o m _ _ both (search rules) has (search rules) }) in
@@ -86,10 +86,10 @@ returns-in-Joined-clause-connected g c = λ owners members link whole are.
     let m = c.args.member.now in
     let old = b.working c.args.leaves.now in
     let new = b.working c.has_owner.new.leaves in
-    let half = c.has_both.ensures.reads.working in
-    let same = c.has_owner.ensures.reads.working ∙ half in
-    let between = c.in_ok-has_both.ensures.ends.whole whole in
-    let after = c.in_ok-has_owner.ensures.ends.whole between in
+    let half = c.has_both.ensures.reads.reads.working in
+    let same = c.has_owner.ensures.reads.reads.working ∙ half in
+    let between = c.in_ok-has_both.ensures.reads.ends.whole whole in
+    let after = c.in_ok-has_owner.ensures.reads.ends.whole between in
     let both = c.in_ok-has_both.ensures.found owners members link whole are in
     let has = c.in_ok-has_owner.ensures.found link between are.is_link (subst (held link) (sym half) are.link) in
     let can = connect_still rule held old new link m same (record { is_link = are.is_link; is_held = are.link; free = is_free owners members link o m _ _ both (search rules) has (search rules) }) in
@@ -109,10 +109,10 @@ returns-in-NoRoom-clause-refused g c = λ owners members link whole are.
     let m = c.args.member.now in
     let old = b.working c.args.leaves.now in
     let new = b.working c.has_owner.new.leaves in
-    let half = c.has_both.ensures.reads.working in
-    let same = c.has_owner.ensures.reads.working ∙ half in
-    let between = c.in_ok-has_both.ensures.ends.whole whole in
-    let after = c.in_ok-has_owner.ensures.ends.whole between in
+    let half = c.has_both.ensures.reads.reads.working in
+    let same = c.has_owner.ensures.reads.reads.working ∙ half in
+    let between = c.in_ok-has_both.ensures.reads.ends.whole whole in
+    let after = c.in_ok-has_owner.ensures.reads.ends.whole between in
     let both = c.in_ok-has_both.ensures.found owners members link whole are in
     let has = c.in_ok-has_owner.ensures.found link between are.is_link (subst (held link) (sym half) are.link) in
     let can = connect_still rule held old new link m same (record { is_link = are.is_link; is_held = are.link; free = is_free owners members link o m _ _ both (search rules) has (search rules) }) in
@@ -129,10 +129,10 @@ returns-in-NoRoom-clause-connected g c = λ owners members link whole are.
     let m = c.args.member.now in
     let old = b.working c.args.leaves.now in
     let new = b.working c.has_owner.new.leaves in
-    let half = c.has_both.ensures.reads.working in
-    let same = c.has_owner.ensures.reads.working ∙ half in
-    let between = c.in_ok-has_both.ensures.ends.whole whole in
-    let after = c.in_ok-has_owner.ensures.ends.whole between in
+    let half = c.has_both.ensures.reads.reads.working in
+    let same = c.has_owner.ensures.reads.reads.working ∙ half in
+    let between = c.in_ok-has_both.ensures.reads.ends.whole whole in
+    let after = c.in_ok-has_owner.ensures.reads.ends.whole between in
     let both = c.in_ok-has_both.ensures.found owners members link whole are in
     let has = c.in_ok-has_owner.ensures.found link between are.is_link (subst (held link) (sym half) are.link) in
     let can = connect_still rule held old new link m same (record { is_link = are.is_link; is_held = are.link; free = is_free owners members link o m _ _ both (search rules) has (search rules) }) in

@@ -1,24 +1,28 @@
-use Rattle.std.proofs.Common.{◌<◌, List, length, sym, subst}
+use Rattle.std.proofs.Common.{◌<◌, List, length, refl, sym, subst}
 use Rattle.gx_ports.specs.LeafMaps.{LeafMap}
-use Rattle.gx_links.proofs.PassLemmas.{passes, ends_given, ends_given_after}
+use Rattle.gx_scan.proofs.CallLemmas.{reads_stopped, reads_stopped_after}
 use Rattle.gx_pairs.proofs.LinkedLemmas.{members_there, link_there, have_still}
 use Rattle.gx_pairs.proofs.changes.owner_to_leave.Goals as goal
 
-pub returns-in_err-has_record-clause-ends : goal.returns-in_err-has_record-clause-ends
-returns-in_err-has_record-clause-ends g c =
+pub returns-in_err-has_record-clause-reads : goal.returns-in_err-has_record-clause-reads
+returns-in_err-has_record-clause-reads g c =
     let maps = g.B.View.working c.args.leaves.now in
-    ends_given g.B.View c.from_residual.result c.from_residual.ensures.1 (λ h. (h.0, members_there g.L.Linkset.rule g.L.Linkset.held c.args.stored.now maps h.1)) c.in_err-has_record.ensures.ends
+    reads_stopped g.B.View c.from_residual.result c.from_residual.ensures.1
+    (λ h. (h.0, members_there g.L.Linkset.rule g.L.Linkset.held c.args.stored.now maps h.1)) c.in_err-has_record.ensures.reads
 
 pub owner-requires-clause-below : goal.owner-requires-clause-below
-owner-requires-clause-below g c = λ n h. subst (λ (maps : List LeafMap). n < length maps) (sym c.has_record.ensures.reads.working) (c.requires.stored.below n h)
+owner-requires-clause-below g c = λ n h. subst (λ (maps : List LeafMap). n < length maps) (sym c.has_record.ensures.reads.reads.working) (c.requires.stored.below n h)
 
-pub returns-in_err-owner-clause-ends : goal.returns-in_err-owner-clause-ends
-returns-in_err-owner-clause-ends g c =
+pub returns-in_err-owner-clause-reads : goal.returns-in_err-owner-clause-reads
+returns-in_err-owner-clause-reads g c =
     let b = g.B.View in
     let rule = g.L.Linkset.rule in
     let held = g.L.Linkset.held in
     let s = c.args.stored.now in
     let old = b.working c.args.leaves.now in
     let new = b.working c.has_record.new.leaves in
-    let passed = passes b c.has_record.ensures.reads c.in_ok-has_record.ensures.ends in
-    ends_given_after b c.from_residual-in_err-owner.result c.from_residual-in_err-owner.ensures.1 passed (λ h. (passed.whole h.0, link_there rule held s new (have_still rule held s old new passed.reads.working h.1))) c.in_err-owner.ensures.ends
+    let first = c.in_ok-has_record.ensures.reads in
+    let e = c.in_err-owner.ensures in
+    reads_stopped_after b c.from_residual-in_err-owner.result c.from_residual-in_err-owner.ensures.1 first.reads first.ends.whole (first.ends.counted refl)
+    (λ h. (first.ends.whole h.0, link_there rule held s new (have_still rule held s old new first.reads.working h.1)))
+    (record { reads = e.reads; ends = e.ends; block = e.block; not_full = e.not_full })

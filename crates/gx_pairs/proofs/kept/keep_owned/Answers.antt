@@ -1,17 +1,16 @@
-use Rattle.std.proofs.Common.{rules, ◌≡◌, ◌≤◌, ◌<◌, ◌∙◌, ◌+◌, ◌*◌, ◌++◌, ◌∷◌, List, Err, length, true, false, inr, refl, sym, ap, subst, arith}
+use Rattle.std.proofs.Common.{rules, ◌≡◌, ◌≤◌, ◌<◌, ◌∙◌, ◌+◌, ◌*◌, ◌++◌, ◌∷◌, List, length, true, false, inr, refl, sym, ap, subst, arith}
 use Rattle.std.specs.Prelude.{filter}
 use Rattle.std.specs.FinMap as fin
 use Rattle.std.specs.Vec.Iter.{into_iter_items}
-use Rattle.std.proofs.lemmas.Result.{err_from_is_err_and}
 use Rattle.gx_values.specs.declared.values.Value.{Value}
 use Rattle.gx_values.specs.Values.{Fits}
-use Rattle.gx_ports.specs.declared.stop.Stop.TheVariants as stop
 use Rattle.gx_ports.specs.LeafMaps.{LeafMap}
 use Rattle.gx_ports.proofs.CallLemmas.{reads_itself, reads_joined}
 use Rattle.gx_gather.proofs.Lists.{all_at}
 use Rattle.gx_mapping.specs.Rule.{In}
 use Rattle.gx_model.specs.States.{Row}
 use Rattle.gx_model.specs.Found.{is_owner}
+use Rattle.gx_scan.proofs.CallLemmas.{reads_stopped_after}
 use Rattle.gx_pairs.specs.Members.{is_member_of}
 use Rattle.gx_pairs.proofs.MemberLemmas.{row_kept, row_dropped, row_steps}
 use Rattle.gx_pairs.proofs.kept.keep_owned.Goals as goal
@@ -35,21 +34,12 @@ loop-row-init g c =
 pub is_owned-requires-clause-below : goal.is_owned-requires-clause-below
 is_owned-requires-clause-below g c = λ n h. subst (λ (maps : List LeafMap). n < length maps) (sym c.loop-row.invariant.reads.working) (c.requires.below n h)
 
-pub returns-in_err-is_owned-clause-ends : goal.returns-in_err-is_owned-clause-ends
-returns-in_err-is_owned-clause-ends g c = record {
-  whole = search rules;
-  later = search rules;
-  fault = search rules;
-  counted = search rules;
-  damaged = λ block e sound.
-      let inv = c.loop-row.invariant in
-      let p = err_from_is_err_and c.from_residual.result c.from_residual.ensures.1 in
-      let both = sym p.1 ∙ e in
-      let why : p.0 ≡ stop.Damaged block = cc in
-      let link = sound.1.0 in
-      c.in_err-is_owned.ensures.ends.damaged block (ap Err (sym p.2 ∙ why))
-      (inv.whole sound.0, (link, sound.1.1, subst (λ (maps : List LeafMap). g.L.Linkset.held c.args.linkset.now link maps) (sym inv.reads.working) sound.1.2));
-}
+pub returns-in_err-is_owned-clause-reads : goal.returns-in_err-is_owned-clause-reads
+returns-in_err-is_owned-clause-reads g c =
+    let inv = c.loop-row.invariant in
+    reads_stopped_after g.B.View c.from_residual.result c.from_residual.ensures.1 inv.reads inv.whole inv.counted
+    (λ sound. (inv.whole sound.0, (sound.1.0, sound.1.1, subst (λ (maps : List LeafMap). g.L.Linkset.held c.args.linkset.now sound.1.0 maps) (sym inv.reads.working) sound.1.2)))
+    c.in_err-is_owned.ensures.reads
 
 pub loop-row-preserved-in-Continue-branch-2 : goal.loop-row-preserved-in-Continue-branch-2
 loop-row-preserved-in-Continue-branch-2 g c =
@@ -73,9 +63,9 @@ loop-row-preserved-in-Continue-branch-2 g c =
           let now = e.steps link most (inv.whole whole) is (subst (held link) (sym inv.reads.working) h) few in
           row_steps rest r (into_iter_items c.loop-row.row-iterator) (most + length (b.working c.args.leaves.now)) _ (b.work c.loop-row.leaves) (b.work c.is_owned.new.leaves) (length c.args.rows.items) steps (inv.steps link most whole is h few)
           (subst (λ (maps : List LeafMap). b.work c.is_owned.new.leaves ≤ b.work c.loop-row.leaves + (most + length maps)) inv.reads.working now);
-      reads = reads_joined b inv.reads e.reads;
-      whole = λ h. e.ends.whole (inv.whole h);
-      counted = e.ends.counted refl ∙ inv.counted;
+      reads = reads_joined b inv.reads e.reads.reads;
+      whole = λ h. e.reads.ends.whole (inv.whole h);
+      counted = e.reads.ends.counted refl ∙ inv.counted;
     }
 
 pub loop-row-preserved : goal.loop-row-preserved
@@ -100,9 +90,9 @@ loop-row-preserved g c =
           let now = e.steps link most (inv.whole whole) is (subst (held link) (sym inv.reads.working) h) few in
           row_steps rest r (into_iter_items c.loop-row.row-iterator) (most + length (b.working c.args.leaves.now)) _ (b.work c.loop-row.leaves) (b.work c.is_owned.new.leaves) (length c.args.rows.items) steps (inv.steps link most whole is h few)
           (subst (λ (maps : List LeafMap). b.work c.is_owned.new.leaves ≤ b.work c.loop-row.leaves + (most + length maps)) inv.reads.working now);
-      reads = reads_joined b inv.reads e.reads;
-      whole = λ h. e.ends.whole (inv.whole h);
-      counted = e.ends.counted refl ∙ inv.counted;
+      reads = reads_joined b inv.reads e.reads.reads;
+      whole = λ h. e.reads.ends.whole (inv.whole h);
+      counted = e.reads.ends.counted refl ∙ inv.counted;
     }
 
 pub returns-clause-steps : goal.returns-clause-steps

@@ -1,4 +1,4 @@
-use Rattle.std.proofs.Common.{◌<◌, ◌∙◌, ◌++◌, List, length, sym, ap, subst}
+use Rattle.std.proofs.Common.{◌<◌, ◌∙◌, ◌++◌, List, length, refl, sym, ap, subst}
 use Rattle.std.specs.Prelude.{filter}
 use Rattle.std.specs.List.{AllByRecursion}
 use Rattle.gx_values.specs.declared.values.Kind.{Kind}
@@ -11,32 +11,36 @@ use Rattle.gx_scan.specs.Files.{IsInternal}
 use Rattle.gx_scan.proofs.StepLemmas.{leaves_few}
 use Rattle.gx_pairs.specs.Stored.{file_of, node_tree}
 use Rattle.gx_pairs.specs.Members.{rows_at}
-use Rattle.gx_links.proofs.PassLemmas.{passes, passes_joined, ends_given, ends_given_after}
+use Rattle.gx_scan.proofs.CallLemmas.{reads_stopped, reads_stopped_after}
+use Rattle.gx_links.proofs.PassLemmas.{passes, passes_joined}
 use Rattle.gx_pairs.proofs.LinkedLemmas.{owners_there, members_there, link_there, have_still}
 use Rattle.gx_pairs.proofs.MemberLemmas.{one_owner_steps, one_member_steps}
 use Rattle.gx_pairs.proofs.members.add_member_at.Goals as goal
 
-pub returns-in_err-has_record-clause-ends : goal.returns-in_err-has_record-clause-ends
-returns-in_err-has_record-clause-ends g c =
+pub returns-in_err-has_record-clause-reads : goal.returns-in_err-has_record-clause-reads
+returns-in_err-has_record-clause-reads g c =
     let maps = g.B.View.working c.args.leaves.now in
-    ends_given g.B.View c.from_residual.result c.from_residual.ensures.1 (λ h. (h.0, owners_there g.L.Linkset.rule g.L.Linkset.held c.args.stored.now maps h.1)) c.in_err-has_record.ensures.ends
+    reads_stopped g.B.View c.from_residual.result c.from_residual.ensures.1
+    (λ h. (h.0, owners_there g.L.Linkset.rule g.L.Linkset.held c.args.stored.now maps h.1)) c.in_err-has_record.ensures.reads
 
 pub returns-then-not-branch-clause-steps : goal.returns-then-not-branch-clause-steps
 returns-then-not-branch-clause-steps g c = λ owners members link most whole linked few_o few_m few_l.
     let stored = c.requires.stored.owners in
     one_owner_steps _ most _ _ _ _ (leaves_few (node_tree c.args.stored.now.owners) _ stored.tree.valid stored.tree.below) (c.in_ok-has_record.ensures.steps owners most whole linked.owners few_o)
 
-pub returns-in_err-add_record-clause-ends : goal.returns-in_err-add_record-clause-ends
-returns-in_err-add_record-clause-ends g c =
+pub returns-in_err-add_record-clause-reads : goal.returns-in_err-add_record-clause-reads
+returns-in_err-add_record-clause-reads g c =
     let b = g.B.View in
     let rule = g.L.Linkset.rule in
     let held = g.L.Linkset.held in
     let s = c.args.stored.now in
-    let passed = passes b c.has_record.ensures.reads c.in_ok-has_record.ensures.ends in
-    ends_given_after b c.from_residual-in_err-add_record.result c.from_residual-in_err-add_record.ensures.1 passed (λ h. (passed.whole h.0, members_there rule held s _ (have_still rule held s _ _ passed.reads.working h.1))) c.in_err-add_record.ensures.ends
+    let first = c.in_ok-has_record.ensures.reads in
+    reads_stopped_after b c.from_residual-in_err-add_record.result c.from_residual-in_err-add_record.ensures.1 first.reads first.ends.whole (first.ends.counted refl)
+    (λ h. (first.ends.whole h.0, members_there rule held s _ (have_still rule held s _ _ first.reads.working h.1)))
+    c.in_err-add_record.ensures.reads
 
 pub keep_members-requires-clause-below : goal.keep_members-requires-clause-below
-keep_members-requires-clause-below g c = λ n h. subst (λ (maps : List LeafMap). n < length maps) (sym (c.add_record.ensures.reads.working ∙ c.has_record.ensures.reads.working)) (c.requires.stored.below n h)
+keep_members-requires-clause-below g c = λ n h. subst (λ (maps : List LeafMap). n < length maps) (sym (c.add_record.ensures.reads.reads.working ∙ c.has_record.ensures.reads.reads.working)) (c.requires.stored.below n h)
 
 pub keep_members-requires-clause-members : goal.keep_members-requires-clause-members
 keep_members-requires-clause-members g c =
@@ -44,37 +48,41 @@ keep_members-requires-clause-members g c =
     let before = subst (fits (key_kind (file_of c.args.stored.now.members))) (sym c.new-found.ensures.items) tt in
     subst (λ (k : Kind). fits k c.add_record.new.rows.items) (sym c.requires.stored.member_kind) (c.in_ok-add_record.ensures.fit before)
 
-pub returns-in_err-rows-clause-ends : goal.returns-in_err-rows-clause-ends
-returns-in_err-rows-clause-ends g c =
+pub returns-in_err-rows-clause-reads : goal.returns-in_err-rows-clause-reads
+returns-in_err-rows-clause-reads g c =
     let b = g.B.View in
     let rule = g.L.Linkset.rule in
     let held = g.L.Linkset.held in
     let s = c.args.stored.now in
-    let passed = passes_joined b (passes b c.has_record.ensures.reads c.in_ok-has_record.ensures.ends) (passes b c.add_record.ensures.reads c.in_ok-add_record.ensures.ends) in
-    ends_given_after b c.from_residual-in_err-rows.result c.from_residual-in_err-rows.ensures.1 passed (λ h. (passed.whole h.0, link_there rule held s _ (have_still rule held s _ _ passed.reads.working h.1))) c.in_err-rows.ensures.ends
+    let first = c.in_ok-has_record.ensures.reads in
+    let second = c.in_ok-add_record.ensures.reads in
+    let passed = passes_joined b (passes b first.reads first.ends) (passes b second.reads second.ends) in
+    reads_stopped_after b c.from_residual-in_err-rows.result c.from_residual-in_err-rows.ensures.1 passed.reads passed.whole passed.counted
+    (λ h. (passed.whole h.0, link_there rule held s _ (have_still rule held s _ _ passed.reads.working h.1)))
+    c.in_err-rows.ensures.reads
 
 pub returns-clause-those : goal.returns-clause-those
 returns-clause-those g c = λ owners members link whole linked there.
     let x = c.args.stored.now in
     let first = c.in_ok-has_record.ensures in
     let found = c.in_ok-add_record.ensures in
-    let after = first.ends.whole whole in
-    let at = subst (λ (maps : List LeafMap). IsInternal (file_of x.members) (node_tree x.members) maps members) (sym first.reads.working) linked.members in
-    let held = subst (λ (maps : List LeafMap). g.L.Linkset.held x.linkset link maps) (sym (found.reads.working ∙ first.reads.working)) linked.link in
+    let after = first.reads.ends.whole whole in
+    let at = subst (λ (maps : List LeafMap). IsInternal (file_of x.members) (node_tree x.members) maps members) (sym first.reads.reads.working) linked.members in
+    let held = subst (λ (maps : List LeafMap). g.L.Linkset.held x.linkset link maps) (sym (found.reads.reads.working ∙ first.reads.reads.working)) linked.link in
     let one = found.rows members after at ∙ ap (λ (before : List Row). before ++ filter (meets_conds c.args.conds.now) (rows_at members c.args.key.now)) c.new-found.ensures.items in
-    c.in_ok-rows.ensures.those link (found.ends.whole after) linked.is_link held ∙ ap (filter _) one
+    c.in_ok-rows.ensures.those link (found.reads.ends.whole after) linked.is_link held ∙ ap (filter _) one
 
 pub returns-clause-steps : goal.returns-clause-steps
 returns-clause-steps g c = λ owners members link most whole linked few_o few_m few_l.
     let x = c.args.stored.now in
     let first = c.in_ok-has_record.ensures in
     let found = c.in_ok-add_record.ensures in
-    let after = first.ends.whole whole in
-    let at = subst (λ (maps : List LeafMap). IsInternal (file_of x.members) (node_tree x.members) maps members) (sym first.reads.working) linked.members in
-    let same = found.reads.working ∙ first.reads.working in
+    let after = first.reads.ends.whole whole in
+    let at = subst (λ (maps : List LeafMap). IsInternal (file_of x.members) (node_tree x.members) maps members) (sym first.reads.reads.working) linked.members in
+    let same = found.reads.reads.working ∙ first.reads.reads.working in
     let held = subst (λ (maps : List LeafMap). g.L.Linkset.held x.linkset link maps) (sym same) linked.link in
     let one = found.rows members after at ∙ ap (λ (before : List Row). before ++ filter (meets_conds c.args.conds.now) (rows_at members c.args.key.now)) c.new-found.ensures.items in
-    let kept = c.in_ok-rows.ensures.steps link most (found.ends.whole after) linked.is_link held few_l in
+    let kept = c.in_ok-rows.ensures.steps link most (found.reads.ends.whole after) linked.is_link held few_l in
     one_member_steps _ _ most _ _ _ _ _ _ _ _ (ap (λ (rs : List Row). length rs) one) (ap (λ (maps : List LeafMap). length maps) same)
     (leaves_few (node_tree x.owners) _ c.requires.stored.owners.tree.valid c.requires.stored.owners.tree.below) (leaves_few (node_tree x.members) _ c.requires.stored.members.tree.valid c.requires.stored.members.tree.below)
     (first.steps owners most whole linked.owners few_o) (found.steps members most after at few_m) kept

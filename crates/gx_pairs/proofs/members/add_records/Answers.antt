@@ -1,13 +1,12 @@
-use Rattle.std.proofs.Common.{rules, ◌≡◌, ◌∙◌, ◌+◌, Err, List, length, refl, sym, ap, subst, arith}
+use Rattle.std.proofs.Common.{rules, ◌∙◌, ◌+◌, List, length, refl, sym, subst, arith}
 use Rattle.std.proofs.lemmas.Bool.{true≢false}
-use Rattle.std.proofs.lemmas.Result.{err_from_is_err_and}
-use Rattle.gx_ports.specs.declared.stop.Stop.TheVariants as stop
 use Rattle.gx_ports.specs.LeafMaps.{LeafMap}
 use Rattle.gx_ports.proofs.CallLemmas.{reads_itself, reads_joined}
 use Rattle.gx_stack.specs.Tree.{leaves_of}
 use Rattle.gx_gather.proofs.Lists.{in_read}
 use Rattle.gx_model.specs.Found.{meets_conds}
 use Rattle.gx_scan.specs.Files.{IsInternal}
+use Rattle.gx_scan.proofs.CallLemmas.{reads_stopped_after}
 use Rattle.gx_scan.proofs.StepLemmas.{taken_more, taken_all}
 use Rattle.gx_pairs.specs.Stored.{file_of, node_tree, IsStoredFile}
 use Rattle.gx_pairs.proofs.MemberLemmas.{next_row, last_row}
@@ -46,46 +45,42 @@ loop-key-preserved g c =
       steps = λ f most whole is few.
           let now = e.steps f most (inv.whole whole) (subst (λ (maps : List LeafMap). IsInternal (file_of s) (node_tree s) maps f) (sym inv.reads.working) is) few in
           taken_more keys i (length (leaves_of (node_tree s)) + most) _ _ _ c.loop-key-test.true (inv.steps f most whole is few) now;
-      reads = reads_joined g.B.View inv.reads e.reads;
-      whole = λ h. e.ends.whole (inv.whole h);
-      counted = e.ends.counted refl ∙ inv.counted;
+      reads = reads_joined g.B.View inv.reads e.reads.reads;
+      whole = λ h. e.reads.ends.whole (inv.whole h);
+      counted = e.reads.ends.counted refl ∙ inv.counted;
     }
 
-pub returns-then-not-branch-clause-ends : goal.returns-then-not-branch-clause-ends
-returns-then-not-branch-clause-ends g c =
+pub returns-then-not-branch-clause-reads : goal.returns-then-not-branch-clause-reads
+returns-then-not-branch-clause-reads g c =
     let inv = c.loop-key.invariant in
     let e = c.in_ok-add_record.ensures in
     record {
-      whole = search rules;
-      later = omega (arith, inv.counted, e.ends.counted refl);
-      fault = search rules;
-      counted = search rules;
-      damaged = λ block is sound.
-          let s = c.args.stored.now in
-          let keys = c.args.keys.now in
-          let key = c.key-item.result in
-          let f = sound.1.0 in
-          let at = subst (λ (maps : List LeafMap). IsInternal (file_of s) (node_tree s) maps f) (sym inv.reads.working) sound.1.1 in
-          let there = sound.1.2 key (in_read keys c.loop-key.key-index key c.key-item.is c.loop-key-test.true) in
-          true≢false (sym there ∙ sym (e.there f (inv.whole sound.0) at) ∙ c.if-not-branch.true);
+      reads = reads_joined g.B.View inv.reads e.reads.reads;
+      ends = record {
+        whole = search rules;
+        later = omega (arith, inv.counted, e.reads.ends.counted refl);
+        fault = search rules;
+        counted = search rules;
+        damaged = λ block is sound.
+            let s = c.args.stored.now in
+            let keys = c.args.keys.now in
+            let key = c.key-item.result in
+            let f = sound.1.0 in
+            let at = subst (λ (maps : List LeafMap). IsInternal (file_of s) (node_tree s) maps f) (sym inv.reads.working) sound.1.1 in
+            let there = sound.1.2 key (in_read keys c.loop-key.key-index key c.key-item.is c.loop-key-test.true) in
+            true≢false (sym there ∙ sym (e.there f (inv.whole sound.0) at) ∙ c.if-not-branch.true);
+      };
+      block = search rules;
+      not_full = search rules;
     }
 
-pub returns-in_err-add_record-clause-ends : goal.returns-in_err-add_record-clause-ends
-returns-in_err-add_record-clause-ends g c = record {
-  whole = search rules;
-  later = search rules;
-  fault = search rules;
-  counted = search rules;
-  damaged = λ block e sound.
-      let s = c.args.stored.now in
-      let inv = c.loop-key.invariant in
-      let p = err_from_is_err_and c.from_residual.result c.from_residual.ensures.1 in
-      let both = sym p.1 ∙ e in
-      let why : p.0 ≡ stop.Damaged block = cc in
-      let f = sound.1.0 in
-      c.in_err-add_record.ensures.ends.damaged block (ap Err (sym p.2 ∙ why))
-      (inv.whole sound.0, (f, subst (λ (maps : List LeafMap). IsInternal (file_of s) (node_tree s) maps f) (sym inv.reads.working) sound.1.1));
-}
+pub returns-in_err-add_record-clause-reads : goal.returns-in_err-add_record-clause-reads
+returns-in_err-add_record-clause-reads g c =
+    let s = c.args.stored.now in
+    let inv = c.loop-key.invariant in
+    reads_stopped_after g.B.View c.from_residual.result c.from_residual.ensures.1 inv.reads inv.whole inv.counted
+    (λ sound. (inv.whole sound.0, (sound.1.0, subst (λ (maps : List LeafMap). IsInternal (file_of s) (node_tree s) maps sound.1.0) (sym inv.reads.working) sound.1.1)))
+    c.in_err-add_record.ensures.reads
 
 pub returns-clause-rows : goal.returns-clause-rows
 returns-clause-rows g c = λ f whole is.

@@ -1,35 +1,78 @@
-use Rattle.std.proofs.Common.{◌<◌, List, length, sym, subst}
+use Rattle.std.proofs.Common.{rules, ◌<◌, ◌∙◌, List, length, refl, sym, subst, arith}
+use Rattle.std.specs.FinMap as fin
 use Rattle.gx_ports.specs.LeafMaps.{LeafMap}
-use Rattle.gx_links.proofs.PassLemmas.{passes, passes_joined, ends_given, ends_given_after}
-use Rattle.gx_pairs.proofs.LinkedLemmas.{owners_there, members_there, link_there, have_still}
+use Rattle.gx_scan.specs.Files.{IsInternal}
+use Rattle.gx_scan.proofs.CallLemmas.{reads_stopped, reads_stopped_after}
+use Rattle.gx_links.proofs.PassLemmas.{passes, passes_joined}
+use Rattle.gx_pairs.specs.Stored.{file_of, node_tree}
+use Rattle.gx_pairs.proofs.LinkedLemmas.{looked_up, owners_there, members_there, link_there, have_still}
 use Rattle.gx_pairs.proofs.owners.find_owner.Goals as goal
 
-pub returns-in_err-has_record-clause-ends : goal.returns-in_err-has_record-clause-ends
-returns-in_err-has_record-clause-ends g c =
+pub returns-in_err-has_record-clause-reads : goal.returns-in_err-has_record-clause-reads
+returns-in_err-has_record-clause-reads g c =
     let maps = g.B.View.working c.args.leaves.now in
-    ends_given g.B.View c.from_residual.result c.from_residual.ensures.1 (λ h. (h.0, members_there g.L.Linkset.rule g.L.Linkset.held c.args.stored.now maps h.1)) c.in_err-has_record.ensures.ends
+    reads_stopped g.B.View c.from_residual.result c.from_residual.ensures.1
+    (λ h. (h.0, members_there g.L.Linkset.rule g.L.Linkset.held c.args.stored.now maps h.1)) c.in_err-has_record.ensures.reads
 
 pub owner-requires-clause-below : goal.owner-requires-clause-below
-owner-requires-clause-below g c = λ n h. subst (λ (maps : List LeafMap). n < length maps) (sym c.has_record.ensures.reads.working) (c.requires.stored.below n h)
+owner-requires-clause-below g c = λ n h. subst (λ (maps : List LeafMap). n < length maps) (sym c.has_record.ensures.reads.reads.working) (c.requires.stored.below n h)
 
-pub returns-in_err-owner-clause-ends : goal.returns-in_err-owner-clause-ends
-returns-in_err-owner-clause-ends g c =
+pub returns-in_err-owner-clause-reads : goal.returns-in_err-owner-clause-reads
+returns-in_err-owner-clause-reads g c =
     let b = g.B.View in
     let rule = g.L.Linkset.rule in
     let held = g.L.Linkset.held in
     let s = c.args.stored.now in
     let old = b.working c.args.leaves.now in
     let new = b.working c.has_record.new.leaves in
-    let passed = passes b c.has_record.ensures.reads c.in_ok-has_record.ensures.ends in
-    ends_given_after b c.from_residual-in_err-owner.result c.from_residual-in_err-owner.ensures.1 passed (λ h. (passed.whole h.0, link_there rule held s new (have_still rule held s old new passed.reads.working h.1))) c.in_err-owner.ensures.ends
+    let first = c.in_ok-has_record.ensures.reads in
+    let e = c.in_err-owner.ensures in
+    reads_stopped_after b c.from_residual-in_err-owner.result c.from_residual-in_err-owner.ensures.1 first.reads first.ends.whole (first.ends.counted refl)
+    (λ h. (first.ends.whole h.0, link_there rule held s new (have_still rule held s old new first.reads.working h.1)))
+    (record { reads = e.reads; ends = e.ends; block = e.block; not_full = e.not_full })
 
-pub returns-in_err-record-clause-ends : goal.returns-in_err-record-clause-ends
-returns-in_err-record-clause-ends g c =
+pub returns-in_err-record-clause-reads : goal.returns-in_err-record-clause-reads
+returns-in_err-record-clause-reads g c =
     let b = g.B.View in
     let rule = g.L.Linkset.rule in
     let held = g.L.Linkset.held in
     let s = c.args.stored.now in
     let old = b.working c.args.leaves.now in
     let new = b.working c.owner.new.leaves in
-    let passed = passes_joined b (passes b c.has_record.ensures.reads c.in_ok-has_record.ensures.ends) (passes b c.owner.ensures.reads c.in_ok-owner.ensures.ends) in
-    ends_given_after b c.from_residual-in_err-record.result c.from_residual-in_err-record.ensures.1 passed (λ h. (passed.whole h.0, owners_there rule held s new (have_still rule held s old new passed.reads.working h.1))) c.in_err-record.ensures.ends
+    let first = c.in_ok-has_record.ensures.reads in
+    let passed = passes_joined b (passes b first.reads first.ends) (passes b c.owner.ensures.reads c.in_ok-owner.ensures.ends) in
+    reads_stopped_after b c.from_residual-in_err-record.result c.from_residual-in_err-record.ensures.1 passed.reads passed.whole passed.counted
+    (λ h. (passed.whole h.0, owners_there rule held s new (have_still rule held s old new passed.reads.working h.1)))
+    c.in_err-record.ensures.reads
+
+-- the owner of a pair is a record
+pub returns-clause-reads : goal.returns-clause-reads
+returns-clause-reads g c =
+    let b = g.B.View in
+    let s = c.args.stored.now in
+    let first = c.in_ok-has_record.ensures.reads in
+    let second = c.in_ok-owner.ensures in
+    let third = c.in_ok-record.ensures.reads in
+    let before = passes_joined b (passes b first.reads first.ends) (passes b second.reads second.ends) in
+    let passed = passes_joined b before (passes b third.reads third.ends) in
+    record {
+      reads = passed.reads;
+      ends = record {
+        whole = search rules;
+        later = omega (arith, passed.counted);
+        fault = search rules;
+        counted = λ none. passed.counted;
+        damaged = λ block is sound.
+            let owners = sound.1.0 in
+            let link = sound.1.2 in
+            let linked = sound.1.3 in
+            let held = subst (g.L.Linkset.held s.linkset link) (sym first.reads.working) linked.link in
+            let owned = second.found.that (first.ends.whole sound.0) link linked.is_link held in
+            let there = (linked.there c.args.member.now c.in-Some.owner (sym owned ∙ c.in-Some.is)).1 in
+            let at = subst (λ (maps : List LeafMap). IsInternal (file_of s.owners) (node_tree s.owners) maps owners) (sym before.reads.working) linked.owners in
+            let found = c.in_ok-record.ensures.found owners (before.whole sound.0) at in
+            looked_up _ (fin.get owners c.in-Some.owner) c.in_ok-record.field-0 found c.in-None.is there;
+      };
+      block = search rules;
+      not_full = search rules;
+    }
