@@ -1,4 +1,3 @@
-pub mod CallLemmas
 pub mod CountLemmas
 pub mod LinkLemmas
 pub mod StoredLemmas

@@ -39,7 +39,7 @@ pub record AreStorable (schema : Schema) : Type 0 where
   pub links : (i : ℕ) → i < length schema.links → IsStorableLink schema.files (link_at schema i)
   pub few_links : length schema.links ≤ 32
 
--- there are nodes for each file and each link of the schema over so many leaves, and each leaf is of one of them
+-- there are nodes for each file and each link of the schema over so many leaves, and each leaf has the number of an owner
 pub record AreFor (schema : Schema) (built : Built) (leaves : ℕ) : Type 0 where
   pub storable : AreStorable schema
   pub nodes : AreNodes schema built.files leaves
