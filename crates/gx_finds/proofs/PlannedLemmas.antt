@@ -1,6 +1,6 @@
 -- The records that meet the conditions of a `find`, by its plan.
-use Rattle.std.proofs.Common.{[], ◌≡◌, ◌≢◌, ℕ, zero, suc, ◌<◌, ◌≤◌, List, ◌∷◌, ◌++◌, length, map, take, drop, get_or, Bool, true, false, cond, eqb, Some, None, Result, Ok, Err, refl, sym, ap, subst, ◌∙◌, arith, inl, inr, append-nil}
-use Rattle.std.specs.Prelude.{◌&&◌, ◌⊎◌, OnOk, pos, unwrap_or}
+use Rattle.std.proofs.Common.{[], ◌≡◌, ◌≢◌, ℕ, zero, suc, ◌<◌, ◌≤◌, List, ◌∷◌, ◌++◌, length, map, take, drop, get_or, Bool, true, false, cond, eqb, Some, None, refl, sym, ap, subst, ◌∙◌, arith, inl, inr, append-nil}
+use Rattle.std.specs.Prelude.{◌&&◌, ◌⊎◌, pos, unwrap_or}
 use Rattle.std.specs.List.{list_all, slice_get}
 use Rattle.std.specs.Option.{option_map}
 use Rattle.std.proofs.lemmas.Bool.{eqb-true}
@@ -20,6 +20,7 @@ use Rattle.gx_schema.specs.Lookups.{no_field, field_at, key_kind}
 use Rattle.gx_commands.specs.declared.command.Cond.{Cond}
 use Rattle.gx_commands.specs.declared.command.Find.{Find}
 use Rattle.gx_ports.specs.declared.leaves.TheConstants.{MAX_KEY_LEN}
+use Rattle.gx_gather.proofs.Lists.{some_same, none_some}
 use Rattle.gx_mapping.specs.Rule.{In}
 use Rattle.gx_mapping.proofs.FieldLemmas.{fit_at}
 use Rattle.gx_stack.specs.Selected.{IsKeySpan}
@@ -36,31 +37,19 @@ use Rattle.gx_model.specs.Found.{value_at}
 use Rattle.gx_scan.proofs.FileLemmas.{key_of_form}
 use Rattle.gx_finds.specs.Planned.{fields_indexed}
 
--- ---- what may be there
-
-pub ok_so : {A E : Type 0} (r : Result A E) (P Q : Type 0) → OnOk r P → (P → Q) → OnOk r Q
-ok_so (Ok x) P Q h more = more h
-ok_so (Err e) P Q h more = tt
-
 -- ---- the condition of a plan
-
-some_is : {A : Type 0} (x y : A) → Some x ≡ Some y → x ≡ y
-some_is x y e = cc
-
-none_is : {A : Type 0} (x : A) → None ≡ Some x → ⊥
-none_is x e = cc
 
 -- a condition that has a rank is there
 pub ranked_there : (q : Find) (indexed : List Bool) (n number : ℕ) → HasRank q indexed n number → number < length q.conds
 ranked_there q indexed n number has = go q.conds number has
   where
     go : (cs : List Cond) (i : ℕ) → option_map (rank_of indexed) (slice_get cs i) ≡ Some n → i < length cs
-    go [] i e = absurd (none_is n e)
+    go [] i e = absurd (none_some n e)
     go (c ∷ cs) zero e = omega arith
     go (c ∷ cs) (suc i) e = omega (arith, go cs i e)
 
 ranked : (q : Find) (indexed : List Bool) (n number : ℕ) (c : Cond) → HasRank q indexed n number → slice_get q.conds number ≡ Some c → rank_of indexed c ≡ n
-ranked q indexed n number c has there = some_is (rank_of indexed c) n (sym (ap (option_map (rank_of indexed)) there) ∙ has)
+ranked q indexed n number c has there = some_same (rank_of indexed c) n (sym (ap (option_map (rank_of indexed)) there) ∙ has)
 
 -- a plan by the key or by an index has a condition of one of two ranks
 abbrev pub IsOneOf : ℕ → ℕ → ℕ → Type 0

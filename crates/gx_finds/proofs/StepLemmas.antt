@@ -18,34 +18,23 @@ use Rattle.gx_planner.specs.declared.plans.Plan.TheVariants.{Key, Link, Index, K
 use Rattle.gx_model.specs.States.{File, IsRowOf, IsFileOf}
 use Rattle.gx_model.specs.Found.{value_at}
 use Rattle.gx_scan.specs.Steps.{is_key_inside, rows_inside, rows_with}
-use Rattle.gx_scan.proofs.ListingLemmas.{same_filter}
+use Rattle.gx_scan.proofs.ListingLemmas.{same_filter, fewer_pass}
 use Rattle.gx_finds.specs.Spans.{HoldsAllMet}
 use Rattle.gx_finds.specs.Looked.{condition_of, meets_one, rows_meeting, step_bound}
 use Rattle.gx_finds.proofs.SpanLemmas.{inside_meets, key_inside}
 
 -- ---- the records that are looked at
 
-one_fewer : {A : Type 0} (x : A) (ps qs : List A) (a b : Bool) → (a ≡ true → b ≡ true) → length ps ≤ length qs → length (cond a (x ∷ ps) ps) ≤ length (cond b (x ∷ qs) qs)
-one_fewer x ps qs true true more le = omega (arith, le)
-one_fewer x ps qs true false more le = absurd (let e : false ≡ true = more refl in cc)
-one_fewer x ps qs false true more le = omega (arith, le)
-one_fewer x ps qs false false more le = le
-
--- where each that passes one test passes another, no more pass it
-fewer : {A : Type 0} (p q : A → Bool) (xs : List A) → ((x : A) → In x xs → p x ≡ true → q x ≡ true) → length (filter p xs) ≤ length (filter q xs)
-fewer p q [] more = omega arith
-fewer p q (x ∷ xs) more = one_fewer x (filter p xs) (filter q xs) (p x) (q x) (more x (inl refl)) (fewer p q xs (λ y h. more y (inr h)))
-
 -- inside the span of all conditions on the key
 pub keys_within : (file : FileDef) (c : Cond) (conds : List Cond) (s : Span) (f : File) → In c conds → c.field ≡ 0 → c.op ≢ op.Unequal → c.field < length file.fields → HoldsAllMet (field_at file c.field).kind c.field conds s → IsFileOf file f → length (rows_inside s f) ≤ length (rows_meeting (Some c) f)
 keys_within file c conds s f there key other lt holds fit =
-    fewer (is_key_inside s) (meets_one (Some c)) (fin.entries f)
+    fewer_pass (is_key_inside s) (meets_one (Some c)) (fin.entries f)
     (λ r h inside. inside_meets file c conds s r there other lt holds (all_at (IsRowOf file) (fin.entries f) r fit h) (key_inside s r c.field key ∙ inside))
 
 -- inside that of all conditions on another field
 pub fields_within : (file : FileDef) (c : Cond) (conds : List Cond) (s : Span) (f : File) → In c conds → c.op ≢ op.Unequal → c.field < length file.fields → HoldsAllMet (field_at file c.field).kind c.field conds s → IsFileOf file f → length (rows_with c.field s f) ≤ length (rows_meeting (Some c) f)
 fields_within file c conds s f there other lt holds fit =
-    fewer (λ r. is_inside s.lo s.hi (bytes_of (value_at r c.field))) (meets_one (Some c)) (fin.entries f)
+    fewer_pass (λ r. is_inside s.lo s.hi (bytes_of (value_at r c.field))) (meets_one (Some c)) (fin.entries f)
     (λ r h inside. inside_meets file c conds s r there other lt holds (all_at (IsRowOf file) (fin.entries f) r fit h) inside)
 
 -- without a condition

@@ -1,12 +1,12 @@
 // Finding by an indexed field.
-ghost use Rattle.std.specs.Prelude.{◌≡◌, ◌≢◌, ◌<◌, ◌≤◌, ◌+◌, ◌*◌, [], ℕ, true, Some, length, filter, IfOk, OnOk, IsErrOf};
+ghost use Rattle.std.specs.Prelude.{◌≡◌, ◌≢◌, ◌<◌, ◌≤◌, ◌+◌, ◌*◌, [], ℕ, true, Some, length, filter, IfOk, OnOk};
 ghost use Rattle.std.specs.FinMap as fin;
 ghost use Rattle.std.specs.List.{AllByRecursion};
 ghost use Rattle.std.specs.List.Sorted.{IsPermutation};
 ghost use Rattle.gx_values.specs.declared.values.Op.TheVariants as op;
 ghost use Rattle.gx_schema.specs.Lookups.{field_at};
 ghost use Rattle.gx_commands.specs.Commands.{IsCondOf};
-ghost use Rattle.gx_ports.specs.Calls.{Reads, Ends};
+ghost use Rattle.gx_ports.specs.Calls.{OnlyReads};
 ghost use Rattle.gx_mapping.specs.Rule.{In};
 ghost use Rattle.gx_stack.specs.Tree.{IsValid, leaves_of};
 ghost use Rattle.gx_stack.specs.Seen.{tree_of};
@@ -79,12 +79,9 @@ pub(crate) fn add_by_index<B: Leaves>(
         (B.work leaves.new
         ≤ B.work leaves.old + ((length (rows_meeting (Some cond.now) f) + 1) * length (leaves_of (tree_of node.now))
         + 2 * (length (rows_meeting (Some cond.now) f) * most))) }
-    ensures reads { Reads B.View leaves.old leaves.new }
-    ensures ends { Ends B.View
+    ensures reads { OnlyReads B.View
         (B.whole leaves.old × HasFile file.now (tree_of node.now) (B.working leaves.old))
         leaves.old leaves.new result }
-    ensures block { (n : ℕ) → IsErrOf result (Stop.Damaged n) → B.whole leaves.old → n ≡ 0 }
-    ensures not_full { ¬ IsErrOf result Stop.Full }
 {
     match span_of_conditions(file, cond.field, conds) {
         Some(span) => rows_where(alloc, file, node, cond.field, &span, conds, leaves, rows),

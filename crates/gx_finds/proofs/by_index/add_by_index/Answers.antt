@@ -10,11 +10,11 @@ use Rattle.gx_model.specs.Found.{meets_conds}
 use Rattle.gx_model.specs.States.{IsRowOf}
 use Rattle.gx_scan.specs.Steps.{rows_with}
 use Rattle.gx_scan.specs.Where.{AreAddedWhere}
+use Rattle.gx_scan.proofs.CallLemmas.{ok_alone}
 use Rattle.gx_scan.proofs.SelectLemmas.{none_added}
 use Rattle.gx_scan.proofs.WhereLemmas.{data_spanned, covered_where}
 use Rattle.gx_finds.specs.Looked.{rows_meeting}
 use Rattle.gx_finds.proofs.StepLemmas.{fields_within, index_steps}
-use Rattle.gx_finds.proofs.PlannedLemmas.{ok_so}
 use Rattle.gx_finds.proofs.SpanLemmas.{field_covered, none_meets}
 use Rattle.gx_finds.proofs.by_index.add_by_index.Goals as goal
 
@@ -37,7 +37,7 @@ returns-in-Some-clause-those g c = λ f whole is.
     let before = c.args.rows.now.items in
     let now = c.rows_where.new.rows.items in
     let lt = (all_at (IsCondOf file) conds cond c.requires.fit c.requires.there).in_file in
-    ok_so c.rows_where.result (AreAddedWhere cond.field span conds f before now) (IsPermutation (filter (meets_conds conds) (fin.entries f)) now) (c.rows_where.ensures.rows f whole is)
+    ok_alone c.rows_where.result (AreAddedWhere cond.field span conds f before now) (IsPermutation (filter (meets_conds conds) (fin.entries f)) now) (c.rows_where.ensures.rows f whole is)
     (λ added. covered_where cond.field span conds f before now
     (λ r h met. field_covered file cond.field conds span r lt c.in-Some.ensures.meets (all_at (IsRowOf file) (fin.entries f) r is.fit h) met) c.requires.none added)
 
@@ -63,7 +63,7 @@ returns-in-Some-clause-steps g c = λ f most whole is few.
     let found = length (rows_with cond.field span f) in
     let count = length (rows_meeting (Some cond) f) in
     let lt = (all_at (IsCondOf file) conds cond c.requires.fit c.requires.there).in_file in
-    ok_so c.rows_where.result (after ≤ before + ((found + 1) * leaves + 2 * (found * most))) (after ≤ before + ((count + 1) * leaves + 2 * (count * most))) (c.rows_where.ensures.steps f most whole is few)
+    ok_alone c.rows_where.result (after ≤ before + ((found + 1) * leaves + 2 * (found * most))) (after ≤ before + ((count + 1) * leaves + 2 * (count * most))) (c.rows_where.ensures.steps f most whole is few)
     (index_steps count most leaves before after found (fields_within file cond conds span f c.requires.there c.requires.op lt c.in-Some.ensures.meets is.fit))
 
 pub returns-in-None-clause-steps : goal.returns-in-None-clause-steps

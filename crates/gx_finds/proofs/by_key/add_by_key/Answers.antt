@@ -12,10 +12,11 @@ use Rattle.gx_model.specs.Found.{meets_conds}
 use Rattle.gx_model.specs.States.{IsRowOf}
 use Rattle.gx_scan.specs.Steps.{rows_inside}
 use Rattle.gx_scan.specs.Within.{AreAdded}
+use Rattle.gx_scan.proofs.CallLemmas.{ok_alone}
 use Rattle.gx_scan.proofs.SelectLemmas.{covered_added, none_added}
 use Rattle.gx_finds.specs.Looked.{rows_meeting}
 use Rattle.gx_finds.proofs.StepLemmas.{keys_within, key_steps}
-use Rattle.gx_finds.proofs.PlannedLemmas.{ok_so, span_kind, key_spanned}
+use Rattle.gx_finds.proofs.PlannedLemmas.{span_kind, key_spanned}
 use Rattle.gx_finds.proofs.SpanLemmas.{field_covered, key_inside, none_meets}
 use Rattle.gx_finds.proofs.by_key.add_by_key.Goals as goal
 
@@ -41,7 +42,7 @@ returns-in-Some-clause-those g c = λ f whole is.
     let before = c.args.rows.now.items in
     let now = c.rows_within.new.rows.items in
     let lt = (all_at (IsCondOf file) conds cond c.requires.fit c.requires.there).in_file in
-    ok_so c.rows_within.result (AreAdded span conds f before now) (IsPermutation (filter (meets_conds conds) (fin.entries f)) now) (c.rows_within.ensures.rows f whole is)
+    ok_alone c.rows_within.result (AreAdded span conds f before now) (IsPermutation (filter (meets_conds conds) (fin.entries f)) now) (c.rows_within.ensures.rows f whole is)
     (λ added. covered_added span conds f before now
     (λ r h met. sym (key_inside span r cond.field c.requires.key) ∙ field_covered file cond.field conds span r lt c.in-Some.ensures.meets (all_at (IsRowOf file) (fin.entries f) r is.fit h) met) c.requires.none added)
 
@@ -65,7 +66,7 @@ returns-in-Some-clause-steps g c = λ f most whole is few.
     let before = b.work c.args.leaves.now in
     let after = b.work c.rows_within.new.leaves in
     let lt = (all_at (IsCondOf file) conds cond c.requires.fit c.requires.there).in_file in
-    ok_so c.rows_within.result (after ≤ before + (leaves + length (rows_inside span f) * most)) (after ≤ before + (leaves + length (rows_meeting (Some cond) f) * most)) (c.rows_within.ensures.steps f most whole is few)
+    ok_alone c.rows_within.result (after ≤ before + (leaves + length (rows_inside span f) * most)) (after ≤ before + (leaves + length (rows_meeting (Some cond) f) * most)) (c.rows_within.ensures.steps f most whole is few)
     (key_steps (length (rows_meeting (Some cond) f)) most leaves before after (length (rows_inside span f)) (keys_within file cond conds span f c.requires.there c.requires.key c.requires.op lt c.in-Some.ensures.meets is.fit))
 
 pub returns-in-None-clause-steps : goal.returns-in-None-clause-steps

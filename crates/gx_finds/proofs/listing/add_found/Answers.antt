@@ -12,12 +12,13 @@ use Rattle.gx_gather.proofs.Lists.{in_at}
 use Rattle.gx_planner.specs.Plans.{is_indexed, least_plan}
 use Rattle.gx_model.specs.Found.{meets_conds}
 use Rattle.gx_scan.specs.Within.{AreAdded}
+use Rattle.gx_scan.proofs.CallLemmas.{ok_alone}
 use Rattle.gx_scan.proofs.SelectLemmas.{covered_added}
 use Rattle.gx_scan.specs.Steps.{rows_inside}
 use Rattle.gx_finds.specs.Planned.{fields_indexed}
 use Rattle.gx_finds.specs.Looked.{plan_for, condition_of, rows_meeting, step_bound}
 use Rattle.gx_finds.proofs.StepLemmas.{condition_by_key, condition_by_index, no_condition, all_meeting, key_within, index_within}
-use Rattle.gx_finds.proofs.PlannedLemmas.{ok_so, by_key, by_index, on_key, on_index, ranked_there, indexed_at}
+use Rattle.gx_finds.proofs.PlannedLemmas.{by_key, by_index, on_key, on_index, ranked_there, indexed_at}
 use Rattle.gx_finds.proofs.listing.add_found.Goals as goal
 
 pub condition_at-on_key-requires : goal.condition_at-on_key-requires
@@ -96,7 +97,7 @@ returns-clause-those g c = λ f whole is.
     let now = c.rows_within.new.rows.items in
     let those = λ (cs : List Cond). IsPermutation (filter (meets_conds cs) (fin.entries f)) now in
     subst (λ (cs : List Cond). OnOk c.rows_within.result (those cs)) conds
-    (ok_so c.rows_within.result (AreAdded span c.as_slice-conds.result.now f before now) (those c.as_slice-conds.result.now) (c.rows_within.ensures.rows f whole is)
+    (ok_alone c.rows_within.result (AreAdded span c.as_slice-conds.result.now f before now) (those c.as_slice-conds.result.now) (c.rows_within.ensures.rows f whole is)
     (λ added. covered_added span c.as_slice-conds.result.now f before now (λ r h met. c.whole_span.ensures.all _) c.requires.none added))
 
 pub returns-in-Key-clause-steps : goal.returns-in-Key-clause-steps
@@ -113,7 +114,7 @@ returns-in-Key-clause-steps g c = λ f most whole is few.
     let same : condition_of q (plan_for t c.args.file.now q) ≡ Some cond = ap (condition_of q) plan ∙ condition_by_key q c.plan.result c.in-Key.number cond c.in-Key.is c.condition_at-on_key.ensures in
     let count = length (rows_meeting (Some cond) f) in
     let all = length (rows_meeting (condition_of q (plan_for t c.args.file.now q)) f) in
-    ok_so c.add_by_key.result (after ≤ before + (leaves + count * most)) (after ≤ before + step_bound all most leaves) (c.add_by_key.ensures.steps f most whole is few)
+    ok_alone c.add_by_key.result (after ≤ before + (leaves + count * most)) (after ≤ before + step_bound all most leaves) (c.add_by_key.ensures.steps f most whole is few)
     (key_within count most leaves before after all (ap (λ (o : Option Cond). length (rows_meeting o f)) (sym same)))
 
 pub returns-in-Index-clause-steps : goal.returns-in-Index-clause-steps
@@ -130,7 +131,7 @@ returns-in-Index-clause-steps g c = λ f most whole is few.
     let same : condition_of q (plan_for t c.args.file.now q) ≡ Some cond = ap (condition_of q) plan ∙ condition_by_index q c.plan.result c.in-Index.number cond c.in-Index.is c.condition_at-on_index.ensures in
     let count = length (rows_meeting (Some cond) f) in
     let all = length (rows_meeting (condition_of q (plan_for t c.args.file.now q)) f) in
-    ok_so c.add_by_index.result (after ≤ before + ((count + 1) * leaves + 2 * (count * most))) (after ≤ before + step_bound all most leaves) (c.add_by_index.ensures.steps f most whole is few)
+    ok_alone c.add_by_index.result (after ≤ before + ((count + 1) * leaves + 2 * (count * most))) (after ≤ before + step_bound all most leaves) (c.add_by_index.ensures.steps f most whole is few)
     (index_within count most leaves before after all (ap (λ (o : Option Cond). length (rows_meeting o f)) (sym same)))
 
 pub returns-clause-steps : goal.returns-clause-steps
@@ -146,5 +147,5 @@ returns-clause-steps g c = λ f most whole is few.
     let same : condition_of q (plan_for t c.args.file.now q) ≡ None = ap (condition_of q) plan ∙ no_condition q c.plan.result c.in-Link.is in
     let count = length (rows_inside c.whole_span.result f) in
     let all = length (rows_meeting (condition_of q (plan_for t c.args.file.now q)) f) in
-    ok_so c.rows_within.result (after ≤ before + (leaves + count * most)) (after ≤ before + step_bound all most leaves) (c.rows_within.ensures.steps f most whole is few)
+    ok_alone c.rows_within.result (after ≤ before + (leaves + count * most)) (after ≤ before + step_bound all most leaves) (c.rows_within.ensures.steps f most whole is few)
     (key_within count most leaves before after all (all_meeting c.whole_span.result f c.whole_span.ensures.all ∙ ap (λ (o : Option Cond). length (rows_meeting o f)) (sym same)))
