@@ -1,10 +1,10 @@
 // The commands that change links, and whether a record is an end of a pair.
-ghost use Rattle.std.specs.Prelude.{◌≡◌, ◌<◌, ◌&&◌, ℕ, true, length, IfOk, IsErrOf};
+ghost use Rattle.std.specs.Prelude.{◌≡◌, ◌<◌, ◌&&◌, true, length, IfOk};
 ghost use Rattle.gx_values.specs.Values.{Fits};
 ghost use Rattle.gx_schema.specs.Lookups.{file_at, link_at, key_kind};
 ghost use Rattle.gx_commands.specs.declared.command.Command.TheVariants as command;
 ghost use Rattle.gx_commands.specs.Commands.{IsOfSchema};
-ghost use Rattle.gx_ports.specs.Calls.{Reads, Ends};
+ghost use Rattle.gx_ports.specs.Calls.{OnlyReads};
 ghost use Rattle.gx_model.specs.States.{State, link_in};
 ghost use Rattle.gx_model.specs.Commands.{is_end_of, is_linked};
 ghost use Rattle.gx_states.specs.Internal.{AreInternal, AreFor, HaveState};
@@ -71,12 +71,9 @@ pub(crate) fn is_linked<B: Leaves>(
     ensures found { (s : State) → B.whole leaves.old →
         AreInternal schema.now built.now (B.working leaves.old) s →
         IfOk result (λ linked. linked ≡ is_linked schema.now.links s.links file key.now) }
-    ensures reads { Reads B.View leaves.old leaves.new }
-    ensures ends { Ends B.View
+    ensures reads { OnlyReads B.View
         (B.whole leaves.old × HaveState schema.now built.now (B.working leaves.old))
         leaves.old leaves.new result }
-    ensures block { (n : ℕ) → IsErrOf result (Stop.Damaged n) → B.whole leaves.old → n ≡ 0 }
-    ensures not_full { ¬ IsErrOf result Stop.Full }
 {
     for link in 0..schema.links.0.len() {
         if is_end_of(alloc, schema, built, link as u16, file, key, leaves)? {
@@ -102,12 +99,9 @@ fn is_end_of<B: Leaves>(
     ensures found { (s : State) → B.whole leaves.old →
         AreInternal schema.now built.now (B.working leaves.old) s →
         IfOk result (λ is. is ≡ is_end_of (link_at schema.now link) (link_in s link) file key.now) }
-    ensures reads { Reads B.View leaves.old leaves.new }
-    ensures ends { Ends B.View
+    ensures reads { OnlyReads B.View
         (B.whole leaves.old × HaveState schema.now built.now (B.working leaves.old))
         leaves.old leaves.new result }
-    ensures block { (n : ℕ) → IsErrOf result (Stop.Damaged n) → B.whole leaves.old → n ≡ 0 }
-    ensures not_full { ¬ IsErrOf result Stop.Full }
 {
     let def = link_def(schema, link);
     let stored = stored_link(schema, built, link);

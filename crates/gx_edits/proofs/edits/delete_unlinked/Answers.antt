@@ -2,7 +2,7 @@ use Rattle.std.proofs.Common.{length, sym, subst}
 use Rattle.gx_schema.specs.declared.schema.FileDef.{FileDef}
 use Rattle.gx_stack.specs.Seen.{tree_of}
 use Rattle.gx_scan.specs.Files.{IsTreeFor}
-use Rattle.gx_states.proofs.CallLemmas.{ok_one, ends_so}
+use Rattle.gx_scan.proofs.CallLemmas.{ok_one, ends_so}
 use Rattle.gx_states.proofs.StoredLemmas.{internal_at, has_file}
 use Rattle.gx_edits.proofs.EditLemmas.{delete_edited, short_as_it_is}
 use Rattle.gx_edits.proofs.edits.delete_unlinked.Goals as goal

@@ -10,7 +10,7 @@ use Rattle.gx_stack.specs.Tree.{entries_of}
 use Rattle.gx_types.specs.Any.{any_rule}
 use Rattle.gx_model.specs.States.{file_in}
 use Rattle.gx_model.specs.Commands.{changed, updated, first_refusal, no_record}
-use Rattle.gx_states.proofs.CallLemmas.{ok_one, ends_so}
+use Rattle.gx_scan.proofs.CallLemmas.{ok_one, ends_so}
 use Rattle.gx_states.proofs.StoredLemmas.{internal_at, has_file}
 use Rattle.gx_edits.specs.Records.{IsEditedWhere}
 use Rattle.gx_edits.proofs.EditLemmas.{update_edited, short_update}

@@ -3,7 +3,7 @@ use Rattle.gx_values.specs.Values.{Fits}
 use Rattle.gx_schema.specs.declared.schema.FileDef.{FileDef}
 use Rattle.gx_schema.specs.Lookups.{key_kind}
 use Rattle.gx_linksets.specs.Any.{any_link_rule, IsHeldBy, IsValidLinkset}
-use Rattle.gx_states.proofs.CallLemmas.{ok_both, ends_so}
+use Rattle.gx_scan.proofs.CallLemmas.{ok_both, ends_so}
 use Rattle.gx_states.proofs.StoredLemmas.{is_stored, is_linked_in, have_link}
 use Rattle.gx_edits.proofs.RelinkLemmas.{disconnect_edit, disconnect_full}
 use Rattle.gx_edits.proofs.links.disconnect.Goals as goal

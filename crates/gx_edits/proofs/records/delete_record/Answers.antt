@@ -13,14 +13,14 @@ use Rattle.gx_edits.proofs.RecordLemmas.{found_values, is_done, delete_edit}
 use Rattle.gx_edits.proofs.records.delete_record.Goals as goal
 
 pub replace-requires-clause-below : goal.replace-requires-clause-below
-replace-requires-clause-below g c = λ n h. subst (λ (maps : List LeafMap). n < length maps) (sym c.find_record.ensures.reads.working) (c.requires.tree.below n h)
+replace-requires-clause-below g c = λ n h. subst (λ (maps : List LeafMap). n < length maps) (sym c.find_record.ensures.reads.reads.working) (c.requires.tree.below n h)
 
 pub returns-clause-deleted : goal.returns-clause-deleted
 returns-clause-deleted g c = λ f whole is.
     let t = tree_of c.args.node.now in
-    let same = c.find_record.ensures.reads.working in
+    let same = c.find_record.ensures.reads.reads.working in
     let there = found_values f c.args.key.now c.in-Some.old (sym c.in-Some.is ∙ c.in_ok-old.ensures.found f whole is) in
-    let after = c.in_ok-old.ensures.ends.whole whole in
+    let after = c.in_ok-old.ensures.reads.ends.whole whole in
     let set = subst (λ form. IsSet form (records_of f)) (sym c.requires.tree.form) (set_of c.args.file.now f c.requires.storable.keyed is.fit) in
     let held = subst (λ (maps : List LeafMap). IsHeld any_rule t (records_of f) maps) (sym same) is.held in
     let done = c.in_ok-replace.ensures.internal (records_of f) after set (subst (λ (r : Rec). In r (records_of f)) (sym there.2) (there_in f c.args.key.now there.0 there.1)) held in

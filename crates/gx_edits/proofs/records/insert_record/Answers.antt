@@ -14,7 +14,7 @@ use Rattle.gx_edits.proofs.RecordLemmas.{is_there, none_there, is_done, insert_e
 use Rattle.gx_edits.proofs.records.insert_record.Goals as goal
 
 pub replace-requires-clause-below : goal.replace-requires-clause-below
-replace-requires-clause-below g c = λ n h. subst (λ (maps : List LeafMap). n < length maps) (sym c.find_record.ensures.reads.working) (c.requires.tree.below n h)
+replace-requires-clause-below g c = λ n h. subst (λ (maps : List LeafMap). n < length maps) (sym c.find_record.ensures.reads.reads.working) (c.requires.tree.below n h)
 
 pub replace-requires-clause-new_fits : goal.replace-requires-clause-new_fits
 replace-requires-clause-new_fits g c =
@@ -26,16 +26,16 @@ returns-in_err-replace-clause-full g c = λ f whole is e.
     let t = tree_of c.args.node.now in
     let none = none_there f c.args.key.now (is_there f c.args.key.now c.in_ok-find_record.field-0 _ (c.in_ok-find_record.ensures.found f whole is) c.is_some.ensures ∙ c.if-is_some.false) in
     let new = c.in_ok-new.ensures (new_sized c.args.file.now c.args.key.now c.args.values.now c.requires.key c.requires.values) in
-    let full = c.replace.ensures.full (c.in_ok-find_record.ensures.ends.whole whole) (search rules) in
-    (none, crowded_same (g.B.View.limit c.args.leaves.now) (g.B.View.limit c.find_record.new.leaves) (g.B.View.working c.args.leaves.now) (g.B.View.working c.find_record.new.leaves) t (c.args.key.now, c.args.values.now) c.in_ok-new.new c.find_record.ensures.reads.limit c.find_record.ensures.reads.working new full)
+    let full = c.replace.ensures.full (c.in_ok-find_record.ensures.reads.ends.whole whole) (search rules) in
+    (none, crowded_same (g.B.View.limit c.args.leaves.now) (g.B.View.limit c.find_record.new.leaves) (g.B.View.working c.args.leaves.now) (g.B.View.working c.find_record.new.leaves) t (c.args.key.now, c.args.values.now) c.in_ok-new.new c.find_record.ensures.reads.reads.limit c.find_record.ensures.reads.reads.working new full)
 
 pub returns-clause-inserted : goal.returns-clause-inserted
 returns-clause-inserted g c = λ f whole is.
     let t = tree_of c.args.node.now in
-    let same = c.find_record.ensures.reads.working in
+    let same = c.find_record.ensures.reads.reads.working in
     let absent = is_there f c.args.key.now c.in_ok-find_record.field-0 _ (c.in_ok-find_record.ensures.found f whole is) c.is_some.ensures ∙ c.if-is_some.false in
     let none = none_there f c.args.key.now absent in
-    let after = c.in_ok-find_record.ensures.ends.whole whole in
+    let after = c.in_ok-find_record.ensures.reads.ends.whole whole in
     let new = c.in_ok-new.ensures (new_sized c.args.file.now c.args.key.now c.args.values.now c.requires.key c.requires.values) in
     let set = subst (λ form. IsSet form (records_of f)) (sym c.requires.tree.form) (set_of c.args.file.now f c.requires.storable.keyed is.fit) in
     let held = subst (λ (maps : List LeafMap). IsHeld any_rule t (records_of f) maps) (sym same) is.held in

@@ -16,15 +16,15 @@ use Rattle.gx_edits.proofs.RecordLemmas.{found_values, is_done, update_edit, upd
 use Rattle.gx_edits.proofs.records.update_record.Goals as goal
 
 pub replace-requires-clause-below : goal.replace-requires-clause-below
-replace-requires-clause-below g c = λ n h. subst (λ (maps : List LeafMap). n < length maps) (sym c.find_record.ensures.reads.working) (c.requires.tree.below n h)
+replace-requires-clause-below g c = λ n h. subst (λ (maps : List LeafMap). n < length maps) (sym c.find_record.ensures.reads.reads.working) (c.requires.tree.below n h)
 
 pub returns-clause-updated : goal.returns-clause-updated
 returns-clause-updated g c = λ f whole is.
     let t = tree_of c.args.node.now in
-    let same = c.find_record.ensures.reads.working in
+    let same = c.find_record.ensures.reads.reads.working in
     let k = c.args.key.now in
     let there = found_values f k c.in-Some.old (sym c.in-Some.is ∙ c.in_ok-old.ensures.found f whole is) in
-    let after = c.in_ok-old.ensures.ends.whole whole in
+    let after = c.in_ok-old.ensures.reads.ends.whole whole in
     let new = rec_made c.in-Some.old c.in_ok-new.new k there.0 c.args.changes.now there.2 c.in_ok-new.ensures.key c.in_ok-new.ensures.fields in
     let set = subst (λ form. IsSet form (records_of f)) (sym c.requires.tree.form) (set_of c.args.file.now f c.requires.storable.keyed is.fit) in
     let held = subst (λ (maps : List LeafMap). IsHeld any_rule t (records_of f) maps) (sym same) is.held in
