@@ -1,12 +1,11 @@
 -- What a command that reads records or links does: its answer, its steps, and how it ends.
-use Rattle.std.specs.Prelude.{◌≡◌, ℕ, List, length, Bool, true, false, Option, Some, None, is_some, Result, IfOk, OnOk, IsErrOf}
+use Rattle.std.specs.Prelude.{ℕ, List, length, Bool, true, false, Option, Some, None, is_some, Result, IfOk, OnOk}
 use Rattle.gx_schema.specs.declared.schema.Schema.{Schema}
 use Rattle.gx_commands.specs.declared.command.Command.{Command}
 use Rattle.gx_commands.specs.declared.command.Command.TheVariants as command
 use Rattle.gx_ports.specs.declared.stop.Stop.{Stop}
-use Rattle.gx_ports.specs.declared.stop.Stop.TheVariants as stop
 use Rattle.gx_ports.specs.declared.view.View.{Ghosts}
-use Rattle.gx_ports.specs.Calls.{Reads, Ends}
+use Rattle.gx_ports.specs.Calls.{OnlyReads}
 use Rattle.gx_types.specs.declared.built.Built.{Built}
 use Rattle.gx_planner.specs.declared.plans.Plan.{Plan}
 use Rattle.gx_planner.specs.declared.plans.Plan.TheVariants.{Key}
@@ -16,13 +15,12 @@ use Rattle.gx_states.specs.Internal.{AreInternal, HaveState}
 use Rattle.gx_answers.specs.Work.{IsBounded}
 
 -- the result is the text of the command's answer, also where that is a refusal
-pub record Answers {S : Type 0} (g : Ghosts S) (schema : Schema) (built : Built) (c : Command) (old new : S) (result : Result (List ℕ) Stop) : Type 0 where
+pub record Answers {S : Type 0} (g : Ghosts S) (schema : Schema) (built : Built) (c : Command) (old new : S)
+    (result : Result (List ℕ) Stop) : Type 0 where
   pub answered : (s : State) → g.whole old → AreInternal schema built (g.working old) s → IfOk result (IsAnswer schema s c)
-  pub few_steps : (s : State) → g.whole old → AreInternal schema built (g.working old) s → OnOk result (IsBounded schema built (length (g.working old)) s c (g.work old) (g.work new))
-  pub reads : Reads g old new
-  pub ends : Ends g (g.whole old × HaveState schema built (g.working old)) old new result
-  pub block : (n : ℕ) → IsErrOf result (stop.Damaged n) → g.whole old → n ≡ 0
-  pub not_full : ¬ IsErrOf result stop.Full
+  pub few_steps : (s : State) → g.whole old → AreInternal schema built (g.working old) s
+      → OnOk result (IsBounded schema built (length (g.working old)) s c (g.work old) (g.work new))
+  pub reads : OnlyReads g (g.whole old × HaveState schema built (g.working old)) old new result
 
 -- whether the command follows a link to answer
 abbrev pub follows_link : Command → Bool

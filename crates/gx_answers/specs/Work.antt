@@ -39,7 +39,9 @@ meets_plan is_member q Scan r = true
 
 -- the records of a file that do
 abbrev pub candidates : Schema → Built → State → Find → List Row
-candidates schema built s q = filter (meets_plan (λ r. meets_of s q.of r.0) q (plan_for (tree_at built.files q.file) (file_at schema q.file) q)) (fin.entries (file_in s q.file))
+candidates schema built s q = filter
+    (meets_plan (λ r. meets_of s q.of r.0) q
+    (plan_for (tree_at built.files q.file) (file_at schema q.file) q)) (fin.entries (file_in s q.file))
 
 -- ---- the entries of a record
 
@@ -78,8 +80,21 @@ find_bound schema built leaves s q = step_bound (length (candidates schema built
 
 -- The `find` as which a command's steps count: `get` has one equality on the key, `members` has its owner alone.
 abbrev pub counted_as : Schema → Command → Option Find
-counted_as schema (command.Get file key) = Some (record { file = file; conds = record { field = 0; op = op.Equal; bound = key } ∷ []; of = None; order = record { field = 0; desc = false } })
-counted_as schema (command.Members link owner order) = Some (record { file = (link_at schema link).member; conds = []; of = Some (record { link = link; owner = owner }); order = order })
+counted_as schema (command.Get file key) =
+    Some (record {
+      file = file;
+      conds = record { field = 0; op = op.Equal; bound = key } ∷ [];
+      of = None;
+      order = record { field = 0; desc = false };
+    })
+counted_as schema (command.Members link owner order) =
+    Some (record {
+      file = (link_at schema link).member;
+      conds = [];
+      of = Some
+          (record { link = link; owner = owner });
+      order = order;
+    })
 counted_as schema (command.Find q) = Some q
 counted_as schema _ = None
 

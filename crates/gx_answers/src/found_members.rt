@@ -1,11 +1,11 @@
 // The members of an owner that a `find` gives.
-ghost use Rattle.std.specs.Prelude.{◌≡◌, ◌^◌, ◌<◌, ◌≤◌, ◌+◌, [], ℕ, true, Some, length, filter, is_some, IfOk, OnOk, IsErrOf};
+ghost use Rattle.std.specs.Prelude.{◌≡◌, ◌^◌, ◌<◌, ◌≤◌, ◌+◌, [], ℕ, true, Some, length, filter, is_some, IfOk, OnOk};
 ghost use Rattle.std.specs.FinMap as fin;
 ghost use Rattle.std.specs.List.{AllByRecursion};
 ghost use Rattle.gx_values.specs.Values.{Fits};
 ghost use Rattle.gx_schema.specs.Lookups.{key_kind};
 ghost use Rattle.gx_commands.specs.Commands.{IsCondOf};
-ghost use Rattle.gx_ports.specs.Calls.{Reads, Ends};
+ghost use Rattle.gx_ports.specs.Calls.{OnlyReads};
 ghost use Rattle.gx_model.specs.States.{File as FileMap, Link as LinkMap};
 ghost use Rattle.gx_scan.specs.Steps.{HaveAtMost};
 ghost use Rattle.gx_pairs.specs.Stored.{file_of, node_tree, IsStoredLink, AreLinked, HaveLink, OwnersHaveAtMost};
@@ -56,12 +56,9 @@ pub(crate) fn add_found_members<B: Leaves, L: Linkset>(
         (length (filter (meets_plan (is_member_of link of.now.owner) find.now
         (plan_for (node_tree stored.now.members) (file_of stored.now.members) find.now))
         (fin.entries members))) most (length (B.working leaves.old))) }
-    ensures reads { Reads B.View leaves.old leaves.new }
-    ensures ends { Ends B.View
+    ensures reads { OnlyReads B.View
         (B.whole leaves.old × HaveLink L.rule L.held stored.now (B.working leaves.old))
         leaves.old leaves.new result }
-    ensures block { (n : ℕ) → IsErrOf result (Stop.Damaged n) → B.whole leaves.old → n ≡ 0 }
-    ensures not_full { ¬ IsErrOf result Stop.Full }
 {
     let conds = find.conds.0.as_slice();
     let indexed = indexed_fields(alloc, stored.members.file, stored.members.node)?;

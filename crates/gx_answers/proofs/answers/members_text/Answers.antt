@@ -14,14 +14,22 @@ use Rattle.gx_answers.proofs.answers.members_text.Goals as goal
 
 pub add_members-requires-clause-stored : goal.add_members-requires-clause-stored
 add_members-requires-clause-stored g c =
-    is_stored any_link_rule IsHeldBy IsValidLinkset c.args.schema.now c.args.built.now _ c.args.link c.stored_link-stored.result c.requires.ready c.requires.of_schema.0 c.stored_link-stored.ensures
+    is_stored any_link_rule IsHeldBy IsValidLinkset c.args.schema.now c.args.built.now _ c.args.link
+    c.stored_link-stored.result c.requires.ready c.requires.of_schema.0 c.stored_link-stored.ensures
 
 pub returns-in_err-add_members : goal.returns-in_err-add_members
 returns-in_err-add_members g c =
     let stopped = c.in_err-add_members.ensures in
-    answers_stopped g.B.View c.args.schema.now c.args.built.now (command.Members c.args.link c.args.owner.now c.args.order) c.args.leaves.now c.add_members.new.leaves _ _ c.from_residual.result
-    (λ sound. (sound.0, have_link any_link_rule IsHeldBy IsValidLinkset c.args.schema.now c.args.built.now _ c.args.link c.stored_link-stored.result c.requires.ready c.requires.of_schema.0 c.stored_link-stored.ensures _ sound.1))
-    stopped.reads stopped.ends stopped.block stopped.not_full c.from_residual.ensures.1
+    answers_stopped g.B.View c.args.schema.now c.args.built.now
+    (command.Members c.args.link c.args.owner.now c.args.order)
+    c.args.leaves.now c.add_members.new.leaves c.from_residual.result c.from_residual.ensures.1
+    (λ sound. (
+      sound.0,
+      have_link any_link_rule IsHeldBy IsValidLinkset c.args.schema.now c.args.built.now _
+          c.args.link c.stored_link-stored.result c.requires.ready c.requires.of_schema.0
+          c.stored_link-stored.ensures _ sound.1,
+    ))
+    stopped.reads
 
 pub returns-then-not-branch : goal.returns-then-not-branch
 returns-then-not-branch g c =
@@ -33,14 +41,23 @@ returns-then-not-branch g c =
     let is = c.stored_link-stored.ensures in
     let lt = c.requires.of_schema.0 in
     let of : Of = record { link = i; owner = owner } in
-    answers_ok g.B.View schema built (command.Members i owner c.args.order) c.args.leaves.now c.add_members.new.leaves _ c.in_ok-add_members.field-0 _ c.in_ok-add_members.ensures.reads c.in_ok-add_members.ensures.ends
+    answers_ok g.B.View schema built
+    (command.Members i owner c.args.order)
+    c.args.leaves.now c.add_members.new.leaves _ c.in_ok-add_members.field-0 _
+    c.in_ok-add_members.ensures.reads
     (λ s whole are.
     let linked = is_linked_in any_link_rule IsHeldBy IsValidLinkset schema built _ i x c.requires.ready lt is _ s are in
-    members_refused schema s i owner c.args.order c.in_ok-add_members.field-0 _ c.if-not-branch.true (c.in_ok-add_members.ensures.there _ _ _ whole linked) c.in_ok-refusal_text.ensures)
+    members_refused schema s i owner c.args.order c.in_ok-add_members.field-0 _ c.if-not-branch.true
+    (c.in_ok-add_members.ensures.there _ _ _ whole linked) c.in_ok-refusal_text.ensures)
     (λ s whole are.
     let linked = is_linked_in any_link_rule IsHeldBy IsValidLinkset schema built _ i x c.requires.ready lt is _ s are in
     members_within schema built _ s i owner c.args.order _ _
-    (c.in_ok-add_members.ensures.steps _ _ _ (most_with built s (Some of)) whole linked (owner_records_most any_link_rule IsHeldBy IsValidLinkset schema built _ x s of c.requires.ready lt is are.valid.files_many) (member_records_most any_link_rule IsHeldBy IsValidLinkset schema built _ x s of c.requires.ready lt is are.valid.files_many) (owners_most any_link_rule IsHeldBy IsValidLinkset schema built _ x s of c.requires.ready lt is are.valid.links_many)))
+    (c.in_ok-add_members.ensures.steps _ _ _ (most_with built s (Some of)) whole linked
+    (owner_records_most any_link_rule IsHeldBy IsValidLinkset schema built _ x s of c.requires.ready lt is
+    are.valid.files_many) (member_records_most any_link_rule IsHeldBy IsValidLinkset schema built _ x s of
+    c.requires.ready lt is are.valid.files_many)
+    (owners_most any_link_rule IsHeldBy IsValidLinkset schema built _ x s of c.requires.ready lt is
+    are.valid.links_many)))
 
 pub returns : goal.returns
 returns g c =
@@ -52,13 +69,22 @@ returns g c =
     let is = c.stored_link-stored.ensures in
     let lt = c.requires.of_schema.0 in
     let of : Of = record { link = i; owner = owner } in
-    answers_ok g.B.View schema built (command.Members i owner c.args.order) c.args.leaves.now c.add_members.new.leaves _ c.in_ok-add_members.field-0 _ c.in_ok-add_members.ensures.reads c.in_ok-add_members.ensures.ends
+    answers_ok g.B.View schema built
+    (command.Members i owner c.args.order)
+    c.args.leaves.now c.add_members.new.leaves _ c.in_ok-add_members.field-0 _
+    c.in_ok-add_members.ensures.reads
     (λ s whole are.
     let linked = is_linked_in any_link_rule IsHeldBy IsValidLinkset schema built _ i x c.requires.ready lt is _ s are in
     let those = c.in_ok-add_members.ensures.those _ _ _ whole linked c.if-not-branch.false in
-    members_listed schema s i owner c.args.order c.in_ok-add_members.field-0 _ _ c.if-not-branch.false (c.in_ok-add_members.ensures.there _ _ _ whole linked) is.member_file
+    members_listed schema s i owner c.args.order c.in_ok-add_members.field-0 _ _ c.if-not-branch.false
+    (c.in_ok-add_members.ensures.there _ _ _ whole linked) is.member_file
     (c.in_ok-sorted_text.ensures (file_in s (link_at schema i).member) (λ r. is_owner owner (fin.get (link_in s i) r.0)) those))
     (λ s whole are.
     let linked = is_linked_in any_link_rule IsHeldBy IsValidLinkset schema built _ i x c.requires.ready lt is _ s are in
     members_within schema built _ s i owner c.args.order _ _
-    (c.in_ok-add_members.ensures.steps _ _ _ (most_with built s (Some of)) whole linked (owner_records_most any_link_rule IsHeldBy IsValidLinkset schema built _ x s of c.requires.ready lt is are.valid.files_many) (member_records_most any_link_rule IsHeldBy IsValidLinkset schema built _ x s of c.requires.ready lt is are.valid.files_many) (owners_most any_link_rule IsHeldBy IsValidLinkset schema built _ x s of c.requires.ready lt is are.valid.links_many)))
+    (c.in_ok-add_members.ensures.steps _ _ _ (most_with built s (Some of)) whole linked
+    (owner_records_most any_link_rule IsHeldBy IsValidLinkset schema built _ x s of c.requires.ready lt is
+    are.valid.files_many) (member_records_most any_link_rule IsHeldBy IsValidLinkset schema built _ x s of
+    c.requires.ready lt is are.valid.files_many)
+    (owners_most any_link_rule IsHeldBy IsValidLinkset schema built _ x s of c.requires.ready lt is
+    are.valid.links_many)))
