@@ -33,7 +33,7 @@ use Rattle.gx_scan.specs.Files.{HasFile}
 use Rattle.gx_engine.specs.declared.engine.Engine.{Engine}
 use Rattle.gx_engine.specs.Steps.{schema_of, built_of, leaves_of, IsSound, AreFresh, selects}
 use Rattle.gx_states.specs.Internal.{AreInternal, HaveState, state_entries}
-use Rattle.gx_states.proofs.CallLemmas.{ends_so}
+use Rattle.gx_scan.proofs.CallLemmas.{ends_so}
 use Rattle.gx_states.proofs.StoredLemmas.{has_file}
 use Rattle.gx_edits.specs.Edits.{is_edit, edit_text, IsEdit}
 use Rattle.gx_edits.proofs.EditLemmas.{short_after}
