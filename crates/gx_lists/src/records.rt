@@ -7,7 +7,8 @@ ghost use Rattle.gx_ports.specs.LeafMaps.{Extends};
 ghost use Rattle.gx_mapping.specs.Rule.{In};
 ghost use Rattle.gx_links.specs.declared.pairs.Owned.{Owned as Group};
 ghost use Rattle.gx_links.specs.Pairs.{rows_of};
-ghost use Rattle.gx_lists.specs.Inverted.{pair_rec, owned_rec, member_in, owner_in, inverted_rows, owned_pair, no_value};
+ghost use Rattle.gx_links.specs.Kinds.{no_value};
+ghost use Rattle.gx_lists.specs.Inverted.{pair_rec, owned_rec, member_in, owner_in, inverted_rows, owned_pair};
 
 use gx_gather::Recs;
 use gx_links::{Owners, Pairs};
