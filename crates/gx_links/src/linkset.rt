@@ -4,7 +4,7 @@ ghost use Rattle.std.specs.FinMap.{insert, remove};
 ghost use Rattle.gx_values.specs.declared.values.Value.{Value as FieldValue};
 ghost use Rattle.gx_values.specs.Values.{Fits};
 ghost use Rattle.gx_ports.specs.LeafMaps.{LeafMap, map_at, entry_count, Extends, IsCrowdedBy};
-ghost use Rattle.gx_ports.specs.Calls.{Keeps, OnlyReads, Ends};
+ghost use Rattle.gx_ports.specs.Calls.{Keeps, ReadsMaps, Ends};
 ghost use Rattle.gx_mapping.specs.Rule.{In};
 ghost use Rattle.gx_links.specs.Links.{Link, members_of, most_members};
 ghost use Rattle.gx_links.specs.Pairs.{ArePairs};
@@ -65,7 +65,7 @@ pub trait Linkset {
             (B.working leaves.old) owner.now (B.work leaves.old) (B.work leaves.new) out.old
             out.new) }
         ensures front { Extends out.old out.new }
-        ensures reads { OnlyReads B.View
+        ensures reads { ReadsMaps B.View
             (B.whole leaves.old × HasLink (rule self.now) (held self.now) (B.working leaves.old))
             leaves.old leaves.new result };
 
@@ -82,7 +82,7 @@ pub trait Linkset {
         ensures found { IfOk result
             (IsOwner (rule self.now) (held self.now) (B.whole leaves.old) (B.working leaves.old)
             member.now (B.work leaves.old) (B.work leaves.new)) }
-        ensures reads { OnlyReads B.View
+        ensures reads { ReadsMaps B.View
             (B.whole leaves.old × HasLink (rule self.now) (held self.now) (B.working leaves.old))
             leaves.old leaves.new result };
 
@@ -174,7 +174,7 @@ pub trait Linkset {
         ensures pairs { IfOk result
             (ArePairs (rule self.now) (held self.now) (B.whole leaves.old)
             (B.working leaves.old)) }
-        ensures reads { OnlyReads B.View (B.whole leaves.old) leaves.old leaves.new result };
+        ensures reads { ReadsMaps B.View (B.whole leaves.old) leaves.old leaves.new result };
 
     /// What is true of each linkset.
     ghost laws: { (l : Self) → valid l → LinksetLaws (rule l) (held l) };

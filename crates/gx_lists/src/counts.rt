@@ -1,6 +1,6 @@
 // Records of a node, counted.
 ghost use Rattle.std.specs.Prelude.{◌<◌, ◌≡◌, ℕ, length, IfOk};
-ghost use Rattle.gx_ports.specs.Calls.{OnlyReads};
+ghost use Rattle.gx_ports.specs.Calls.{ReadsMaps};
 ghost use Rattle.gx_mapping.specs.Rule.{In};
 ghost use Rattle.gx_stack.specs.Tree.{leaf, leaves_of, tree_form, IsLeafForm, IsValid};
 ghost use Rattle.gx_stack.specs.Seen.{tree_of};
@@ -29,7 +29,7 @@ pub fn count_within<M: Mapping, B: Leaves>(
     ensures count { IfOk result
         (IsCount M.rule (tree_of node.now) (B.whole leaves.old) (B.working leaves.old) span.now
         (B.work leaves.old) (B.work leaves.new)) }
-    ensures reads { OnlyReads B.View
+    ensures reads { ReadsMaps B.View
         (B.whole leaves.old × HasSet M.rule (tree_of node.now) (B.working leaves.old))
         leaves.old leaves.new result }
 {

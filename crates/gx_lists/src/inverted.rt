@@ -4,7 +4,7 @@ ghost use Rattle.std.specs.FinMap.{insert};
 ghost use Rattle.gx_values.specs.declared.records.Rec.{Rec as Record};
 ghost use Rattle.gx_values.specs.Values.{Fits};
 ghost use Rattle.gx_ports.specs.LeafMaps.{map_at, entry_count, IsCrowdedBy};
-ghost use Rattle.gx_ports.specs.Calls.{Keeps, OnlyReads, Ends};
+ghost use Rattle.gx_ports.specs.Calls.{Keeps, ReadsMaps, Ends};
 ghost use Rattle.gx_mapping.specs.Rule.{In, IsOf};
 ghost use Rattle.gx_stack.specs.Tree.{tree_form};
 ghost use Rattle.gx_stack.specs.Seen.{tree_of};
@@ -138,7 +138,7 @@ impl<'a, M: Mapping> Inverted<'a, M> {
             inverted_rows)
             (B.whole leaves.old) (B.working leaves.old) owner.now (B.work leaves.old)
             (B.work leaves.new)) }
-        ensures reads { OnlyReads B.View
+        ensures reads { ReadsMaps B.View
             (B.whole leaves.old
             × HasLink (inverted_rule M.rule (tree_of self.now.down.now) (tree_of self.now.up.now))
             (IsHeldLink M.rule (two_nodes (tree_of self.now.down.now) (tree_of self.now.up.now))

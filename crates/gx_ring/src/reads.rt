@@ -2,7 +2,7 @@
 ghost use Rattle.std.specs.Prelude.{◌≡◌, ◌<◌, ◌∷◌, [], ℕ, List, length, slice_get, IfOk};
 ghost use Rattle.gx_values.specs.Values.{Fits};
 ghost use Rattle.gx_values.specs.Spans.{IsSpanKind};
-ghost use Rattle.gx_ports.specs.Calls.{OnlyReads};
+ghost use Rattle.gx_ports.specs.Calls.{ReadsMaps};
 ghost use Rattle.gx_mapping.specs.Rule.{In};
 ghost use Rattle.gx_stack.specs.Tree.{leaves_of, tree_form, IsValid};
 ghost use Rattle.gx_stack.specs.Seen.{tree_of};
@@ -35,7 +35,7 @@ pub fn record_at<M: Mapping, B: Leaves>(
     ensures found { IfOk result
         (IsRecordAt M.rule (tree_of node.now) (B.whole leaves.old) (B.working leaves.old) key.now
         (B.work leaves.old) (B.work leaves.new)) }
-    ensures reads { OnlyReads B.View
+    ensures reads { ReadsMaps B.View
         (B.whole leaves.old × HasSet M.rule (tree_of node.now) (B.working leaves.old))
         leaves.old leaves.new result }
 {

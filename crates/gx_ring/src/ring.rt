@@ -5,7 +5,7 @@ ghost use Rattle.gx_values.specs.declared.records.Rec.{Rec as Record};
 ghost use Rattle.gx_values.specs.declared.values.Value.{Value as FieldValue};
 ghost use Rattle.gx_values.specs.Values.{Fits};
 ghost use Rattle.gx_ports.specs.LeafMaps.{map_at, entry_count, Extends, IsCrowdedBy};
-ghost use Rattle.gx_ports.specs.Calls.{Keeps, OnlyReads, Ends};
+ghost use Rattle.gx_ports.specs.Calls.{Keeps, ReadsMaps, Ends};
 ghost use Rattle.gx_mapping.specs.Rule.{In, IsOf};
 ghost use Rattle.gx_stack.specs.Tree.{leaves_of, tree_form};
 ghost use Rattle.gx_stack.specs.Seen.{tree_of};
@@ -197,7 +197,7 @@ impl<'a, M: Mapping> Ring<'a, M> {
             (B.whole leaves.old) (B.working leaves.old) first (B.work leaves.old)
             (B.work leaves.new) out.old out.new) }
         ensures front { Extends out.old out.new }
-        ensures reads { OnlyReads B.View
+        ensures reads { ReadsMaps B.View
             (B.whole leaves.old
             × HasChain M.rule (tree_of self.now.heads.now) (tree_of self.now.chain.now)
             (B.working leaves.old) first)
@@ -230,7 +230,7 @@ impl<'a, M: Mapping> Ring<'a, M> {
             (IsNext M.rule (tree_of self.now.heads.now) (tree_of self.now.chain.now)
             (B.whole leaves.old) (B.working leaves.old) member.now (B.work leaves.old)
             (B.work leaves.new)) }
-        ensures reads { OnlyReads B.View
+        ensures reads { ReadsMaps B.View
             (B.whole leaves.old
             × HasMember M.rule (tree_of self.now.heads.now) (tree_of self.now.chain.now)
             (B.working leaves.old) member.now)

@@ -7,7 +7,7 @@ use Rattle.gx_device.specs.Faults.{Rose}
 use Rattle.gx_ports.specs.declared.stop.Stop.{Stop}
 use Rattle.gx_ports.specs.declared.stop.Stop.TheVariants.{Fault, Full, Damaged}
 use Rattle.gx_ports.specs.declared.view.View.{Ghosts}
-use Rattle.gx_ports.specs.Calls.{Reads, Ends, OnlyReads}
+use Rattle.gx_ports.specs.Calls.{Reads, Ends, ReadsMaps}
 use Rattle.gx_ports.proofs.CallLemmas.{reads_joined}
 
 -- a stop that is given on is the same
@@ -66,12 +66,12 @@ module _ {S : Type 0} (g : Ghosts S) where
   -- ---- calls that only read
 
   -- one passes where it answers Ok
-  pub read_passes : {T : Type 0} {a b : S} {sound : Type 0} {x : T} → OnlyReads g sound a b (Ok x) → Passes g a b
+  pub read_passes : {T : Type 0} {a b : S} {sound : Type 0} {x : T} → ReadsMaps g sound a b (Ok x) → Passes g a b
   read_passes x = passes x.reads x.ends
 
   -- it is sound in a narrower sense
-  pub reads_weaker : {T : Type 0} {a b : S} {r : Result T Stop} {sound before : Type 0} → (before → sound) → OnlyReads g sound a b r
-      → OnlyReads g before a b r
+  pub reads_weaker : {T : Type 0} {a b : S} {r : Result T Stop} {sound before : Type 0} → (before → sound) → ReadsMaps g sound a b r
+      → ReadsMaps g before a b r
   reads_weaker to x = record {
     reads = x.reads;
     ends = record {
@@ -87,7 +87,7 @@ module _ {S : Type 0} (g : Ghosts S) where
 
   -- one after those that passed
   pub reads_after : {T : Type 0} {a b c : S} (r : Result T Stop) {sound before : Type 0} → Passes g a b → (before → sound)
-      → OnlyReads g sound b c r → OnlyReads g before a c r
+      → ReadsMaps g sound b c r → ReadsMaps g before a c r
   reads_after r p to x = record {
     reads = reads_joined g p.reads x.reads;
     ends = ends_after r p to x.ends;
@@ -97,7 +97,7 @@ module _ {S : Type 0} (g : Ghosts S) where
 
   -- its stop is given on
   pub reads_given : {T U : Type 0} {a b : S} {e : Stop} (r : Result U Stop) {sound before : Type 0} → IsErrAnd r (λ y. y ≡ e)
-      → (before → sound) → OnlyReads {T = T} g sound a b (Err e) → OnlyReads {T = U} g before a b r
+      → (before → sound) → ReadsMaps {T = T} g sound a b (Err e) → ReadsMaps {T = U} g before a b r
   reads_given r given to x = record {
     reads = x.reads;
     ends = ends_given r given to x.ends;
@@ -107,12 +107,12 @@ module _ {S : Type 0} (g : Ghosts S) where
 
   -- the same of one after those that passed
   pub reads_given_after : {T U : Type 0} {a b c : S} {e : Stop} (r : Result U Stop) {sound before : Type 0} → IsErrAnd r (λ y. y ≡ e)
-      → Passes g a b → (before → sound) → OnlyReads {T = T} g sound b c (Err e) → OnlyReads {T = U} g before a c r
+      → Passes g a b → (before → sound) → ReadsMaps {T = T} g sound b c (Err e) → ReadsMaps {T = U} g before a c r
   reads_given_after r given p to x = reads_given r given (λ h. h) (reads_after _ p to x)
 
   -- one that stops where what was read shows that something isn't sound
   pub reads_stopped : {U : Type 0} {before : Type 0} {a b : S} (n : ℕ) → n ≡ 0 → (before → ⊥) → Passes g a b
-      → OnlyReads {T = U} g before a b (Err (Damaged n))
+      → ReadsMaps {T = U} g before a b (Err (Damaged n))
   reads_stopped n zero not p = record {
     reads = p.reads;
     ends = record {

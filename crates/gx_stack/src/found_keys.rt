@@ -4,7 +4,7 @@ ghost use Rattle.gx_values.specs.declared.values.Kind.{Kind as TheKind};
 ghost use Rattle.gx_values.specs.declared.records.Rec.{Rec as Record};
 ghost use Rattle.gx_values.specs.Spans.{IsValueSpan};
 ghost use Rattle.gx_ports.specs.LeafMaps.{Extends};
-ghost use Rattle.gx_ports.specs.Calls.{OnlyReads};
+ghost use Rattle.gx_ports.specs.Calls.{ReadsMaps};
 ghost use Rattle.gx_mapping.specs.Rule.{In, kind_in};
 ghost use Rattle.gx_stack.specs.Tree.{leaves_of, tree_form, IsValid};
 ghost use Rattle.gx_stack.specs.Seen.{tree_of};
@@ -47,7 +47,7 @@ impl<M: Mapping> Node<M> {
 
         ensures front { Extends out.old out.new }
 
-        ensures reads { OnlyReads B.View
+        ensures reads { ReadsMaps B.View
             (B.whole leaves.old × HasSet M.rule (tree_of self.now) (B.working leaves.old))
             leaves.old leaves.new result }
     {

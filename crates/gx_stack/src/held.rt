@@ -4,7 +4,7 @@ ghost use Rattle.std.specs.List.{filter, flat_map};
 ghost use Rattle.std.specs.FinMap.{len};
 ghost use Rattle.gx_values.specs.declared.records.Rec.{Rec as Record};
 ghost use Rattle.gx_ports.specs.LeafMaps.{map_at};
-ghost use Rattle.gx_ports.specs.Calls.{OnlyReads};
+ghost use Rattle.gx_ports.specs.Calls.{ReadsMaps};
 ghost use Rattle.gx_mapping.specs.declared.parts.Part.{Part as ThePart};
 ghost use Rattle.gx_mapping.specs.Rule.{In, IsOf};
 ghost use Rattle.gx_stack.specs.Tree.{IsLeafForm};
@@ -32,7 +32,7 @@ pub fn held_leaf<B: Leaves>(
     ensures few_steps { B.whole leaves.old → OnOk result
         (B.work leaves.new
         ≤ B.work leaves.old + (1 + len (map_at (B.working leaves.old) leaf))) }
-    ensures reads { OnlyReads B.View (B.whole leaves.old) leaves.old leaves.new result }
+    ensures reads { ReadsMaps B.View (B.whole leaves.old) leaves.old leaves.new result }
 {
     let mut entries = Entries::new(alloc);
     leaves.select(alloc, leaf, &whole_span(), &mut entries)?;

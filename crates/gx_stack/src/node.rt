@@ -2,7 +2,7 @@
 ghost use Rattle.std.specs.Prelude.{◌≡◌, ◌<◌, ◌≤◌, ◌+◌, ◌++◌, ◌↔◌, List, ℕ, false, length, not, ◌&&◌, OnOk, IsErrOf, IfOk};
 ghost use Rattle.std.specs.Option.{option_map};
 ghost use Rattle.gx_ports.specs.LeafMaps.{LeafMap, map_at, entry_count, Extends, IsCrowdedBy};
-ghost use Rattle.gx_ports.specs.Calls.{Keeps, OnlyReads, Ends};
+ghost use Rattle.gx_ports.specs.Calls.{Keeps, ReadsMaps, Ends};
 ghost use Rattle.gx_values.specs.declared.records.Rec.{Rec as Record};
 ghost use Rattle.gx_mapping.specs.Rule.{In, IsOf};
 ghost use Rattle.gx_stack.specs.Tree.{leaves_of, tree_form, entries_of, IsValid};
@@ -194,7 +194,7 @@ impl<M: Mapping> Node<M> {
 
         ensures front { Extends out.old out.new }
 
-        ensures reads { OnlyReads B.View
+        ensures reads { ReadsMaps B.View
             (B.whole leaves.old × HasSet M.rule (tree_of self.now) (B.working leaves.old))
             leaves.old leaves.new result }
     {

@@ -1,6 +1,6 @@
 // Records read back from the entries of a leaf.
 ghost use Rattle.std.specs.Prelude.{◌≡◌, ◌≢◌, ◌<◌, ◌≤◌, ℕ, List, false, length, OnOk, IsErrOf, IfOk};
-ghost use Rattle.gx_ports.specs.Calls.{OnlyReads};
+ghost use Rattle.gx_ports.specs.Calls.{ReadsMaps};
 ghost use Rattle.gx_values.specs.declared.records.Rec.{Rec as Record};
 ghost use Rattle.gx_ports.specs.LeafMaps.{map_at, Extends};
 ghost use Rattle.gx_ports.specs.declared.leaves.Entry.{Entry as LeafPair};
@@ -29,7 +29,7 @@ pub fn select_leaf<B: Leaves>(
         (IsLeafFound form.now (B.whole leaves.old) (map_at (B.working leaves.old) leaf) span.now
         (B.work leaves.old) (B.work leaves.new) out.old out.new) }
     ensures front { Extends out.old out.new }
-    ensures reads { OnlyReads B.View
+    ensures reads { ReadsMaps B.View
         (B.whole leaves.old × HasLeafSet form.now (map_at (B.working leaves.old) leaf))
         leaves.old leaves.new result }
 {

@@ -3,7 +3,7 @@ ghost use Rattle.std.specs.Prelude.{◌≡◌, ◌<◌, ◌≤◌, ◌+◌, ℕ,
 ghost use Rattle.std.specs.List.{sum_by};
 ghost use Rattle.std.specs.FinMap.{len};
 ghost use Rattle.gx_ports.specs.LeafMaps.{map_at};
-ghost use Rattle.gx_ports.specs.Calls.{OnlyReads};
+ghost use Rattle.gx_ports.specs.Calls.{ReadsMaps};
 ghost use Rattle.gx_mapping.specs.Rule.{In};
 ghost use Rattle.gx_stack.specs.Tree.{leaves_of, IsValid};
 ghost use Rattle.gx_stack.specs.Seen.{tree_of};
@@ -36,7 +36,7 @@ impl<M: Mapping> Node<M> {
             ≤ B.work leaves.old
             + sum_by (λ n. 1 + len (map_at (B.working leaves.old) n))
             (leaves_of (tree_of self.now))) }
-        ensures reads { OnlyReads B.View (B.whole leaves.old) leaves.old leaves.new result }
+        ensures reads { ReadsMaps B.View (B.whole leaves.old) leaves.old leaves.new result }
     {
         Ok(self.held(alloc, leaves)?.is_some())
     }
@@ -54,7 +54,7 @@ impl<M: Mapping> Node<M> {
             ≤ B.work leaves.old
             + sum_by (λ n. 1 + len (map_at (B.working leaves.old) n))
             (leaves_of (tree_of self.now))) }
-        ensures reads { OnlyReads B.View (B.whole leaves.old) leaves.old leaves.new result }
+        ensures reads { ReadsMaps B.View (B.whole leaves.old) leaves.old leaves.new result }
     {
         match self {
             Node::Leaf(node) => held_leaf(alloc, leaves, node.leaf, &node.form),
