@@ -1,5 +1,5 @@
 // The keys of records that are found by an indexed field.
-ghost use Rattle.std.specs.Prelude.{◌≡◌, ◌<◌, ◌++◌, true, Some, ℕ, List, length, map, drop, OnOk};
+ghost use Rattle.std.specs.Prelude.{◌≡◌, ◌<◌, ◌++◌, true, Some, ℕ, length, map, drop, OnOk};
 ghost use Rattle.gx_values.specs.declared.values.Kind.{Kind as TheKind};
 ghost use Rattle.gx_values.specs.declared.records.Rec.{Rec as Record};
 ghost use Rattle.gx_values.specs.Spans.{IsValueSpan};

@@ -1,5 +1,5 @@
 // Nodes: trees of mappings, with leaves below.
-ghost use Rattle.std.specs.Prelude.{◌≡◌, ◌<◌, ◌≤◌, ◌+◌, ◌++◌, ◌↔◌, List, ℕ, false, length, not, ◌&&◌, OnOk, IsErrOf, IfOk};
+ghost use Rattle.std.specs.Prelude.{◌≡◌, ◌<◌, ◌≤◌, ◌+◌, ◌++◌, ◌↔◌, List, ℕ, length, not, ◌&&◌, OnOk, IsErrOf, IfOk};
 ghost use Rattle.std.specs.Option.{option_map};
 ghost use Rattle.gx_ports.specs.LeafMaps.{LeafMap, map_at, entry_count, Extends, IsCrowdedBy};
 ghost use Rattle.gx_ports.specs.Calls.{Keeps, ReadsMaps, Ends};
