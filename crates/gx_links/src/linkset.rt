@@ -1,12 +1,11 @@
 // The trait of the linksets.
 ghost use Rattle.std.specs.Prelude.{◌≡◌, ◌<◌, ◌≤◌, ◌+◌, ℕ, List, length, IfOk, OnOk, IsErrOf};
 ghost use Rattle.std.specs.FinMap.{insert, remove};
-ghost use Rattle.gx_values.specs.declared.values.Value.{Value as FieldValue};
 ghost use Rattle.gx_values.specs.Values.{Fits};
 ghost use Rattle.gx_ports.specs.LeafMaps.{LeafMap, map_at, entry_count, Extends, IsCrowdedBy};
 ghost use Rattle.gx_ports.specs.Calls.{Keeps, ReadsMaps, Ends};
 ghost use Rattle.gx_mapping.specs.Rule.{In};
-ghost use Rattle.gx_links.specs.Links.{Link, members_of, most_members};
+ghost use Rattle.gx_links.specs.Links.{Link, members_of};
 ghost use Rattle.gx_links.specs.Pairs.{ArePairs};
 ghost use Rattle.gx_links.specs.Linksets.{LinkRule, LinksetLaws, HasLink, AreMembers, IsOwner, CanConnect, HasRoom, IsJoined, CanDisconnect, steps_for};
 
