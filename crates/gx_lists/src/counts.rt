@@ -1,8 +1,8 @@
 // Records of a node, counted.
-ghost use Rattle.std.specs.Prelude.{◌<◌, ◌≡◌, ℕ, length, IfOk};
+ghost use Rattle.std.specs.Prelude.{◌<◌, ℕ, length, IfOk};
 ghost use Rattle.gx_ports.specs.Calls.{ReadsMaps};
 ghost use Rattle.gx_mapping.specs.Rule.{In};
-ghost use Rattle.gx_stack.specs.Tree.{leaf, leaves_of, tree_form, IsLeafForm, IsValid};
+ghost use Rattle.gx_stack.specs.Tree.{leaf, leaves_of, tree_form, IsValid};
 ghost use Rattle.gx_stack.specs.Seen.{tree_of};
 ghost use Rattle.gx_stack.specs.Internal.{HasSet};
 ghost use Rattle.gx_stack.specs.Selected.{IsKeySpan};
