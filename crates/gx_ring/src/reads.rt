@@ -1,5 +1,5 @@
 // Single records of nodes.
-ghost use Rattle.std.specs.Prelude.{◌≡◌, ◌<◌, ◌∷◌, [], ℕ, List, length, slice_get, IfOk};
+ghost use Rattle.std.specs.Prelude.{◌≡◌, ◌<◌, ◌∷◌, [], ℕ, length, slice_get, IfOk};
 ghost use Rattle.gx_values.specs.Values.{Fits};
 ghost use Rattle.gx_values.specs.Spans.{IsSpanKind};
 ghost use Rattle.gx_ports.specs.Calls.{ReadsMaps};
