@@ -22,7 +22,7 @@ use Rattle.gx_model.specs.Texts.{row_text}
 use Rattle.gx_model.specs.Commands.{refusal_text, no_record, first_refusal, IsAnswerOr, IsReply, IsAnswer, IsListText, owner_text, record_text, lacks_of}
 use Rattle.gx_pairs.specs.Members.{is_chosen_of}
 use Rattle.gx_states.specs.Internal.{AreInternal, HaveState}
-use Rattle.gx_scan.proofs.CallLemmas.{reads_stopped}
+use Rattle.gx_stack.proofs.PassLemmas.{reads_given}
 use Rattle.gx_answers.specs.Queries.{Answers}
 use Rattle.gx_answers.specs.Work.{IsBounded}
 
@@ -37,7 +37,7 @@ module _ {S : Type 0} (g : Ghosts S) (schema : Schema) (built : Built) (c : Comm
   answers_stopped {U = U} (Err s) err more one = record {
     answered = λ t whole are. tt;
     few_steps = λ t whole are. tt;
-    reads = reads_stopped {U = U} g (Err s) err more one;
+    reads = reads_given g {T = U} (Err s) err more one;
   }
 
   -- an answer

@@ -1,6 +1,6 @@
 -- The steps that looking for records takes.
-use Rattle.std.proofs.Common.{[], ◌≡◌, ◌≢◌, ℕ, ◌+◌, ◌*◌, ◌<◌, ◌≤◌, List, ◌∷◌, length, Bool, true, false, cond, Some, None, inl, inr, refl, ap, subst, ◌∙◌, arith}
-use Rattle.std.specs.Prelude.{◌⊎◌, filter}
+use Rattle.std.proofs.Common.{◌≡◌, ◌≢◌, ℕ, ◌+◌, ◌*◌, ◌<◌, ◌≤◌, List, length, true, Some, None, inl, inr, ap, subst, ◌∙◌, arith}
+use Rattle.std.specs.Prelude.{◌⊎◌}
 use Rattle.std.specs.List.{slice_get}
 use Rattle.std.specs.FinMap as fin
 use Rattle.std.proofs.Math.Nat.{mul-le-mul_right}

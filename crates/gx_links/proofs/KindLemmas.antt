@@ -1,10 +1,10 @@
 -- Values fit fields by their kinds.
-use Rattle.std.proofs.Common.{◌≡◌, List, [], ◌∷◌, sym, subst}
+use Rattle.std.proofs.Common.{◌≡◌, List, [], ◌∷◌, get_or, refl, sym, subst}
 use Rattle.gx_values.specs.declared.values.Kind.{Kind}
 use Rattle.gx_values.specs.declared.values.Value.{Value}
 use Rattle.gx_values.specs.declared.records.Field.{Field}
-use Rattle.gx_values.specs.Values.{AreFit}
-use Rattle.gx_links.specs.Kinds.{kinds_of, AreOfKinds}
+use Rattle.gx_values.specs.Values.{Fits, AreFit}
+use Rattle.gx_links.specs.Kinds.{kinds_of, AreOfKinds, no_value}
 
 by_fields : (fs : List Field) (vs : List Value) → AreFit fs vs → AreOfKinds (kinds_of fs) vs
 by_fields [] [] fit = tt
@@ -23,3 +23,10 @@ fit_kinds fs ks vs is fit = subst (λ kinds. AreOfKinds kinds vs) is (by_fields 
 
 pub fit_fields : (fs : List Field) (ks : List Kind) (vs : List Value) → kinds_of fs ≡ ks → AreOfKinds ks vs → AreFit fs vs
 fit_fields fs ks vs is fit = by_kinds fs vs (subst (λ kinds. AreOfKinds kinds vs) (sym is) fit)
+
+-- one value for one kind
+pub one_kind : (kind : Kind) (vs : List Value) → AreOfKinds (kind ∷ []) vs
+    → (vs ≡ get_or vs 0 no_value ∷ []) × Fits kind (get_or vs 0 no_value)
+one_kind kind [] fit = absurd fit
+one_kind kind (v ∷ []) fit = (refl, fit.0)
+one_kind kind (v ∷ w ∷ vs) fit = absurd fit.1

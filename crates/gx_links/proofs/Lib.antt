@@ -3,6 +3,5 @@ pub mod RowLemmas
 pub mod KindLemmas
 pub mod OwnerLemmas
 pub mod PairLemmas
-pub mod PassLemmas
 pub mod JoinLemmas
 pub mod SpanLemmas

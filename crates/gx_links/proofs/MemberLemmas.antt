@@ -1,13 +1,13 @@
 -- The members of the owners of a link, and what one pair more or less makes of them.
 use Rattle.std.proofs.Common.{◌≡◌, ◌<◌, ◌≤◌, suc, List, [], ◌∷◌, ◌⊎◌, length, cond, Bool, true, false, Option, Some, None, inl, inr, refl, sym, ap, subst, ◌∙◌, arith}
-use Rattle.std.specs.Prelude.{T, ◌&&◌, ◌≢◌, not, map, filter}
+use Rattle.std.specs.Prelude.{T, ◌≢◌, not, map, filter}
 use Rattle.std.specs.Ordering.{is_eq, is_lt, eq_by_cmp, ordering_reverse}
 use Rattle.std.specs.declared.cmp.Ordering.{Ordering}
 use Rattle.std.specs.declared.cmp.Ordering.TheVariants.{Less, Equal, Greater}
 use Rattle.std.specs.Cmp.{IsTotalOrder, tied_itself}
 use Rattle.std.specs.FinMap as fin
 use Rattle.std.specs.FinMap.Entries.{below_all}
-use Rattle.std.proofs.lemmas.Bool.{true≢false}
+use Rattle.std.proofs.lemmas.Bool.{true≢false, not-true, not_from_false, false_from_ne_true}
 use Rattle.gx_values.specs.declared.values.Kind.{Kind}
 use Rattle.gx_values.specs.declared.values.Value.{Value}
 use Rattle.gx_values.specs.Values.{value_cmp, Fits}
@@ -15,39 +15,21 @@ use Rattle.gx_values.proofs.OrderLemmas.{value_cmp_total, value_cmp_same}
 use Rattle.gx_mapping.specs.Rule.{In}
 use Rattle.gx_gather.proofs.Lists.{in_map, from_map, in_filter, filter_in, all_at, all_of, some_same, none_some, bool_cases}
 use Rattle.gx_gather.proofs.Orders.{Ascends, ascends_filter, ascends_unique}
+use Rattle.gx_stack.proofs.LeafRead.{first_of_both, second_of_both, is_less}
 use Rattle.gx_links.specs.Links.{Link, is_same, members_of, distinct, owners_of, most_members, IsLink, with_member, without_member}
 
 -- ---- orders
-
-first_of_both : (a b : Bool) → T (a && b) → T a
-first_of_both true b p = tt
-first_of_both false b p = absurd p
-
-second_of_both : (a b : Bool) → T (a && b) → T b
-second_of_both true b p = p
-second_of_both false b p = absurd p
-
-is_less : (r : Ordering) → T (is_lt r) → r ≡ Less
-is_less Less e = refl
-is_less Equal e = absurd e
-is_less Greater e = absurd e
 
 is_equal : (r : Ordering) → is_eq r ≡ true → r ≡ Equal
 is_equal Less e = cc
 is_equal Equal e = refl
 is_equal Greater e = cc
 
-no_bool : (b : Bool) → (b ≡ true → ⊥) → b ≡ false
-no_bool true h = absurd (h refl)
-no_bool false h = refl
+pub less_equal : Less ≡ Equal → ⊥
+less_equal e = cc
 
-true_not : (b : Bool) → b ≡ false → not b ≡ true
-true_not true e = absurd (true≢false e)
-true_not false e = refl
-
-not_true : (b : Bool) → not b ≡ true → b ≡ false
-not_true true e = absurd (true≢false (sym e))
-not_true false e = refl
+pub greater_equal : Greater ≡ Equal → ⊥
+greater_equal e = cc
 
 pub same_value : (k q : Value) → is_same k q ≡ true → k ≡ q
 same_value k q e = value_cmp_same k q (is_equal (value_cmp k q) e)
@@ -56,7 +38,7 @@ pub value_itself : (k : Value) → is_same k k ≡ true
 value_itself k = ap is_eq (tied_itself value_cmp_total k)
 
 pub other_value : (k q : Value) → k ≢ q → is_same k q ≡ false
-other_value k q ne = no_bool _ (λ e. ne (same_value k q e))
+other_value k q ne = false_from_ne_true _ (λ e. ne (same_value k q e))
 
 pub value_cases : (k q : Value) → (k ≡ q) ⊎ (k ≢ q)
 value_cases k q = elim (bool_cases (is_same k q)) [
@@ -131,7 +113,7 @@ in_distinct [] y h = absurd h
 in_distinct (x ∷ xs) y (inl e) = inl e
 in_distinct (x ∷ xs) y (inr h) = elim (value_cases y x) [
   | inl e ↦ inl e
-  | inr ne ↦ inr (filter_in (λ z. not (is_same z x)) y (distinct xs) (in_distinct xs y h) (true_not _ (other_value y x ne)))
+  | inr ne ↦ inr (filter_in (λ z. not (is_same z x)) y (distinct xs) (in_distinct xs y h) (not_from_false _ (other_value y x ne)))
 ]
 
 pub owner_there : (link : Link) (o x : Value) → fin.get link x ≡ Some o → In o (owners_of link)
@@ -212,12 +194,12 @@ without_length m (x ∷ xs) = go (not (is_same x m)) (without_length m xs)
     go false l = omega (arith, l)
 
 pub in_without : (m : Value) (xs : List Value) (y : Value) → In y xs → y ≢ m → In y (without_member m xs)
-in_without m xs y h ne = filter_in (λ x. not (is_same x m)) y xs h (true_not _ (other_value y m ne))
+in_without m xs y h ne = filter_in (λ x. not (is_same x m)) y xs h (not_from_false _ (other_value y m ne))
 
 pub from_without : (m : Value) (xs : List Value) (y : Value) → In y (without_member m xs) → In y xs × (y ≢ m)
 from_without m xs y h =
     let f = in_filter (λ x. not (is_same x m)) y xs h in
-    (f.0, λ e. true≢false (sym (value_itself m) ∙ ap (λ x. is_same x m) (sym e) ∙ not_true _ f.1))
+    (f.0, λ e. true≢false (sym (value_itself m) ∙ ap (λ x. is_same x m) (sym e) ∙ not-true _ f.1))
 
 -- ---- a member comes
 

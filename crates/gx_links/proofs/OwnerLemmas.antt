@@ -1,7 +1,7 @@
 -- The owners of a link, made from its pairs.
 use Rattle.std.proofs.Common.{◌≡◌, ◌<◌, ◌+◌, ℕ, zero, suc, List, [], ◌∷◌, ◌++◌, ◌⊎◌, length, cond, get_or, Bool, true, false, Some, inl, inr, refl, sym, ap, subst, ◌∙◌, arith, append_assoc, append-nil}
 use Rattle.std.specs.Prelude.{T, ◌&&◌, ◌≢◌, map, slice_set}
-use Rattle.std.specs.List.{flat_map, AllByRecursion, IsDistinct}
+use Rattle.std.specs.List.{AllByRecursion}
 use Rattle.std.specs.List.Sorted.{IsPermutation, IsSortedBy}
 use Rattle.std.specs.Ordering.{is_lt, eq_by_cmp, ordering_then}
 use Rattle.std.specs.declared.cmp.Ordering.{Ordering}
@@ -11,19 +11,19 @@ use Rattle.std.specs.FinMap as fin
 use Rattle.std.specs.FinMap.Entries.{below_all}
 use Rattle.std.proofs.lemmas.Bool.{true≢false}
 use Rattle.std.proofs.lemmas.Cmp.{on_total, then_total}
-use Rattle.std.proofs.lemmas.List.Concat.{flat_map-append}
 use Rattle.std.proofs.lemmas.Map.Keys.{IsDistinct-from_sorted, IsDistinct-IsPermutation}
 use Rattle.gx_values.specs.declared.values.Value.{Value}
 use Rattle.gx_values.specs.Values.{value_cmp}
 use Rattle.gx_values.proofs.OrderLemmas.{value_cmp_total, value_cmp_same}
 use Rattle.gx_mapping.specs.Rule.{In}
-use Rattle.gx_gather.proofs.Lists.{in_left, in_right, in_cases, in_each, from_each, in_map, from_map, all_at, all_of}
-use Rattle.gx_gather.proofs.Orders.{Ascends, sorted, ascends, rises, rises_ascends, not_before_itself, not_both_before}
+use Rattle.gx_gather.proofs.Lists.{in_left, in_right, in_each, from_each, in_map, from_map, all_at, all_of}
+use Rattle.gx_gather.proofs.Orders.{Ascends, sorted, rises, rises_ascends, not_before_itself, not_both_before}
 use Rattle.gx_gather.proofs.Made.{permuted_in, permuted_back}
+use Rattle.gx_stack.proofs.LeafRead.{first_of_both, second_of_both}
 use Rattle.gx_links.specs.declared.pairs.Owned.{Owned}
-use Rattle.gx_links.specs.Links.{Link, is_same, members_of}
+use Rattle.gx_links.specs.Links.{Link, is_same}
 use Rattle.gx_links.specs.Owners.{owner_cmp, member_cmp, pair_with, pairs_under, pairs_of, first_of, with_member_last, is_last, with_pair, AreOwners, IsGroupOf}
-use Rattle.gx_links.proofs.MemberLemmas.{below_in, same_value, value_itself, pair_in, in_pair, members_are}
+use Rattle.gx_links.proofs.MemberLemmas.{below_in, same_value, value_itself, pair_in, in_pair, members_are, less_equal, greater_equal}
 
 -- ---- one pair more
 
@@ -129,14 +129,6 @@ both_true : (a b : Bool) → T a → T b → T (a && b)
 both_true true b p q = q
 both_true false b p q = p
 
-first_of_both : (a b : Bool) → T (a && b) → T a
-first_of_both true b p = tt
-first_of_both false b p = absurd p
-
-second_of_both : (a b : Bool) → T (a && b) → T b
-second_of_both true b p = p
-second_of_both false b p = absurd p
-
 pub pairs_ascend : (es : List (Value × Value)) → T (fin.is_sorted value_cmp es) → Ascends member_cmp es
 pairs_ascend [] h = tt
 pairs_ascend (e ∷ es) h = (
@@ -154,12 +146,6 @@ pairs_sorted (e ∷ es) h = both_true (below_all value_cmp e.0 es) (fin.is_sorte
     below : (xs : List (Value × Value)) → AllByRecursion (λ q. member_cmp e q ≡ Less) xs → T (below_all value_cmp e.0 xs)
     below [] all = tt
     below (x ∷ xs) all = both_true (is_lt (value_cmp e.0 x.0)) (below_all value_cmp e.0 xs) (less_is _ all.0) (below xs all.1)
-
-less_equal : Less ≡ Equal → ⊥
-less_equal e = cc
-
-greater_equal : Greater ≡ Equal → ⊥
-greater_equal e = cc
 
 second_equal : (a b : Ordering) → ordering_then a b ≡ Equal → b ≡ Equal
 second_equal Less b e = absurd (less_equal e)

@@ -1,20 +1,19 @@
 -- The rows of a link, made of its owners, and what nodes hold.
-use Rattle.std.proofs.Common.{◌≡◌, ◌<◌, ◌≤◌, ℕ, zero, suc, Bool, true, false, List, [], ◌∷◌, ◌++◌, ◌⊎◌, length, map, Option, Some, None, inl, inr, refl, sym, ap, subst, ◌∙◌, arith}
-use Rattle.std.specs.List.{flat_map, AllByRecursion, IsDistinct}
+use Rattle.std.proofs.Common.{◌≡◌, ◌<◌, ◌≤◌, ℕ, suc, Bool, false, List, [], ◌∷◌, ◌⊎◌, length, map, Option, Some, None, inl, inr, refl, sym, ap, subst, ◌∙◌, arith}
+use Rattle.std.specs.List.{IsDistinct}
 use Rattle.std.specs.List.Sorted.{IsPermutation, IsSortedBy, IsStrictlySortedBy}
 use Rattle.std.specs.Ordering.{is_lt, nat_cmp, eq_by_cmp, ordering_then, ordering_reverse}
 use Rattle.std.specs.declared.cmp.Ordering.{Ordering}
 use Rattle.std.specs.declared.cmp.Ordering.TheVariants.{Less, Equal, Greater}
 use Rattle.std.specs.Cmp.{IsTotalOrder, nat_cmp_total, Equal-is, tied_itself, eq_by_cmp_equiv}
 use Rattle.std.specs.FinMap as fin
-use Rattle.std.specs.FinMap.{nat_cmp-IsAntisymmetric, slice_cmp-IsAntisymmetric}
 use Rattle.std.proofs.lemmas.Map.Keys.{IsDistinct-IsPermutation}
 use Rattle.gx_values.specs.declared.values.Kind.{Kind}
 use Rattle.gx_values.specs.declared.values.Value.{Value}
 use Rattle.gx_values.specs.declared.records.Form.{Form}
 use Rattle.gx_values.specs.declared.records.Rec.{Rec}
 use Rattle.gx_values.specs.Values.{value_cmp, values_cmp, Fits}
-use Rattle.gx_values.proofs.OrderLemmas.{value_cmp_total, value_cmp_same}
+use Rattle.gx_values.proofs.OrderLemmas.{value_cmp_total}
 use Rattle.gx_ports.specs.LeafMaps.{LeafMap}
 use Rattle.gx_mapping.specs.declared.parts.Part.{Part}
 use Rattle.gx_mapping.specs.Rule.{Rule, In, IsOf, part_cmp}
@@ -23,19 +22,18 @@ use Rattle.gx_gather.specs.Gather.{rec_cmp, gather_cmp, part_for}
 use Rattle.gx_gather.proofs.Lists.{in_left, in_right, in_cases, in_each, from_each, in_map, from_map, all_at, all_of, bool_cases}
 use Rattle.gx_gather.proofs.Orders.{Ascends, sorted, ascends, ascends_append, ascends_by, ascends_unique, child_ascends, nat_less, rises, rises_ascends, gather_total, gather_ties, part_total, not_before_itself}
 use Rattle.gx_gather.proofs.Made.{permuted_in, permuted_back}
-use Rattle.gx_stack.specs.Tree.{Tree, Kids, no_kids, kid, kid_count, tree_form, IsValid, AreValid}
-use Rattle.gx_stack.specs.Internal.{IsSet, IsInternal, AreInternal, parts_for, HasSet}
-use Rattle.gx_stack.specs.Held.{AreHeld, IsHeld}
+use Rattle.gx_stack.specs.Tree.{Tree, Kids, no_kids, kid, kid_count, IsValid, AreValid}
+use Rattle.gx_stack.specs.Internal.{IsSet, IsInternal, AreInternal, parts_for}
 use Rattle.gx_stack.proofs.Children.{in_parts_for, from_parts_for}
 use Rattle.gx_stack.proofs.Same.{internal_of_members}
 use Rattle.gx_stack.proofs.Told.{kids_told}
+use Rattle.gx_stack.proofs.WholeLayer.{tied_parts, distinct_append}
 use Rattle.gx_links.specs.declared.pairs.Owned.{Owned}
-use Rattle.gx_links.specs.Links.{Link, members_of, owners_of, most_members, IsLink}
-use Rattle.gx_links.specs.Linksets.{HasLink}
+use Rattle.gx_links.specs.Links.{Link, members_of, most_members, IsLink}
 use Rattle.gx_links.specs.Rows.{two_forms, link_parts, node_rows, link_rule, IsHeldLink, RowLaws, RowsApart}
 use Rattle.gx_links.specs.Owners.{member_cmp, AreOwners}
-use Rattle.gx_links.specs.Pairs.{rows_of, two_parts, AreAllPairs, ArePairs, AreRows, IsTold}
-use Rattle.gx_links.proofs.MemberLemmas.{from_members, in_pair, pair_in, members_ascend}
+use Rattle.gx_links.specs.Pairs.{rows_of, two_parts, ArePairs, AreRows, IsTold}
+use Rattle.gx_links.proofs.MemberLemmas.{from_members, in_pair, pair_in, members_ascend, less_equal, greater_equal}
 use Rattle.gx_links.proofs.OwnerLemmas.{member_total, pairs_ascend, pairs_sorted}
 use Rattle.gx_links.proofs.RowLemmas.{in_link_parts, from_link_parts, node_set}
 
@@ -50,22 +48,6 @@ sorted_rows rows made found perm up order distinct to from =
     (λ p h. from p (permuted_back rows made p perm h))
     (λ p h. permuted_in rows made p perm (to p h))
 
-less_equal : Less ≡ Equal → ⊥
-less_equal e = cc
-
-greater_equal : Greater ≡ Equal → ⊥
-greater_equal e = cc
-
-both_equal : (a b : Ordering) → ordering_then a b ≡ Equal → (a ≡ Equal) × (b ≡ Equal)
-both_equal Less b e = absurd (less_equal e)
-both_equal Equal b e = (refl, e)
-both_equal Greater b e = absurd (greater_equal e)
-
-pub tied_parts : (p q : Part) → part_cmp p q ≡ Equal → (p.child ≡ q.child) × (p.rec.key ≡ q.rec.key)
-tied_parts p q e =
-    let b = both_equal (nat_cmp p.child q.child) (values_cmp p.rec.key q.rec.key) e in
-    (nat_cmp-IsAntisymmetric p.child q.child b.0, slice_cmp-IsAntisymmetric value_cmp_same p.rec.key q.rec.key b.1)
-
 parts_tied : (p q : Part) → p.child ≡ q.child → p.rec.key ≡ q.rec.key → part_cmp p q ≡ Equal
 parts_tied p q a b = (λ i. ordering_then (nat_cmp (a i) q.child) (values_cmp (b i) q.rec.key)) ∙ tied_itself part_total q
 
@@ -78,14 +60,6 @@ tied_same {R = R} o (z ∷ xs) x y up (inr i) (inl k) e =
     let less : R y x ≡ Less = ap (λ w. R w x) k ∙ all_at (λ w. R z w ≡ Less) xs x up.0 i in
     absurd (greater_equal (sym (o.antisymm x y ∙ ap ordering_reverse less) ∙ e))
 tied_same o (z ∷ xs) x y up (inr i) (inr k) e = tied_same o xs x y up.1 i k e
-
-pub distinct_append : {A : Type 0} (E : A → A → Bool) (xs ys : List A) → IsDistinct E xs → IsDistinct E ys → ((x y : A) → In x xs → In y ys → E x y ≡ false) → IsDistinct E (xs ++ ys)
-unfolding IsDistinct
-distinct_append E [] ys a b apart = b
-distinct_append E (x ∷ xs) ys a b apart = (
-  all_of _ (xs ++ ys) (λ z i. elim (in_cases z xs ys i) [ inl k ↦ all_at (λ y. E x y ≡ false) xs z a.0 k | inr k ↦ apart x z (inl refl) k ]),
-  distinct_append E xs ys a.1 b (λ y z i k. apart y z (inr i) k),
-)
 
 pub not_tied : (p q : Part) → ((p.child ≡ q.child) → (p.rec.key ≡ q.rec.key) → ⊥) → eq_by_cmp part_cmp p q ≡ false
 not_tied p q ne = elim (bool_cases (eq_by_cmp part_cmp p q)) [

@@ -3,6 +3,7 @@ use Rattle.std.specs.Prelude.{List, [], ◌∷◌, map}
 use Rattle.gx_values.specs.declared.values.Kind.{Kind}
 use Rattle.gx_values.specs.declared.values.Kind.TheVariants as kind
 use Rattle.gx_values.specs.declared.values.Value.{Value}
+use Rattle.gx_values.specs.declared.values.Value.TheVariants as value
 use Rattle.gx_values.specs.declared.records.Field.{Field}
 use Rattle.gx_values.specs.Values.{Fits}
 
@@ -19,3 +20,7 @@ abbrev pub AreOfKinds : List Kind → List Value → Type 0
 AreOfKinds [] [] = Unit {0}
 AreOfKinds (kind ∷ kinds) (value ∷ values) = Fits kind value × AreOfKinds kinds values
 AreOfKinds _ _ = ⊥
+
+-- what stands for a value where there is none
+abbrev pub no_value : Value
+no_value = value.Bytes []

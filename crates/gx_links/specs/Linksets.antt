@@ -55,17 +55,19 @@ pub record LinksetLaws (rule : LinkRule) (held : Link → List LeafMap → Type 
 abbrev pub HasLink : LinkRule → (Link → List LeafMap → Type 0) → List LeafMap → Type 0
 HasLink rule held maps = (link : Link) × IsLink rule.owner rule.member link × held link maps
 
+-- the most steps in which an owner's members are read: one for each leaf each time that it is gone through, and one for each entry
+abbrev pub steps_for : LinkRule → Link → Value → ℕ
+steps_for rule link owner =
+    rule.rounds (length (members_of link owner)) * length rule.leaves + length (rule.entries owner (members_of link owner))
+
 -- What was appended: values of the members' kind. Where the leaves are whole and hold a link, they are the members of the owner.
 pub record AreMembers (rule : LinkRule) (held : Link → List LeafMap → Type 0) (whole : Type 0) (maps : List LeafMap) (owner : Value) (steps_before steps : ℕ) (before now : List Value) : Type 0 where
   pub found : List Value
   pub appended : now ≡ before ++ found
   pub fit : (m : Value) → In m found → Fits rule.member m
   pub those : whole → (link : Link) → IsLink rule.owner rule.member link → held link maps → found ≡ members_of link owner
-  pub few_steps : whole → (link : Link) → IsLink rule.owner rule.member link → held link maps → steps ≤ steps_before + (rule.rounds (length found) * length rule.leaves + length (rule.entries owner (members_of link owner)))
-
--- the most steps in which an owner's members are read: one for each leaf each time that it is gone through, and one for each entry
-abbrev pub steps_for : LinkRule → Link → Value → ℕ
-steps_for rule link owner = rule.rounds (length (members_of link owner)) * length rule.leaves + length (rule.entries owner (members_of link owner))
+  pub few_steps : whole → (link : Link) → IsLink rule.owner rule.member link → held link maps
+      → steps ≤ steps_before + steps_for rule link owner
 
 -- the leaf entries of an owner, where there is one
 abbrev pub entries_if : LinkRule → Link → Option Value → List LeafEntry

@@ -13,7 +13,7 @@ use Rattle.gx_ports.specs.LeafMaps.{LeafMap}
 use Rattle.gx_mapping.specs.declared.parts.Part.{Part}
 use Rattle.gx_mapping.specs.Rule.{Rule, In, IsOf, part_cmp}
 use Rattle.gx_stack.specs.declared.entries.LeafEntry.{LeafEntry}
-use Rattle.gx_stack.specs.Tree.{Kids, kids_leaves, kid_entries}
+use Rattle.gx_stack.specs.Tree.{Tree, Kids, no_kids, kid, kids_leaves, kid_entries}
 use Rattle.gx_stack.specs.Internal.{parts_for, AreInternal}
 use Rattle.gx_links.specs.Links.{Link, members_of, owners_of, most_members, IsLink}
 use Rattle.gx_links.specs.Linksets.{LinkRule}
@@ -29,6 +29,10 @@ node_rows rows link c = parts_for c (link_parts rows link)
 -- the leaves of each node hold its rows
 abbrev pub IsHeldLink : {M : Type 0} (rule : M → Rule) → Kids M → (Value → List Value → List Part) → Link → List LeafMap → Type 0
 IsHeldLink rule ks rows link maps = AreInternal rule ks (node_rows rows link) maps
+
+-- two nodes
+abbrev pub two_nodes : {M : Type 0} → Tree M → Tree M → Kids M
+two_nodes first second = kid first (kid second no_kids)
 
 -- the leaf entries that come from one owner with its members
 abbrev pub owner_entries : {M : Type 0} (rule : M → Rule) → Kids M → (Value → List Value → List Part) → Value → List Value → List LeafEntry

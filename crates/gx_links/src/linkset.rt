@@ -1,12 +1,11 @@
 // The trait of the linksets.
 ghost use Rattle.std.specs.Prelude.{◌≡◌, ◌<◌, ◌≤◌, ◌+◌, ℕ, List, length, IfOk, OnOk, IsErrOf};
 ghost use Rattle.std.specs.FinMap.{insert, remove};
-ghost use Rattle.gx_values.specs.declared.values.Value.{Value as FieldValue};
 ghost use Rattle.gx_values.specs.Values.{Fits};
 ghost use Rattle.gx_ports.specs.LeafMaps.{LeafMap, map_at, entry_count, Extends, IsCrowdedBy};
-ghost use Rattle.gx_ports.specs.Calls.{Keeps, Reads, Ends};
+ghost use Rattle.gx_ports.specs.Calls.{Keeps, ReadsMaps, Ends};
 ghost use Rattle.gx_mapping.specs.Rule.{In};
-ghost use Rattle.gx_links.specs.Links.{Link, members_of, most_members};
+ghost use Rattle.gx_links.specs.Links.{Link, members_of};
 ghost use Rattle.gx_links.specs.Pairs.{ArePairs};
 ghost use Rattle.gx_links.specs.Linksets.{LinkRule, LinksetLaws, HasLink, AreMembers, IsOwner, CanConnect, HasRoom, IsJoined, CanDisconnect, steps_for};
 
@@ -65,12 +64,9 @@ pub trait Linkset {
             (B.working leaves.old) owner.now (B.work leaves.old) (B.work leaves.new) out.old
             out.new) }
         ensures front { Extends out.old out.new }
-        ensures reads { Reads B.View leaves.old leaves.new }
-        ensures ends { Ends B.View
+        ensures reads { ReadsMaps B.View
             (B.whole leaves.old × HasLink (rule self.now) (held self.now) (B.working leaves.old))
-            leaves.old leaves.new result }
-        ensures block { (n : ℕ) → IsErrOf result (Stop.Damaged n) → B.whole leaves.old → n ≡ 0 }
-        ensures not_full { ¬ IsErrOf result Stop.Full };
+            leaves.old leaves.new result };
 
     /// The owner of a member. `None`: it has none.
     fn owner<B: Leaves>(
@@ -85,12 +81,9 @@ pub trait Linkset {
         ensures found { IfOk result
             (IsOwner (rule self.now) (held self.now) (B.whole leaves.old) (B.working leaves.old)
             member.now (B.work leaves.old) (B.work leaves.new)) }
-        ensures reads { Reads B.View leaves.old leaves.new }
-        ensures ends { Ends B.View
+        ensures reads { ReadsMaps B.View
             (B.whole leaves.old × HasLink (rule self.now) (held self.now) (B.working leaves.old))
-            leaves.old leaves.new result }
-        ensures block { (n : ℕ) → IsErrOf result (Stop.Damaged n) → B.whole leaves.old → n ≡ 0 }
-        ensures not_full { ¬ IsErrOf result Stop.Full };
+            leaves.old leaves.new result };
 
     /// Gives a member without an owner its owner, where that has room for it: it has fewer than
     /// `MOST_MEMBERS` members.
@@ -180,10 +173,7 @@ pub trait Linkset {
         ensures pairs { IfOk result
             (ArePairs (rule self.now) (held self.now) (B.whole leaves.old)
             (B.working leaves.old)) }
-        ensures reads { Reads B.View leaves.old leaves.new }
-        ensures ends { Ends B.View (B.whole leaves.old) leaves.old leaves.new result }
-        ensures block { (n : ℕ) → IsErrOf result (Stop.Damaged n) → B.whole leaves.old → n ≡ 0 }
-        ensures not_full { ¬ IsErrOf result Stop.Full };
+        ensures reads { ReadsMaps B.View (B.whole leaves.old) leaves.old leaves.new result };
 
     /// What is true of each linkset.
     ghost laws: { (l : Self) → valid l → LinksetLaws (rule l) (held l) };

@@ -5,13 +5,13 @@ use Rattle.gx_stack.specs.Seen.{tree_of}
 use Rattle.gx_types.specs.Any.{any_rule, any_laws}
 use Rattle.gx_links.specs.Links.{Link}
 use Rattle.gx_links.specs.Linksets.{LinkRule, LinksetLaws}
-use Rattle.gx_links.specs.Rows.{IsHeldLink}
+use Rattle.gx_links.specs.Rows.{IsHeldLink, two_nodes}
 use Rattle.gx_lists.specs.Arrays.{one_node, array_rows, array_rule, IsArray}
-use Rattle.gx_lists.specs.Inverted.{two_nodes, inverted_rows, inverted_rule, IsInverted}
+use Rattle.gx_lists.specs.Inverted.{inverted_rows, inverted_rule, IsInverted}
 use Rattle.gx_lists.specs.ArrayLaws.{array_laws}
 use Rattle.gx_lists.specs.InvertedLaws.{inverted_laws}
 use Rattle.gx_ring.specs.RingLaws.{ring_laws}
-use Rattle.gx_ring.specs.Ring.{two_nodes as ring_nodes, ring_rows, ring_rule, IsRing}
+use Rattle.gx_ring.specs.Ring.{ring_rows, ring_rule, IsRing}
 use Rattle.gx_linksets.specs.declared.any.AnyLinkset.{AnyLinkset}
 use Rattle.gx_linksets.specs.declared.any.AnyLinkset.TheVariants.{Array, Ring, Inverted}
 
@@ -22,7 +22,7 @@ any_link_rule (Inverted l) = inverted_rule any_rule (tree_of l.down.now) (tree_o
 
 abbrev pub IsHeldBy : AnyLinkset → Link → List LeafMap → Type 0
 IsHeldBy (Array l) = IsHeldLink any_rule (one_node (tree_of l.tree.now)) array_rows
-IsHeldBy (Ring l) = IsHeldLink any_rule (ring_nodes (tree_of l.heads.now) (tree_of l.chain.now)) ring_rows
+IsHeldBy (Ring l) = IsHeldLink any_rule (two_nodes (tree_of l.heads.now) (tree_of l.chain.now)) ring_rows
 IsHeldBy (Inverted l) = IsHeldLink any_rule (two_nodes (tree_of l.down.now) (tree_of l.up.now)) inverted_rows
 
 abbrev pub IsValidLinkset : AnyLinkset → Type 0

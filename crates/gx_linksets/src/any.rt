@@ -1,5 +1,4 @@
 // The linksets of all kinds as one type.
-ghost use Rattle.std.specs.Prelude.{◌≡◌};
 
 use gx_links::{Joining, Linkset, Pairs};
 use gx_lists::{Inverted, PointerArray};

@@ -1,38 +1,38 @@
 -- The records of a pointer array: what selections of them find, and what a change of one makes of the link.
-use Rattle.std.proofs.Common.{◌≡◌, ◌≢◌, ◌<◌, ◌≤◌, ◌+◌, ◌*◌, ℕ, Bool, true, false, List, [], ◌∷◌, ◌⊎◌, inl, inr, length, Option, Some, None, refl, sym, ap, subst, ◌∙◌, get_or, arith, length-append}
-use Rattle.std.specs.Prelude.{not, IfSome}
-use Rattle.std.specs.Ordering.{eq_by_cmp}
+use Rattle.std.proofs.Common.{◌≡◌, ◌≢◌, ◌<◌, ◌≤◌, ◌+◌, ◌*◌, ℕ, true, List, [], ◌∷◌, ◌⊎◌, inl, inr, length, Option, Some, None, refl, sym, ap, subst, ◌∙◌, get_or, arith, length-append}
+use Rattle.std.specs.Prelude.{IfSome}
 use Rattle.std.specs.FinMap as fin
-use Rattle.std.proofs.lemmas.Bool.{true≢false}
 use Rattle.std.proofs.lemmas.List.Sums.{sum_by-cons}
 use Rattle.gx_values.specs.declared.values.Kind.{Kind}
 use Rattle.gx_values.specs.declared.values.Value.{Value}
 use Rattle.gx_values.specs.declared.records.Rec.{Rec}
 use Rattle.gx_values.specs.declared.keys.Span.{Span}
-use Rattle.gx_values.specs.Values.{values_cmp, Fits, AreFit, AreSized}
+use Rattle.gx_values.specs.Values.{Fits, AreFit, AreSized}
 use Rattle.gx_values.specs.Keys.{key_of, is_inside, IsKeyKind}
 use Rattle.gx_values.proofs.CopyLemmas.{are_sized}
 use Rattle.gx_ports.specs.LeafMaps.{LeafMap, Limits, IsCrowdedBy}
 use Rattle.gx_mapping.specs.declared.parts.Part.{Part}
 use Rattle.gx_mapping.specs.Rule.{Rule, In, IsOf}
 use Rattle.gx_gather.specs.Gather.{rec_cmp, part_for}
-use Rattle.gx_gather.proofs.Lists.{in_left, in_filter, filter_in}
-use Rattle.gx_gather.proofs.Orders.{Ascends, ascends, ascends_unique, rec_total, values_itself, values_other}
+use Rattle.gx_gather.proofs.Lists.{in_left}
+use Rattle.gx_gather.proofs.Orders.{Ascends, ascends, ascends_unique, rec_total}
 use Rattle.gx_stack.specs.Tree.{Tree, leaves_of, kids_leaves, tree_form, leaf_body, entries_of, entry_total}
-use Rattle.gx_stack.specs.Internal.{IsSet, IsInternal, IsChange, has_key_of, changed}
+use Rattle.gx_stack.specs.Internal.{IsSet, HasSet, IsInternal, IsChange, changed}
 use Rattle.gx_stack.specs.Selected.{IsSelection}
 use Rattle.gx_stack.proofs.Children.{in_parts_for, from_parts_for}
+use Rattle.gx_stack.proofs.Without.{from_without, to_without}
 use Rattle.gx_stack.proofs.Same.{internal_of_members}
-use Rattle.gx_links.specs.Kinds.{AreOfKinds}
+use Rattle.gx_links.specs.Kinds.{AreOfKinds, no_value}
 use Rattle.gx_links.specs.Links.{Link, members_of, most_members, IsLink}
+use Rattle.gx_links.specs.Linksets.{HasLink}
 use Rattle.gx_links.specs.Rows.{link_parts, node_rows, owner_entries, IsHeldLink, RowLaws}
 use Rattle.gx_links.proofs.KindLemmas.{fit_kinds}
 use Rattle.gx_links.proofs.JoinLemmas.{crowded_more}
 use Rattle.gx_links.proofs.MemberLemmas.{same_value, value_itself, value_cases, in_members, from_members, others_stay, gone_free, gone_comes}
 use Rattle.gx_links.proofs.RowLemmas.{node_set}
 use Rattle.gx_links.specs.Spans.{begins_with}
-use Rattle.gx_lists.specs.Inverted.{owner_kind, no_value}
-use Rattle.gx_lists.specs.Arrays.{array_rec, array_rows, one_node, IsArray, AreOfKind, first_body, AreCut, AreOfNone, HasMembers, IsOwnerAmong}
+use Rattle.gx_lists.specs.Inverted.{owner_kind}
+use Rattle.gx_lists.specs.Arrays.{array_rec, array_rows, one_node, array_rule, IsArray, AreOfKind, first_body, AreCut, AreOfNone, HasMembers, IsOwnerAmong}
 use Rattle.gx_lists.specs.Joined.{same_joined}
 use Rattle.gx_lists.specs.ArrayLaws.{key_kind, members_fit, array_row_of, of_array_row, array_row_laws, array_fits}
 
@@ -93,6 +93,11 @@ module _ {M : Type 0} (rule : M → Rule) (tree : Tree M) (member : Kind) (valid
 
   pub rows_set : (link : Link) → IsLink owner_key member link → IsSet (tree_form rule tree) (node_rows array_rows link 0)
   rows_set link is = node_set laws link 0 is
+
+  -- leaves that hold a link hold a set of records
+  pub array_has_set : (maps : List LeafMap) → HasLink (array_rule rule tree member) (IsHeldLink rule (one_node tree) array_rows) maps
+      → HasSet rule tree maps
+  array_has_set maps has = (node_rows array_rows has.0 0, rows_set has.0 has.1, has.2.0)
 
   pub of_form : (o : Value) (ms : List Value) → Fits owner_key o → AreOfKind member ms → length ms ≤ most_members → IsOf (tree_form rule tree) (array_rec o ms)
   of_form o ms fit_o fit_ms few = array_fits owner_key member (tree_form rule tree) valid.most member_key valid.keys valid.fields valid.room o ms fit_o fit_ms few
@@ -183,18 +188,6 @@ module _ {M : Type 0} (rule : M → Rule) (tree : Tree M) (member : Kind) (valid
 
   -- ---- changes
 
-  not_false : (b : Bool) → b ≡ false → not b ≡ true
-  not_false true e = absurd (true≢false e)
-  not_false false e = refl
-
-  from_without : (r out : Rec) (R : List Rec) → In r (changed R (Some out) None) → In r R × (r.key ≢ out.key)
-  from_without r out R h =
-      let f = in_filter (λ q. not (has_key_of out q)) r R h in
-      (f.0, λ e. true≢false (sym f.1 ∙ ap not (ap (λ k. eq_by_cmp values_cmp k out.key) e ∙ values_itself out.key)))
-
-  to_without : (r out : Rec) (R : List Rec) → In r R → r.key ≢ out.key → In r (changed R (Some out) None)
-  to_without r out R h ne = filter_in (λ q. not (has_key_of out q)) r R h (not_false _ (values_other r.key out.key ne))
-
   other_owner : (link : Link) (o : Value) (r : Rec) (row : IsOfOwner link r) → r.key ≢ o ∷ [] → row.owner ≢ o
   other_owner link o r row ne e = ne (ap (λ (x : Rec). x.key) row.is ∙ (λ i. e i ∷ []))
 
@@ -239,9 +232,9 @@ module _ {M : Type 0} (rule : M → Rule) (tree : Tree M) (member : Kind) (valid
       internal_of_members rule tree (changed (node_rows array_rows link 0) (Some (array_rec o (members_of link o))) (Some (array_rec o (members_of other o)))) (node_rows array_rows other 0) maps valid.nodes.1
           (λ r h. elim h [
             | inl e ↦ subst (λ x. In x (node_rows array_rows other 0)) (sym e) (in_rows other o m there)
-            | inr k ↦ (let f = from_without r (array_rec o (members_of link o)) (node_rows array_rows link 0) k in across r f.0 f.1)
+            | inr k ↦ (let f = from_without (node_rows array_rows link 0) (array_rec o (members_of link o)) r k in across r f.0 f.1)
           ])
-          (λ r h. elim (back r h) [ inl e ↦ inl e | inr both ↦ inr (to_without r (array_rec o (members_of link o)) (node_rows array_rows link 0) both.0 both.1) ])
+          (λ r h. elim (back r h) [ inl e ↦ inl e | inr both ↦ inr (to_without (node_rows array_rows link 0) (array_rec o (members_of link o)) r both.0 both.1) ])
           held,
       tt,
     )
@@ -250,10 +243,10 @@ module _ {M : Type 0} (rule : M → Rule) (tree : Tree M) (member : Kind) (valid
     pub last_held : (maps : List LeafMap) → members_of other o ≡ [] → IsInternal rule tree (changed (node_rows array_rows link 0) (Some (array_rec o (members_of link o))) None) maps → IsHeldLink rule (one_node tree) array_rows other maps
     last_held maps none held = (
       internal_of_members rule tree (changed (node_rows array_rows link 0) (Some (array_rec o (members_of link o))) None) (node_rows array_rows other 0) maps valid.nodes.1
-          (λ r h. let f = from_without r (array_rec o (members_of link o)) (node_rows array_rows link 0) h in across r f.0 f.1)
+          (λ r h. let f = from_without (node_rows array_rows link 0) (array_rec o (members_of link o)) r h in across r f.0 f.1)
           (λ r h. elim (back r h) [
             | inl e ↦ (let row = from_rows other r h in absurd (none_in (members_of other o) row.member none (in_members other o row.member (row.owned ∙ ap Some (same_owner other o r row (ap (λ (x : Rec). x.key) e))))))
-            | inr both ↦ to_without r (array_rec o (members_of link o)) (node_rows array_rows link 0) both.0 both.1
+            | inr both ↦ to_without (node_rows array_rows link 0) (array_rec o (members_of link o)) r both.0 both.1
           ])
           held,
       tt,

@@ -6,16 +6,16 @@ use Rattle.std.proofs.lemmas.List.{length-map}
 use Rattle.gx_values.specs.declared.records.Form.{Form}
 use Rattle.gx_values.specs.declared.records.Rec.{Rec}
 use Rattle.gx_values.specs.declared.keys.Span.{Span}
-use Rattle.gx_values.specs.Keys.{key_of, is_inside}
+use Rattle.gx_values.specs.Keys.{is_inside}
 use Rattle.gx_ports.specs.declared.leaves.Entry.{Entry}
 use Rattle.gx_ports.specs.LeafMaps.{LeafMap, map_at, entry_of, selected, counted}
-use Rattle.gx_mapping.specs.Rule.{Rule, In, IsOf}
+use Rattle.gx_mapping.specs.Rule.{Rule, In}
 use Rattle.gx_gather.proofs.Lists.{in_filter, from_map}
-use Rattle.gx_stack.specs.Tree.{leaf, leaf_body, IsLeafForm}
-use Rattle.gx_stack.specs.Internal.{IsSet, IsLeafMap}
+use Rattle.gx_stack.specs.Tree.{leaf, IsLeafForm}
+use Rattle.gx_stack.specs.Internal.{IsLeafMap}
 use Rattle.gx_stack.specs.Read.{entry_of_rec}
 use Rattle.gx_stack.proofs.LeafRead.{entry_get, leaf_selection, leaf_steps, few_counted}
-use Rattle.gx_lists.specs.Counts.{IsCountOf, IsCount}
+use Rattle.gx_lists.specs.Counts.{IsCount}
 
 module _ (form : Form) (R : List Rec) (m : LeafMap) (is : IsLeafMap m R) where
   -- records of these entries

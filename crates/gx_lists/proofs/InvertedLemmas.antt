@@ -1,18 +1,17 @@
 -- The records of an inverted list: what selections of them find, and what changes of two of them make of the link.
-use Rattle.std.proofs.Common.{◌≡◌, ◌≢◌, ◌<◌, ◌≤◌, ◌+◌, ◌*◌, ℕ, Bool, true, false, List, [], ◌∷◌, ◌++◌, inl, inr, length, map, Option, Some, None, refl, sym, ap, subst, ◌∙◌, get_or, arith, length-append}
-use Rattle.std.specs.Prelude.{not, IfSome, OnOk, Result, Ok, Err}
+use Rattle.std.proofs.Common.{◌≡◌, ◌≢◌, ◌<◌, ◌≤◌, ◌+◌, ◌*◌, ℕ, true, List, [], ◌∷◌, ◌++◌, inl, inr, length, map, Option, Some, None, refl, sym, ap, subst, ◌∙◌, get_or, arith, length-append}
+use Rattle.std.specs.Prelude.{IfSome, OnOk, Result, Ok, Err}
 use Rattle.std.specs.List.{AllByRecursion}
-use Rattle.std.specs.Ordering.{ordering_then, eq_by_cmp}
+use Rattle.std.specs.Ordering.{ordering_then}
 use Rattle.std.specs.declared.cmp.Ordering.TheVariants.{Less, Equal}
 use Rattle.std.specs.Cmp.{tied_itself}
 use Rattle.std.specs.FinMap as fin
-use Rattle.std.proofs.lemmas.Bool.{true≢false}
 use Rattle.std.proofs.lemmas.List.Sums.{sum_by-cons}
 use Rattle.gx_values.specs.declared.values.Kind.{Kind}
 use Rattle.gx_values.specs.declared.values.Value.{Value}
 use Rattle.gx_values.specs.declared.records.Rec.{Rec}
 use Rattle.gx_values.specs.declared.keys.Span.{Span}
-use Rattle.gx_values.specs.Values.{value_cmp, values_cmp, Fits, AreFit}
+use Rattle.gx_values.specs.Values.{value_cmp, Fits, AreFit}
 use Rattle.gx_values.specs.Keys.{key_of, is_inside}
 use Rattle.gx_values.proofs.OrderLemmas.{value_cmp_total}
 use Rattle.gx_ports.specs.LeafMaps.{LeafMap, Limits, map_at, IsCrowdedBy}
@@ -21,23 +20,24 @@ use Rattle.gx_ports.specs.declared.stop.Stop.TheVariants as stop
 use Rattle.gx_mapping.specs.declared.parts.Part.{Part}
 use Rattle.gx_mapping.specs.Rule.{Rule, In, IsOf}
 use Rattle.gx_gather.specs.Gather.{rec_cmp, part_for}
-use Rattle.gx_gather.proofs.Lists.{in_map, from_map, in_filter, filter_in, in_left, in_right, some_same, none_some}
-use Rattle.gx_gather.proofs.Orders.{Ascends, ascends, ascends_unique, rec_total, values_itself, values_other}
+use Rattle.gx_gather.proofs.Lists.{in_map, from_map, in_left, in_right, some_same, none_some}
+use Rattle.gx_gather.proofs.Orders.{Ascends, ascends, ascends_unique, rec_total}
 use Rattle.gx_stack.specs.Tree.{Tree, leaves_of, kids_leaves, tree_form, entries_of, entry_total}
-use Rattle.gx_stack.specs.Internal.{IsSet, IsInternal, IsChange, has_key_of, changed}
+use Rattle.gx_stack.specs.Internal.{IsSet, HasSet, IsInternal, IsChange, changed}
 use Rattle.gx_stack.specs.Selected.{IsSelection}
 use Rattle.gx_stack.proofs.Children.{in_parts_for, from_parts_for}
+use Rattle.gx_stack.proofs.Without.{from_without, to_without}
 use Rattle.gx_stack.proofs.Same.{internal_of_members, internal_elsewhere}
-use Rattle.gx_links.specs.Kinds.{AreOfKinds}
+use Rattle.gx_links.specs.Kinds.{AreOfKinds, no_value}
 use Rattle.gx_links.specs.Links.{Link, members_of, IsLink}
-use Rattle.gx_links.specs.Linksets.{entries_if}
-use Rattle.gx_links.specs.Rows.{two_forms, link_parts, node_rows, owner_entries, IsHeldLink, RowLaws}
+use Rattle.gx_links.specs.Linksets.{HasLink, entries_if}
+use Rattle.gx_links.specs.Rows.{two_forms, link_parts, node_rows, owner_entries, IsHeldLink, RowLaws, two_nodes}
 use Rattle.gx_links.proofs.KindLemmas.{fit_kinds}
 use Rattle.gx_links.proofs.JoinLemmas.{crowded_more}
 use Rattle.gx_links.proofs.MemberLemmas.{same_value, value_itself, in_members, from_members, members_ascend, new_here, from_insert, still_there, from_remove, kept_there}
 use Rattle.gx_links.proofs.RowLemmas.{node_set}
 use Rattle.gx_links.specs.Spans.{begins_with}
-use Rattle.gx_lists.specs.Inverted.{pair_rec, owned_rec, inverted_rows, two_nodes, owner_kind, member_kind, IsInverted, inverted_rule, no_value, member_in, owner_in}
+use Rattle.gx_lists.specs.Inverted.{pair_rec, owned_rec, inverted_rows, owner_kind, member_kind, IsInverted, inverted_rule, member_in, owner_in}
 use Rattle.gx_lists.specs.InvertedLaws.{row_of, of_row, inverted_row_laws, pair_fits, owned_fits}
 
 -- ---- the records of each node
@@ -141,6 +141,15 @@ module _ {M : Type 0} (rule : M → Rule) (down up : Tree M) (valid : IsInverted
 
   pub up_set : (link : Link) → IsLink owner_key member_key link → IsSet (tree_form rule up) (node_rows inverted_rows link 1)
   up_set link is = node_set laws link 1 is
+
+  -- leaves that hold a link hold a set of records in each node
+  pub down_has_set : (maps : List LeafMap) → HasLink (inverted_rule rule down up) (IsHeldLink rule (two_nodes down up) inverted_rows) maps
+      → HasSet rule down maps
+  down_has_set maps has = (node_rows inverted_rows has.0 0, down_set has.0 has.1, has.2.0)
+
+  pub up_has_set : (maps : List LeafMap) → HasLink (inverted_rule rule down up) (IsHeldLink rule (two_nodes down up) inverted_rows) maps
+      → HasSet rule up maps
+  up_has_set maps has = (node_rows inverted_rows has.0 1, up_set has.0 has.1, has.2.1.0)
 
   pub pairs_found : (link : Link) (o : Value) (span : Span) (found : List Rec) → IsLink owner_key member_key link → ((key : List Value) → AreFit (tree_form rule down).keys key → is_inside span.lo span.hi (key_of key) ≡ begins_with o key) → IsSelection (node_rows inverted_rows link 0) span found → found ≡ map (pair_rec o) (members_of link o)
   pairs_found link o span found is those sel = ascends_unique rec_total found (map (pair_rec o) (members_of link o)) (ascends rec_cmp found sel.in_order) (pairs_ascend o (members_of link o) (members_ascend link o))
@@ -334,7 +343,7 @@ module _ {M : Type 0} (rule : M → Rule) (down up : Tree M) (valid : IsInverted
       disconnected in_first in_second = (
         internal_of_members rule down (changed (node_rows inverted_rows link 0) (Some (pair_rec o m)) None) (node_rows inverted_rows (fin.remove link m) 0) new valid.nodes.1
             (λ r h.
-            let f = from_without r (pair_rec o m) (node_rows inverted_rows link 0) h in
+            let f = from_without (node_rows inverted_rows link 0) (pair_rec o m) r h in
             let pair = from_down link r f.0 in
             let other : pair.member ≢ m = λ e. f.1 (ap (λ (x : Rec). x.key) pair.is ∙ (λ i. some_same pair.owner o (sym pair.owned ∙ ap (fin.get link) e ∙ owned) i ∷ e i ∷ [])) in
             subst (λ x. In x (node_rows inverted_rows (fin.remove link m) 0)) (sym pair.is) (in_down (fin.remove link m) pair.owner pair.member (kept_there link m pair.member other ∙ pair.owned)))
@@ -342,12 +351,12 @@ module _ {M : Type 0} (rule : M → Rule) (down up : Tree M) (valid : IsInverted
             let pair = from_down (fin.remove link m) r h in
             let both = from_remove link m pair.member pair.owner pair.owned in
             let there : In r (node_rows inverted_rows link 0) = subst (λ x. In x (node_rows inverted_rows link 0)) (sym pair.is) (in_down link pair.owner pair.member both.1) in
-            to_without r (pair_rec o m) (node_rows inverted_rows link 0) there (λ e. both.0 (ap second_of (ap (λ (x : Rec). x.key) (sym pair.is) ∙ e))))
+            to_without (node_rows inverted_rows link 0) (pair_rec o m) r there (λ e. both.0 (ap second_of (ap (λ (x : Rec). x.key) (sym pair.is) ∙ e))))
             in_first,
         (
           internal_of_members rule up (changed (node_rows inverted_rows link 1) (Some (owned_rec o m)) None) (node_rows inverted_rows (fin.remove link m) 1) new valid.nodes.3.1
               (λ r h.
-              let f = from_without r (owned_rec o m) (node_rows inverted_rows link 1) h in
+              let f = from_without (node_rows inverted_rows link 1) (owned_rec o m) r h in
               let pair = from_up link r f.0 in
               let other : pair.member ≢ m = λ e. f.1 (ap (λ (x : Rec). x.key) pair.is ∙ (λ i. e i ∷ [])) in
               subst (λ x. In x (node_rows inverted_rows (fin.remove link m) 1)) (sym pair.is) (in_up (fin.remove link m) pair.owner pair.member (kept_there link m pair.member other ∙ pair.owned)))
@@ -355,23 +364,8 @@ module _ {M : Type 0} (rule : M → Rule) (down up : Tree M) (valid : IsInverted
               let pair = from_up (fin.remove link m) r h in
               let both = from_remove link m pair.member pair.owner pair.owned in
               let there : In r (node_rows inverted_rows link 1) = subst (λ x. In x (node_rows inverted_rows link 1)) (sym pair.is) (in_up link pair.owner pair.member both.1) in
-              to_without r (owned_rec o m) (node_rows inverted_rows link 1) there (λ e. both.0 (ap first_of (ap (λ (x : Rec). x.key) (sym pair.is) ∙ e))))
+              to_without (node_rows inverted_rows link 1) (owned_rec o m) r there (λ e. both.0 (ap first_of (ap (λ (x : Rec). x.key) (sym pair.is) ∙ e))))
               in_second,
           tt,
         ),
       )
-        where
-          not_false : (b : Bool) → b ≡ false → not b ≡ true
-          not_false true e = absurd (true≢false e)
-          not_false false e = refl
-
-          from_without : (r out : Rec) (R : List Rec) → In r (changed R (Some out) None) → In r R × (r.key ≢ out.key)
-          from_without r out R h =
-              let f = in_filter (λ q. not (has_key_of out q)) r R h in
-              (f.0, λ e. true≢false (sym f.1 ∙ ap not (same_key r out e)))
-            where
-              same_key : (r out : Rec) → r.key ≡ out.key → has_key_of out r ≡ true
-              same_key r out e = ap (λ k. eq_by_cmp values_cmp k out.key) e ∙ values_itself out.key
-
-          to_without : (r out : Rec) (R : List Rec) → In r R → r.key ≢ out.key → In r (changed R (Some out) None)
-          to_without r out R h ne = filter_in (λ q. not (has_key_of out q)) r R h (not_false _ (values_other r.key out.key ne))

@@ -20,13 +20,13 @@ use Rattle.gx_stack.specs.Internal.{IsInternal}
 use Rattle.gx_stack.specs.Held.{AreHeld}
 use Rattle.gx_ports.specs.LeafMaps.{LeafMap}
 use Rattle.gx_mapping.specs.Laws.{MappingLaws}
-use Rattle.gx_links.specs.Kinds.{AreOfKinds}
+use Rattle.gx_links.specs.Kinds.{no_value}
 use Rattle.gx_links.specs.Links.{Link}
-use Rattle.gx_links.specs.Rows.{RowsApart, IsHeldLink}
+use Rattle.gx_links.specs.Rows.{RowsApart, IsHeldLink, two_nodes}
 use Rattle.gx_links.specs.Pairs.{IsTold, ArePairs, two_parts}
-use Rattle.gx_links.proofs.KindLemmas.{fit_kinds}
+use Rattle.gx_links.proofs.KindLemmas.{fit_kinds, one_kind}
 use Rattle.gx_links.proofs.PairLemmas.{AreRead, pairs_held, two_fit, two_ascend, two_internal, not_tied, second_ascends, values_ascend, same_pairs, two_second, in_two_second}
-use Rattle.gx_lists.specs.Inverted.{pair_rec, owned_rec, owned_pair, pair_rows, inverted_rows, owner_kind, member_kind, IsInverted, inverted_rule, two_nodes, no_value}
+use Rattle.gx_lists.specs.Inverted.{pair_rec, owned_rec, owned_pair, pair_rows, inverted_rows, owner_kind, member_kind, IsInverted, inverted_rule}
 use Rattle.gx_lists.specs.InvertedLaws.{inverted_row_laws, IsRow, row_of, of_row, zero_one}
 
 -- ---- rows are apart
@@ -93,11 +93,6 @@ pub record IsOwnedRec (owner member : Kind) (r : Rec) : Type 0 where
   pub fields : r.fields ≡ (owned_pair r).1 ∷ []
   pub member_fits : Fits member (owned_pair r).0
   pub owner_fits : Fits owner (owned_pair r).1
-
-pub one_kind : (kind : Kind) (vs : List Value) → AreOfKinds (kind ∷ []) vs → (vs ≡ get_or vs 0 no_value ∷ []) × Fits kind (get_or vs 0 no_value)
-one_kind kind [] fit = absurd fit
-one_kind kind (v ∷ []) fit = (refl, fit.0)
-one_kind kind (v ∷ w ∷ vs) fit = absurd fit.1
 
 module _ {M : Type 0} (rule : M → Rule) (down up : Tree M) (valid : IsInverted rule down up) where
   pub owned_of : (r : Rec) → IsOf (tree_form rule up) r → IsOwnedRec (owner_kind rule down) (member_kind rule up) r

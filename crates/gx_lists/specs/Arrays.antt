@@ -14,12 +14,12 @@ use Rattle.gx_mapping.specs.declared.parts.Part.{Part}
 use Rattle.gx_mapping.specs.Rule.{Rule, In}
 use Rattle.gx_gather.specs.Gather.{part_for}
 use Rattle.gx_stack.specs.Tree.{Tree, Kids, no_kids, kid, tree_form, leaf_body, AreValid}
-use Rattle.gx_links.specs.Kinds.{kinds_of}
+use Rattle.gx_links.specs.Kinds.{kinds_of, no_value}
 use Rattle.gx_links.specs.declared.pairs.Owned.{Owned}
 use Rattle.gx_links.specs.Links.{most_members}
 use Rattle.gx_links.specs.Linksets.{LinkRule}
 use Rattle.gx_links.specs.Rows.{link_rule}
-use Rattle.gx_lists.specs.Inverted.{owner_kind, no_value}
+use Rattle.gx_lists.specs.Inverted.{owner_kind}
 
 -- the record of an owner with these members
 abbrev pub array_rec : Value → List Value → Rec

@@ -3,16 +3,15 @@ use Rattle.std.specs.Prelude.{◌≡◌, true, List, [], ◌∷◌, Option, Some
 use Rattle.std.specs.List.{flat_map}
 use Rattle.gx_values.specs.declared.values.Kind.{Kind}
 use Rattle.gx_values.specs.declared.values.Value.{Value}
-use Rattle.gx_values.specs.declared.values.Value.TheVariants as value
 use Rattle.gx_values.specs.declared.records.Rec.{Rec}
 use Rattle.gx_values.specs.Spans.{IsSpanKind}
 use Rattle.gx_mapping.specs.declared.parts.Part.{Part}
 use Rattle.gx_mapping.specs.Rule.{Rule}
 use Rattle.gx_gather.specs.Gather.{part_for}
-use Rattle.gx_stack.specs.Tree.{Tree, Kids, no_kids, kid, tree_form, AreValid}
-use Rattle.gx_links.specs.Kinds.{kinds_of, first_kind}
+use Rattle.gx_stack.specs.Tree.{Tree, tree_form, AreValid}
+use Rattle.gx_links.specs.Kinds.{kinds_of, first_kind, no_value}
 use Rattle.gx_links.specs.Linksets.{LinkRule}
-use Rattle.gx_links.specs.Rows.{two_forms, link_rule}
+use Rattle.gx_links.specs.Rows.{two_forms, link_rule, two_nodes}
 
 -- the record of a pair under its owner and then its member, without data
 abbrev pub pair_rec : Value → Value → Rec
@@ -30,9 +29,6 @@ abbrev pub inverted_rows : Value → List Value → List Part
 inverted_rows owner = flat_map (pair_rows owner)
 
 -- ---- the two nodes
-
-abbrev pub two_nodes : {M : Type 0} → Tree M → Tree M → Kids M
-two_nodes down up = kid down (kid up no_kids)
 
 -- the kinds of the keys of owners and of members, as the forms of the nodes have them
 abbrev pub owner_kind : {M : Type 0} (rule : M → Rule) → Tree M → Kind
@@ -55,10 +51,6 @@ abbrev pub inverted_rule : {M : Type 0} (rule : M → Rule) → Tree M → Tree 
 inverted_rule rule down up = link_rule rule (two_nodes down up) inverted_rows (owner_kind rule down) (member_kind rule up) (λ _. 1) true
 
 -- ---- what is read of the records
-
--- what stands for a value where there is none
-abbrev pub no_value : Value
-no_value = value.Bytes []
 
 abbrev pub member_in : Rec → Value
 member_in r = get_or r.key 1 no_value

@@ -1,8 +1,8 @@
 // Records of a node, counted.
-ghost use Rattle.std.specs.Prelude.{◌<◌, ◌≡◌, ℕ, length, IfOk, IsErrOf};
-ghost use Rattle.gx_ports.specs.Calls.{Reads, Ends};
+ghost use Rattle.std.specs.Prelude.{◌<◌, ℕ, length, IfOk};
+ghost use Rattle.gx_ports.specs.Calls.{ReadsMaps};
 ghost use Rattle.gx_mapping.specs.Rule.{In};
-ghost use Rattle.gx_stack.specs.Tree.{leaf, leaves_of, tree_form, IsLeafForm, IsValid};
+ghost use Rattle.gx_stack.specs.Tree.{leaf, leaves_of, tree_form, IsValid};
 ghost use Rattle.gx_stack.specs.Seen.{tree_of};
 ghost use Rattle.gx_stack.specs.Internal.{HasSet};
 ghost use Rattle.gx_stack.specs.Selected.{IsKeySpan};
@@ -29,12 +29,9 @@ pub fn count_within<M: Mapping, B: Leaves>(
     ensures count { IfOk result
         (IsCount M.rule (tree_of node.now) (B.whole leaves.old) (B.working leaves.old) span.now
         (B.work leaves.old) (B.work leaves.new)) }
-    ensures reads { Reads B.View leaves.old leaves.new }
-    ensures ends { Ends B.View
+    ensures reads { ReadsMaps B.View
         (B.whole leaves.old × HasSet M.rule (tree_of node.now) (B.working leaves.old))
         leaves.old leaves.new result }
-    ensures block { (n : ℕ) → IsErrOf result (Stop.Damaged n) → B.whole leaves.old → n ≡ 0 }
-    ensures not_full { ¬ IsErrOf result Stop.Full }
 {
     match node {
         Node::Leaf(node) => {

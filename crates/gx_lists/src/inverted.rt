@@ -4,16 +4,16 @@ ghost use Rattle.std.specs.FinMap.{insert};
 ghost use Rattle.gx_values.specs.declared.records.Rec.{Rec as Record};
 ghost use Rattle.gx_values.specs.Values.{Fits};
 ghost use Rattle.gx_ports.specs.LeafMaps.{map_at, entry_count, IsCrowdedBy};
-ghost use Rattle.gx_ports.specs.Calls.{Keeps, Reads, Ends};
+ghost use Rattle.gx_ports.specs.Calls.{Keeps, ReadsMaps, Ends};
 ghost use Rattle.gx_mapping.specs.Rule.{In, IsOf};
 ghost use Rattle.gx_stack.specs.Tree.{tree_form};
 ghost use Rattle.gx_stack.specs.Seen.{tree_of};
 ghost use Rattle.gx_links.specs.Links.{Link, members_of};
 ghost use Rattle.gx_links.specs.Linksets.{HasLink, CanConnect};
 ghost use Rattle.gx_links.specs.Pairs.{IsTold, two_parts};
-ghost use Rattle.gx_links.specs.Rows.{owner_entries, IsHeldLink};
+ghost use Rattle.gx_links.specs.Rows.{owner_entries, IsHeldLink, two_nodes};
 ghost use Rattle.gx_lists.specs.Counts.{IsMemberCount};
-ghost use Rattle.gx_lists.specs.Inverted.{inverted_rows, two_nodes, owner_kind, member_kind, IsInverted, inverted_rule};
+ghost use Rattle.gx_lists.specs.Inverted.{inverted_rows, owner_kind, member_kind, IsInverted, inverted_rule};
 
 use crate::counts::count_within;
 use crate::records::{add_members, inverted_rows, owned_pairs, owned_rec, owner_of, pair_rec};
@@ -36,8 +36,8 @@ pub struct Inverted<'a, M: Mapping> {
 
 impl<'a, M: Mapping> Linkset for Inverted<'a, M> {
     ghost use Rattle.gx_stack.specs.Seen.{tree_of};
-    ghost use Rattle.gx_links.specs.Rows.{IsHeldLink};
-    ghost use Rattle.gx_lists.specs.Inverted.{two_nodes, inverted_rows, inverted_rule, IsInverted};
+    ghost use Rattle.gx_links.specs.Rows.{IsHeldLink, two_nodes};
+    ghost use Rattle.gx_lists.specs.Inverted.{inverted_rows, inverted_rule, IsInverted};
     ghost use Rattle.gx_lists.specs.InvertedLaws.{inverted_laws};
 
     ghost rule = { λ l. inverted_rule M.rule (tree_of l.down.now) (tree_of l.up.now) };
@@ -138,16 +138,13 @@ impl<'a, M: Mapping> Inverted<'a, M> {
             inverted_rows)
             (B.whole leaves.old) (B.working leaves.old) owner.now (B.work leaves.old)
             (B.work leaves.new)) }
-        ensures reads { Reads B.View leaves.old leaves.new }
-        ensures ends { Ends B.View
+        ensures reads { ReadsMaps B.View
             (B.whole leaves.old
             × HasLink (inverted_rule M.rule (tree_of self.now.down.now) (tree_of self.now.up.now))
             (IsHeldLink M.rule (two_nodes (tree_of self.now.down.now) (tree_of self.now.up.now))
             inverted_rows)
             (B.working leaves.old))
             leaves.old leaves.new result }
-        ensures block { (n : ℕ) → IsErrOf result (Stop.Damaged n) → B.whole leaves.old → n ≡ 0 }
-        ensures not_full { ¬ IsErrOf result Stop.Full }
     {
         let span = value_span(self.down.form(), owner);
         count_within(alloc, leaves, self.down, &span)

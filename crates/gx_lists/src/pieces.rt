@@ -1,5 +1,5 @@
 // Members joined by their key bytes.
-ghost use Rattle.std.specs.Prelude.{◌≡◌, ◌==◌, ◌≤◌, length, take, drop, true, false, Ok, IfOk};
+ghost use Rattle.std.specs.Prelude.{◌≡◌, ◌==◌, ◌≤◌, length, take, drop, true, false, Ok};
 ghost use Rattle.std.specs.List.{position};
 ghost use Rattle.gx_values.specs.Keys.{IsKeyKind};
 ghost use Rattle.gx_ports.specs.LeafMaps.{Extends};

@@ -1,5 +1,5 @@
 // The records of inverted lists.
-ghost use Rattle.std.specs.Prelude.{◌≡◌, ◌<◌, ◌++◌, List, length, map, get_or, IfOk, OnOk};
+ghost use Rattle.std.specs.Prelude.{◌≡◌, ◌<◌, ◌++◌, length, map, get_or, IfOk, OnOk};
 ghost use Rattle.gx_values.specs.declared.records.Rec.{Rec as Record};
 ghost use Rattle.gx_values.specs.declared.values.Value.{Value as FieldValue};
 ghost use Rattle.gx_values.specs.Values.{IsSized};
@@ -7,7 +7,8 @@ ghost use Rattle.gx_ports.specs.LeafMaps.{Extends};
 ghost use Rattle.gx_mapping.specs.Rule.{In};
 ghost use Rattle.gx_links.specs.declared.pairs.Owned.{Owned as Group};
 ghost use Rattle.gx_links.specs.Pairs.{rows_of};
-ghost use Rattle.gx_lists.specs.Inverted.{pair_rec, owned_rec, member_in, owner_in, inverted_rows, owned_pair, no_value};
+ghost use Rattle.gx_links.specs.Kinds.{no_value};
+ghost use Rattle.gx_lists.specs.Inverted.{pair_rec, owned_rec, member_in, owner_in, inverted_rows, owned_pair};
 
 use gx_gather::Recs;
 use gx_links::{Owners, Pairs};

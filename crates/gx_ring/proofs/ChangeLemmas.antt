@@ -1,39 +1,25 @@
 -- The records of the two nodes as sets, and what a member that comes or goes makes of them.
-use Rattle.std.proofs.Common.{◌≡◌, ◌≢◌, ℕ, List, [], ◌∷◌, ◌++◌, ◌⊎◌, Bool, true, false, not, Option, Some, None, inl, inr, refl, sym, ap, subst, ◌∙◌, get_or}
+use Rattle.std.proofs.Common.{◌≡◌, ◌≢◌, ℕ, List, [], ◌∷◌, ◌++◌, ◌⊎◌, Option, Some, None, inl, inr, refl, sym, ap, subst, ◌∙◌, get_or}
 use Rattle.std.specs.FinMap as fin
-use Rattle.std.specs.Ordering.{eq_by_cmp}
-use Rattle.std.proofs.lemmas.Bool.{true≢false}
 use Rattle.gx_values.specs.declared.values.Value.{Value}
 use Rattle.gx_values.specs.declared.records.Form.{Form}
 use Rattle.gx_values.specs.declared.records.Rec.{Rec}
-use Rattle.gx_values.specs.Values.{values_cmp}
 use Rattle.gx_mapping.specs.Rule.{Rule, In, IsOf}
 use Rattle.gx_gather.specs.Gather.{part_for}
-use Rattle.gx_gather.proofs.Lists.{in_filter, filter_in, some_same, none_some}
-use Rattle.gx_gather.proofs.Orders.{values_itself, values_other}
+use Rattle.gx_gather.proofs.Lists.{some_same, none_some}
 use Rattle.gx_stack.specs.Tree.{Tree, tree_form}
-use Rattle.gx_stack.specs.Internal.{IsSet, IsChange, changed, has_key_of}
+use Rattle.gx_stack.specs.Internal.{IsSet, IsChange, changed}
+use Rattle.gx_stack.proofs.Without.{from_without, to_without}
 use Rattle.gx_links.specs.Links.{Link, members_of, IsLink}
 use Rattle.gx_links.specs.Rows.{node_rows, two_forms, RowLaws}
 use Rattle.gx_links.proofs.MemberLemmas.{value_cases, others_stay}
 use Rattle.gx_links.proofs.RowLemmas.{in_node_rows, from_node_rows, node_set}
-use Rattle.gx_ring.specs.Ring.{first, head_rec, chain_rec, head_if, chain, ring_rows, owner_kind, member_kind, IsRing, key_value, no_value}
+use Rattle.gx_links.specs.Kinds.{no_value}
+use Rattle.gx_ring.specs.Ring.{first, head_rec, chain_rec, head_if, chain, ring_rows, owner_kind, member_kind, IsRing, key_value}
 use Rattle.gx_ring.specs.RingLaws.{IsHead, head_row, chain_row, row_cases, tells_key, key_in_chain, owned_in_chain, ring_row_laws}
 use Rattle.gx_ring.proofs.ChainLemmas.{IsChained, there_behind, chain_behind, behind_chain, heads_behind, chain_front, front_chain}
 
 -- ---- changes
-
-not_true : (b : Bool) → not b ≡ true → b ≡ false
-not_true true e = absurd (true≢false (sym e))
-not_true false e = refl
-
-pub from_without : (R : List Rec) (o r : Rec) → In r (changed R (Some o) None) → In r R × (r.key ≢ o.key)
-from_without R o r h =
-    let f = in_filter (λ q. not (has_key_of o q)) r R h in
-    (f.0, λ e. true≢false (sym (values_itself o.key) ∙ ap (λ k. eq_by_cmp values_cmp k o.key) (sym e) ∙ not_true _ f.1))
-
-pub in_without : (R : List Rec) (o r : Rec) → In r R → r.key ≢ o.key → In r (changed R (Some o) None)
-in_without R o r h ne = filter_in (λ q. not (has_key_of o q)) r R h (ap not (values_other r.key o.key ne))
 
 pub from_changed : (R : List Rec) (o n r : Rec) → In r (changed R (Some o) (Some n)) → (r ≡ n) ⊎ (In r R × (r.key ≢ o.key))
 from_changed R o n r (inl e) = inl e
@@ -179,7 +165,7 @@ module _ {M : Type 0} (rule : M → Rule) (heads nexts : Tree M) (valid : IsRing
         | inl e ↦ inl e
         | inr q ↦ inr (elim q [
           | inl e ↦ inl e
-          | inr b ↦ inr (in_without (chain_rows link) (chain_rec o p (first ys)) r (chain_in link r b.0) (λ e. b.1 (ap (λ ks. get_or ks 0 no_value) (e ∙ tells_key o p (first ys)))))
+          | inr b ↦ inr (to_without (chain_rows link) (chain_rec o p (first ys)) r (chain_in link r b.0) (λ e. b.1 (ap (λ ks. get_or ks 0 no_value) (e ∙ tells_key o p (first ys)))))
         ])
       ]
 
@@ -194,7 +180,7 @@ module _ {M : Type 0} (rule : M → Rule) (heads nexts : Tree M) (valid : IsRing
       less_set = without_set (tree_form rule nexts) (chain_rows (fin.insert link m o)) (chain_rec o m (first ys)) (chain_set (fin.insert link m o) is_more)
 
       pub back_change : IsChange less (Some (chain_rec o p (Some m))) (Some (chain_rec o p (first ys)))
-      back_change = (in_without (chain_rows (fin.insert link m o)) (chain_rec o m (first ys)) (chain_rec o p (Some m)) (to_new (chain_rec o p (Some m)) (inr (inl refl))) (λ e. other_key (e ∙ tells_key o m (first ys))), sym (tells_key o p (first ys)))
+      back_change = (to_without (chain_rows (fin.insert link m o)) (chain_rec o m (first ys)) (chain_rec o p (Some m)) (to_new (chain_rec o p (Some m)) (inr (inl refl))) (λ e. other_key (e ∙ tells_key o m (first ys))), sym (tells_key o p (first ys)))
 
       pub back_to : (r : Rec) → In r (changed less (Some (chain_rec o p (Some m))) (Some (chain_rec o p (first ys)))) → In r (chain_rows link)
       back_to r h = go (from_changed less (chain_rec o p (Some m)) (chain_rec o p (first ys)) r h)
@@ -215,8 +201,8 @@ module _ {M : Type 0} (rule : M → Rule) (heads nexts : Tree M) (valid : IsRing
       pub back_from : (r : Rec) → In r (chain_rows link) → In r (changed less (Some (chain_rec o p (Some m))) (Some (chain_rec o p (first ys))))
       back_from r h = elim (key_cases r p (chained_key link r (in_chains link r h))) [
         | inl e ↦ inl ((chain_set link is_link).one r (chain_rec o p (first ys)) h old_there (e ∙ sym (tells_key o p (first ys))))
-        | inr ne ↦ inr (in_without less (chain_rec o p (Some m)) r
-            (in_without (chain_rows (fin.insert link m o)) (chain_rec o m (first ys)) r (to_new r (inr (inr (in_chains link r h, not_p r ne (in_chains link r h))))) (λ e. free_key link m free r h (e ∙ tells_key o m (first ys))))
+        | inr ne ↦ inr (to_without less (chain_rec o p (Some m)) r
+            (to_without (chain_rows (fin.insert link m o)) (chain_rec o m (first ys)) r (to_new r (inr (inr (in_chains link r h, not_p r ne (in_chains link r h))))) (λ e. free_key link m free r h (e ∙ tells_key o m (first ys))))
             ne)
       ]
 
@@ -286,7 +272,7 @@ module _ {M : Type 0} (rule : M → Rule) (heads nexts : Tree M) (valid : IsRing
 
       pub lead_head_from : (next : Option Value) → next ≡ first ys → (h : Rec) → In h (head_rows (fin.insert link m o)) → In h (changed (head_rows link) (head_if o next) (Some (head_rec o m)))
       lead_head_from None e h k = elim (head_cases h k) [ inl is ↦ inl is | inr q ↦ inr q.0 ]
-      lead_head_from (Some n) e h k = elim (head_cases h k) [ inl is ↦ inl is | inr q ↦ inr (in_without (head_rows link) (head_rec o n) h q.0 q.1) ]
+      lead_head_from (Some n) e h k = elim (head_cases h k) [ inl is ↦ inl is | inr q ↦ inr (to_without (head_rows link) (head_rec o n) h q.0 q.1) ]
 
       pub lead_chain_change : IsChange (chain_rows link) None (Some (chain_rec o m (first ys)))
       lead_chain_change r h e = free_key link m free r h (e ∙ tells_key o m (first ys))
@@ -309,10 +295,10 @@ module _ {M : Type 0} (rule : M → Rule) (heads nexts : Tree M) (valid : IsRing
       unlead_head_to (Some n) e h (inr k) = (let f = from_without (head_rows (fin.insert link m o)) (head_rec o m) h k in other_from h f.0 f.1)
 
       pub unlead_head_from : (next : Option Value) → next ≡ first ys → (h : Rec) → In h (head_rows link) → In h (changed (head_rows (fin.insert link m o)) (Some (head_rec o m)) (head_if o next))
-      unlead_head_from None e h k = (let ne = none_before (sym e) h k in in_without (head_rows (fin.insert link m o)) (head_rec o m) h (other_to h k ne) ne)
+      unlead_head_from None e h k = (let ne = none_before (sym e) h k in to_without (head_rows (fin.insert link m o)) (head_rec o m) h (other_to h k ne) ne)
       unlead_head_from (Some n) e h k = elim (head_at link h k) [
         | inl is ↦ inl ((head_set link is_link).one h (head_rec o n) k (old_head n (sym e)) is)
-        | inr ne ↦ inr (in_without (head_rows (fin.insert link m o)) (head_rec o m) h (other_to h k ne) ne)
+        | inr ne ↦ inr (to_without (head_rows (fin.insert link m o)) (head_rec o m) h (other_to h k ne) ne)
       ]
 
       pub unlead_chain_change : IsChange (chain_rows (fin.insert link m o)) (Some (chain_rec o m (first ys))) None
@@ -325,4 +311,4 @@ module _ {M : Type 0} (rule : M → Rule) (heads nexts : Tree M) (valid : IsRing
       ])
 
       pub unlead_chain_from : (r : Rec) → In r (chain_rows link) → In r (changed (chain_rows (fin.insert link m o)) (Some (chain_rec o m (first ys))) None)
-      unlead_chain_from r h = in_without (chain_rows (fin.insert link m o)) (chain_rec o m (first ys)) r (lead_to r (inr (in_chains link r h))) (λ e. free_key link m free r h (e ∙ tells_key o m (first ys)))
+      unlead_chain_from r h = to_without (chain_rows (fin.insert link m o)) (chain_rec o m (first ys)) r (lead_to r (inr (in_chains link r h))) (λ e. free_key link m free r h (e ∙ tells_key o m (first ys)))

@@ -14,13 +14,13 @@ use Rattle.gx_mapping.specs.Rule.{Rule, In, IsOf}
 use Rattle.gx_gather.proofs.Lists.{in_left, in_right}
 use Rattle.gx_stack.specs.Tree.{Tree, leaves_of, tree_form, entries_of, entry_total}
 use Rattle.gx_stack.specs.Internal.{HasSet}
-use Rattle.gx_links.specs.Kinds.{AreOfKinds}
+use Rattle.gx_links.specs.Kinds.{AreOfKinds, no_value}
 use Rattle.gx_links.specs.Links.{Link, members_of, IsLink}
 use Rattle.gx_links.specs.Linksets.{HasLink, AreMembers, IsOwner}
-use Rattle.gx_links.specs.Rows.{IsHeldLink, owner_entries}
+use Rattle.gx_links.specs.Rows.{IsHeldLink, owner_entries, two_nodes}
 use Rattle.gx_links.proofs.KindLemmas.{fit_kinds}
 use Rattle.gx_links.proofs.MemberLemmas.{in_members}
-use Rattle.gx_ring.specs.Ring.{head_rec, chain, ring_rows, two_nodes, owner_kind, member_kind, next_kind, IsRing, ring_rule, no_value}
+use Rattle.gx_ring.specs.Ring.{head_rec, chain, ring_rows, owner_kind, member_kind, next_kind, IsRing, ring_rule}
 use Rattle.gx_ring.specs.RingLaws.{owner_in_chain, owned_in_chain, chain_of}
 use Rattle.gx_ring.specs.Reads.{IsFoundAt, IsRecordAt}
 use Rattle.gx_ring.specs.Walks.{HasChain, AreWalked}
@@ -120,7 +120,14 @@ module _ {M : Type 0} (rule : M → Rule) (heads nexts : Tree M) (valid : IsRing
     appended = none_behind out;
     fit = λ m h. absurd h;
     those = λ w link is held. go link (members_of link owner) refl (at.that w (head_rows rule heads nexts valid link) (head_set rule heads nexts valid link is) held.0);
-    few_steps = λ w link is held. (let few = at.few_steps w (head_rows rule heads nexts valid link, head_set rule heads nexts valid link is, held.0) in omega (arith, few, leaf_count));
+    few_steps = λ w link is held.
+        let few = at.few_steps w (head_rows rule heads nexts valid link, head_set rule heads nexts valid link is, held.0) in
+        let that = at.that w (head_rows rule heads nexts valid link) (head_set rule heads nexts valid link is) held.0 in
+        let none = go link (members_of link owner) refl that in
+        let ring = ring_rule rule heads nexts in
+        let total = length (ring.entries owner (members_of link owner)) in
+        let most = λ (ms : List Value). before + (suc (length ms) * length ring.leaves + total) in
+        subst (λ ms. steps ≤ most ms) none (omega (arith, few, leaf_count));
   }
     where
       none_behind : (xs : List Value) → xs ≡ xs ++ []
@@ -160,9 +167,7 @@ module _ {M : Type 0} (rule : M → Rule) (heads nexts : Tree M) (valid : IsRing
           found = are.found;
           appended = are.appended;
           fit = are.fit;
-          those = λ w link is held.
-              let c = chain_at link maps owner r m is held first_is (at.that w (head_rows rule heads nexts valid link) (head_set rule heads nexts valid link is) held.0) in
-              are.those (to w) c.0 ∙ sym c.0.members ∙ (λ i. members_of (c.1 i) (c.2 i));
+          those = λ w link is held. those w link is held;
           few_steps = λ w link is held.
               let c = chain_at link maps owner r m is held first_is (at.that w (head_rows rule heads nexts valid link) (head_set rule heads nexts valid link is) held.0) in
               let one = at.few_steps w (head_rows rule heads nexts valid link, head_set rule heads nexts valid link is, held.0) in
@@ -170,6 +175,15 @@ module _ {M : Type 0} (rule : M → Rule) (heads nexts : Tree M) (valid : IsRing
               let total : length (entries_of rule heads (head_rec owner m)) + entry_total rule nexts (chain owner (m ∷ c.0.rest)) ≡ length (owner_entries rule (two_nodes heads nexts) ring_rows owner (members_of link owner)) = sym (entries_length rule heads nexts owner m c.0.rest) ∙ ap (λ ms. length (owner_entries rule (two_nodes heads nexts) ring_rows owner ms)) (sym members) in
               let head : length (entries_of rule heads r) ≡ length (entries_of rule heads (head_rec owner m)) = ap (λ x. length (entries_of rule heads x)) c.3 in
               let two = subst (λ o. steps ≤ half + (length are.found * length (leaves_of nexts) + entry_total rule nexts (chain o (m ∷ c.0.rest)))) c.2 (are.few_steps (to w) c.0) in
-              subst (λ n. steps ≤ before + (suc (length are.found) * n + length (owner_entries rule (two_nodes heads nexts) ring_rows owner (members_of link owner)))) (sym leaf_count)
-              (steps_sum (length are.found) (length (leaves_of heads)) (length (leaves_of nexts)) before half steps (length (entries_of rule heads r)) (entry_total rule nexts (chain owner (m ∷ c.0.rest))) (length (owner_entries rule (two_nodes heads nexts) ring_rows owner (members_of link owner))) one two (omega (arith, total, head)));
+              let all = length (owner_entries rule (two_nodes heads nexts) ring_rows owner (members_of link owner)) in
+              let most = λ (ms : List Value) (n : ℕ). before + (suc (length ms) * n + all) in
+              subst (λ ms. steps ≤ most ms (length (ring_rule rule heads nexts).leaves)) (those w link is held)
+              (subst (λ n. steps ≤ most are.found n) (sym leaf_count)
+              (steps_sum (length are.found) (length (leaves_of heads)) (length (leaves_of nexts)) before half steps (length (entries_of rule heads r)) (entry_total rule nexts (chain owner (m ∷ c.0.rest))) (length (owner_entries rule (two_nodes heads nexts) ring_rows owner (members_of link owner))) one two (omega (arith, total, head))));
         }
+          where
+            those : whole → (link : Link) → Sound link → Held link maps → are.found ≡ members_of link owner
+            those w link is held =
+                let that = at.that w (head_rows rule heads nexts valid link) (head_set rule heads nexts valid link is) held.0 in
+                let c = chain_at link maps owner r m is held first_is that in
+                are.those (to w) c.0 ∙ sym c.0.members ∙ (λ i. members_of (c.1 i) (c.2 i))

@@ -1,7 +1,6 @@
 pub mod PlaceLemmas
 pub mod ReadLemmas
 pub mod ReplaceLemmas
-pub mod EndLemmas
 pub mod ChainLemmas
 pub mod ChangeLemmas
 pub mod HeldLemmas

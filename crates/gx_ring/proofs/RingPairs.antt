@@ -20,14 +20,14 @@ use Rattle.gx_gather.proofs.Orders.{Ascends, ascends, not_before_itself}
 use Rattle.gx_stack.specs.Tree.{Tree, tree_form}
 use Rattle.gx_stack.specs.Internal.{IsInternal}
 use Rattle.gx_stack.specs.Held.{AreHeld}
-use Rattle.gx_links.specs.Kinds.{AreOfKinds}
+use Rattle.gx_links.specs.Kinds.{no_value}
 use Rattle.gx_links.specs.Links.{Link, members_of}
-use Rattle.gx_links.specs.Rows.{RowsApart, RowLaws, IsHeldLink, two_forms}
+use Rattle.gx_links.specs.Rows.{RowsApart, RowLaws, IsHeldLink, two_forms, two_nodes}
 use Rattle.gx_links.specs.Pairs.{AreRows, ArePairs, IsTold, two_parts}
-use Rattle.gx_links.proofs.KindLemmas.{fit_kinds}
+use Rattle.gx_links.proofs.KindLemmas.{fit_kinds, one_kind}
 use Rattle.gx_links.proofs.MemberLemmas.{in_members}
 use Rattle.gx_links.proofs.PairLemmas.{AreRead, not_tied, second_ascends, values_ascend, same_pairs, two_second, in_two_second, two_fit, two_ascend, two_internal, pairs_held}
-use Rattle.gx_ring.specs.Ring.{first, head_rec, chain_rec, chain, ring_rows, two_nodes, owner_kind, member_kind, IsRing, ring_rule, no_value, key_value, chain_pair}
+use Rattle.gx_ring.specs.Ring.{first, head_rec, chain_rec, chain, ring_rows, owner_kind, member_kind, IsRing, ring_rule, key_value, chain_pair}
 use Rattle.gx_ring.specs.RingLaws.{IsHead, in_chain, tells, owner_in_chain, owned_in_chain, chain_of, chain_row, row_cases, row_of, of_row, zero_one, ring_row_laws}
 use Rattle.gx_ring.proofs.FoundLemmas.{owner_field}
 use Rattle.gx_ring.proofs.HeldLemmas.{heads_valid, nexts_valid}
@@ -83,11 +83,6 @@ pub record IsChained (owner member : Kind) (r : Rec) : Type 0 where
   pub fields : 2 < length r.fields
   pub member_fits : Fits member (chain_pair r).0
   pub owner_fits : Fits owner (chain_pair r).1
-
-one_kind : (kind : Kind) (vs : List Value) → AreOfKinds (kind ∷ []) vs → (vs ≡ get_or vs 0 no_value ∷ []) × Fits kind (get_or vs 0 no_value)
-one_kind kind [] fit = absurd fit
-one_kind kind (v ∷ []) fit = (refl, fit.0)
-one_kind kind (v ∷ w ∷ vs) fit = absurd fit.1
 
 module _ {M : Type 0} (rule : M → Rule) (heads nexts : Tree M) (valid : IsRing rule heads nexts) where
   pub chained_of : (r : Rec) → IsOf (tree_form rule nexts) r → IsChained (owner_kind rule heads) (member_kind rule nexts) r

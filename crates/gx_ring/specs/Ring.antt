@@ -10,10 +10,10 @@ use Rattle.gx_values.specs.Spans.{IsSpanKind}
 use Rattle.gx_mapping.specs.declared.parts.Part.{Part}
 use Rattle.gx_mapping.specs.Rule.{Rule}
 use Rattle.gx_gather.specs.Gather.{part_for}
-use Rattle.gx_stack.specs.Tree.{Tree, Kids, no_kids, kid, tree_form, AreValid}
-use Rattle.gx_links.specs.Kinds.{kinds_of, first_kind}
+use Rattle.gx_stack.specs.Tree.{Tree, tree_form, AreValid}
+use Rattle.gx_links.specs.Kinds.{kinds_of, first_kind, no_value}
 use Rattle.gx_links.specs.Linksets.{LinkRule}
-use Rattle.gx_links.specs.Rows.{two_forms, link_rule}
+use Rattle.gx_links.specs.Rows.{two_forms, link_rule, two_nodes}
 
 abbrev pub first : List Value → Option Value
 first [] = None
@@ -45,9 +45,6 @@ ring_rows owner (m ∷ ms) = part_for 0 (head_rec owner m) ∷ map (part_for 1) 
 
 -- ---- the two nodes
 
-abbrev pub two_nodes : {M : Type 0} → Tree M → Tree M → Kids M
-two_nodes heads nexts = kid heads (kid nexts no_kids)
-
 -- the kinds of the keys of owners and of members, as the forms of the nodes have them
 abbrev pub owner_kind : {M : Type 0} (rule : M → Rule) → Tree M → Kind
 owner_kind rule heads = first_kind (tree_form rule heads).keys
@@ -71,10 +68,6 @@ pub record IsRing {M : Type 0} (rule : M → Rule) (heads nexts : Tree M) : Type
 
 abbrev pub ring_rule : {M : Type 0} (rule : M → Rule) → Tree M → Tree M → LinkRule
 ring_rule rule heads nexts = link_rule rule (two_nodes heads nexts) ring_rows (owner_kind rule heads) (member_kind rule nexts) suc true
-
--- what stands for a value where there is none
-abbrev pub no_value : Value
-no_value = value.Bytes []
 
 abbrev pub key_value : Rec → Value
 key_value r = get_or r.key 0 no_value

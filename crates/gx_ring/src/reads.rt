@@ -1,8 +1,8 @@
 // Single records of nodes.
-ghost use Rattle.std.specs.Prelude.{◌≡◌, ◌<◌, ◌∷◌, [], ℕ, List, length, slice_get, IfOk, IsErrOf};
+ghost use Rattle.std.specs.Prelude.{◌≡◌, ◌<◌, ◌∷◌, [], ℕ, length, slice_get, IfOk};
 ghost use Rattle.gx_values.specs.Values.{Fits};
 ghost use Rattle.gx_values.specs.Spans.{IsSpanKind};
-ghost use Rattle.gx_ports.specs.Calls.{Reads, Ends};
+ghost use Rattle.gx_ports.specs.Calls.{ReadsMaps};
 ghost use Rattle.gx_mapping.specs.Rule.{In};
 ghost use Rattle.gx_stack.specs.Tree.{leaves_of, tree_form, IsValid};
 ghost use Rattle.gx_stack.specs.Seen.{tree_of};
@@ -35,12 +35,9 @@ pub fn record_at<M: Mapping, B: Leaves>(
     ensures found { IfOk result
         (IsRecordAt M.rule (tree_of node.now) (B.whole leaves.old) (B.working leaves.old) key.now
         (B.work leaves.old) (B.work leaves.new)) }
-    ensures reads { Reads B.View leaves.old leaves.new }
-    ensures ends { Ends B.View
+    ensures reads { ReadsMaps B.View
         (B.whole leaves.old × HasSet M.rule (tree_of node.now) (B.working leaves.old))
         leaves.old leaves.new result }
-    ensures block { (n : ℕ) → IsErrOf result (Stop.Damaged n) → B.whole leaves.old → n ≡ 0 }
-    ensures not_full { ¬ IsErrOf result Stop.Full }
 {
     let mut found = Recs::new(alloc);
     let span = value_span(node.form(), key);

@@ -5,7 +5,7 @@ ghost use Rattle.gx_values.specs.declared.records.Rec.{Rec as Record};
 ghost use Rattle.gx_values.specs.declared.values.Value.{Value as FieldValue};
 ghost use Rattle.gx_values.specs.Values.{Fits};
 ghost use Rattle.gx_ports.specs.LeafMaps.{map_at, entry_count, Extends, IsCrowdedBy};
-ghost use Rattle.gx_ports.specs.Calls.{Keeps, Reads, Ends};
+ghost use Rattle.gx_ports.specs.Calls.{Keeps, ReadsMaps, Ends};
 ghost use Rattle.gx_mapping.specs.Rule.{In, IsOf};
 ghost use Rattle.gx_stack.specs.Tree.{leaves_of, tree_form};
 ghost use Rattle.gx_stack.specs.Seen.{tree_of};
@@ -14,8 +14,8 @@ ghost use Rattle.gx_stack.specs.Internal.{IfThere};
 ghost use Rattle.gx_links.specs.Links.{Link, members_of};
 ghost use Rattle.gx_links.specs.Linksets.{CanConnect};
 ghost use Rattle.gx_links.specs.Pairs.{IsTold, two_parts};
-ghost use Rattle.gx_links.specs.Rows.{IsHeldLink};
-ghost use Rattle.gx_ring.specs.Ring.{ring_rows, ring_rule, two_nodes, IsRing, owner_kind, member_kind};
+ghost use Rattle.gx_links.specs.Rows.{IsHeldLink, two_nodes};
+ghost use Rattle.gx_ring.specs.Ring.{ring_rows, ring_rule, IsRing, owner_kind, member_kind};
 ghost use Rattle.gx_ring.specs.Records.{IsKeyValue};
 ghost use Rattle.gx_ring.specs.Steps.{leading, lead_change, own_change};
 ghost use Rattle.gx_ring.specs.Walks.{HasMember, HasChain, IsNext, AreWalked};
@@ -44,8 +44,8 @@ pub struct Ring<'a, M: Mapping> {
 
 impl<'a, M: Mapping> Linkset for Ring<'a, M> {
     ghost use Rattle.gx_stack.specs.Seen.{tree_of};
-    ghost use Rattle.gx_links.specs.Rows.{IsHeldLink};
-    ghost use Rattle.gx_ring.specs.Ring.{two_nodes, ring_rows, ring_rule, IsRing};
+    ghost use Rattle.gx_links.specs.Rows.{IsHeldLink, two_nodes};
+    ghost use Rattle.gx_ring.specs.Ring.{ring_rows, ring_rule, IsRing};
     ghost use Rattle.gx_ring.specs.RingLaws.{ring_laws};
 
     ghost rule = { λ l. ring_rule M.rule (tree_of l.heads.now) (tree_of l.chain.now) };
@@ -197,14 +197,11 @@ impl<'a, M: Mapping> Ring<'a, M> {
             (B.whole leaves.old) (B.working leaves.old) first (B.work leaves.old)
             (B.work leaves.new) out.old out.new) }
         ensures front { Extends out.old out.new }
-        ensures reads { Reads B.View leaves.old leaves.new }
-        ensures ends { Ends B.View
+        ensures reads { ReadsMaps B.View
             (B.whole leaves.old
             × HasChain M.rule (tree_of self.now.heads.now) (tree_of self.now.chain.now)
             (B.working leaves.old) first)
             leaves.old leaves.new result }
-        ensures block { (n : ℕ) → IsErrOf result (Stop.Damaged n) → B.whole leaves.old → n ≡ 0 }
-        ensures not_full { ¬ IsErrOf result Stop.Full }
     {
         let mut at = first;
         for _step in 0..MOST_MEMBERS {
@@ -233,14 +230,11 @@ impl<'a, M: Mapping> Ring<'a, M> {
             (IsNext M.rule (tree_of self.now.heads.now) (tree_of self.now.chain.now)
             (B.whole leaves.old) (B.working leaves.old) member.now (B.work leaves.old)
             (B.work leaves.new)) }
-        ensures reads { Reads B.View leaves.old leaves.new }
-        ensures ends { Ends B.View
+        ensures reads { ReadsMaps B.View
             (B.whole leaves.old
             × HasMember M.rule (tree_of self.now.heads.now) (tree_of self.now.chain.now)
             (B.working leaves.old) member.now)
             leaves.old leaves.new result }
-        ensures block { (n : ℕ) → IsErrOf result (Stop.Damaged n) → B.whole leaves.old → n ≡ 0 }
-        ensures not_full { ¬ IsErrOf result Stop.Full }
     {
         let Some(rec) = record_at(alloc, leaves, self.chain, member)? else {
             return Err(Stop::Damaged(NO_BLOCK));

@@ -7,7 +7,8 @@ ghost use Rattle.gx_mapping.specs.Rule.{In};
 ghost use Rattle.gx_gather.specs.Gather.{part_for};
 ghost use Rattle.gx_links.specs.declared.pairs.Owned.{Owned as Group};
 ghost use Rattle.gx_links.specs.Pairs.{rows_of};
-ghost use Rattle.gx_ring.specs.Ring.{chain, ring_rows, chain_pair, no_value};
+ghost use Rattle.gx_links.specs.Kinds.{no_value};
+ghost use Rattle.gx_ring.specs.Ring.{chain, ring_rows, chain_pair};
 ghost use Rattle.gx_ring.specs.Records.{IsKeyValue};
 
 use crate::records::{chain_rec, head_rec};

@@ -20,7 +20,7 @@ use Rattle.gx_stack.specs.declared.node.Node.TheVariants as V
 use Rattle.gx_stack.specs.declared.node.LayerNode.{LayerNode}
 use Rattle.gx_stack.specs.Tree.{Kids, layer, leaves_of, tree_form, entries_of, entry_total, IsValid}
 use Rattle.gx_stack.specs.Seen.{tree_of, kids_from}
-use Rattle.gx_stack.specs.Internal.{IsSet, IsInternal, HasSet, child_records}
+use Rattle.gx_stack.specs.Internal.{IsSet, IsInternal, child_records}
 use Rattle.gx_gather.specs.Gather.{rec_cmp}
 use Rattle.gx_stack.specs.Selected.{IsKeySpan, IsSelection}
 use Rattle.gx_stack.specs.Indexed.{is_carried, are_indexed, is_indexed, is_where, AreKeysFound}
@@ -218,15 +218,6 @@ module _ {M : Type 0} (rule : M → Rule) (laws : (m : M) → MappingLaws (rule 
 -- ---- what is asked of the children
 
 module _ {M : Type 0} (rule : M → Rule) (laws : (m : M) → MappingLaws (rule m)) (n : Node M) (l : LayerNode M) (is : n ≡ V.Layer l) (valid : IsValid rule (tree_of n)) where
-  -- they hold sets where the node does
-  pub child_has_set : (c : ℕ) (k : Node M) (maps now : List LeafMap) → c < (rule l.mapping).kids → k ≡ get_or l.kids.items c k → now ≡ maps → HasSet rule (tree_of n) maps → HasSet rule (tree_of k) now
-  child_has_set c k maps now below read same s =
-      let there = child_there rule n l is c valid below in
-      let v = child_valid rule n l is c k valid there read in
-      let Rs = child_records (rule l.mapping) c s.0 in
-      let set = child_set (laws l.mapping) c s.0 (subst (λ f. IsSet f s.0) (layer_form rule n l is) s.1) in
-      (Rs, subst (λ f. IsSet f Rs) (sym v.0) set, subst (IsInternal rule (tree_of k) Rs) (sym same) (child_internal rule n l is c k s.0 maps there read s.2))
-
   module _ (name : List ℕ) (span : Span) (spans : (kind : Kind) → kind_in (tree_form rule (tree_of n)).fields name ≡ Some kind → IsValueSpan kind span) where
     -- a child that carries an indexed field is indexed by it
     pub kid_indexed : (c : ℕ) (k : Node M) → is_indexed rule (tree_of n) name ≡ true → (rule l.mapping).indexes name ≡ None → c < (rule l.mapping).kids → k ≡ get_or l.kids.items c k → (rule l.mapping).carries c name ≡ true → is_indexed rule (tree_of k) name ≡ true

@@ -1,6 +1,6 @@
 -- A layer whose children were read whole.
 use Rattle.std.proofs.Common.{◌≡◌, ◌<◌, ◌+◌, ℕ, Bool, true, false, not, List, [], ◌∷◌, ◌++◌, ◌⊎◌, None, inl, inr, refl, sym, ap, ◌∙◌, subst, length, map, arith}
-use Rattle.std.proofs.lemmas.Bool.{true≢false}
+use Rattle.std.proofs.lemmas.Bool.{true≢false, not-true}
 use Rattle.std.proofs.lemmas.Map.Keys.{IsDistinct-IsPermutation, IsDistinct-from_sorted}
 use Rattle.std.specs.List.{flat_map, IsDistinct}
 use Rattle.std.specs.List.Sorted.{IsStrictlySortedBy}
@@ -126,12 +126,12 @@ both_equal Equal b e = (refl, e)
 both_equal Greater b e = absurd (let x : Greater ≡ Equal = e in cc)
 
 -- parts that tie have one child and one key
-tied_parts : (p q : Part) → part_cmp p q ≡ Equal → (p.child ≡ q.child) × (p.rec.key ≡ q.rec.key)
+pub tied_parts : (p q : Part) → part_cmp p q ≡ Equal → (p.child ≡ q.child) × (p.rec.key ≡ q.rec.key)
 tied_parts p q e =
     let b = both_equal (nat_cmp p.child q.child) (values_cmp p.rec.key q.rec.key) e in
     (nat_cmp-IsAntisymmetric p.child q.child b.0, slice_cmp-IsAntisymmetric value_cmp_same p.rec.key q.rec.key b.1)
 
-distinct_append : {A : Type 0} (E : A → A → Bool) (xs ys : List A) → IsDistinct E xs → IsDistinct E ys → ((x y : A) → In x xs → In y ys → E x y ≡ false) → IsDistinct E (xs ++ ys)
+pub distinct_append : {A : Type 0} (E : A → A → Bool) (xs ys : List A) → IsDistinct E xs → IsDistinct E ys → ((x y : A) → In x xs → In y ys → E x y ≡ false) → IsDistinct E (xs ++ ys)
 unfolding IsDistinct
 distinct_append E [] ys a b apart = b
 distinct_append E (x ∷ xs) ys a b apart = (
@@ -140,10 +140,6 @@ distinct_append E (x ∷ xs) ys a b apart = (
 )
 
 -- ---- all children were read
-
-not_true : (b : Bool) → not b ≡ true → b ≡ false
-not_true true e = absurd (true≢false (sym e))
-not_true false e = refl
 
 module _ {rule : Rule} (laws : MappingLaws rule) where
   in_data : (r : Rec) (p : Part) → In p (rule.parts r) → rule.holds_rest p.child ≡ true → In p (data_parts rule r)
@@ -156,7 +152,7 @@ module _ {rule : Rule} (laws : MappingLaws rule) where
   from_data r p h = in_filter (λ (q : Part). rule.holds_rest q.child) p (rule.parts r) h
 
   from_other : (r : Rec) (p : Part) → In p (other_parts rule r) → In p (rule.parts r) × (rule.holds_rest p.child ≡ false)
-  from_other r p h = let f = in_filter (λ (q : Part). not (rule.holds_rest q.child)) p (rule.parts r) h in (f.0, not_true (rule.holds_rest p.child) f.1)
+  from_other r p h = let f = in_filter (λ (q : Part). not (rule.holds_rest q.child)) p (rule.parts r) h in (f.0, not-true (rule.holds_rest p.child) f.1)
 
   -- the records that were made have no two keys alike
   made_set : (main : List Part) (found : List Rec) → AreMade rule main found → IsSet rule.form found

@@ -1,6 +1,6 @@
 // Entries of leaves: those that come from a record, and the changes from those of one to those of another.
-ghost use Rattle.std.specs.Prelude.{◌≡◌, ◌<◌, ◌≤◌, ◌+◌, length, Option, Some, None, true, false, IsTrue, IfOk, OnOk, IsErrOf, get_or, ◌↔◌};
-ghost use Rattle.gx_ports.specs.LeafMaps.{entry_count, map_at, IsCrowdedBy};
+ghost use Rattle.std.specs.Prelude.{◌≡◌, ◌<◌, ◌≤◌, ◌+◌, length, Option, Some, None, true, false, IsTrue, IfOk, OnOk, IsErrOf, ◌↔◌};
+ghost use Rattle.gx_ports.specs.LeafMaps.{entry_count, IsCrowdedBy};
 ghost use Rattle.gx_ports.specs.Calls.{Keeps, Ends};
 ghost use Rattle.gx_mapping.specs.Rule.{In, IsOf};
 ghost use Rattle.gx_stack.specs.Tree.{IsLeafForm, entry_in, leaf_body};

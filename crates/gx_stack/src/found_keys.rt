@@ -1,10 +1,10 @@
 // The keys of records that are found by an indexed field.
-ghost use Rattle.std.specs.Prelude.{◌≡◌, ◌<◌, ◌++◌, true, Some, ℕ, List, length, map, drop, OnOk, IsErrOf};
+ghost use Rattle.std.specs.Prelude.{◌≡◌, ◌<◌, ◌++◌, true, Some, ℕ, length, map, drop, OnOk};
 ghost use Rattle.gx_values.specs.declared.values.Kind.{Kind as TheKind};
 ghost use Rattle.gx_values.specs.declared.records.Rec.{Rec as Record};
 ghost use Rattle.gx_values.specs.Spans.{IsValueSpan};
 ghost use Rattle.gx_ports.specs.LeafMaps.{Extends};
-ghost use Rattle.gx_ports.specs.Calls.{Reads, Ends};
+ghost use Rattle.gx_ports.specs.Calls.{ReadsMaps};
 ghost use Rattle.gx_mapping.specs.Rule.{In, kind_in};
 ghost use Rattle.gx_stack.specs.Tree.{leaves_of, tree_form, IsValid};
 ghost use Rattle.gx_stack.specs.Seen.{tree_of};
@@ -47,12 +47,9 @@ impl<M: Mapping> Node<M> {
 
         ensures front { Extends out.old out.new }
 
-        ensures reads { Reads B.View leaves.old leaves.new }
-        ensures ends { Ends B.View
+        ensures reads { ReadsMaps B.View
             (B.whole leaves.old × HasSet M.rule (tree_of self.now) (B.working leaves.old))
             leaves.old leaves.new result }
-        ensures block { (n : ℕ) → IsErrOf result (Stop.Damaged n) → B.whole leaves.old → n ≡ 0 }
-        ensures not_full { ¬ IsErrOf result Stop.Full }
     {
         match self {
             Node::Leaf(_) => Ok(()),

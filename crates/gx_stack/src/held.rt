@@ -1,10 +1,10 @@
 // What the leaves of a tree hold, where they are read whole.
-ghost use Rattle.std.specs.Prelude.{◌≡◌, ◌≢◌, ◌<◌, ◌≤◌, ◌+◌, ◌++◌, [], ℕ, true, false, not, length, map, OnOk, IsErrOf, IfOk, IfErr};
+ghost use Rattle.std.specs.Prelude.{◌≡◌, ◌≢◌, ◌<◌, ◌≤◌, ◌+◌, ◌++◌, [], true, false, not, length, OnOk, IfOk, IfErr};
 ghost use Rattle.std.specs.List.{filter, flat_map};
 ghost use Rattle.std.specs.FinMap.{len};
 ghost use Rattle.gx_values.specs.declared.records.Rec.{Rec as Record};
 ghost use Rattle.gx_ports.specs.LeafMaps.{map_at};
-ghost use Rattle.gx_ports.specs.Calls.{Reads, Ends};
+ghost use Rattle.gx_ports.specs.Calls.{ReadsMaps};
 ghost use Rattle.gx_mapping.specs.declared.parts.Part.{Part as ThePart};
 ghost use Rattle.gx_mapping.specs.Rule.{In, IsOf};
 ghost use Rattle.gx_stack.specs.Tree.{IsLeafForm};
@@ -32,9 +32,7 @@ pub fn held_leaf<B: Leaves>(
     ensures few_steps { B.whole leaves.old → OnOk result
         (B.work leaves.new
         ≤ B.work leaves.old + (1 + len (map_at (B.working leaves.old) leaf))) }
-    ensures reads { Reads B.View leaves.old leaves.new }
-    ensures ends { Ends B.View (B.whole leaves.old) leaves.old leaves.new result }
-    ensures not_full { ¬ IsErrOf result Stop.Full }
+    ensures reads { ReadsMaps B.View (B.whole leaves.old) leaves.old leaves.new result }
 {
     let mut entries = Entries::new(alloc);
     leaves.select(alloc, leaf, &whole_span(), &mut entries)?;

@@ -1,8 +1,8 @@
 // Nodes: trees of mappings, with leaves below.
-ghost use Rattle.std.specs.Prelude.{◌≡◌, ◌<◌, ◌≤◌, ◌+◌, ◌++◌, ◌↔◌, List, ℕ, false, length, not, ◌&&◌, OnOk, IsErrOf, IfOk};
+ghost use Rattle.std.specs.Prelude.{◌≡◌, ◌<◌, ◌≤◌, ◌+◌, ◌++◌, ◌↔◌, List, ℕ, length, not, ◌&&◌, OnOk, IsErrOf, IfOk};
 ghost use Rattle.std.specs.Option.{option_map};
 ghost use Rattle.gx_ports.specs.LeafMaps.{LeafMap, map_at, entry_count, Extends, IsCrowdedBy};
-ghost use Rattle.gx_ports.specs.Calls.{Keeps, Reads, Ends};
+ghost use Rattle.gx_ports.specs.Calls.{Keeps, ReadsMaps, Ends};
 ghost use Rattle.gx_values.specs.declared.records.Rec.{Rec as Record};
 ghost use Rattle.gx_mapping.specs.Rule.{In, IsOf};
 ghost use Rattle.gx_stack.specs.Tree.{leaves_of, tree_form, entries_of, IsValid};
@@ -194,12 +194,9 @@ impl<M: Mapping> Node<M> {
 
         ensures front { Extends out.old out.new }
 
-        ensures reads { Reads B.View leaves.old leaves.new }
-        ensures ends { Ends B.View
+        ensures reads { ReadsMaps B.View
             (B.whole leaves.old × HasSet M.rule (tree_of self.now) (B.working leaves.old))
             leaves.old leaves.new result }
-        ensures block { (n : ℕ) → IsErrOf result (Stop.Damaged n) → B.whole leaves.old → n ≡ 0 }
-        ensures not_full { ¬ IsErrOf result Stop.Full }
     {
         match self {
             Node::Leaf(node) => select_leaf(alloc, leaves, node.leaf, &node.form, span, out),

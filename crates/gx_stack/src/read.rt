@@ -1,6 +1,6 @@
 // Records read back from the entries of a leaf.
-ghost use Rattle.std.specs.Prelude.{◌≡◌, ◌≢◌, ◌<◌, ◌≤◌, ℕ, List, false, length, OnOk, IsErrOf, IfOk};
-ghost use Rattle.gx_ports.specs.Calls.{Reads, Ends};
+ghost use Rattle.std.specs.Prelude.{◌≡◌, ◌≢◌, ◌<◌, ℕ, length, OnOk, IsErrOf, IfOk};
+ghost use Rattle.gx_ports.specs.Calls.{ReadsMaps};
 ghost use Rattle.gx_values.specs.declared.records.Rec.{Rec as Record};
 ghost use Rattle.gx_ports.specs.LeafMaps.{map_at, Extends};
 ghost use Rattle.gx_ports.specs.declared.leaves.Entry.{Entry as LeafPair};
@@ -29,12 +29,9 @@ pub fn select_leaf<B: Leaves>(
         (IsLeafFound form.now (B.whole leaves.old) (map_at (B.working leaves.old) leaf) span.now
         (B.work leaves.old) (B.work leaves.new) out.old out.new) }
     ensures front { Extends out.old out.new }
-    ensures reads { Reads B.View leaves.old leaves.new }
-    ensures ends { Ends B.View
+    ensures reads { ReadsMaps B.View
         (B.whole leaves.old × HasLeafSet form.now (map_at (B.working leaves.old) leaf))
         leaves.old leaves.new result }
-    ensures block { (n : ℕ) → IsErrOf result (Stop.Damaged n) → B.whole leaves.old → n ≡ 0 }
-    ensures not_full { ¬ IsErrOf result Stop.Full }
 {
     let mut entries = Entries::new(alloc);
     leaves.select(alloc, leaf, span, &mut entries)?;

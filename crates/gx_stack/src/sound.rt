@@ -1,9 +1,9 @@
 // Whether the leaves of a node hold a set of records.
-ghost use Rattle.std.specs.Prelude.{◌≡◌, ◌<◌, ◌≤◌, ◌+◌, ℕ, true, false, Ok, length, IfOk, OnOk, IsErrOf};
+ghost use Rattle.std.specs.Prelude.{◌≡◌, ◌<◌, ◌≤◌, ◌+◌, ℕ, true, false, Ok, length, IfOk, OnOk};
 ghost use Rattle.std.specs.List.{sum_by};
 ghost use Rattle.std.specs.FinMap.{len};
 ghost use Rattle.gx_ports.specs.LeafMaps.{map_at};
-ghost use Rattle.gx_ports.specs.Calls.{Reads, Ends};
+ghost use Rattle.gx_ports.specs.Calls.{ReadsMaps};
 ghost use Rattle.gx_mapping.specs.Rule.{In};
 ghost use Rattle.gx_stack.specs.Tree.{leaves_of, IsValid};
 ghost use Rattle.gx_stack.specs.Seen.{tree_of};
@@ -36,9 +36,7 @@ impl<M: Mapping> Node<M> {
             ≤ B.work leaves.old
             + sum_by (λ n. 1 + len (map_at (B.working leaves.old) n))
             (leaves_of (tree_of self.now))) }
-        ensures reads { Reads B.View leaves.old leaves.new }
-        ensures ends { Ends B.View (B.whole leaves.old) leaves.old leaves.new result }
-        ensures not_full { ¬ IsErrOf result Stop.Full }
+        ensures reads { ReadsMaps B.View (B.whole leaves.old) leaves.old leaves.new result }
     {
         Ok(self.held(alloc, leaves)?.is_some())
     }
@@ -56,9 +54,7 @@ impl<M: Mapping> Node<M> {
             ≤ B.work leaves.old
             + sum_by (λ n. 1 + len (map_at (B.working leaves.old) n))
             (leaves_of (tree_of self.now))) }
-        ensures reads { Reads B.View leaves.old leaves.new }
-        ensures ends { Ends B.View (B.whole leaves.old) leaves.old leaves.new result }
-        ensures not_full { ¬ IsErrOf result Stop.Full }
+        ensures reads { ReadsMaps B.View (B.whole leaves.old) leaves.old leaves.new result }
     {
         match self {
             Node::Leaf(node) => held_leaf(alloc, leaves, node.leaf, &node.form),

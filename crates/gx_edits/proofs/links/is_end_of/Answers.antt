@@ -6,8 +6,7 @@ use Rattle.gx_ports.specs.LeafMaps.{LeafMap}
 use Rattle.gx_ports.proofs.CallLemmas.{reads_itself}
 use Rattle.gx_linksets.specs.Any.{any_link_rule, IsHeldBy, IsValidLinkset}
 use Rattle.gx_pairs.specs.Members.{has_member}
-use Rattle.gx_links.proofs.PassLemmas.{Passes, passes}
-use Rattle.gx_scan.proofs.CallLemmas.{reads_stopped, reads_stopped_after}
+use Rattle.gx_stack.proofs.PassLemmas.{Passes, passes, reads_given, reads_given_after}
 use Rattle.gx_pairs.proofs.LinkedLemmas.{link_there, linked_still, have_still}
 use Rattle.gx_model.specs.States.{link_in}
 use Rattle.gx_states.proofs.StoredLemmas.{is_stored, is_linked_in, have_link}
@@ -24,7 +23,7 @@ pub returns-in_err-has_owner-clause-reads : goal.returns-in_err-has_owner-clause
 returns-in_err-has_owner-clause-reads g c =
     let x = c.stored_link-stored.result in
     let have = have_link any_link_rule IsHeldBy IsValidLinkset c.args.schema.now c.args.built.now _ c.args.link x c.requires.ready c.requires.link c.stored_link-stored.ensures in
-    reads_stopped g.B.View c.from_residual.result c.from_residual.ensures.1 (λ h. (h.0, link_there any_link_rule IsHeldBy x _ (have _ h.1))) c.in_err-has_owner.ensures.reads
+    reads_given g.B.View c.from_residual.result c.from_residual.ensures.1 (λ h. (h.0, link_there any_link_rule IsHeldBy x _ (have _ h.1))) c.in_err-has_owner.ensures.reads
 
 pub returns-then-branch-clause-found : goal.returns-then-branch-clause-found
 returns-then-branch-clause-found g c = λ s whole are.
@@ -55,7 +54,7 @@ returns-in_err-has_members-clause-reads g c =
       | else-def-file-via-then-def-file+in_ok-has_owner+else-branch w ↦ subst (λ s. Passes b c.args.leaves.now s) (sym w.leaves-is) (passes b w.has_owner.ensures.reads.reads w.in_ok-has_owner.ensures.reads.ends)
       | else-def-file-via-else-def-file w ↦ subst (λ s. Passes b c.args.leaves.now s) (sym w.leaves-is) (record { reads = reads_itself b c.args.leaves.now; whole = λ h. h; counted = refl })
     ] in
-    reads_stopped_after b c.from_residual-in_err-has_members.result c.from_residual-in_err-has_members.ensures.1 passed.reads passed.whole passed.counted
+    reads_given_after b c.from_residual-in_err-has_members.result c.from_residual-in_err-has_members.ensures.1 passed
     (λ h. (passed.whole h.0, link_there any_link_rule IsHeldBy x _ (have_still any_link_rule IsHeldBy x _ _ passed.reads.working (have _ h.1)))) c.in_err-has_members.ensures.reads
 
 pub returns-in_ok-has_members-clause-found : goal.returns-in_ok-has_members-clause-found

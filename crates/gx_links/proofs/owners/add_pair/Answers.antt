@@ -1,7 +1,7 @@
-use Rattle.std.proofs.Common.{rules, ◌≡◌, ◌<◌, ◌+◌, ◌-◌, ◌++◌, ◌∷◌, [], ◌∙◌, ap, sym, subst, length, true, false, arith}
+use Rattle.std.proofs.Common.{rules, ◌≡◌, ◌+◌, ◌-◌, ◌++◌, ◌∷◌, [], ◌∙◌, ap, length, true, false, arith}
 use Rattle.std.specs.Prelude.{slice_set}
 use Rattle.std.proofs.lemmas.Result.{on_ok_weaker}
-use Rattle.gx_links.specs.Owners.{is_last, first_of, with_member_last}
+use Rattle.gx_links.specs.Owners.{is_last}
 use Rattle.gx_links.proofs.OwnerLemmas.{set_last, push_behind, last_some}
 use Rattle.gx_links.proofs.owners.add_pair.Goals as goal
 

@@ -1,4 +1,4 @@
-use Rattle.std.proofs.Common.{rules, ◌≡◌, ◌+◌, ◌-◌, ◌∙◌, length, arith, sym, get_or}
+use Rattle.std.proofs.Common.{rules, ◌≡◌, ◌+◌, ◌-◌, ◌∙◌, length, arith, sym}
 use Rattle.gx_links.specs.Links.{is_same}
 use Rattle.gx_links.proofs.OwnerLemmas.{last_at}
 use Rattle.gx_links.proofs.owners.is_last_owner.Goals as goal

@@ -1,8 +1,7 @@
-use Rattle.std.proofs.Common.{rules, ◌≡◌, ◌∙◌, [], ap, sym, subst, arith}
+use Rattle.std.proofs.Common.{rules, ◌≡◌, ◌∙◌, [], ap, sym, subst}
 use Rattle.std.specs.List.Sorted.{IsPermutation}
 use Rattle.std.specs.Vec.Iter.{into_iter_items}
 use Rattle.gx_gather.proofs.Made.{nothing_left}
-use Rattle.gx_links.specs.declared.pairs.Owned.{Owned}
 use Rattle.gx_mapping.specs.Rule.{In}
 use Rattle.gx_links.specs.Owners.{AreOwners}
 use Rattle.gx_links.proofs.OwnerLemmas.{with_pairs, owners_from, groups_from}

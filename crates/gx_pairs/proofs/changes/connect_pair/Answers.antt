@@ -1,7 +1,7 @@
 use Rattle.std.proofs.Common.{rules, ◌<◌, ◌∙◌, List, length, sym, ap, subst}
 use Rattle.gx_ports.specs.declared.stop.Stop.TheVariants as stop
 use Rattle.gx_ports.specs.LeafMaps.{LeafMap, map_at}
-use Rattle.gx_links.proofs.PassLemmas.{same_stop, passes, passes_joined, ends_given_after}
+use Rattle.gx_stack.proofs.PassLemmas.{same_stop, passes_joined, passes, ends_given_after}
 use Rattle.gx_links.proofs.JoinLemmas.{connect_still, crowded_still}
 use Rattle.gx_links.specs.Linksets.{IsJoined}
 use Rattle.gx_pairs.proofs.LinkedLemmas.{link_there, have_still, is_free, may_connect, has_no_room}

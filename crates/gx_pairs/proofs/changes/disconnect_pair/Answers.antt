@@ -2,7 +2,7 @@ use Rattle.std.proofs.Common.{◌<◌, ◌∙◌, List, length, sym, ap, subst}
 use Rattle.gx_ports.specs.declared.stop.Stop.TheVariants as stop
 use Rattle.gx_ports.specs.LeafMaps.{LeafMap, map_at}
 use Rattle.gx_links.specs.Linksets.{CanDisconnect}
-use Rattle.gx_links.proofs.PassLemmas.{same_stop, passes, ends_given_after}
+use Rattle.gx_stack.proofs.PassLemmas.{same_stop, passes, ends_given_after}
 use Rattle.gx_links.proofs.JoinLemmas.{crowded_still}
 use Rattle.gx_pairs.proofs.LinkedLemmas.{link_there, have_still}
 use Rattle.gx_pairs.proofs.changes.disconnect_pair.Goals as goal

@@ -1,13 +1,13 @@
-use Rattle.std.proofs.Common.{◌<◌, List, length, refl, sym, subst}
+use Rattle.std.proofs.Common.{◌<◌, List, length, sym, subst}
 use Rattle.gx_ports.specs.LeafMaps.{LeafMap}
-use Rattle.gx_scan.proofs.CallLemmas.{reads_stopped, reads_stopped_after}
+use Rattle.gx_stack.proofs.PassLemmas.{read_passes, reads_given, reads_given_after}
 use Rattle.gx_pairs.proofs.LinkedLemmas.{members_there, link_there, have_still}
 use Rattle.gx_pairs.proofs.changes.owner_to_leave.Goals as goal
 
 pub returns-in_err-has_record-clause-reads : goal.returns-in_err-has_record-clause-reads
 returns-in_err-has_record-clause-reads g c =
     let maps = g.B.View.working c.args.leaves.now in
-    reads_stopped g.B.View c.from_residual.result c.from_residual.ensures.1
+    reads_given g.B.View c.from_residual.result c.from_residual.ensures.1
     (λ h. (h.0, members_there g.L.Linkset.rule g.L.Linkset.held c.args.stored.now maps h.1)) c.in_err-has_record.ensures.reads
 
 pub owner-requires-clause-below : goal.owner-requires-clause-below
@@ -22,7 +22,6 @@ returns-in_err-owner-clause-reads g c =
     let old = b.working c.args.leaves.now in
     let new = b.working c.has_record.new.leaves in
     let first = c.in_ok-has_record.ensures.reads in
-    let e = c.in_err-owner.ensures in
-    reads_stopped_after b c.from_residual-in_err-owner.result c.from_residual-in_err-owner.ensures.1 first.reads first.ends.whole (first.ends.counted refl)
+    reads_given_after b c.from_residual-in_err-owner.result c.from_residual-in_err-owner.ensures.1 (read_passes b first)
     (λ h. (first.ends.whole h.0, link_there rule held s new (have_still rule held s old new first.reads.working h.1)))
-    (record { reads = e.reads; ends = e.ends; block = e.block; not_full = e.not_full })
+    c.in_err-owner.ensures.reads

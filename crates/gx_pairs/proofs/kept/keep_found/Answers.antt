@@ -16,5 +16,6 @@ returns-clause-steps g c = λ link most whole is held few.
     let found = c.in_ok-members.ensures.found in
     let rule = g.L.Linkset.rule c.args.linkset.now in
     let laws = g.met.L.Linkset.laws c.args.linkset.now c.requires.valid in
-    round_steps (rule.rounds (length found.found)) (length rule.leaves) (length (g.B.View.working c.args.leaves.now)) (length (rule.entries c.args.owner.now (members_of link c.args.owner.now))) most _ _
-    (laws.one_round c.requires.finds (length found.found)) c.requires.few (few c.args.owner.now) (found.few_steps whole link is held)
+    let them = members_of link c.args.owner.now in
+    round_steps (rule.rounds (length them)) (length rule.leaves) (length (g.B.View.working c.args.leaves.now)) (length (rule.entries c.args.owner.now them)) most _ _
+    (laws.one_round c.requires.finds (length them)) c.requires.few (few c.args.owner.now) (found.few_steps whole link is held)

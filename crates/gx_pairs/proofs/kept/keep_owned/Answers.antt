@@ -10,7 +10,7 @@ use Rattle.gx_gather.proofs.Lists.{all_at}
 use Rattle.gx_mapping.specs.Rule.{In}
 use Rattle.gx_model.specs.States.{Row}
 use Rattle.gx_model.specs.Found.{is_owner}
-use Rattle.gx_scan.proofs.CallLemmas.{reads_stopped_after}
+use Rattle.gx_stack.proofs.PassLemmas.{reads_given_after}
 use Rattle.gx_pairs.specs.Members.{is_member_of}
 use Rattle.gx_pairs.proofs.MemberLemmas.{row_kept, row_dropped, row_steps}
 use Rattle.gx_pairs.proofs.kept.keep_owned.Goals as goal
@@ -37,7 +37,8 @@ is_owned-requires-clause-below g c = λ n h. subst (λ (maps : List LeafMap). n 
 pub returns-in_err-is_owned-clause-reads : goal.returns-in_err-is_owned-clause-reads
 returns-in_err-is_owned-clause-reads g c =
     let inv = c.loop-row.invariant in
-    reads_stopped_after g.B.View c.from_residual.result c.from_residual.ensures.1 inv.reads inv.whole inv.counted
+    reads_given_after g.B.View c.from_residual.result c.from_residual.ensures.1
+    (record { reads = inv.reads; whole = inv.whole; counted = inv.counted })
     (λ sound. (inv.whole sound.0, (sound.1.0, sound.1.1, subst (λ (maps : List LeafMap). g.L.Linkset.held c.args.linkset.now sound.1.0 maps) (sym inv.reads.working) sound.1.2)))
     c.in_err-is_owned.ensures.reads
 

@@ -1,4 +1,4 @@
-use Rattle.std.proofs.Common.{◌<◌, ◌∙◌, ◌++◌, List, length, refl, sym, ap, subst}
+use Rattle.std.proofs.Common.{◌<◌, ◌∙◌, ◌++◌, List, length, sym, ap, subst}
 use Rattle.std.specs.Prelude.{filter}
 use Rattle.std.specs.List.{AllByRecursion}
 use Rattle.gx_values.specs.declared.values.Kind.{Kind}
@@ -11,8 +11,7 @@ use Rattle.gx_scan.specs.Files.{IsInternal}
 use Rattle.gx_scan.proofs.StepLemmas.{leaves_few}
 use Rattle.gx_pairs.specs.Stored.{file_of, node_tree}
 use Rattle.gx_pairs.specs.Members.{rows_at}
-use Rattle.gx_scan.proofs.CallLemmas.{reads_stopped, reads_stopped_after}
-use Rattle.gx_links.proofs.PassLemmas.{passes, passes_joined}
+use Rattle.gx_stack.proofs.PassLemmas.{passes_joined, read_passes, reads_given, reads_given_after}
 use Rattle.gx_pairs.proofs.LinkedLemmas.{owners_there, members_there, link_there, have_still}
 use Rattle.gx_pairs.proofs.MemberLemmas.{one_owner_steps, one_member_steps}
 use Rattle.gx_pairs.proofs.members.add_member_at.Goals as goal
@@ -20,7 +19,7 @@ use Rattle.gx_pairs.proofs.members.add_member_at.Goals as goal
 pub returns-in_err-has_record-clause-reads : goal.returns-in_err-has_record-clause-reads
 returns-in_err-has_record-clause-reads g c =
     let maps = g.B.View.working c.args.leaves.now in
-    reads_stopped g.B.View c.from_residual.result c.from_residual.ensures.1
+    reads_given g.B.View c.from_residual.result c.from_residual.ensures.1
     (λ h. (h.0, owners_there g.L.Linkset.rule g.L.Linkset.held c.args.stored.now maps h.1)) c.in_err-has_record.ensures.reads
 
 pub returns-then-not-branch-clause-steps : goal.returns-then-not-branch-clause-steps
@@ -35,7 +34,7 @@ returns-in_err-add_record-clause-reads g c =
     let held = g.L.Linkset.held in
     let s = c.args.stored.now in
     let first = c.in_ok-has_record.ensures.reads in
-    reads_stopped_after b c.from_residual-in_err-add_record.result c.from_residual-in_err-add_record.ensures.1 first.reads first.ends.whole (first.ends.counted refl)
+    reads_given_after b c.from_residual-in_err-add_record.result c.from_residual-in_err-add_record.ensures.1 (read_passes b first)
     (λ h. (first.ends.whole h.0, members_there rule held s _ (have_still rule held s _ _ first.reads.working h.1)))
     c.in_err-add_record.ensures.reads
 
@@ -56,8 +55,8 @@ returns-in_err-rows-clause-reads g c =
     let s = c.args.stored.now in
     let first = c.in_ok-has_record.ensures.reads in
     let second = c.in_ok-add_record.ensures.reads in
-    let passed = passes_joined b (passes b first.reads first.ends) (passes b second.reads second.ends) in
-    reads_stopped_after b c.from_residual-in_err-rows.result c.from_residual-in_err-rows.ensures.1 passed.reads passed.whole passed.counted
+    let passed = passes_joined b (read_passes b first) (read_passes b second) in
+    reads_given_after b c.from_residual-in_err-rows.result c.from_residual-in_err-rows.ensures.1 passed
     (λ h. (passed.whole h.0, link_there rule held s _ (have_still rule held s _ _ passed.reads.working h.1)))
     c.in_err-rows.ensures.reads
 

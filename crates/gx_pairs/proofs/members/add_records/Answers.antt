@@ -6,7 +6,7 @@ use Rattle.gx_stack.specs.Tree.{leaves_of}
 use Rattle.gx_gather.proofs.Lists.{in_read}
 use Rattle.gx_model.specs.Found.{meets_conds}
 use Rattle.gx_scan.specs.Files.{IsInternal}
-use Rattle.gx_scan.proofs.CallLemmas.{reads_stopped_after}
+use Rattle.gx_stack.proofs.PassLemmas.{reads_given_after}
 use Rattle.gx_scan.proofs.StepLemmas.{taken_more, taken_all}
 use Rattle.gx_pairs.specs.Stored.{file_of, node_tree, IsStoredFile}
 use Rattle.gx_pairs.proofs.MemberLemmas.{next_row, last_row}
@@ -78,7 +78,8 @@ pub returns-in_err-add_record-clause-reads : goal.returns-in_err-add_record-clau
 returns-in_err-add_record-clause-reads g c =
     let s = c.args.stored.now in
     let inv = c.loop-key.invariant in
-    reads_stopped_after g.B.View c.from_residual.result c.from_residual.ensures.1 inv.reads inv.whole inv.counted
+    reads_given_after g.B.View c.from_residual.result c.from_residual.ensures.1
+    (record { reads = inv.reads; whole = inv.whole; counted = inv.counted })
     (λ sound. (inv.whole sound.0, (sound.1.0, subst (λ (maps : List LeafMap). IsInternal (file_of s) (node_tree s) maps sound.1.0) (sym inv.reads.working) sound.1.1)))
     c.in_err-add_record.ensures.reads
 

@@ -1,9 +1,8 @@
-use Rattle.std.proofs.Common.{rules, ◌<◌, ◌∙◌, List, length, refl, sym, subst, arith}
+use Rattle.std.proofs.Common.{rules, ◌<◌, ◌∙◌, List, length, sym, subst, arith}
 use Rattle.std.specs.FinMap as fin
 use Rattle.gx_ports.specs.LeafMaps.{LeafMap}
 use Rattle.gx_scan.specs.Files.{IsInternal}
-use Rattle.gx_scan.proofs.CallLemmas.{reads_stopped, reads_stopped_after}
-use Rattle.gx_links.proofs.PassLemmas.{passes, passes_joined}
+use Rattle.gx_stack.proofs.PassLemmas.{passes_joined, read_passes, reads_given, reads_given_after}
 use Rattle.gx_pairs.specs.Stored.{file_of, node_tree}
 use Rattle.gx_pairs.proofs.LinkedLemmas.{looked_up, owners_there, members_there, link_there, have_still}
 use Rattle.gx_pairs.proofs.owners.find_owner.Goals as goal
@@ -11,7 +10,7 @@ use Rattle.gx_pairs.proofs.owners.find_owner.Goals as goal
 pub returns-in_err-has_record-clause-reads : goal.returns-in_err-has_record-clause-reads
 returns-in_err-has_record-clause-reads g c =
     let maps = g.B.View.working c.args.leaves.now in
-    reads_stopped g.B.View c.from_residual.result c.from_residual.ensures.1
+    reads_given g.B.View c.from_residual.result c.from_residual.ensures.1
     (λ h. (h.0, members_there g.L.Linkset.rule g.L.Linkset.held c.args.stored.now maps h.1)) c.in_err-has_record.ensures.reads
 
 pub owner-requires-clause-below : goal.owner-requires-clause-below
@@ -26,10 +25,9 @@ returns-in_err-owner-clause-reads g c =
     let old = b.working c.args.leaves.now in
     let new = b.working c.has_record.new.leaves in
     let first = c.in_ok-has_record.ensures.reads in
-    let e = c.in_err-owner.ensures in
-    reads_stopped_after b c.from_residual-in_err-owner.result c.from_residual-in_err-owner.ensures.1 first.reads first.ends.whole (first.ends.counted refl)
+    reads_given_after b c.from_residual-in_err-owner.result c.from_residual-in_err-owner.ensures.1 (read_passes b first)
     (λ h. (first.ends.whole h.0, link_there rule held s new (have_still rule held s old new first.reads.working h.1)))
-    (record { reads = e.reads; ends = e.ends; block = e.block; not_full = e.not_full })
+    c.in_err-owner.ensures.reads
 
 pub returns-in_err-record-clause-reads : goal.returns-in_err-record-clause-reads
 returns-in_err-record-clause-reads g c =
@@ -40,8 +38,8 @@ returns-in_err-record-clause-reads g c =
     let old = b.working c.args.leaves.now in
     let new = b.working c.owner.new.leaves in
     let first = c.in_ok-has_record.ensures.reads in
-    let passed = passes_joined b (passes b first.reads first.ends) (passes b c.owner.ensures.reads c.in_ok-owner.ensures.ends) in
-    reads_stopped_after b c.from_residual-in_err-record.result c.from_residual-in_err-record.ensures.1 passed.reads passed.whole passed.counted
+    let passed = passes_joined b (read_passes b first) (read_passes b c.in_ok-owner.ensures.reads) in
+    reads_given_after b c.from_residual-in_err-record.result c.from_residual-in_err-record.ensures.1 passed
     (λ h. (passed.whole h.0, owners_there rule held s new (have_still rule held s old new passed.reads.working h.1)))
     c.in_err-record.ensures.reads
 
@@ -53,8 +51,8 @@ returns-clause-reads g c =
     let first = c.in_ok-has_record.ensures.reads in
     let second = c.in_ok-owner.ensures in
     let third = c.in_ok-record.ensures.reads in
-    let before = passes_joined b (passes b first.reads first.ends) (passes b second.reads second.ends) in
-    let passed = passes_joined b before (passes b third.reads third.ends) in
+    let before = passes_joined b (read_passes b first) (read_passes b second.reads) in
+    let passed = passes_joined b before (read_passes b third) in
     record {
       reads = passed.reads;
       ends = record {

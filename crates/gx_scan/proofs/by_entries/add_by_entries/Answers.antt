@@ -14,7 +14,7 @@ use Rattle.gx_scan.specs.Within.{is_within}
 use Rattle.gx_scan.specs.Steps.{is_key_inside, rows_inside}
 use Rattle.gx_gather.proofs.Lists.{in_filter}
 use Rattle.gx_scan.proofs.PlaceLemmas.{IsOnce, data_once, data_few, leaf_there, get_or_any, number}
-use Rattle.gx_scan.proofs.CallLemmas.{reads_stopped_after}
+use Rattle.gx_stack.proofs.PassLemmas.{reads_given_after}
 use Rattle.gx_scan.proofs.StepLemmas.{whole_most}
 use Rattle.gx_scan.proofs.ListingLemmas.{none_chosen, place_chosen, all_chosen}
 use Rattle.gx_scan.proofs.by_entries.add_by_entries.Goals as goal
@@ -78,7 +78,8 @@ loop-place-preserved g c =
 pub returns-in_err-add_at-clause-reads : goal.returns-in_err-add_at-clause-reads
 returns-in_err-add_at-clause-reads g c =
     let inv = c.loop-place.invariant in
-    reads_stopped_after g.B.View c.from_residual.result c.from_residual.ensures.1 inv.reads inv.whole inv.counted
+    reads_given_after g.B.View c.from_residual.result c.from_residual.ensures.1
+    (record { reads = inv.reads; whole = inv.whole; counted = inv.counted })
     (λ sound. (inv.whole sound.0, (sound.1.0, subst (λ (maps : List LeafMap). IsInternal c.args.file.now (tree_of c.args.node.now) maps sound.1.0) (sym inv.reads.working) sound.1.1)))
     c.in_err-add_at.ensures.reads
 

@@ -6,7 +6,7 @@ use Rattle.gx_stack.specs.Seen.{tree_of}
 use Rattle.gx_gather.proofs.Lists.{in_read}
 use Rattle.gx_model.specs.Found.{meets_conds}
 use Rattle.gx_scan.specs.Files.{IsInternal}
-use Rattle.gx_scan.proofs.CallLemmas.{reads_stopped_after}
+use Rattle.gx_stack.proofs.PassLemmas.{reads_given_after}
 use Rattle.gx_scan.proofs.StepLemmas.{taken_more, taken_all}
 use Rattle.gx_scan.proofs.WhereLemmas.{rows_next, rows_done}
 use Rattle.gx_scan.proofs.by_index.add_by_keys.Goals as goal
@@ -49,7 +49,8 @@ loop-key-preserved g c =
 pub returns-in_err-add_by_key-clause-reads : goal.returns-in_err-add_by_key-clause-reads
 returns-in_err-add_by_key-clause-reads g c =
     let inv = c.loop-key.invariant in
-    reads_stopped_after g.B.View c.from_residual.result c.from_residual.ensures.1 inv.reads inv.whole inv.counted
+    reads_given_after g.B.View c.from_residual.result c.from_residual.ensures.1
+    (record { reads = inv.reads; whole = inv.whole; counted = inv.counted })
     (λ sound. (inv.whole sound.0, (sound.1.0, subst (λ (maps : List LeafMap). IsInternal c.args.file.now (tree_of c.args.node.now) maps sound.1.0) (sym inv.reads.working) sound.1.1)))
     c.in_err-add_by_key.ensures.reads
 

@@ -5,7 +5,7 @@ use Rattle.gx_stack.specs.Selected.{IsKeySpan}
 use Rattle.gx_scan.specs.Files.{records_of}
 use Rattle.gx_scan.specs.Records.{record_at}
 use Rattle.gx_stack.specs.Seen.{tree_of}
-use Rattle.gx_scan.proofs.CallLemmas.{reads_stopped}
+use Rattle.gx_stack.proofs.PassLemmas.{reads_given}
 use Rattle.gx_scan.proofs.FileLemmas.{span_of_key, set_of, one_found}
 use Rattle.gx_scan.proofs.StepLemmas.{one_total}
 use Rattle.gx_scan.proofs.records.find_record.Goals as goal
@@ -16,13 +16,12 @@ select-requires-clause-span g c =
 
 pub returns-in_err-select-clause-reads : goal.returns-in_err-select-clause-reads
 returns-in_err-select-clause-reads g c =
-    let e = c.in_err-select.ensures in
-    reads_stopped g.B.View c.from_residual.result c.from_residual.ensures.1
+    reads_given g.B.View c.from_residual.result c.from_residual.ensures.1
     (λ sound.
     let f = sound.1.0 in
     let set = subst (λ form. IsSet form (records_of f)) (sym c.requires.tree.form) (set_of c.args.file.now f c.requires.storable.keyed sound.1.1.fit) in
     (sound.0, (records_of f, set, sound.1.1.held)))
-    (record { reads = e.reads; ends = e.ends; block = e.block; not_full = e.not_full })
+    c.in_err-select.ensures.reads
 
 pub returns-clause-found : goal.returns-clause-found
 returns-clause-found g c = λ f whole is.

@@ -13,11 +13,11 @@ members-requires-in-Ring-clause-below g c = λ n h. c.requires.below n (subst (�
 pub members-requires-in-Inverted-clause-below : goal.members-requires-in-Inverted-clause-below
 members-requires-in-Inverted-clause-below g c = λ n h. c.requires.below n (subst (λ (l : AnyLinkset). In n (any_link_rule l).leaves) (sym c.in-Inverted.is) h)
 
-pub returns-in-Array-clause-ends : goal.returns-in-Array-clause-ends
-returns-in-Array-clause-ends g c = rw c.in-Array.is c.members.ensures.ends
+pub returns-in-Array-clause-reads : goal.returns-in-Array-clause-reads
+returns-in-Array-clause-reads g c = rw c.in-Array.is c.members.ensures.reads
 
-pub returns-in-Ring-clause-ends : goal.returns-in-Ring-clause-ends
-returns-in-Ring-clause-ends g c = rw c.in-Ring.is c.members-in-Ring.ensures.ends
+pub returns-in-Ring-clause-reads : goal.returns-in-Ring-clause-reads
+returns-in-Ring-clause-reads g c = rw c.in-Ring.is c.members-in-Ring.ensures.reads
 
-pub returns-in-Inverted-clause-ends : goal.returns-in-Inverted-clause-ends
-returns-in-Inverted-clause-ends g c = rw c.in-Inverted.is c.members-in-Inverted.ensures.ends
+pub returns-in-Inverted-clause-reads : goal.returns-in-Inverted-clause-reads
+returns-in-Inverted-clause-reads g c = rw c.in-Inverted.is c.members-in-Inverted.ensures.reads

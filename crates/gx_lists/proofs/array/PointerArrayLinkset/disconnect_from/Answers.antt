@@ -30,7 +30,7 @@ array_rec-requires-clause-members g c = λ m h.
     bytes_small kind m c.requires.valid.member_kind (found.fit m (subst (In m) (list ∙ ms_is) h))
 
 pub replace-requires-clause-below : goal.replace-requires-clause-below
-replace-requires-clause-below g c = λ n h. subst (λ (maps : List LeafMap). n < length maps) (sym c.in_ok-members.ensures.reads.working) (c.requires.below n (in_leaves g.M.Mapping.rule (tree_of c.args.self.now.tree.now) c.args.self.now.member c.requires.valid n h))
+replace-requires-clause-below g c = λ n h. subst (λ (maps : List LeafMap). n < length maps) (sym c.in_ok-members.ensures.reads.reads.working) (c.requires.below n (in_leaves g.M.Mapping.rule (tree_of c.args.self.now.tree.now) c.args.self.now.member c.requires.valid n h))
 
 pub replace-requires-clause-old_fits : goal.replace-requires-clause-old_fits
 replace-requires-clause-old_fits g c =
@@ -59,8 +59,8 @@ returns-then-is_empty-clause-disconnected g c = λ link whole can.
     let empty : length ws ≡ 0 = search rules in
     let list : c.deref.result.now ≡ ms = search rules in
     let was = c.in_ok-old.ensures ∙ ap (array_rec o) list in
-    let held = subst (λ (maps : List LeafMap). IsInternal rule tree (node_rows array_rows link 0) maps) (sym c.in_ok-members.ensures.reads.working) can.is_held.0 in
-    let internal = c.replace.ensures.internal (node_rows array_rows link 0) (c.in_ok-members.ensures.ends.whole whole) (rows_set rule tree kind valid link can.is_link) (old_there rule tree kind valid link o m can.owned ms ws those without c.in_ok-old.old was) held in
+    let held = subst (λ (maps : List LeafMap). IsInternal rule tree (node_rows array_rows link 0) maps) (sym c.in_ok-members.ensures.reads.reads.working) can.is_held.0 in
+    let internal = c.replace.ensures.internal (node_rows array_rows link 0) (c.in_ok-members.ensures.reads.ends.whole whole) (rows_set rule tree kind valid link can.is_link) (old_there rule tree kind valid link o m can.owned ms ws those without c.in_ok-old.old was) held in
     on_ok_weaker c.replace.result (λ d. last_disconnected rule tree kind valid link o m can.owned ms ws those without c.in_ok-old.old (g.B.View.working c.replace.new.leaves) was (none_left ws empty) d) internal
 
 pub array_rec-requires-2-clause-members : goal.array_rec-requires-2-clause-members
@@ -73,7 +73,7 @@ array_rec-requires-2-clause-members g c = λ m h.
     bytes_small kind m c.requires.valid.member_kind (without_fits kind c.args.member.now found.found found.fit m (subst (In m) (list ∙ without ∙ ap (without_member c.args.member.now) ms_is) h))
 
 pub replace-requires-2-clause-below : goal.replace-requires-2-clause-below
-replace-requires-2-clause-below g c = λ n h. subst (λ (maps : List LeafMap). n < length maps) (sym c.in_ok-members.ensures.reads.working) (c.requires.below n (in_leaves g.M.Mapping.rule (tree_of c.args.self.now.tree.now) c.args.self.now.member c.requires.valid n h))
+replace-requires-2-clause-below g c = λ n h. subst (λ (maps : List LeafMap). n < length maps) (sym c.in_ok-members.ensures.reads.reads.working) (c.requires.below n (in_leaves g.M.Mapping.rule (tree_of c.args.self.now.tree.now) c.args.self.now.member c.requires.valid n h))
 
 pub replace-requires-2-clause-old_fits : goal.replace-requires-2-clause-old_fits
 replace-requires-2-clause-old_fits g c =
@@ -119,8 +119,8 @@ returns-clause-disconnected g c = λ link whole can.
     let list2 : c.deref-2.result.now ≡ ws = search rules in
     let was = c.in_ok-old.ensures ∙ ap (array_rec o) list in
     let is = c.in_ok-new.ensures ∙ ap (array_rec o) list2 in
-    let held = subst (λ (maps : List LeafMap). IsInternal rule tree (node_rows array_rows link 0) maps) (sym c.in_ok-members.ensures.reads.working) can.is_held.0 in
-    let internal = c.replace-2.ensures.internal (node_rows array_rows link 0) (c.in_ok-members.ensures.ends.whole whole) (rows_set rule tree kind valid link can.is_link) (less_change rule tree kind valid link o m can.owned ms ws those without c.in_ok-old.old c.in_ok-new.new was is) held in
+    let held = subst (λ (maps : List LeafMap). IsInternal rule tree (node_rows array_rows link 0) maps) (sym c.in_ok-members.ensures.reads.reads.working) can.is_held.0 in
+    let internal = c.replace-2.ensures.internal (node_rows array_rows link 0) (c.in_ok-members.ensures.reads.ends.whole whole) (rows_set rule tree kind valid link can.is_link) (less_change rule tree kind valid link o m can.owned ms ws those without c.in_ok-old.old c.in_ok-new.new was is) held in
     on_ok_weaker c.replace-2.result (λ d. less_disconnected rule tree kind valid link o m can.owned ms ws those without c.in_ok-old.old c.in_ok-new.new (g.B.View.working c.replace-2.new.leaves) was is some d) internal
 
 pub returns-clause-full : goal.returns-clause-full
@@ -141,7 +141,7 @@ returns-clause-full g c = λ link whole can full.
     let some : 0 < length ws = search rules in
     let list2 : c.deref-2.result.now ≡ ws = search rules in
     let is = c.in_ok-new.ensures ∙ ap (array_rec o) list2 in
-    let crowded = c.replace-2.ensures.full (c.in_ok-members.ensures.ends.whole whole) full in
-    let at_old = subst (λ (maps : List LeafMap). IsCrowdedBy (b.limit c.members.new.leaves) (entry_count maps + length (entries_of rule tree c.in_ok-new.new))) c.in_ok-members.ensures.reads.working crowded in
+    let crowded = c.replace-2.ensures.full (c.in_ok-members.ensures.reads.ends.whole whole) full in
+    let at_old = subst (λ (maps : List LeafMap). IsCrowdedBy (b.limit c.members.new.leaves) (entry_count maps + length (entries_of rule tree c.in_ok-new.new))) c.in_ok-members.ensures.reads.reads.working crowded in
     less_crowded rule tree kind valid link o m can.owned ms ws those without (b.limit c.args.leaves.now) (entry_count (b.working c.args.leaves.now)) c.in_ok-new.new is some
-    (subst (λ limit. IsCrowdedBy limit (entry_count (b.working c.args.leaves.now) + length (entries_of rule tree c.in_ok-new.new))) c.in_ok-members.ensures.reads.limit at_old)
+    (subst (λ limit. IsCrowdedBy limit (entry_count (b.working c.args.leaves.now) + length (entries_of rule tree c.in_ok-new.new))) c.in_ok-members.ensures.reads.reads.limit at_old)

@@ -7,11 +7,12 @@ use Rattle.gx_values.specs.declared.values.Value.{Value}
 use Rattle.gx_values.specs.Values.{AreFit}
 use Rattle.gx_values.specs.Keys.{key_of, is_inside}
 use Rattle.gx_stack.specs.Seen.{tree_of}
+use Rattle.gx_stack.proofs.PassLemmas.{reads_weaker}
 use Rattle.gx_links.specs.Links.{members_of}
 use Rattle.gx_links.specs.Rows.{node_rows}
 use Rattle.gx_links.specs.Spans.{begins_with}
 use Rattle.gx_lists.specs.Inverted.{pair_rec, inverted_rows}
-use Rattle.gx_lists.proofs.InvertedLemmas.{down_leaf, down_set, pairs_found, members_steps}
+use Rattle.gx_lists.proofs.InvertedLemmas.{down_leaf, down_set, down_has_set, pairs_found, members_steps}
 use Rattle.gx_lists.proofs.inverted.Inverted.count_members.Goals as goal
 
 pub count_within-requires-clause-below : goal.count_within-requires-clause-below
@@ -35,14 +36,9 @@ returns-clause-count g c =
           members_steps rule down up valid link owner at.found _ _ 0 (pairs_found rule down up valid link owner span at.found is those at.selected) at.few_steps;
     }) c.count_within.ensures.count
 
-pub returns-clause-ends : goal.returns-clause-ends
-returns-clause-ends g c =
-    let e = c.count_within.ensures.ends in record {
-      whole = e.whole;
-      later = e.later;
-      fault = e.fault;
-      counted = e.counted;
-      damaged = λ block err sound.
-          let link = sound.1.0 in
-          e.damaged block err (sound.0, (node_rows inverted_rows link 0, down_set g.M.Mapping.rule (tree_of c.args.self.now.down.now) (tree_of c.args.self.now.up.now) c.requires.valid link sound.1.1, sound.1.2.0));
-    }
+pub returns-clause-reads : goal.returns-clause-reads
+returns-clause-reads g c =
+    let down = tree_of c.args.self.now.down.now in
+    let up = tree_of c.args.self.now.up.now in
+    let held = down_has_set g.M.Mapping.rule down up c.requires.valid (g.B.View.working c.args.leaves.now) in
+    reads_weaker g.B.View (λ s. (s.0, held s.1)) c.count_within.ensures.reads

@@ -1,38 +1,28 @@
-use Rattle.std.proofs.Common.{rules, ◌≡◌, ◌∙◌, ◌++◌, List, Err, sym, ap, subst, map}
-use Rattle.std.proofs.lemmas.Result.{err_from_is_err_and}
+use Rattle.std.proofs.Common.{◌≡◌, ◌∙◌, ◌++◌, List, sym, ap, subst, map}
 use Rattle.gx_values.specs.declared.records.Form.{Form}
 use Rattle.gx_values.specs.declared.records.Rec.{Rec}
 use Rattle.gx_values.specs.declared.values.Value.{Value}
 use Rattle.gx_values.specs.Values.{Fits, AreFit}
 use Rattle.gx_values.specs.Keys.{key_of, is_inside}
-use Rattle.gx_ports.specs.declared.stop.Stop.TheVariants as stop
 use Rattle.gx_mapping.specs.Rule.{In}
 use Rattle.gx_gather.proofs.Lists.{from_map}
 use Rattle.gx_stack.specs.Seen.{tree_of}
+use Rattle.gx_stack.proofs.PassLemmas.{reads_given}
 use Rattle.gx_links.specs.Rows.{node_rows}
 use Rattle.gx_links.specs.Spans.{begins_with}
 use Rattle.gx_lists.specs.Inverted.{inverted_rows, member_in, member_kind}
-use Rattle.gx_lists.proofs.InvertedLemmas.{down_leaf, down_set, pair_long, pairs_found, members_found, members_steps}
+use Rattle.gx_lists.proofs.InvertedLemmas.{down_leaf, down_set, down_has_set, pair_long, pairs_found, members_found, members_steps}
 use Rattle.gx_lists.proofs.inverted.InvertedLinkset.members.Goals as goal
 
 pub select-requires-clause-below : goal.select-requires-clause-below
 select-requires-clause-below g c = λ n h. c.requires.below n (down_leaf g.M.Mapping.rule (tree_of c.args.self.now.down.now) (tree_of c.args.self.now.up.now) c.requires.valid n h)
 
-pub returns-in_err-select-clause-ends : goal.returns-in_err-select-clause-ends
-returns-in_err-select-clause-ends g c = record {
-  whole = search rules;
-  later = search rules;
-  fault = search rules;
-  counted = search rules;
-  damaged = λ block e sound.
-      let down = tree_of c.args.self.now.down.now in
-      let up = tree_of c.args.self.now.up.now in
-      let p = err_from_is_err_and c.from_residual.result c.from_residual.ensures.1 in
-      let both = sym p.1 ∙ e in
-      let why : p.0 ≡ stop.Damaged block = cc in
-      let link = sound.1.0 in
-      c.in_err-select.ensures.ends.damaged block (ap Err (sym p.2 ∙ why)) (sound.0, (node_rows inverted_rows link 0, down_set g.M.Mapping.rule down up c.requires.valid link sound.1.1, sound.1.2.0));
-}
+pub returns-in_err-select-clause-reads : goal.returns-in_err-select-clause-reads
+returns-in_err-select-clause-reads g c =
+    let down = tree_of c.args.self.now.down.now in
+    let up = tree_of c.args.self.now.up.now in
+    let held = down_has_set g.M.Mapping.rule down up c.requires.valid (g.B.View.working c.args.leaves.now) in
+    reads_given g.B.View c.from_residual.result c.from_residual.ensures.1 (λ s. (s.0, held s.1)) c.in_err-select.ensures.reads
 
 pub add_members-requires : goal.add_members-requires
 add_members-requires g c = λ r h.

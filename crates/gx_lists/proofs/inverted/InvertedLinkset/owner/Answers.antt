@@ -1,39 +1,29 @@
-use Rattle.std.proofs.Common.{rules, ◌≡◌, ◌∙◌, ◌++◌, List, Err, sym, ap, subst}
+use Rattle.std.proofs.Common.{◌≡◌, ◌∙◌, ◌++◌, List, sym, ap, subst}
 use Rattle.std.specs.Prelude.{IfSome}
 use Rattle.std.specs.FinMap as fin
-use Rattle.std.proofs.lemmas.Result.{err_from_is_err_and}
 use Rattle.gx_values.specs.declared.records.Form.{Form}
 use Rattle.gx_values.specs.declared.records.Rec.{Rec}
 use Rattle.gx_values.specs.declared.values.Value.{Value}
 use Rattle.gx_values.specs.Values.{Fits, AreFit}
 use Rattle.gx_values.specs.Keys.{key_of, is_inside}
-use Rattle.gx_ports.specs.declared.stop.Stop.TheVariants as stop
 use Rattle.gx_mapping.specs.Rule.{In}
 use Rattle.gx_stack.specs.Seen.{tree_of}
+use Rattle.gx_stack.proofs.PassLemmas.{reads_given}
 use Rattle.gx_links.specs.Rows.{node_rows}
 use Rattle.gx_links.specs.Spans.{begins_with}
 use Rattle.gx_lists.specs.Inverted.{inverted_rows, owner_in, owner_kind}
-use Rattle.gx_lists.proofs.InvertedLemmas.{up_leaf, up_set, owned_long, owner_fits, owned_found, owner_again, owner_steps}
+use Rattle.gx_lists.proofs.InvertedLemmas.{up_leaf, up_set, up_has_set, owned_long, owner_fits, owned_found, owner_again, owner_steps}
 use Rattle.gx_lists.proofs.inverted.InvertedLinkset.owner.Goals as goal
 
 pub select-requires-clause-below : goal.select-requires-clause-below
 select-requires-clause-below g c = λ n h. c.requires.below n (up_leaf g.M.Mapping.rule (tree_of c.args.self.now.down.now) (tree_of c.args.self.now.up.now) c.requires.valid n h)
 
-pub returns-in_err-select-clause-ends : goal.returns-in_err-select-clause-ends
-returns-in_err-select-clause-ends g c = record {
-  whole = search rules;
-  later = search rules;
-  fault = search rules;
-  counted = search rules;
-  damaged = λ block e sound.
-      let down = tree_of c.args.self.now.down.now in
-      let up = tree_of c.args.self.now.up.now in
-      let p = err_from_is_err_and c.from_residual.result c.from_residual.ensures.1 in
-      let both = sym p.1 ∙ e in
-      let why : p.0 ≡ stop.Damaged block = cc in
-      let link = sound.1.0 in
-      c.in_err-select.ensures.ends.damaged block (ap Err (sym p.2 ∙ why)) (sound.0, (node_rows inverted_rows link 1, up_set g.M.Mapping.rule down up c.requires.valid link sound.1.1, sound.1.2.1.0));
-}
+pub returns-in_err-select-clause-reads : goal.returns-in_err-select-clause-reads
+returns-in_err-select-clause-reads g c =
+    let down = tree_of c.args.self.now.down.now in
+    let up = tree_of c.args.self.now.up.now in
+    let held = up_has_set g.M.Mapping.rule down up c.requires.valid (g.B.View.working c.args.leaves.now) in
+    reads_given g.B.View c.from_residual.result c.from_residual.ensures.1 (λ s. (s.0, held s.1)) c.in_err-select.ensures.reads
 
 pub owner_of-requires : goal.owner_of-requires
 owner_of-requires g c = λ r h.

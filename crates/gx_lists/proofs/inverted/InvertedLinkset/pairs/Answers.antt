@@ -12,7 +12,7 @@ pub held-requires-clause-below : goal.held-requires-clause-below
 held-requires-clause-below g c = λ n h. c.requires.below n (down_leaf g.M.Mapping.rule (tree_of c.args.self.now.down.now) (tree_of c.args.self.now.up.now) c.requires.valid n h)
 
 pub held-requires-2-clause-below : goal.held-requires-2-clause-below
-held-requires-2-clause-below g c = λ n h. subst (λ j. n < length j) (sym c.held.ensures.reads.working) (c.requires.below n (up_leaf g.M.Mapping.rule (tree_of c.args.self.now.down.now) (tree_of c.args.self.now.up.now) c.requires.valid n h))
+held-requires-2-clause-below g c = λ n h. subst (λ j. n < length j) (sym c.held.ensures.reads.reads.working) (c.requires.below n (up_leaf g.M.Mapping.rule (tree_of c.args.self.now.down.now) (tree_of c.args.self.now.up.now) c.requires.valid n h))
 
 pub returns-in_default-clause-pairs : goal.returns-in_default-clause-pairs
 returns-in_default-clause-pairs g c = λ w has.
@@ -29,7 +29,7 @@ returns-in_default-2-clause-pairs g c = λ w has.
     let up = tree_of c.args.self.now.up.now in
     let leaves = c.held.new.leaves in
     let none = subst (IsHeld rule up (g.B.View.whole leaves) (g.B.View.working leaves)) c.in_default-2.is c.in_ok-up.ensures.held in
-    none (c.in_ok-down.ensures.ends.whole w) (node_rows inverted_rows has.0 1, up_set rule down up c.requires.valid has.0 has.1, subst (IsInternal rule up (node_rows inverted_rows has.0 1)) (sym c.held.ensures.reads.working) has.2.1.0)
+    none (c.in_ok-down.ensures.reads.ends.whole w) (node_rows inverted_rows has.0 1, up_set rule down up c.requires.valid has.0 has.1, subst (IsInternal rule up (node_rows inverted_rows has.0 1)) (sym c.held.ensures.reads.reads.working) has.2.1.0)
 
 pub returns-clause-pairs : goal.returns-clause-pairs
 returns-clause-pairs g c =
@@ -42,5 +42,5 @@ returns-clause-pairs g c =
     let first = subst (IsHeld rule down whole maps) c.in-Some.is c.in_ok-down.ensures.held in
     let second = subst (IsHeld rule up (g.B.View.whole leaves) (g.B.View.working leaves)) c.in-Some-2.is c.in_ok-up.ensures.held in
     inverted_held rule g.met.M.Mapping.laws down up c.requires.valid whole maps c.in-Some.down c.in-Some-2.up c.in_ok-told.field-0 first
-    (held_before rule up whole (g.B.View.whole leaves) maps (g.B.View.working leaves) c.in-Some-2.up c.in_ok-down.ensures.ends.whole c.held.ensures.reads.working second)
+    (held_before rule up whole (g.B.View.whole leaves) maps (g.B.View.working leaves) c.in-Some-2.up c.in_ok-down.ensures.reads.ends.whole c.held.ensures.reads.reads.working second)
     c.in_ok-told.ensures

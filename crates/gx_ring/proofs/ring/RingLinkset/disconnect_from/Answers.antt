@@ -1,4 +1,4 @@
-use Rattle.std.proofs.Common.{◌≡◌, ◌<◌, ◌+◌, ◌∙◌, refl, ap, sym, subst, length}
+use Rattle.std.proofs.Common.{◌≡◌, ◌<◌, ◌+◌, ◌∙◌, ap, sym, subst, length}
 use Rattle.std.specs.Option.{option_map}
 use Rattle.std.proofs.lemmas.Result.{on_ok_weaker}
 use Rattle.gx_values.specs.Values.{Fits}
@@ -7,15 +7,15 @@ use Rattle.gx_mapping.specs.Rule.{In}
 use Rattle.std.specs.FinMap.{remove}
 use Rattle.gx_links.specs.Links.{members_of}
 use Rattle.gx_links.specs.Linksets.{CanDisconnect}
-use Rattle.gx_links.specs.Rows.{IsHeldLink}
+use Rattle.gx_links.specs.Rows.{IsHeldLink, two_nodes}
 use Rattle.gx_stack.specs.Tree.{leaves_of, tree_form}
 use Rattle.gx_stack.specs.Seen.{tree_of}
 use Rattle.gx_stack.specs.Internal.{IfThere}
-use Rattle.gx_ring.specs.Ring.{owner_kind, member_kind, ring_rule, ring_rows, two_nodes}
+use Rattle.gx_ring.specs.Ring.{owner_kind, member_kind, ring_rule, ring_rows}
 use Rattle.gx_ring.specs.Places.{before_in, next_in}
 use Rattle.gx_ring.specs.Steps.{leading, lead_change, own_change, reversed}
 use Rattle.gx_ring.specs.Changes.{FitsChange}
-use Rattle.gx_links.proofs.PassLemmas.{passes, ends_after}
+use Rattle.gx_stack.proofs.PassLemmas.{read_passes, ends_after}
 use Rattle.gx_ring.proofs.FoundLemmas.{nexts_below}
 use Rattle.gx_ring.proofs.ComeLemmas.{key_value_of, key_value_if, before_fits, next_fits, leading_below, lead_fits, own_fits}
 use Rattle.gx_ring.proofs.AskLemmas.{others_fit, others_are, disconnected, disconnect_full}
@@ -94,7 +94,7 @@ replace_both-requires-clause-first_below g c =
     let half = c.members.new.leaves in
     let others = c.without-others.result in
     let found = c.in_ok-members.ensures.found in
-    λ n h. subst (λ ms. n < length ms) (sym c.in_ok-members.ensures.reads.working) (c.requires.below n (nexts_below rule heads nexts c.requires.valid n h))
+    λ n h. subst (λ ms. n < length ms) (sym c.in_ok-members.ensures.reads.reads.working) (c.requires.below n (nexts_below rule heads nexts c.requires.valid n h))
 
 pub replace_both-requires-clause-second_below : goal.replace_both-requires-clause-second_below
 replace_both-requires-clause-second_below g c =
@@ -106,7 +106,7 @@ replace_both-requires-clause-second_below g c =
     let half = c.members.new.leaves in
     let others = c.without-others.result in
     let found = c.in_ok-members.ensures.found in
-    λ n h. subst (λ ms. n < length ms) (sym c.in_ok-members.ensures.reads.working) (c.requires.below n (leading_below rule heads nexts c.requires.valid (option_map (λ v. v.now) c.neighbours_of-at.result.before) n (subst (λ t. In n (leaves_of t)) c.leading.ensures h)))
+    λ n h. subst (λ ms. n < length ms) (sym c.in_ok-members.ensures.reads.reads.working) (c.requires.below n (leading_below rule heads nexts c.requires.valid (option_map (λ v. v.now) c.neighbours_of-at.result.before) n (subst (λ t. In n (leaves_of t)) c.leading.ensures h)))
 
 pub replace_both-requires-clause-first_fits : goal.replace_both-requires-clause-first_fits
 replace_both-requires-clause-first_fits g c =
@@ -168,11 +168,11 @@ returns-clause-disconnected g c = λ link whole can.
     let next_is : next ≡ next_in others c.args.member.now = c.neighbours_of-at.ensures.next ∙ ap (λ ms. next_in ms c.args.member.now) (c.deref.ensures.value ∙ c.others.view_is) in
     let own_is : c.reversed-own.result ≡ reversed (own_change c.args.owner.now c.args.member.now next) = c.reversed-own.ensures ∙ ap reversed c.in_ok-own_change.ensures in
     let lead_is : c.reversed-lead.result ≡ reversed (lead_change c.args.owner.now c.args.member.now before next) = c.reversed-lead.ensures ∙ ap reversed c.in_ok-lead_change.ensures in
-    let can_half = subst (λ ms. CanDisconnect (ring_rule rule heads nexts) (IsHeldLink rule (two_nodes heads nexts) ring_rows) ms link c.args.owner.now c.args.member.now) (sym c.in_ok-members.ensures.reads.working) can in
+    let can_half = subst (λ ms. CanDisconnect (ring_rule rule heads nexts) (IsHeldLink rule (two_nodes heads nexts) ring_rows) ms link c.args.owner.now c.args.member.now) (sym c.in_ok-members.ensures.reads.reads.working) can in
     let are = others_are (ring_rule rule heads nexts) (IsHeldLink rule (two_nodes heads nexts) ring_rows) (b.whole old) (b.working old) c.args.owner.now c.args.member.now (b.work old) (b.work half) c.new.result.items c.members.new.out others found c.new.ensures.items c.without-others.ensures whole link can.is_link can.is_held in
     on_ok_weaker c.replace_both.result
     (λ a. disconnected rule heads nexts c.requires.valid c.args.owner.now c.args.member.now c.requires.owner c.requires.member others before next before_is next_is (tree_of c.leading.result.now) c.leading.ensures c.reversed-lead.result c.reversed-own.result lead_is own_is link (b.working half) can_half are (b.working c.replace_both.new.leaves) a)
-    (c.replace_both.ensures.changed (c.in_ok-members.ensures.ends.whole whole))
+    (c.replace_both.ensures.changed (c.in_ok-members.ensures.reads.ends.whole whole))
 
 pub returns-clause-others : goal.returns-clause-others
 returns-clause-others g c = λ n whole fault away.
@@ -184,10 +184,10 @@ returns-clause-others g c = λ n whole fault away.
     let half = c.members.new.leaves in
     let others = c.without-others.result in
     let found = c.in_ok-members.ensures.found in
-    c.replace_both.ensures.others n (c.in_ok-members.ensures.ends.whole whole) fault
+    c.replace_both.ensures.others n (c.in_ok-members.ensures.reads.ends.whole whole) fault
     (λ h. away (nexts_below rule heads nexts c.requires.valid n h))
     (λ h. away (leading_below rule heads nexts c.requires.valid (option_map (λ v. v.now) c.neighbours_of-at.result.before) n (subst (λ t. In n (leaves_of t)) c.leading.ensures h)))
-    ∙ ap (λ ms. map_at ms n) c.in_ok-members.ensures.reads.working
+    ∙ ap (λ ms. map_at ms n) c.in_ok-members.ensures.reads.reads.working
 
 pub returns-clause-ends : goal.returns-clause-ends
 returns-clause-ends g c =
@@ -199,8 +199,8 @@ returns-clause-ends g c =
     let half = c.members.new.leaves in
     let others = c.without-others.result in
     let found = c.in_ok-members.ensures.found in
-    ends_after b c.replace_both.result (passes b c.in_ok-members.ensures.reads c.in_ok-members.ensures.ends)
-    (λ s. c.in_ok-members.ensures.ends.whole s.0) c.replace_both.ensures.ends
+    ends_after b c.replace_both.result (read_passes b c.in_ok-members.ensures.reads)
+    (λ s. c.in_ok-members.ensures.reads.ends.whole s.0) c.replace_both.ensures.ends
 
 pub returns-clause-full : goal.returns-clause-full
 returns-clause-full g c = λ link whole can is.
@@ -218,8 +218,8 @@ returns-clause-full g c = λ link whole can is.
     let next_is : next ≡ next_in others c.args.member.now = c.neighbours_of-at.ensures.next ∙ ap (λ ms. next_in ms c.args.member.now) (c.deref.ensures.value ∙ c.others.view_is) in
     let own_is : c.reversed-own.result ≡ reversed (own_change c.args.owner.now c.args.member.now next) = c.reversed-own.ensures ∙ ap reversed c.in_ok-own_change.ensures in
     let lead_is : c.reversed-lead.result ≡ reversed (lead_change c.args.owner.now c.args.member.now before next) = c.reversed-lead.ensures ∙ ap reversed c.in_ok-lead_change.ensures in
-    let can_half = subst (λ ms. CanDisconnect (ring_rule rule heads nexts) (IsHeldLink rule (two_nodes heads nexts) ring_rows) ms link c.args.owner.now c.args.member.now) (sym c.in_ok-members.ensures.reads.working) can in
+    let can_half = subst (λ ms. CanDisconnect (ring_rule rule heads nexts) (IsHeldLink rule (two_nodes heads nexts) ring_rows) ms link c.args.owner.now c.args.member.now) (sym c.in_ok-members.ensures.reads.reads.working) can in
     let are = others_are (ring_rule rule heads nexts) (IsHeldLink rule (two_nodes heads nexts) ring_rows) (b.whole old) (b.working old) c.args.owner.now c.args.member.now (b.work old) (b.work half) c.new.result.items c.members.new.out others found c.new.ensures.items c.without-others.ensures whole link can.is_link can.is_held in
-    let full = disconnect_full rule heads nexts c.requires.valid c.args.owner.now c.args.member.now c.requires.owner c.requires.member others before next before_is next_is (tree_of c.leading.result.now) c.leading.ensures c.reversed-lead.result c.reversed-own.result lead_is own_is link (b.working half) can_half are (b.limit half) (c.replace_both.ensures.full (c.in_ok-members.ensures.ends.whole whole) is) in
+    let full = disconnect_full rule heads nexts c.requires.valid c.args.owner.now c.args.member.now c.requires.owner c.requires.member others before next before_is next_is (tree_of c.leading.result.now) c.leading.ensures c.reversed-lead.result c.reversed-own.result lead_is own_is link (b.working half) can_half are (b.limit half) (c.replace_both.ensures.full (c.in_ok-members.ensures.reads.ends.whole whole) is) in
     let more = length ((ring_rule rule heads nexts).entries c.args.owner.now (members_of (remove link c.args.member.now) c.args.owner.now)) in
-    subst (λ ms. IsCrowdedBy (b.limit old) (entry_count ms + more)) c.in_ok-members.ensures.reads.working (subst (λ l. IsCrowdedBy l (entry_count (b.working half) + more)) c.in_ok-members.ensures.reads.limit full)
+    subst (λ ms. IsCrowdedBy (b.limit old) (entry_count ms + more)) c.in_ok-members.ensures.reads.reads.working (subst (λ l. IsCrowdedBy l (entry_count (b.working half) + more)) c.in_ok-members.ensures.reads.reads.limit full)

@@ -1,18 +1,18 @@
 use Rattle.std.proofs.Common.{subst}
 use Rattle.gx_stack.specs.Seen.{tree_of}
 use Rattle.gx_ring.specs.Reads.{IsRecordAt}
-use Rattle.gx_links.proofs.PassLemmas.{ends_given}
+use Rattle.gx_stack.proofs.PassLemmas.{reads_given}
 use Rattle.gx_ring.proofs.FoundLemmas.{nexts_below, nexts_held, owner_field, owner_none, owner_some}
 use Rattle.gx_ring.proofs.ring.RingLinkset.owner.Goals as goal
 
 pub record_at-requires-clause-below : goal.record_at-requires-clause-below
 record_at-requires-clause-below g c = λ n h. c.requires.below n (nexts_below g.M.Mapping.rule (tree_of c.args.self.now.heads.now) (tree_of c.args.self.now.chain.now) c.requires.valid n h)
 
-pub returns-in_err-rec-clause-ends : goal.returns-in_err-rec-clause-ends
-returns-in_err-rec-clause-ends g c =
+pub returns-in_err-rec-clause-reads : goal.returns-in_err-rec-clause-reads
+returns-in_err-rec-clause-reads g c =
     let b = g.B.View in
-    ends_given b c.from_residual.result c.from_residual.ensures.1
-    (λ s. (s.0, nexts_held g.M.Mapping.rule (tree_of c.args.self.now.heads.now) (tree_of c.args.self.now.chain.now) c.requires.valid (b.working c.args.leaves.now) s.1)) c.in_err-rec.ensures.ends
+    reads_given b c.from_residual.result c.from_residual.ensures.1
+    (λ s. (s.0, nexts_held g.M.Mapping.rule (tree_of c.args.self.now.heads.now) (tree_of c.args.self.now.chain.now) c.requires.valid (b.working c.args.leaves.now) s.1)) c.in_err-rec.ensures.reads
 
 pub take_field-requires : goal.take_field-requires
 take_field-requires g c =

@@ -10,7 +10,7 @@ pub held-requires-clause-below : goal.held-requires-clause-below
 held-requires-clause-below g c = λ n h. c.requires.below n (heads_below g.M.Mapping.rule (tree_of c.args.self.now.heads.now) (tree_of c.args.self.now.chain.now) c.requires.valid n h)
 
 pub held-requires-2-clause-below : goal.held-requires-2-clause-below
-held-requires-2-clause-below g c = λ n h. subst (λ ms. n < length ms) (sym c.held.ensures.reads.working) (c.requires.below n (nexts_below g.M.Mapping.rule (tree_of c.args.self.now.heads.now) (tree_of c.args.self.now.chain.now) c.requires.valid n h))
+held-requires-2-clause-below g c = λ n h. subst (λ ms. n < length ms) (sym c.held.ensures.reads.reads.working) (c.requires.below n (nexts_below g.M.Mapping.rule (tree_of c.args.self.now.heads.now) (tree_of c.args.self.now.chain.now) c.requires.valid n h))
 
 pub returns-in_default-clause-pairs : goal.returns-in_default-clause-pairs
 returns-in_default-clause-pairs g c = λ w has.
@@ -30,7 +30,7 @@ returns-in_default-2-clause-pairs g c = λ w has.
     let nexts = tree_of c.args.self.now.chain.now in
     let half = c.held.new.leaves in
     let none = subst (IsHeld rule nexts (b.whole half) (b.working half)) c.in_default-2.is c.in_ok-chain.ensures.held in
-    none (c.in_ok-heads.ensures.ends.whole w) (subst (HasSet rule nexts) (sym c.held.ensures.reads.working) (nexts_held rule heads nexts c.requires.valid (b.working c.args.leaves.now) has))
+    none (c.in_ok-heads.ensures.reads.ends.whole w) (subst (HasSet rule nexts) (sym c.held.ensures.reads.reads.working) (nexts_held rule heads nexts c.requires.valid (b.working c.args.leaves.now) has))
 
 pub returns-clause-pairs : goal.returns-clause-pairs
 returns-clause-pairs g c =
@@ -42,4 +42,4 @@ returns-clause-pairs g c =
     let half = c.held.new.leaves in
     let first = subst (IsHeld rule heads (b.whole old) (b.working old)) c.in-Some.is c.in_ok-heads.ensures.held in
     let second = subst (IsHeld rule nexts (b.whole half) (b.working half)) c.in-Some-2.is c.in_ok-chain.ensures.held in
-    ring_pairs rule heads nexts c.requires.valid g.met.M.Mapping.laws (b.whole old) (b.whole half) (b.working old) (b.working half) c.in_ok-heads.ensures.ends.whole c.held.ensures.reads.working c.in-Some.heads c.in-Some-2.chain first second c.in_ok-told.field-0 c.in_ok-told.ensures
+    ring_pairs rule heads nexts c.requires.valid g.met.M.Mapping.laws (b.whole old) (b.whole half) (b.working old) (b.working half) c.in_ok-heads.ensures.reads.ends.whole c.held.ensures.reads.reads.working c.in-Some.heads c.in-Some-2.chain first second c.in_ok-told.field-0 c.in_ok-told.ensures

@@ -98,9 +98,9 @@ loop-child-preserved g t c =
           let rest = sym c.holds_rest.ensures ∙ w.if-holds_rest.true in
           let main_are : c.if-holds_rest.main ≡ at.main ++ map (part_for child) found = w.main-is ∙ w.in_ok-add_parts-in-Layer.ensures in
           record {
-            whole = λ h. e.ends.whole (inv.whole h);
-            reads = reads_joined b inv.reads e.reads;
-            counted = e.ends.counted refl ∙ inv.counted;
+            whole = λ h. e.reads.ends.whole (inv.whole h);
+            reads = reads_joined b inv.reads e.reads.reads;
+            counted = e.reads.ends.counted refl ∙ inv.counted;
             few_steps = few;
             fit = subst (AreDataParts (rule l.mapping)) (sym main_are) (data_parts_add (rule l.mapping) child at.main found below rest fit inv.fit);
             fit_others = subst (λ ps. (p : Part) → In p ps → IsOf ((rule l.mapping).kid_form p.child) p.rec) (sym w.others-is) inv.fit_others;
@@ -112,9 +112,9 @@ loop-child-preserved g t c =
           let rest = sym c.holds_rest.ensures ∙ w.if-holds_rest.false in
           let others_are : c.if-holds_rest.others ≡ at.others ++ map (part_for child) found = w.others-is ∙ w.in_ok-add_parts-in-Layer-2.ensures in
           record {
-            whole = λ h. e.ends.whole (inv.whole h);
-            reads = reads_joined b inv.reads e.reads;
-            counted = e.ends.counted refl ∙ inv.counted;
+            whole = λ h. e.reads.ends.whole (inv.whole h);
+            reads = reads_joined b inv.reads e.reads.reads;
+            counted = e.reads.ends.counted refl ∙ inv.counted;
             few_steps = few;
             fit = subst (AreDataParts (rule l.mapping)) (sym w.main-is) inv.fit;
             fit_others = subst (λ ps. (p : Part) → In p ps → IsOf ((rule l.mapping).kid_form p.child) p.rec) (sym others_are) (others_fit (rule l.mapping) child at.others found fit inv.fit_others);

@@ -1,5 +1,4 @@
-use Rattle.std.proofs.Common.{◌≡◌, ◌<◌, ◌+◌, ◌∙◌, ◌++◌, ℕ, List, Err, refl, rules, ap, sym, subst, length, map, drop, append-nil, arith}
-use Rattle.std.proofs.lemmas.Result.{err_from_is_err_and}
+use Rattle.std.proofs.Common.{◌≡◌, ◌<◌, ◌+◌, ◌∙◌, ◌++◌, ℕ, List, refl, rules, ap, sym, subst, length, map, drop, append-nil, arith}
 use Rattle.gx_values.specs.declared.values.Value.{Value}
 use Rattle.gx_values.specs.declared.records.Rec.{Rec}
 use Rattle.gx_ports.specs.Calls.{Reads}
@@ -8,7 +7,9 @@ use Rattle.gx_mapping.specs.Rule.{In}
 use Rattle.gx_stack.specs.Seen.{tree_of, kids_from}
 use Rattle.gx_stack.specs.Internal.{IsInternal}
 use Rattle.gx_stack.proofs.Seen.{child_there, child_valid, child_leaves, kid_lower}
-use Rattle.gx_stack.proofs.KeysNode.{AreKeysBelow, no_keys, keys_skip, keys_add, keys_all, keys_indexed, child_has_set, kid_indexed, kid_spans, index_spans, index_key_span, entry_some}
+use Rattle.gx_stack.proofs.Children.{child_has_set}
+use Rattle.gx_stack.proofs.PassLemmas.{reads_given, reads_given_after}
+use Rattle.gx_stack.proofs.KeysNode.{AreKeysBelow, no_keys, keys_skip, keys_add, keys_all, keys_indexed, kid_indexed, kid_spans, index_spans, index_key_span, entry_some}
 use Rattle.gx_stack.proofs.node.Node.+keys_where.Goals.{then-carries+in_ok-keys_where-in-Layer, else-carries}
 use Rattle.gx_stack.proofs.node.Node.+keys_where.Goals as goal
 
@@ -43,22 +44,16 @@ select-requires-clause-span g t c =
     let index = (g.met.M.Mapping.laws l.mapping).indexed c.args.field.now c.in-Some.child (sym c.indexes.ensures ∙ c.in-Some.is) in
     index_key_span g.M.Mapping.rule g.met.M.Mapping.laws c.args.self.now l c.in-Layer.is c.requires.valid c.args.field.now c.args.span.now c.requires.span c.in-Some.child c.index-kid.result.now index c.index-kid.ensures
 
-pub returns-in_err-select-in-Layer-clause-ends : goal.returns-in_err-select-in-Layer-clause-ends
-returns-in_err-select-in-Layer-clause-ends g t c =
+pub returns-in_err-select-in-Layer-clause-reads : goal.returns-in_err-select-in-Layer-clause-reads
+returns-in_err-select-in-Layer-clause-reads g t c =
     let rule = g.M.Mapping.rule in
     let l = c.in-Layer.layer in
     let index = (g.met.M.Mapping.laws l.mapping).indexed c.args.field.now c.in-Some.child (sym c.indexes.ensures ∙ c.in-Some.is) in
     let maps = g.B.View.working c.args.leaves.now in
-    let p = err_from_is_err_and c.from_residual.result c.from_residual.ensures.1 in
-    let e = c.in_err-select-in-Layer.ensures.ends in record {
-      whole = search rules;
-      later = e.later;
-      fault = search rules;
-      counted = search rules;
-      damaged = λ block d s.
-          e.damaged block (sym (p.1 ∙ ap Err p.2) ∙ d)
-          (s.0, child_has_set rule g.met.M.Mapping.laws c.args.self.now l c.in-Layer.is c.requires.valid c.in-Some.child c.index-kid.result.now maps maps index.child c.index-kid.ensures refl s.1);
-    }
+    let kid = c.index-kid in
+    let has_set = child_has_set rule g.met.M.Mapping.laws c.args.self.now l c.in-Layer.is c.requires.valid in
+    let set = has_set c.in-Some.child kid.result.now maps maps index.child kid.ensures refl in
+    reads_given g.B.View c.from_residual.result c.from_residual.ensures.1 (λ s. (s.0, set s.1)) c.in_err-select-in-Layer.ensures.reads
 
 pub add_keys-requires : goal.add_keys-requires
 add_keys-requires g t c = λ r h.
@@ -134,24 +129,22 @@ keys_where-requires g t c κs within =
       ),
     )
 
-pub returns-in_err-keys_where-in-Layer-clause-ends : goal.returns-in_err-keys_where-in-Layer-clause-ends
-returns-in_err-keys_where-in-Layer-clause-ends g t c =
+pub returns-in_err-keys_where-in-Layer-clause-reads : goal.returns-in_err-keys_where-in-Layer-clause-reads
+returns-in_err-keys_where-in-Layer-clause-reads g t c =
     let rule = g.M.Mapping.rule in
     let l = c.in-Layer.layer in
     let maps = g.B.View.working c.args.leaves.now in
-    let child = c.loop-child.child in
-    let below : child < (rule l.mapping).kids = omega (arith, c.kids-child-end.ensures) in
-    let p = err_from_is_err_and c.from_residual-in_err-keys_where-in-Layer.result c.from_residual-in_err-keys_where-in-Layer.ensures.1 in
-    let e = c.in_err-keys_where-in-Layer.ensures.ends in
-    let inv = c.loop-child.invariant in record {
-      whole = search rules;
-      later = omega (arith, e.later, inv.counted);
-      fault = search rules;
-      counted = search rules;
-      damaged = λ block d s.
-          e.damaged block (sym (p.1 ∙ ap Err p.2) ∙ d)
-          (inv.whole s.0, child_has_set rule g.met.M.Mapping.laws c.args.self.now l c.in-Layer.is c.requires.valid child c.index-kid-then-carries.result.now maps (g.B.View.working c.loop-child.leaves) below c.index-kid-then-carries.ensures inv.reads.working s.1);
-    }
+    let at = c.loop-child in
+    let inv = at.invariant in
+    let below : at.child < (rule l.mapping).kids = omega (arith, c.kids-child-end.ensures) in
+    let given = c.from_residual-in_err-keys_where-in-Layer in
+    let kid = c.index-kid-then-carries in
+    let now = g.B.View.working at.leaves in
+    let has_set = child_has_set rule g.met.M.Mapping.laws c.args.self.now l c.in-Layer.is c.requires.valid in
+    let set = has_set at.child kid.result.now maps now below kid.ensures inv.reads.working in
+    reads_given_after g.B.View given.result given.ensures.1
+    (record { reads = inv.reads; whole = inv.whole; counted = inv.counted })
+    (λ s. (inv.whole s.0, set s.1)) c.in_err-keys_where-in-Layer.ensures.reads
 
 pub loop-child-preserved : goal.loop-child-preserved
 loop-child-preserved g t c =
@@ -174,9 +167,9 @@ loop-child-preserved g t c =
           let k = w.index-kid-then-carries.result.now in
           let e = w.in_ok-keys_where-in-Layer.ensures in
           record {
-            whole = λ h. subst b.whole (sym w.leaves-is) (e.ends.whole (inv.whole h));
-            reads = subst (Reads b fn) (sym w.leaves-is) (reads_joined b inv.reads e.reads);
-            counted = ap b.faults w.leaves-is ∙ e.ends.counted refl ∙ inv.counted;
+            whole = λ h. subst b.whole (sym w.leaves-is) (e.reads.ends.whole (inv.whole h));
+            reads = subst (Reads b fn) (sym w.leaves-is) (reads_joined b inv.reads e.reads.reads);
+            counted = ap b.faults w.leaves-is ∙ e.reads.ends.counted refl ∙ inv.counted;
             found = subst (λ ls. holds (b.work ls) c.if-carries.out) (sym w.leaves-is) (subst (holds (b.work w.keys_where.new.leaves)) (sym w.out-is)
                 (keys_add rule laws n l c.in-Layer.is c.requires.valid maps name span (b.whole fn) child k (b.whole c.loop-child.leaves) (b.working c.loop-child.leaves) (b.work fn) (b.work c.loop-child.leaves) (b.work w.keys_where.new.leaves) before c.loop-child.out w.keys_where.new.out below
                 (sym c.carries.ensures ∙ w.if-carries.true) w.index-kid-then-carries.ensures inv.whole inv.reads.working inv.found e.found));
