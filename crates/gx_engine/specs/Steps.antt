@@ -121,22 +121,22 @@ pub record KeepsEngine {S E : Type 0} (g : Ghosts S) (old new : Engine S) (c : C
 abbrev pub TakesFewSteps : {S : Type 0} → Ghosts S → Playing → Command → Engine S → Engine S → Type 0
 TakesFewSteps g p c old new = IsBounded (schema_of old) (built_of old) (length (g.working (leaves_of old))) (seen_state p) c (g.work (leaves_of old)) (g.work (leaves_of new))
 
--- How a command ends: a stop says nothing, and where it isn't a fault it leaves what was last committed. Damage is found only where
--- the leaves stood for no moment, of block 0 where each is whole.
+-- What a command leaves and how it ends: the leaves of what was reorganized are fresh; a stop says nothing, and where it isn't a
+-- fault, what was last committed stays. Damage is found only where the leaves stood for no moment, of block 0 where each is whole.
 pub record EndsCommand {S : Type 0} (g : Ghosts S) (old new : Engine S) (c : Command) (out now : List ℕ) (result : Result (Unit {0}) Stop) : Type 0 where
-  pub unsaid : OnErr result (now ≡ out)
-  pub stopped : stop_of new ≡ stop_of old
   pub keeps : KeepsEngine g old new c result
+  pub stopped : stop_of new ≡ stop_of old
+  pub fresh : g.whole (leaves_of old) → OnOk result (AreFresh g c new)
+  pub unsaid : OnErr result (now ≡ out)
   pub kept : is_fault result ≡ false → OnErr result (Keeps g (leaves_of old) (leaves_of new))
   pub cause : HasStopCause (g.faults (leaves_of old)) (g.faults (leaves_of new)) (IsSound g old) result
   pub block : (n : ℕ) → result ≡ Err (stop.Damaged n) → g.whole (leaves_of old) → n ≡ 0
 
--- what a command does: it is carried out, and it is full only where the pages may not be enough
+-- what one command does: on Ok it was carried out, and Full comes only where the pages may not be enough
 pub record IsStep {S : Type 0} (g : Ghosts S) (old new : Engine S) (c : Command) (out now : List ℕ) (result : Result (Unit {0}) Stop) : Type 0 where
   pub carried : (p : Playing) → IsAt g p old → OnOk result (CarriesOut g p c old new out now)
-  pub fresh : g.whole (leaves_of old) → OnOk result (AreFresh g c new)
   pub full : (p : Playing) → IsAt g p old → result ≡ Err stop.Full → IsShortFor g old p c
-  pub rest : EndsCommand g old new c out now result
+  pub ends : EndsCommand g old new c out now result
 
 -- whether the step answers that the outside failed in it
 abbrev pub is_fault_now : Result (Unit {0}) StepStop → Bool

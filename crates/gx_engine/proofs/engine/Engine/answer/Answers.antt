@@ -13,11 +13,8 @@ returns-clause-step g c =
       carried = λ p at.
           answer_carried e.schema e.built e.inside e.commits _ _ _ _ p command c.args.out.now _ c.in_ok-text.text c.requires.follows at.stands asked.reads.reads.working asked.reads.reads.kept (asked.answered (seen_state p) at.whole_is at.stands.working_is)
           (c.in_ok-append.ensures.ok ∙ ap (λ (text : List ℕ). c.args.out.now ++ text) c.as_slice.ensures);
-      fresh = λ whole. follow_fresh g.B.View command _ c.requires.follows;
       full = search rules;
-      rest = record {
-        unsaid = search rules;
-        stopped = search rules;
+      ends = record {
         keeps = record {
           schema = search rules;
           built = search rules;
@@ -33,6 +30,9 @@ returns-clause-step g c =
           keeps = search rules;
           work = λ none. absurd (true≢false (sym (follow_selects command c.requires.follows) ∙ none));
         };
+        stopped = search rules;
+        fresh = λ whole. follow_fresh g.B.View command _ c.requires.follows;
+        unsaid = search rules;
         kept = search rules;
         cause = search rules;
         block = search rules;

@@ -34,12 +34,12 @@ returns-clause-step g c =
           c.requires.alone at.stands c.found_text.ensures.reads.reads.working c.found_text.ensures.reads.reads.kept c.file_def-def.ensures
           (c.in_ok-text.ensures.listed _ at.whole_is (internal_at e.schema e.built c.args.find.now.file c.file_def-def.result.now (tree_of c.file_node-node.result.now) (g.B.View.working e.leaves) (seen_state p) c.file_def-def.ensures c.file_node-node.ensures.tree c.requires.due.of_schema.file at.stands.working_is))
           (c.in_ok-append.ensures.ok ∙ ap (λ (text : List ℕ). c.args.out.now ++ text) c.as_slice.ensures);
-      fresh = search rules;
       full = search rules;
-      rest = record {
-        unsaid = search rules;
-        stopped = search rules;
+      ends = record {
         keeps = search rules;
+        stopped = search rules;
+        fresh = search rules;
+        unsaid = search rules;
         kept = search rules;
         cause = search rules;
         block = search rules;
@@ -51,12 +51,12 @@ returns-in_err-text-clause-step g c =
     let e = c.args.self.now in
     record {
       carried = search rules;
-      fresh = search rules;
       full = search rules;
-      rest = record {
-        unsaid = search rules;
-        stopped = search rules;
+      ends = record {
         keeps = search rules;
+        stopped = search rules;
+        fresh = search rules;
+        unsaid = search rules;
         kept = search rules;
         cause = file_cause g.B.View e _ c.args.find.now.file c.file_def-def.result.now (tree_of c.file_node-node.result.now) _ c.from_residual.result c.requires.due.of_schema.file c.file_def-def.ensures c.file_node-node.ensures.tree c.in_err-text.ensures.reads.ends c.from_residual.ensures.1;
         block = search rules;

@@ -20,12 +20,12 @@ returns-in_err-found-clause-step g c =
     let e = c.args.self.now in
     record {
       carried = search rules;
-      fresh = search rules;
       full = search rules;
-      rest = record {
-        unsaid = search rules;
-        stopped = search rules;
+      ends = record {
         keeps = search rules;
+        stopped = search rules;
+        fresh = search rules;
+        unsaid = search rules;
         kept = search rules;
         cause = file_cause g.B.View e _ c.args.file c.file_def-def.result.now (tree_of c.file_node-node.result.now) _ c.from_residual.result c.requires.due.of_schema.0 c.file_def-def.ensures c.file_node-node.ensures.tree c.in_err-found.ensures.reads.ends c.from_residual.ensures.1;
         block = search rules;
