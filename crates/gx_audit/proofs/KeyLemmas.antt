@@ -1,5 +1,5 @@
 -- The keys of a file.
-use Rattle.std.proofs.Common.{◌≡◌, ◌<◌, List, [], ◌∷◌, length, map, Option, Some, None, true, refl, sym, ap, subst, ◌∙◌}
+use Rattle.std.proofs.Common.{◌≡◌, ◌<◌, List, [], ◌∷◌, length, map, true, refl, sym, ap, subst, ◌∙◌}
 use Rattle.std.specs.Prelude.{T, ◌&&◌, Bool, false, is_some, IsTrue}
 use Rattle.std.specs.List.{AllByRecursion}
 use Rattle.std.specs.List.Sorted.{IsStrictlySortedBy}
@@ -26,11 +26,8 @@ use Rattle.gx_typing.specs.Dues.{file_form}
 use Rattle.gx_model.specs.States.{File, Row}
 use Rattle.gx_scan.specs.Files.{rec_of, records_of, IsInternal}
 use Rattle.gx_scan.proofs.FileLemmas.{find_in, in_find, one_key, set_of}
+use Rattle.gx_states.proofs.LinkLemmas.{some_there}
 use Rattle.gx_audit.specs.Audits.{keys_of}
-
-some_there : {A : Type 0} (o : Option A) → is_some o ≡ true → (x : A) × (o ≡ Some x)
-some_there None e = absurd cc
-some_there (Some x) e = (x, refl)
 
 -- the row at a key that is there
 pub row_there : (f : File) (k : Value) → In k (keys_of f) → (row : Row) × In row (fin.entries f) × (k ≡ row.0)

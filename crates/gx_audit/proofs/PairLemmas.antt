@@ -5,11 +5,10 @@ use Rattle.std.specs.List.Sorted.{IsStrictlySortedBy}
 use Rattle.std.specs.FinMap as fin
 use Rattle.std.proofs.lemmas.List.{get_or-map, length-map}
 use Rattle.gx_values.specs.declared.values.Value.{Value}
-use Rattle.gx_values.specs.Values.{value_cmp, Fits}
-use Rattle.gx_schema.specs.declared.schema.FileDef.{FileDef}
+use Rattle.gx_values.specs.Values.{value_cmp}
 use Rattle.gx_schema.specs.declared.schema.LinkDef.{LinkDef}
 use Rattle.gx_schema.specs.declared.schema.Schema.{Schema}
-use Rattle.gx_schema.specs.Lookups.{file_at, link_at, key_kind}
+use Rattle.gx_schema.specs.Lookups.{file_at, link_at}
 use Rattle.gx_ports.specs.LeafMaps.{LeafMap}
 use Rattle.gx_mapping.specs.Rule.{In}
 use Rattle.gx_gather.proofs.Lists.{all_at, all_of}
@@ -19,18 +18,13 @@ use Rattle.gx_links.specs.Pairs.{ArePairs}
 use Rattle.gx_linksets.specs.declared.any.AnyLinkset.{AnyLinkset}
 use Rattle.gx_linksets.specs.Any.{any_link_rule, any_link_laws, IsHeldBy, IsValidLinkset}
 use Rattle.gx_linksets.specs.Stored.{rule_at, IsHeldAt}
-use Rattle.gx_model.specs.States.{File, Link, IsRowOf, IsFileOf}
+use Rattle.gx_model.specs.States.{File, Link}
 use Rattle.gx_states.specs.Internal.{AreFor}
-use Rattle.gx_states.proofs.LinkLemmas.{member_there, owner_there, as_many}
-use Rattle.gx_audit.proofs.KeyLemmas.{row_there, there, in_keys, keys_sorted}
+use Rattle.gx_states.proofs.LinkLemmas.{key_fits, member_there, owner_there, as_many}
+use Rattle.gx_audit.proofs.KeyLemmas.{there, in_keys, keys_sorted}
 use Rattle.gx_audit.specs.Audits.{keys_of, AreFiles, AreAmong, with_files, IsLinkAt, IsPairCount}
 
 -- ---- keys
-
-key_fits : (file : FileDef) (f : File) (k : Value) → IsFileOf file f → IsTrue (is_some (fin.get f k)) → Fits (key_kind file) k
-key_fits file f k fit h =
-    let row = row_there f k (in_keys f k h) in
-    subst (Fits (key_kind file)) (sym row.2) (all_at (IsRowOf file) (fin.entries f) row.0 fit row.1).0
 
 -- the keys that stand at the place of a file
 pub keys_at : (keys : List (List Value)) (fs : List File) (i j : ℕ) (ks : List Value) → keys ≡ map keys_of fs → i ≡ j → j < length keys

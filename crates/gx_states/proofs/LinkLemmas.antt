@@ -64,7 +64,7 @@ some_there None e = absurd (true≢false (sym e))
 some_there (Some x) e = (x, refl)
 
 -- a key that is there fits
-key_fits : (file : FileDef) (f : File) (k : Value) → IsFileOf file f → IsTrue (is_some (fin.get f k)) → Fits (key_kind file) k
+pub key_fits : (file : FileDef) (f : File) (k : Value) → IsFileOf file f → IsTrue (is_some (fin.get f k)) → Fits (key_kind file) k
 key_fits file f k fit there = let found = some_there (fin.get f k) there in (there_fits file f k found.0 fit found.1).0
 
 -- both ends of a pair are records
