@@ -1,6 +1,6 @@
 -- What a valid state has in its links, and what its leaves hold of them.
 use Rattle.std.proofs.Common.{[], ◌≡◌, ℕ, zero, suc, ◌*◌, ◌<◌, List, ◌∷◌, length, true, false, Option, Some, None, refl, sym, ap, subst, ◌∙◌, arith}
-use Rattle.std.specs.Prelude.{◌≢◌, is_some, IsTrue}
+use Rattle.std.specs.Prelude.{is_some, IsTrue}
 use Rattle.std.specs.List.{flat_map}
 use Rattle.std.specs.FinMap as fin
 use Rattle.std.proofs.lemmas.Bool.{true≢false}
