@@ -37,8 +37,10 @@ keys_at keys fs i j ks are same lt is =
 
 module _ (schema : Schema) (built : Built) (leaves : ℕ) (for : AreFor schema built leaves) (maps : List LeafMap) (fs : List File)
     (files : AreFiles schema built.files maps fs) (i : ℕ) (lt : i < length schema.links)
-    (l : AnyLinkset) (rule_is : any_link_rule l ≡ rule_at schema built.links i) (valid : IsValidLinkset l) (held : (link : Link) (ms : List LeafMap) → IsHeldAt built.links i link ms ↔ IsHeldBy l link ms)
-    (members owners : List Value) (members_are : members ≡ keys_of (get_or fs (link_at schema i).member fin.empty)) (owners_are : owners ≡ keys_of (get_or fs (link_at schema i).owner fin.empty)) (whole : Type 0) where
+    (l : AnyLinkset) (rule_is : any_link_rule l ≡ rule_at schema built.links i) (valid : IsValidLinkset l)
+    (held : (link : Link) (ms : List LeafMap) → IsHeldAt built.links i link ms ↔ IsHeldBy l link ms)
+    (members owners : List Value) (members_are : members ≡ keys_of (get_or fs (link_at schema i).member fin.empty))
+    (owners_are : owners ≡ keys_of (get_or fs (link_at schema i).owner fin.empty)) (whole : Type 0) where
   abbrev def : LinkDef
   def = link_at schema i
 
@@ -54,8 +56,10 @@ module _ (schema : Schema) (built : Built) (leaves : ℕ) (for : AreFor schema b
       let storable = for.storable.links i lt in
       subst (λ r. IsLink r.owner r.member link) (sym rule_is) (record {
         fit = λ m o e. (
-          key_fits (file_at schema def.member) member_file m (files.each def.member storable.member).fit (member_there (with_files fs) def link m o is.valid e),
-          key_fits (file_at schema def.owner) owner_file o (files.each def.owner storable.owner).fit (owner_there (with_files fs) def link m o is.valid e),
+          key_fits (file_at schema def.member) member_file m (files.each def.member storable.member).fit
+              (member_there (with_files fs) def link m o is.valid e),
+          key_fits (file_at schema def.owner) owner_file o (files.each def.owner storable.owner).fit
+              (owner_there (with_files fs) def link m o is.valid e),
         );
         few = λ o. omega (arith, as_many link o, is.valid.few o);
       })
@@ -70,8 +74,12 @@ module _ (schema : Schema) (built : Built) (leaves : ℕ) (for : AreFor schema b
         a.link,
         record {
           valid = record {
-            members = all_of (λ (p : Value × Value). IsTrue (is_some (fin.get member_file p.0))) (fin.entries a.link) (λ p h. there member_file p.0 (subst (In p.0) members_are (among p (subst (In p) (sym a.those) h)).0));
-            owners = all_of (λ (p : Value × Value). IsTrue (is_some (fin.get owner_file p.1))) (fin.entries a.link) (λ p h. there owner_file p.1 (subst (In p.1) owners_are (among p (subst (In p) (sym a.those) h)).1));
+            members =
+                all_of (λ (p : Value × Value). IsTrue (is_some (fin.get member_file p.0))) (fin.entries a.link)
+                (λ p h. there member_file p.0 (subst (In p.0) members_are (among p (subst (In p) (sym a.those) h)).0));
+            owners =
+                all_of (λ (p : Value × Value). IsTrue (is_some (fin.get owner_file p.1))) (fin.entries a.link)
+                (λ p h. there owner_file p.1 (subst (In p.1) owners_are (among p (subst (In p) (sym a.those) h)).1));
             few = λ o. omega (arith, as_many a.link o, a.is_link.few o);
           };
           held = (held a.link maps).1 a.is_held;
@@ -84,10 +92,16 @@ module _ (schema : Schema) (built : Built) (leaves : ℕ) (for : AreFor schema b
       → IsPairCount schema built whole maps fs i None
   pairs_apart pairs are apart w link is =
       let a = are w in
-      let same : a.link ≡ link = (any_link_laws l valid).told a.link link maps a.is_link (is_link link is) a.is_held ((held link maps).0 is.held) in
+      let same : a.link ≡ link = (any_link_laws l valid).told a.link link maps a.is_link (is_link link is) a.is_held
+      ((held link maps).0 is.held) in
       let entries : pairs ≡ fin.entries link = a.those ∙ ap fin.entries same in
-      apart (subst (IsStrictlySortedBy value_cmp) (sym members_are) (keys_sorted member_file)) (subst (IsStrictlySortedBy value_cmp) (sym owners_are) (keys_sorted owner_file)) (λ p h.
+      apart (subst (IsStrictlySortedBy value_cmp) (sym members_are) (keys_sorted member_file))
+      (subst (IsStrictlySortedBy value_cmp) (sym owners_are) (keys_sorted owner_file)) (λ p h.
       let there_in = subst (In p) entries h in (
-        subst (In p.0) (sym members_are) (in_keys member_file p.0 (all_at (λ (q : Value × Value). IsTrue (is_some (fin.get member_file q.0))) (fin.entries link) p is.valid.members there_in)),
-        subst (In p.1) (sym owners_are) (in_keys owner_file p.1 (all_at (λ (q : Value × Value). IsTrue (is_some (fin.get owner_file q.1))) (fin.entries link) p is.valid.owners there_in)),
+        subst (In p.0) (sym members_are)
+            (in_keys member_file p.0 (all_at (λ (q : Value × Value). IsTrue (is_some (fin.get member_file q.0)))
+            (fin.entries link) p is.valid.members there_in)),
+        subst (In p.1) (sym owners_are)
+            (in_keys owner_file p.1 (all_at (λ (q : Value × Value). IsTrue (is_some (fin.get owner_file q.1)))
+            (fin.entries link) p is.valid.owners there_in)),
       ))
