@@ -47,27 +47,35 @@ key_at r = (row_of r).0
 
 module _ (file : FileDef) (keyed : 0 < length file.fields) where
   key_is : (r : Rec) → IsOf (file_form file) r → r.key ≡ key_at r ∷ []
-  key_is r fits = let one = key_of_form file.fields r.key keyed fits.key in one.1 ∙ ap (λ (k : Value). k ∷ []) (ap (λ (ks : List Value). get_or ks 0 none) (sym one.1))
+  key_is r fits =
+      let one = key_of_form file.fields r.key keyed fits.key in one.1
+      ∙ ap (λ (k : Value). k ∷ []) (ap (λ (ks : List Value). get_or ks 0 none) (sym one.1))
 
   again : (r : Rec) → IsOf (file_form file) r → rec_of (row_of r) ≡ r
   again r fits = ap (λ (ks : List Value). record { key = ks; fields = r.fields }) (sym (key_is r fits))
 
   row_fits : (r : Rec) → IsOf (file_form file) r → IsRowOf file (row_of r)
-  row_fits r fits = let one = key_of_form file.fields r.key keyed fits.key in (subst (Fits (key_kind file)) (ap (λ (ks : List Value). get_or ks 0 none) (sym one.1)) one.2, fits.fields)
+  row_fits r fits =
+      let one = key_of_form file.fields r.key keyed fits.key in
+      (subst (Fits (key_kind file)) (ap (λ (ks : List Value). get_or ks 0 none) (sym one.1)) one.2, fits.fields)
 
   all_again : (rs : List Rec) → ((r : Rec) → In r rs → IsOf (file_form file) r) → map rec_of (map row_of rs) ≡ rs
   all_again [] fits = refl
   all_again (r ∷ rs) fits = λ i. again r (fits r (inl refl)) i ∷ all_again rs (λ s h. fits s (inr h)) i
 
-  rows_sorted : (rs : List Rec) → ((r : Rec) → In r rs → IsOf (file_form file) r) → Ascends rec_cmp rs → T (fin.is_sorted value_cmp (map row_of rs))
+  rows_sorted : (rs : List Rec) → ((r : Rec) → In r rs → IsOf (file_form file) r) → Ascends rec_cmp rs
+      → T (fin.is_sorted value_cmp (map row_of rs))
   rows_sorted [] fits up = tt
-  rows_sorted (r ∷ rs) fits up = both_true (below_all value_cmp (key_at r) (map row_of rs)) (fin.is_sorted value_cmp (map row_of rs)) (below rs (λ s h. fits s (inr h)) up.0) (rows_sorted rs (λ s h. fits s (inr h)) up.1)
+  rows_sorted (r ∷ rs) fits up =
+      both_true (below_all value_cmp (key_at r) (map row_of rs)) (fin.is_sorted value_cmp (map row_of rs))
+      (below rs (λ s h. fits s (inr h)) up.0) (rows_sorted rs (λ s h. fits s (inr h)) up.1)
     where
       below : (xs : List Rec) → ((s : Rec) → In s xs → IsOf (file_form file) s) → AllByRecursion (λ q. rec_cmp r q ≡ Less) xs
           → T (below_all value_cmp (key_at r) (map row_of xs))
       below [] each all = tt
       below (x ∷ xs) each all = both_true (is_lt (value_cmp (key_at r) (key_at x))) (below_all value_cmp (key_at r) (map row_of xs))
-          (less_is _ (one_value r x (key_at r) (key_at x) (key_is r (fits r (inl refl))) (key_is x (each x (inl refl))) all.0)) (below xs (λ s h. each s (inr h)) all.1)
+          (less_is _ (one_value r x (key_at r) (key_at x) (key_is r (fits r (inl refl)))
+          (key_is x (each x (inl refl))) all.0)) (below xs (λ s h. each s (inr h)) all.1)
 
 keys_of_rows : (rs : List Rec) → map key_at rs ≡ map (λ (row : Row). row.0) (map row_of rs)
 keys_of_rows [] = refl
@@ -81,14 +89,22 @@ module _ (file : FileDef) (keyed : 0 < length file.fields) (t : Tree AnyMapping)
   keys_found found keys are is = λ w.
       let fits : (r : Rec) → In r found → IsOf (file_form file) r = λ r h. subst (λ f. IsOf f r) form (are.fit r h) in
       let f : File = fin.from_sorted {R = value_cmp} (map row_of found) in
-      let rows : fin.entries f ≡ map row_of found = fin.entries-from_sorted value_cmp (map row_of found) (rows_sorted file keyed found fits (ascends rec_cmp found (are.in_order w))) in (
+      let rows : fin.entries f ≡ map row_of found =
+      fin.entries-from_sorted value_cmp (map row_of found)
+      (rows_sorted file keyed found fits (ascends rec_cmp found (are.in_order w))) in (
         f,
         record {
-          fit = subst (AllByRecursion (IsRowOf file)) (sym rows) (all_of (IsRowOf file) (map row_of found) (λ row h. let r = from_map row_of row found h in subst (IsRowOf file) (sym r.2) (row_fits file keyed r.0 (fits r.0 r.1))));
-          held = subst (λ (rs : List Rec). IsHeldIn any_rule t rs maps) (sym (ap (map rec_of) rows ∙ all_again file keyed found fits)) (are.held w);
+          fit =
+              subst (AllByRecursion (IsRowOf file)) (sym rows)
+              (all_of (IsRowOf file) (map row_of found)
+              (λ row h. let r = from_map row_of row found h in subst (IsRowOf file) (sym r.2) (row_fits file keyed r.0 (fits r.0 r.1))));
+          held =
+              subst (λ (rs : List Rec). IsHeldIn any_rule t rs maps)
+              (sym (ap (map rec_of) rows ∙ all_again file keyed found fits)) (are.held w);
         },
         is ∙ keys_of_rows found ∙ ap (map (λ (row : Row). row.0)) (sym rows),
       )
 
   pub no_keys : IsHeld any_rule t whole maps None → AreKeys file t whole maps None
-  no_keys held = λ w has. held w (records_of has.0, subst (λ x. IsSet x (records_of has.0)) (sym form) (set_of file has.0 keyed has.1.fit), has.1.held)
+  no_keys held =
+      λ w has. held w (records_of has.0, subst (λ x. IsSet x (records_of has.0)) (sym form) (set_of file has.0 keyed has.1.fit), has.1.held)

@@ -1,5 +1,5 @@
 -- The keys of a file.
-use Rattle.std.proofs.Common.{◌≡◌, ◌<◌, List, [], ◌∷◌, length, map, Option, Some, None, true, refl, sym, ap, subst, ◌∙◌}
+use Rattle.std.proofs.Common.{◌≡◌, ◌<◌, List, [], ◌∷◌, length, map, true, refl, sym, ap, subst, ◌∙◌}
 use Rattle.std.specs.Prelude.{T, ◌&&◌, Bool, false, is_some, IsTrue}
 use Rattle.std.specs.List.{AllByRecursion}
 use Rattle.std.specs.List.Sorted.{IsStrictlySortedBy}
@@ -26,11 +26,8 @@ use Rattle.gx_typing.specs.Dues.{file_form}
 use Rattle.gx_model.specs.States.{File, Row}
 use Rattle.gx_scan.specs.Files.{rec_of, records_of, IsInternal}
 use Rattle.gx_scan.proofs.FileLemmas.{find_in, in_find, one_key, set_of}
+use Rattle.gx_states.proofs.LinkLemmas.{some_there}
 use Rattle.gx_audit.specs.Audits.{keys_of}
-
-some_there : {A : Type 0} (o : Option A) → is_some o ≡ true → (x : A) × (o ≡ Some x)
-some_there None e = absurd cc
-some_there (Some x) e = (x, refl)
 
 -- the row at a key that is there
 pub row_there : (f : File) (k : Value) → In k (keys_of f) → (row : Row) × In row (fin.entries f) × (k ≡ row.0)
@@ -39,12 +36,14 @@ row_there f k h = from_map (λ (row : Row). row.0) k (fin.entries f) h
 pub there : (f : File) (k : Value) → In k (keys_of f) → IsTrue (is_some (fin.get f k))
 there f k h =
     let row = row_there f k h in
-    ap is_some (ap (fin.get f) row.2 ∙ fin.get-entries f row.0.0 ∙ in_find value_cmp_total row.0 (fin.entries f) (fin.entries_sorted f) row.1)
+    ap is_some (ap (fin.get f) row.2 ∙ fin.get-entries f row.0.0
+    ∙ in_find value_cmp_total row.0 (fin.entries f) (fin.entries_sorted f) row.1)
 
 pub in_keys : (f : File) (k : Value) → IsTrue (is_some (fin.get f k)) → In k (keys_of f)
 in_keys f k h =
     let found = some_there (fin.get f k) h in
-    in_map (λ (row : Row). row.0) (k, found.0) (fin.entries f) (find_in value_cmp_same k found.0 (fin.entries f) (sym (fin.get-entries f k) ∙ found.1))
+    in_map (λ (row : Row). row.0) (k, found.0) (fin.entries f)
+    (find_in value_cmp_same k found.0 (fin.entries f) (sym (fin.get-entries f k) ∙ found.1))
 
 first_of_both : (a b : Bool) → T (a && b) → T a
 first_of_both true b p = tt
@@ -85,7 +84,8 @@ keys_in f g to k h =
 pub keys_told : (file : FileDef) (t : Tree AnyMapping) (maps : List LeafMap) (f g : File) → 0 < length file.fields → IsValid any_rule t
     → tree_form any_rule t ≡ file_form file → IsInternal file t maps f → IsInternal file t maps g → keys_of f ≡ keys_of g
 keys_told file t maps f g keyed valid form is_f is_g =
-    let set : (h : File) → IsInternal file t maps h → IsSet (tree_form any_rule t) (records_of h) = λ h is. subst (λ x. IsSet x (records_of h)) (sym form) (set_of file h keyed is.fit) in
+    let set : (h : File) → IsInternal file t maps h → IsSet (tree_form any_rule t) (records_of h) =
+    λ h is. subst (λ x. IsSet x (records_of h)) (sym form) (set_of file h keyed is.fit) in
     ascends_unique value_cmp_total (keys_of f) (keys_of g) (keys_up f) (keys_up g)
     (keys_in f g (internal_told any_rule any_laws maps t (records_of f) (records_of g) valid (set f is_f) (set g is_g) is_f.held is_g.held))
     (keys_in g f (internal_told any_rule any_laws maps t (records_of g) (records_of f) valid (set g is_g) (set f is_f) is_g.held is_f.held))

@@ -5,11 +5,10 @@ use Rattle.std.specs.List.Sorted.{IsStrictlySortedBy}
 use Rattle.std.specs.FinMap as fin
 use Rattle.std.proofs.lemmas.List.{get_or-map, length-map}
 use Rattle.gx_values.specs.declared.values.Value.{Value}
-use Rattle.gx_values.specs.Values.{value_cmp, Fits}
-use Rattle.gx_schema.specs.declared.schema.FileDef.{FileDef}
+use Rattle.gx_values.specs.Values.{value_cmp}
 use Rattle.gx_schema.specs.declared.schema.LinkDef.{LinkDef}
 use Rattle.gx_schema.specs.declared.schema.Schema.{Schema}
-use Rattle.gx_schema.specs.Lookups.{file_at, link_at, key_kind}
+use Rattle.gx_schema.specs.Lookups.{file_at, link_at}
 use Rattle.gx_ports.specs.LeafMaps.{LeafMap}
 use Rattle.gx_mapping.specs.Rule.{In}
 use Rattle.gx_gather.proofs.Lists.{all_at, all_of}
@@ -19,18 +18,13 @@ use Rattle.gx_links.specs.Pairs.{ArePairs}
 use Rattle.gx_linksets.specs.declared.any.AnyLinkset.{AnyLinkset}
 use Rattle.gx_linksets.specs.Any.{any_link_rule, any_link_laws, IsHeldBy, IsValidLinkset}
 use Rattle.gx_linksets.specs.Stored.{rule_at, IsHeldAt}
-use Rattle.gx_model.specs.States.{File, Link, IsRowOf, IsFileOf}
+use Rattle.gx_model.specs.States.{File, Link}
 use Rattle.gx_states.specs.Internal.{AreFor}
-use Rattle.gx_states.proofs.LinkLemmas.{member_there, owner_there, as_many}
-use Rattle.gx_audit.proofs.KeyLemmas.{row_there, there, in_keys, keys_sorted}
+use Rattle.gx_states.proofs.LinkLemmas.{key_fits, member_there, owner_there, as_many}
+use Rattle.gx_audit.proofs.KeyLemmas.{there, in_keys, keys_sorted}
 use Rattle.gx_audit.specs.Audits.{keys_of, AreFiles, AreAmong, with_files, IsLinkAt, IsPairCount}
 
 -- ---- keys
-
-key_fits : (file : FileDef) (f : File) (k : Value) → IsFileOf file f → IsTrue (is_some (fin.get f k)) → Fits (key_kind file) k
-key_fits file f k fit h =
-    let row = row_there f k (in_keys f k h) in
-    subst (Fits (key_kind file)) (sym row.2) (all_at (IsRowOf file) (fin.entries f) row.0 fit row.1).0
 
 -- the keys that stand at the place of a file
 pub keys_at : (keys : List (List Value)) (fs : List File) (i j : ℕ) (ks : List Value) → keys ≡ map keys_of fs → i ≡ j → j < length keys
@@ -43,8 +37,10 @@ keys_at keys fs i j ks are same lt is =
 
 module _ (schema : Schema) (built : Built) (leaves : ℕ) (for : AreFor schema built leaves) (maps : List LeafMap) (fs : List File)
     (files : AreFiles schema built.files maps fs) (i : ℕ) (lt : i < length schema.links)
-    (l : AnyLinkset) (rule_is : any_link_rule l ≡ rule_at schema built.links i) (valid : IsValidLinkset l) (held : (link : Link) (ms : List LeafMap) → IsHeldAt built.links i link ms ↔ IsHeldBy l link ms)
-    (members owners : List Value) (members_are : members ≡ keys_of (get_or fs (link_at schema i).member fin.empty)) (owners_are : owners ≡ keys_of (get_or fs (link_at schema i).owner fin.empty)) (whole : Type 0) where
+    (l : AnyLinkset) (rule_is : any_link_rule l ≡ rule_at schema built.links i) (valid : IsValidLinkset l)
+    (held : (link : Link) (ms : List LeafMap) → IsHeldAt built.links i link ms ↔ IsHeldBy l link ms)
+    (members owners : List Value) (members_are : members ≡ keys_of (get_or fs (link_at schema i).member fin.empty))
+    (owners_are : owners ≡ keys_of (get_or fs (link_at schema i).owner fin.empty)) (whole : Type 0) where
   abbrev def : LinkDef
   def = link_at schema i
 
@@ -60,8 +56,10 @@ module _ (schema : Schema) (built : Built) (leaves : ℕ) (for : AreFor schema b
       let storable = for.storable.links i lt in
       subst (λ r. IsLink r.owner r.member link) (sym rule_is) (record {
         fit = λ m o e. (
-          key_fits (file_at schema def.member) member_file m (files.each def.member storable.member).fit (member_there (with_files fs) def link m o is.valid e),
-          key_fits (file_at schema def.owner) owner_file o (files.each def.owner storable.owner).fit (owner_there (with_files fs) def link m o is.valid e),
+          key_fits (file_at schema def.member) member_file m (files.each def.member storable.member).fit
+              (member_there (with_files fs) def link m o is.valid e),
+          key_fits (file_at schema def.owner) owner_file o (files.each def.owner storable.owner).fit
+              (owner_there (with_files fs) def link m o is.valid e),
         );
         few = λ o. omega (arith, as_many link o, is.valid.few o);
       })
@@ -76,8 +74,12 @@ module _ (schema : Schema) (built : Built) (leaves : ℕ) (for : AreFor schema b
         a.link,
         record {
           valid = record {
-            members = all_of (λ (p : Value × Value). IsTrue (is_some (fin.get member_file p.0))) (fin.entries a.link) (λ p h. there member_file p.0 (subst (In p.0) members_are (among p (subst (In p) (sym a.those) h)).0));
-            owners = all_of (λ (p : Value × Value). IsTrue (is_some (fin.get owner_file p.1))) (fin.entries a.link) (λ p h. there owner_file p.1 (subst (In p.1) owners_are (among p (subst (In p) (sym a.those) h)).1));
+            members =
+                all_of (λ (p : Value × Value). IsTrue (is_some (fin.get member_file p.0))) (fin.entries a.link)
+                (λ p h. there member_file p.0 (subst (In p.0) members_are (among p (subst (In p) (sym a.those) h)).0));
+            owners =
+                all_of (λ (p : Value × Value). IsTrue (is_some (fin.get owner_file p.1))) (fin.entries a.link)
+                (λ p h. there owner_file p.1 (subst (In p.1) owners_are (among p (subst (In p) (sym a.those) h)).1));
             few = λ o. omega (arith, as_many a.link o, a.is_link.few o);
           };
           held = (held a.link maps).1 a.is_held;
@@ -90,10 +92,16 @@ module _ (schema : Schema) (built : Built) (leaves : ℕ) (for : AreFor schema b
       → IsPairCount schema built whole maps fs i None
   pairs_apart pairs are apart w link is =
       let a = are w in
-      let same : a.link ≡ link = (any_link_laws l valid).told a.link link maps a.is_link (is_link link is) a.is_held ((held link maps).0 is.held) in
+      let same : a.link ≡ link = (any_link_laws l valid).told a.link link maps a.is_link (is_link link is) a.is_held
+      ((held link maps).0 is.held) in
       let entries : pairs ≡ fin.entries link = a.those ∙ ap fin.entries same in
-      apart (subst (IsStrictlySortedBy value_cmp) (sym members_are) (keys_sorted member_file)) (subst (IsStrictlySortedBy value_cmp) (sym owners_are) (keys_sorted owner_file)) (λ p h.
+      apart (subst (IsStrictlySortedBy value_cmp) (sym members_are) (keys_sorted member_file))
+      (subst (IsStrictlySortedBy value_cmp) (sym owners_are) (keys_sorted owner_file)) (λ p h.
       let there_in = subst (In p) entries h in (
-        subst (In p.0) (sym members_are) (in_keys member_file p.0 (all_at (λ (q : Value × Value). IsTrue (is_some (fin.get member_file q.0))) (fin.entries link) p is.valid.members there_in)),
-        subst (In p.1) (sym owners_are) (in_keys owner_file p.1 (all_at (λ (q : Value × Value). IsTrue (is_some (fin.get owner_file q.1))) (fin.entries link) p is.valid.owners there_in)),
+        subst (In p.0) (sym members_are)
+            (in_keys member_file p.0 (all_at (λ (q : Value × Value). IsTrue (is_some (fin.get member_file q.0)))
+            (fin.entries link) p is.valid.members there_in)),
+        subst (In p.1) (sym owners_are)
+            (in_keys owner_file p.1 (all_at (λ (q : Value × Value). IsTrue (is_some (fin.get owner_file q.1)))
+            (fin.entries link) p is.valid.owners there_in)),
       ))

@@ -27,7 +27,8 @@ each_more : {A : Type 0} (P : ℕ → A → Type 0) (none : A) (n : ℕ) (xs : L
     → ((i : ℕ) → i < n → P i (get_or xs i none)) → P n x → (i : ℕ) → i < n + 1 → P i (get_or (xs ++ x ∷ []) i none)
 each_more P none n xs x many each one i lt = elim (nat_cases i n) [
   | inl e ↦ subst (P i) (sym (get_or_push xs x none i (many ∙ sym e))) (subst (λ j. P j x) (sym e) one)
-  | inr ne ↦ let below : i < n = omega (arith, lt, ne) in subst (P i) (sym (get_or_append_left xs (x ∷ []) none i (omega (arith, below, many)))) (each i below)
+  | inr ne ↦ let below : i < n =
+      omega (arith, lt, ne) in subst (P i) (sym (get_or_append_left xs (x ∷ []) none i (omega (arith, below, many)))) (each i below)
 ]
 
 -- ---- files
@@ -36,7 +37,8 @@ each_more P none n xs x many each one i lt = elim (nat_cases i n) [
 pub internal_as : (file other : FileDef) (t u : Tree AnyMapping) (maps now : List LeafMap) (f : File) → other ≡ file → u ≡ t → now ≡ maps
     → IsInternal file t maps f → IsInternal other u now f
 internal_as file other t u maps now f e d m is =
-    subst (λ x. IsInternal x u now f) (sym e) (subst (λ (x : Tree AnyMapping). IsInternal file x now f) (sym d) (subst (λ (x : List LeafMap). IsInternal file t x f) (sym m) is))
+    subst (λ x. IsInternal x u now f) (sym e)
+    (subst (λ (x : Tree AnyMapping). IsInternal file x now f) (sym d) (subst (λ (x : List LeafMap). IsInternal file t x f) (sym m) is))
 
 module _ (schema : Schema) (nodes : List (Node AnyMapping)) (maps : List LeafMap) where
   pub no_files : AreFirstFiles schema nodes maps 0 []
@@ -71,15 +73,20 @@ module _ (schema : Schema) (built : Built) (leaves : ℕ) (maps : List LeafMap) 
   links_are : (s : State) → AreInternal schema built maps s → AreLinks schema built maps s.files s.links
   links_are s are = record {
     many = are.valid.links_many;
-    each = λ i lt. let v = are.valid.links i lt in record { valid = record { members = v.members; owners = v.owners; few = v.few }; held = are.links i lt };
+    each =
+        λ i lt. let v = are.valid.links i lt in
+        record { valid = record { members = v.members; owners = v.owners; few = v.few }; held = are.links i lt };
   }
 
   -- the leaves tell the keys of each file
-  same_keys : (fs gs : List File) → AreFiles schema built.files maps fs → AreFiles schema built.files maps gs → map keys_of fs ≡ map keys_of gs
-  same_keys fs gs f g = ext_get_or [] (map keys_of fs) (map keys_of gs) (length-map fs keys_of ∙ f.many ∙ sym g.many ∙ sym (length-map gs keys_of)) (λ i lt.
+  same_keys : (fs gs : List File) → AreFiles schema built.files maps fs → AreFiles schema built.files maps gs
+      → map keys_of fs ≡ map keys_of gs
+  same_keys fs gs f g =
+      ext_get_or [] (map keys_of fs) (map keys_of gs) (length-map fs keys_of ∙ f.many ∙ sym g.many ∙ sym (length-map gs keys_of)) (λ i lt.
       let there : i < length schema.files = omega (arith, lt, f.many, length-map fs keys_of) in
       get_or-map keys_of fs i fin.empty [] (omega (arith, there, f.many))
-      ∙ keys_told (file_at schema i) (tree_at built.files i) maps (get_or fs i fin.empty) (get_or gs i fin.empty) (for.storable.files i there).keyed (for.nodes.valid i there) (for.nodes.form i there) (f.each i there) (g.each i there)
+      ∙ keys_told (file_at schema i) (tree_at built.files i) maps (get_or fs i fin.empty) (get_or gs i fin.empty)
+      (for.storable.files i there).keyed (for.nodes.valid i there) (for.nodes.form i there) (f.each i there) (g.each i there)
       ∙ sym (get_or-map keys_of gs i fin.empty [] (omega (arith, there, g.many))))
 
   pub no_state : (whole : Type 0) → AreAllKeys schema built.files whole maps None → whole → ¬ HaveState schema built maps
@@ -91,10 +98,12 @@ module _ (schema : Schema) (built : Built) (leaves : ℕ) (maps : List LeafMap) 
       → whole → ¬ HaveState schema built maps
   no_link_state whole keys found none w has =
       let fs = found w in
-      none has.0.files (files_are has.0 has.1) (fs.2 ∙ same_keys fs.0 has.0.files fs.1 (files_are has.0 has.1)) w has.0.links (links_are has.0 has.1)
+      none has.0.files (files_are has.0 has.1)
+      (fs.2 ∙ same_keys fs.0 has.0.files fs.1 (files_are has.0 has.1)) w has.0.links (links_are has.0 has.1)
 
   pub state_found : (whole : Type 0) (keys : List (List Value)) (found : List ℕ) → AreAllKeys schema built.files whole maps (Some keys)
-      → ((fs : List File) → AreFiles schema built.files maps fs → keys ≡ map keys_of fs → ArePairCounts schema built whole maps fs (Some found))
+      → ((fs : List File) → AreFiles schema built.files maps fs → keys ≡ map keys_of fs
+      → ArePairCounts schema built whole maps fs (Some found))
       → whole → IsFound schema built maps keys found
   state_found whole keys found read counts w =
       let fs = read w in

@@ -1,5 +1,5 @@
 -- What one command does to an engine, over any leaves.
-use Rattle.std.specs.Prelude.{◌≡◌, ℕ, ◌+◌, ◌^◌, ◌<◌, ◌≤◌, List, length, slice_get, Bool, true, false, Option, Some, None, Result, Ok, Err, OnOk, OnErr}
+use Rattle.std.specs.Prelude.{◌≡◌, ℕ, ◌+◌, ◌^◌, ◌<◌, ◌≤◌, List, length, Bool, true, false, Option, Some, None, Result, Ok, Err, OnOk, OnErr}
 use Rattle.gx_device.specs.Content.{Silent}
 use Rattle.gx_device.specs.Faults.{Rose}
 use Rattle.gx_schema.specs.declared.schema.Schema.{Schema}
@@ -12,7 +12,11 @@ use Rattle.gx_ports.specs.declared.stop.Stop.TheVariants as stop
 use Rattle.gx_ports.specs.declared.view.View.{Ghosts}
 use Rattle.gx_ports.specs.LeafMaps.{entry_count, IsCrowdedBy}
 use Rattle.gx_ports.specs.Calls.{Keeps, Talks}
+use Rattle.gx_mapping.specs.Rule.{In}
+use Rattle.gx_stack.specs.Tree.{leaves_of as tree_leaves, kids_leaves}
 use Rattle.gx_types.specs.declared.built.Built.{Built}
+use Rattle.gx_types.specs.Links.{link_kids_at}
+use Rattle.gx_types.specs.Nodes.{tree_at}
 use Rattle.gx_model.specs.Play.{Playing, seen_state, next_of}
 use Rattle.gx_engine.specs.declared.engine.Engine.{Engine}
 use Rattle.gx_engine.specs.declared.engine.StepStop.{StepStop}
@@ -79,14 +83,14 @@ IsShortFor g e p c = IsCrowdedBy (g.limit (leaves_of e)) (entry_count (g.working
 abbrev pub CarriesOut : {S : Type 0} → Ghosts S → Playing → Command → Engine S → Engine S → List ℕ → List ℕ → Type 0
 CarriesOut g p c old new out now = IsCarried (schema_of old) (built_of old) p c out now (is_open new) (commits_of new) (g.working (leaves_of new)) (g.kept (leaves_of new))
 
--- each leaf of the definition with this number is fresh: the files are defined first, and then the links
-abbrev pub IsFresh : {S : Type 0} → Ghosts S → Engine S → ℕ → Type 0
-IsFresh g e definition = (leaf : ℕ) → slice_get (built_of e).owners leaf ≡ Some definition → g.fresh (leaves_of e) leaf
+-- each of the leaves with these numbers is fresh
+abbrev pub IsFresh : {S : Type 0} → Ghosts S → Engine S → List ℕ → Type 0
+IsFresh g e numbers = (leaf : ℕ) → In leaf numbers → g.fresh (leaves_of e) leaf
 
--- after a file or a link was reorganized, each of its leaves is fresh
+-- after a file or a link was reorganized, each leaf of its nodes is fresh
 abbrev pub AreFresh : {S : Type 0} → Ghosts S → Command → Engine S → Type 0
-AreFresh g (command.ReorganizeFile file) e = IsFresh g e file
-AreFresh g (command.ReorganizeLink link) e = IsFresh g e (length (schema_of e).files + link)
+AreFresh g (command.ReorganizeFile file) e = IsFresh g e (tree_leaves (tree_at (built_of e).files file))
+AreFresh g (command.ReorganizeLink link) e = IsFresh g e (kids_leaves (link_kids_at (built_of e).links link))
 AreFresh g _ e = Unit {0}
 
 abbrev pub is_commit : Command → Bool
@@ -121,16 +125,22 @@ pub record KeepsEngine {S E : Type 0} (g : Ghosts S) (old new : Engine S) (c : C
 abbrev pub TakesFewSteps : {S : Type 0} → Ghosts S → Playing → Command → Engine S → Engine S → Type 0
 TakesFewSteps g p c old new = IsBounded (schema_of old) (built_of old) (length (g.working (leaves_of old))) (seen_state p) c (g.work (leaves_of old)) (g.work (leaves_of new))
 
-pub record IsStep {S : Type 0} (g : Ghosts S) (old new : Engine S) (c : Command) (out now : List ℕ) (result : Result (Unit {0}) Stop) : Type 0 where
-  pub carried : (p : Playing) → IsAt g p old → OnOk result (CarriesOut g p c old new out now)
-  pub full : (p : Playing) → IsAt g p old → result ≡ Err stop.Full → IsShortFor g old p c
+-- What a command leaves and how it ends: the leaves of what was reorganized are fresh; a stop says nothing, and where it isn't a
+-- fault, what was last committed stays. Damage is found only where the leaves stood for no moment, of block 0 where each is whole.
+pub record EndsCommand {S : Type 0} (g : Ghosts S) (old new : Engine S) (c : Command) (out now : List ℕ) (result : Result (Unit {0}) Stop) : Type 0 where
+  pub keeps : KeepsEngine g old new c result
+  pub stopped : stop_of new ≡ stop_of old
   pub fresh : g.whole (leaves_of old) → OnOk result (AreFresh g c new)
   pub unsaid : OnErr result (now ≡ out)
-  pub stopped : stop_of new ≡ stop_of old
-  pub rest : KeepsEngine g old new c result
   pub kept : is_fault result ≡ false → OnErr result (Keeps g (leaves_of old) (leaves_of new))
   pub cause : HasStopCause (g.faults (leaves_of old)) (g.faults (leaves_of new)) (IsSound g old) result
   pub block : (n : ℕ) → result ≡ Err (stop.Damaged n) → g.whole (leaves_of old) → n ≡ 0
+
+-- what one command does: on Ok it was carried out, and Full comes only where the pages may not be enough
+pub record IsStep {S : Type 0} (g : Ghosts S) (old new : Engine S) (c : Command) (out now : List ℕ) (result : Result (Unit {0}) Stop) : Type 0 where
+  pub carried : (p : Playing) → IsAt g p old → OnOk result (CarriesOut g p c old new out now)
+  pub full : (p : Playing) → IsAt g p old → result ≡ Err stop.Full → IsShortFor g old p c
+  pub ends : EndsCommand g old new c out now result
 
 -- whether the step answers that the outside failed in it
 abbrev pub is_fault_now : Result (Unit {0}) StepStop → Bool

@@ -1,6 +1,6 @@
 -- What a valid state has in its links, and what its leaves hold of them.
 use Rattle.std.proofs.Common.{[], ◌≡◌, ℕ, zero, suc, ◌*◌, ◌<◌, List, ◌∷◌, length, true, false, Option, Some, None, refl, sym, ap, subst, ◌∙◌, arith}
-use Rattle.std.specs.Prelude.{◌≢◌, is_some, IsTrue}
+use Rattle.std.specs.Prelude.{is_some, IsTrue}
 use Rattle.std.specs.List.{flat_map}
 use Rattle.std.specs.FinMap as fin
 use Rattle.std.proofs.lemmas.Bool.{true≢false}
@@ -64,7 +64,7 @@ some_there None e = absurd (true≢false (sym e))
 some_there (Some x) e = (x, refl)
 
 -- a key that is there fits
-key_fits : (file : FileDef) (f : File) (k : Value) → IsFileOf file f → IsTrue (is_some (fin.get f k)) → Fits (key_kind file) k
+pub key_fits : (file : FileDef) (f : File) (k : Value) → IsFileOf file f → IsTrue (is_some (fin.get f k)) → Fits (key_kind file) k
 key_fits file f k fit there = let found = some_there (fin.get f k) there in (there_fits file f k found.0 fit found.1).0
 
 -- both ends of a pair are records

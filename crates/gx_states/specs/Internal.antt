@@ -11,7 +11,7 @@ use Rattle.gx_stack.specs.Internal.{IsInternal as IsHeld}
 use Rattle.gx_values.specs.declared.values.Value.{Value}
 use Rattle.gx_types.specs.declared.any.AnyMapping.{AnyMapping}
 use Rattle.gx_types.specs.Any.{any_rule}
-use Rattle.gx_types.specs.Nodes.{tree_at, AreNodes, AreLinkNodes}
+use Rattle.gx_types.specs.Nodes.{tree_at, AreNodes, AreLinkNodes, AreOwned}
 use Rattle.gx_types.specs.declared.built.Built.{Built}
 use Rattle.gx_types.specs.declared.built.LinkTree.{LinkTree}
 use Rattle.gx_types.specs.Links.{linkset_of, link_kids}
@@ -39,12 +39,12 @@ pub record AreStorable (schema : Schema) : Type 0 where
   pub links : (i : ℕ) → i < length schema.links → IsStorableLink schema.files (link_at schema i)
   pub few_links : length schema.links ≤ 32
 
--- there are nodes for each file and each link of the schema over so many leaves, and each leaf has the number of an owner
+-- there are nodes for each file and each link of the schema over so many leaves, and the owner of each leaf is that of its nodes
 pub record AreFor (schema : Schema) (built : Built) (leaves : ℕ) : Type 0 where
   pub storable : AreStorable schema
   pub nodes : AreNodes schema built.files leaves
   pub link_nodes : AreLinkNodes schema built.files built.links leaves
-  pub owned : length built.owners ≡ leaves
+  pub owned : AreOwned schema built.files built.links built.owners leaves
   pub few : leaves ≤ 255
 
 -- ---- counts of entries

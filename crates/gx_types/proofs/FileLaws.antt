@@ -69,7 +69,7 @@ mutual
   kids_count owner forms i (kid t ts) =
       omega (arith, length-append (leaves_of owner (forms i) t) (leaves_of_kids owner forms (suc i) ts), term_count owner (forms i) t, kids_count owner forms (suc i) ts)
 
-side_count : (owner : ℕ) (due : Stored) (side : SideTree) → IsTypedSide due side → length (leaves_of_side owner due side) ≡ side_leaf_count side
+pub side_count : (owner : ℕ) (due : Stored) (side : SideTree) → IsTypedSide due side → length (leaves_of_side owner due side) ≡ side_leaf_count side
 side_count owner (stored.File form) (file_side t) typed = term_count owner form t
 side_count owner (stored.File form) (link_side linkset ts) typed = absurd typed
 side_count owner (stored.Link o m) (file_side t) typed = absurd typed
@@ -118,7 +118,7 @@ node_valid n (file ∷ files) (d ∷ ds) (x ∷ xs) zero ready are lt = side_val
     side_valid (link_side linkset ts) r is = absurd is
 node_valid n (file ∷ files) (d ∷ ds) (x ∷ xs) (suc i) ready are lt = node_valid (n + side_leaf_count d.side) files ds xs i ready.1 are.1 (omega arith)
 
-side_between : (n : ℕ) (form : Form) (side : SideTree) (x : Node AnyMapping) (m : ℕ) → IsTreeOfSide n form side (tree_of x) → In m (node_leaves (tree_of x)) → (n ≤ m) × (m < n + side_leaf_count side)
+pub side_between : (n : ℕ) (form : Form) (side : SideTree) (x : Node AnyMapping) (m : ℕ) → IsTreeOfSide n form side (tree_of x) → In m (node_leaves (tree_of x)) → (n ≤ m) × (m < n + side_leaf_count side)
 side_between n form (file_side t) x m is h = leaves_between n form t (tree_of x) m is h
 side_between n form (link_side linkset ts) x m is h = absurd is
 

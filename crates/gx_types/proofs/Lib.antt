@@ -6,5 +6,6 @@ pub mod LinkLaws
 pub mod LinkSteps
 pub mod MakerLaws
 pub mod NodeSteps
+pub mod OwnerLaws
 pub mod ReadyLaws
 pub mod TreeLaws

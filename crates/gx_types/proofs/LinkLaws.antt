@@ -62,7 +62,7 @@ ready_from files before (link ∷ links) (d ∷ ds) n are links_are terms typed 
     )
 
 -- the definitions behind those of the files
-typed_behind : (all files : List FileDef) (links : List LinkDef) (ds : List DefinitionTree) → AreTyped (map file_due files ++ map (link_due all) links) ds → AreTyped (map (link_due all) links) (link_definitions files ds)
+pub typed_behind : (all files : List FileDef) (links : List LinkDef) (ds : List DefinitionTree) → AreTyped (map file_due files ++ map (link_due all) links) ds → AreTyped (map (link_due all) links) (link_definitions files ds)
 typed_behind all [] links ds typed = typed
 typed_behind all (file ∷ files) links [] typed = absurd typed
 typed_behind all (file ∷ files) links (d ∷ ds) typed = typed_behind all files links ds typed.2
@@ -93,17 +93,17 @@ links_valid files n (link ∷ links) (d ∷ ds) [] i ready are lt = absurd are
 links_valid files n (link ∷ links) (d ∷ ds) (x ∷ xs) zero ready are lt = side_valid n (owner_kind files link) (member_kind files link) d.side x ready.0 are.0
 links_valid files n (link ∷ links) (d ∷ ds) (x ∷ xs) (suc i) ready are lt = links_valid files (n + side_leaf_count d.side) links ds xs i ready.1 are.1 (omega arith)
 
-side_between : (n : ℕ) (o m : Kind) (side : SideTree) (x : LinkTree) (l : ℕ) → IsLinkTreeOfSide n o m side x → In l (kids_leaves (link_kids x)) → (n ≤ l) × (l < n + side_leaf_count side)
-side_between n o m (file_side t) x l is h = absurd is
-side_between n o m (link_side linkset ts) x l is h = kids_between n (link_form linkset o m) 0 (kids_from ts) (link_kids x) l is.trees h
+pub link_side_between : (n : ℕ) (o m : Kind) (side : SideTree) (x : LinkTree) (l : ℕ) → IsLinkTreeOfSide n o m side x → In l (kids_leaves (link_kids x)) → (n ≤ l) × (l < n + side_leaf_count side)
+link_side_between n o m (file_side t) x l is h = absurd is
+link_side_between n o m (link_side linkset ts) x l is h = kids_between n (link_form linkset o m) 0 (kids_from ts) (link_kids x) l is.trees h
 
-link_between : (files : List FileDef) (n : ℕ) (links : List LinkDef) (ds : List DefinitionTree) (xs : List LinkTree) (i l : ℕ) → AreTreesOfLinks files n links ds xs → i < length links → In l (kids_leaves (link_kids_at xs i))
+pub link_between : (files : List FileDef) (n : ℕ) (links : List LinkDef) (ds : List DefinitionTree) (xs : List LinkTree) (i l : ℕ) → AreTreesOfLinks files n links ds xs → i < length links → In l (kids_leaves (link_kids_at xs i))
     → (n ≤ l) × (l < n + all_leaf_count ds)
 link_between files n [] ds xs i l are lt h = absurd (omega arith)
 link_between files n (link ∷ links) [] xs i l are lt h = absurd are
 link_between files n (link ∷ links) (d ∷ ds) [] i l are lt h = absurd are
 link_between files n (link ∷ links) (d ∷ ds) (x ∷ xs) zero l are lt h =
-    let b = side_between n (owner_kind files link) (member_kind files link) d.side x l are.0 h in
+    let b = link_side_between n (owner_kind files link) (member_kind files link) d.side x l are.0 h in
     (b.0, omega (arith, b.1))
 link_between files n (link ∷ links) (d ∷ ds) (x ∷ xs) (suc i) l are lt h =
     let b = link_between files (n + side_leaf_count d.side) links ds xs i l are.1 (omega arith) h in
@@ -116,9 +116,9 @@ links_apart files n (link ∷ links) [] xs i j l are lt_i lt_j h k = absurd are
 links_apart files n (link ∷ links) (d ∷ ds) [] i j l are lt_i lt_j h k = absurd are
 links_apart files n (link ∷ links) (d ∷ ds) (x ∷ xs) zero zero l are lt_i lt_j h k = refl
 links_apart files n (link ∷ links) (d ∷ ds) (x ∷ xs) zero (suc j) l are lt_i lt_j h k =
-    absurd (omega (arith, (side_between n (owner_kind files link) (member_kind files link) d.side x l are.0 h).1, (link_between files (n + side_leaf_count d.side) links ds xs j l are.1 (omega arith) k).0))
+    absurd (omega (arith, (link_side_between n (owner_kind files link) (member_kind files link) d.side x l are.0 h).1, (link_between files (n + side_leaf_count d.side) links ds xs j l are.1 (omega arith) k).0))
 links_apart files n (link ∷ links) (d ∷ ds) (x ∷ xs) (suc i) zero l are lt_i lt_j h k =
-    absurd (omega (arith, (side_between n (owner_kind files link) (member_kind files link) d.side x l are.0 k).1, (link_between files (n + side_leaf_count d.side) links ds xs i l are.1 (omega arith) h).0))
+    absurd (omega (arith, (link_side_between n (owner_kind files link) (member_kind files link) d.side x l are.0 k).1, (link_between files (n + side_leaf_count d.side) links ds xs i l are.1 (omega arith) h).0))
 links_apart files n (link ∷ links) (d ∷ ds) (x ∷ xs) (suc i) (suc j) l are lt_i lt_j h k =
     ap suc (links_apart files (n + side_leaf_count d.side) links ds xs i j l are.1 (omega arith) (omega arith) h k)
 

@@ -1,10 +1,12 @@
 -- A node that a term means is valid, has the term's form, and has leaves with the numbers of the term.
-use Rattle.std.proofs.Common.{◌≡◌, ℕ, zero, suc, ◌+◌, ◌-◌, ◌<◌, ◌≤◌, List, [], ◌∷◌, ◌++◌, ◌⊎◌, refl, sym, ap, subst, inl, inr, ◌∙◌, arith}
+use Rattle.std.proofs.Common.{◌≡◌, ℕ, zero, suc, ◌+◌, ◌-◌, ◌<◌, ◌≤◌, List, [], ◌∷◌, refl, sym, ap, subst, inl, inr, ◌∙◌, arith}
+use Rattle.std.proofs.lemmas.Bool.{cases_lt}
 use Rattle.gx_values.specs.Keys.{widths}
 use Rattle.gx_values.specs.declared.values.Kind.{Kind}
 use Rattle.gx_values.specs.declared.records.Field.{Field}
 use Rattle.gx_values.specs.declared.records.Form.{Form}
 use Rattle.gx_mapping.specs.Rule.{Rule, In}
+use Rattle.gx_gather.proofs.Lists.{in_cases, in_left, in_right}
 use Rattle.gx_equation.specs.declared.heads.Head.{Head}
 use Rattle.gx_equation.specs.declared.heads.Head.TheVariants as heads
 use Rattle.gx_equation.specs.Trees.{Tree, Trees, head_of, node, none, kid}
@@ -30,10 +32,11 @@ record IsLeafAt (n : ℕ) (form : Form) (top : Head) (kids : Trees) (m : ℕ) (f
   number : m ≡ n
   records : f ≡ form
   one : leaves_at top ≡ 1
+  alone : leaf_counts kids ≡ 0
   met : IsMet top form (count kids) → IsLeaf form
 
 leaf_at : (n : ℕ) (form : Form) (top : Head) (kids : Trees) (m : ℕ) (f : Form) → IsLeafOf n form top kids m f → IsLeafAt n form top kids m f
-leaf_at n form (heads.Leaf kind) none m f is = record { number = is.0; records = is.1; one = refl; met = λ h. h }
+leaf_at n form (heads.Leaf kind) none m f is = record { number = is.0; records = is.1; one = refl; alone = refl; met = λ h. h }
 leaf_at n form (heads.Leaf kind) (kid t ts) m f is = absurd is
 leaf_at n form heads.Actual kids m f is = absurd is
 leaf_at n form (heads.Encode name code) kids m f is = absurd is
@@ -56,11 +59,6 @@ leaf_form levels form fits is = record {
 }
 
 -- ---- the numbers of the leaves
-
-in_cases : {A : Type 0} (x : A) (xs ys : List A) → In x (xs ++ ys) → In x xs ⊎ In x ys
-in_cases x [] ys h = inr h
-in_cases x (z ∷ xs) ys (inl e) = inl (inl e)
-in_cases x (z ∷ xs) ys (inr h) = elim (in_cases x xs ys h) [ inl a ↦ inl (inr a) | inr b ↦ inr b ]
 
 mutual
   pub leaves_between : (n : ℕ) (form : Form) (t : Tree) (u : NodeTree AnyMapping) (x : ℕ) → IsTreeOf n form t u → In x (leaves_of u) → (n ≤ x) × (x < n + leaf_count t)
@@ -126,6 +124,24 @@ layer_leaves (node top kids) is = omega (arith, none_at top is)
     none_at (heads.Partition name bounds) is = refl
     none_at (heads.Divide size) is = refl
     none_at (heads.Index name) is = refl
+
+-- each number from the first on is that of a leaf
+mutual
+  pub in_tree : (n : ℕ) (form : Form) (t : Tree) (u : NodeTree AnyMapping) (x : ℕ) → IsTreeOf n form t u → n ≤ x → x < n + leaf_count t → In x (leaves_of u)
+  in_tree n form (node top kids) (leaf m f) x is from below =
+      let at = leaf_at n form top kids m f is in
+      inl (omega (arith, at.number, at.one, at.alone))
+  in_tree n form (node top kids) (layer m ks) x is from below =
+      in_trees n (kid_form top form) 0 kids ks x is.1 from (omega (arith, layer_leaves (node top kids) is.0.0))
+
+  pub in_trees : (n : ℕ) (forms : ℕ → Form) (i : ℕ) (ts : Trees) (us : NodeKids AnyMapping) (x : ℕ) → AreTreesOf n forms i ts us → n ≤ x → x < n + leaf_counts ts → In x (kids_leaves us)
+  in_trees n forms i none no_kids x are from below = absurd (omega arith)
+  in_trees n forms i none (node_kid u us) x are from below = absurd are
+  in_trees n forms i (kid t ts) no_kids x are from below = absurd are
+  in_trees n forms i (kid t ts) (node_kid u us) x are from below = elim (cases_lt x (n + leaf_count t)) [
+    | inl lt ↦ in_left x (leaves_of u) (kids_leaves us) (in_tree n (forms i) t u x are.0 from lt)
+    | inr ge ↦ in_right x (leaves_of u) (kids_leaves us) (in_trees (n + leaf_count t) forms (suc i) ts us x are.1 ge (omega arith))
+  ]
 
 as_many : (n : ℕ) (forms : ℕ → Form) (i : ℕ) (ts : Trees) (us : NodeKids AnyMapping) → AreTreesOf n forms i ts us → kid_count us ≡ count ts
 as_many n forms i none no_kids are = refl

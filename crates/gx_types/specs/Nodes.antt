@@ -1,5 +1,5 @@
 -- The nodes that store the records of a schema's files, and its links.
-use Rattle.std.specs.Prelude.{◌≡◌, ℕ, zero, suc, ◌<◌, List, [], ◌∷◌, length}
+use Rattle.std.specs.Prelude.{◌≡◌, ◌↔◌, ℕ, zero, suc, ◌+◌, ◌<◌, List, [], ◌∷◌, length, slice_get, Some}
 use Rattle.gx_schema.specs.declared.schema.Schema.{Schema}
 use Rattle.gx_schema.specs.Lookups.{file_at, link_at}
 use Rattle.gx_mapping.specs.Rule.{In}
@@ -39,3 +39,10 @@ pub record AreLinkNodes (schema : Schema) (nodes : List (Node AnyMapping)) (link
   pub below : (i n : ℕ) → i < length schema.links → In n (kids_leaves (link_kids_at links i)) → n < leaves
   pub apart : (i j n : ℕ) → i < length schema.links → j < length schema.links → In n (kids_leaves (link_kids_at links i)) → In n (kids_leaves (link_kids_at links j)) → i ≡ j
   pub file_apart : (i j n : ℕ) → i < length schema.files → j < length schema.links → In n (leaves_of (tree_at nodes i)) → In n (kids_leaves (link_kids_at links j)) → ⊥
+
+-- each of so many leaves has the number of its owner, the definition in whose nodes it is: the files are counted first, and then
+-- the links
+pub record AreOwned (schema : Schema) (nodes : List (Node AnyMapping)) (links : List LinkTree) (owners : List ℕ) (leaves : ℕ) : Type 0 where
+  pub each : length owners ≡ leaves
+  pub of_files : (i n : ℕ) → i < length schema.files → In n (leaves_of (tree_at nodes i)) ↔ (slice_get owners n ≡ Some i)
+  pub of_links : (i n : ℕ) → i < length schema.links → In n (kids_leaves (link_kids_at links i)) ↔ (slice_get owners n ≡ Some (length schema.files + i))

@@ -5,7 +5,7 @@ ghost use Rattle.gx_equation.specs.Printing.{AreWritten};
 ghost use Rattle.gx_equation.specs.Seen.{definitions_of};
 ghost use Rattle.gx_types.specs.Build.{file_leaf_count, link_definitions};
 ghost use Rattle.gx_types.specs.Build.{AreTreesOfFiles, AreTreesOfLinks};
-ghost use Rattle.gx_types.specs.Nodes.{AreNodes, AreLinkNodes};
+ghost use Rattle.gx_types.specs.Nodes.{AreNodes, AreLinkNodes, AreOwned};
 ghost use Rattle.gx_typing.specs.Typed.{IsTyped, leaves, typing_with};
 
 use crate::built::{Built, LinkTrees, Trees};
@@ -33,7 +33,6 @@ pub fn build(
     // The leaves are those of the typing.
     ensures leaves { IfOk result
         (λ built. typing ≡ record { specs = built.specs; owners = built.owners }) }
-    ensures owned { IfOk result (λ built. length built.owners ≡ length built.specs) }
     ensures few { IfOk result (λ built. length built.specs ≤ 255) }
     // Each node is what the definition of its file or of its link means.
     ensures trees { IfOk result (λ built. AreTreesOfFiles 0 schema.now.files
@@ -45,6 +44,8 @@ pub fn build(
     ensures nodes { IfOk result (λ built. AreNodes schema.now built.files (length built.specs)) }
     ensures link_nodes { IfOk result
         (λ built. AreLinkNodes schema.now built.files built.links (length built.specs)) }
+    ensures owned { IfOk result
+        (λ built. AreOwned schema.now built.files built.links built.owners (length built.specs)) }
 {
     let of_files = schema.files.as_slice();
     let of_links = schema.links.as_slice();

@@ -4,7 +4,7 @@ ghost use Rattle.gx_schema.specs.Rules.{IsSchema};
 ghost use Rattle.gx_schema.specs.WellFormed.{IsWellFormed};
 ghost use Rattle.gx_equation.specs.Printing.{AreWritten};
 ghost use Rattle.gx_equation.specs.Seen.{definitions_of};
-ghost use Rattle.gx_types.specs.Nodes.{AreNodes, AreLinkNodes};
+ghost use Rattle.gx_types.specs.Nodes.{AreNodes, AreLinkNodes, AreOwned};
 ghost use Rattle.gx_memory_leaves.specs.Plain.{working_of};
 ghost use Rattle.gx_states.specs.Internal.{AreFor};
 ghost use Rattle.gx_engine.specs.Steps.{IsReady, schema_of, built_of, leaves_of};
@@ -50,7 +50,8 @@ fn built_under(alloc: Global, schema: &Schema, equation: &[u8]) -> Result<Built,
     ensures nodes { IfOk result (λ built. AreNodes schema.now built.files (length built.specs)) }
     ensures link_nodes { IfOk result
         (λ built. AreLinkNodes schema.now built.files built.links (length built.specs)) }
-    ensures owned { IfOk result (λ built. length built.owners ≡ length built.specs) }
+    ensures owned { IfOk result
+        (λ built. AreOwned schema.now built.files built.links built.owners (length built.specs)) }
     ensures few { IfOk result (λ built. length built.specs ≤ 255) }
 {
     let equation = equation_of(alloc, equation)?;

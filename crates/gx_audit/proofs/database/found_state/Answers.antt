@@ -15,8 +15,10 @@ returns-in_default-2-clause-found g c =
     let e = c.in_ok-keys.ensures in
     let same : b.working at ≡ maps = e.reads.reads.working in
     let keys = subst (AreAllKeys schema built.files whole maps) c.in-Some.is e.keys in
-    let none : (fs : List File) → AreFiles schema built.files maps fs → c.in-Some.keys ≡ map keys_of fs → ArePairCounts schema built whole maps fs None = λ fs files are w ls links.
-    subst (ArePairCounts schema built (b.whole at) (b.working at) fs) c.in_default-2.is (c.in_ok-counts.ensures.counts fs (subst (λ ms. AreFiles schema built.files ms fs) (sym same) files) are)
+    let none : (fs : List File) → AreFiles schema built.files maps fs → c.in-Some.keys ≡ map keys_of fs
+    → ArePairCounts schema built whole maps fs None = λ fs files are w ls links.
+    subst (ArePairCounts schema built (b.whole at) (b.working at) fs) c.in_default-2.is
+    (c.in_ok-counts.ensures.counts fs (subst (λ ms. AreFiles schema built.files ms fs) (sym same) files) are)
     (e.reads.ends.whole w) ls (subst (λ ms. AreLinks schema built ms fs ls) (sym same) links) in
     no_link_state schema built (length maps) maps c.requires whole c.in-Some.keys keys none
 
@@ -31,7 +33,10 @@ returns-clause-found g c =
     let e = c.in_ok-keys.ensures in
     let same : b.working at ≡ maps = e.reads.reads.working in
     let keys = subst (AreAllKeys schema built.files whole maps) c.in-Some.is e.keys in
-    let counts : (fs : List File) → AreFiles schema built.files maps fs → c.in-Some.keys ≡ map keys_of fs → ArePairCounts schema built whole maps fs (Some c.in-Some-2.counts) = λ fs files are w.
-    let ls = subst (ArePairCounts schema built (b.whole at) (b.working at) fs) c.in-Some-2.is (c.in_ok-counts.ensures.counts fs (subst (λ ms. AreFiles schema built.files ms fs) (sym same) files) are) (e.reads.ends.whole w) in
+    let counts : (fs : List File) → AreFiles schema built.files maps fs → c.in-Some.keys ≡ map keys_of fs
+    → ArePairCounts schema built whole maps fs (Some c.in-Some-2.counts) = λ fs files are w.
+    let ls =
+    subst (ArePairCounts schema built (b.whole at) (b.working at) fs) c.in-Some-2.is
+    (c.in_ok-counts.ensures.counts fs (subst (λ ms. AreFiles schema built.files ms fs) (sym same) files) are) (e.reads.ends.whole w) in
     (ls.0, subst (λ ms. AreLinks schema built ms fs ls.0) same ls.1, ls.2) in
     state_found schema built (length maps) maps c.requires whole c.in-Some.keys c.in-Some-2.counts keys counts

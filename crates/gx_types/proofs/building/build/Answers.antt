@@ -9,9 +9,11 @@ use Rattle.gx_equation.specs.Trees.{DefinitionTree}
 use Rattle.gx_typing.specs.declared.typing.Typing.{Typing}
 use Rattle.gx_typing.specs.Typed.{leaves, spec_of}
 use Rattle.gx_types.specs.Build.{AreTreesOfFiles, AreTreesOfLinks, AreReadyFiles, AreReadyLinks}
+use Rattle.gx_types.specs.Nodes.{AreOwned}
 use Rattle.gx_types.proofs.FileLaws.{files_ready, many_definitions, are_nodes}
 use Rattle.gx_types.proofs.LinkLaws.{links_ready, are_link_nodes}
 use Rattle.gx_types.proofs.LinkSteps.{passed_on, taken_back}
+use Rattle.gx_types.proofs.OwnerLaws.{are_owned}
 use Rattle.gx_types.proofs.building.build.Goals as goal
 
 pub nodes_of_files-requires : goal.nodes_of_files-requires
@@ -68,3 +70,18 @@ returns-clause-link_nodes c =
     let links = taken_back (λ (files : List FileDef) (n : ℕ) (links : List LinkDef) (given : List DefinitionTree). AreTreesOfLinks files n links given c.in_ok-links.links.items) c.args.schema.now.files c.as_slice-of_files.result.now c.args.schema.now.links c.as_slice-of_links.result.now whole c.as_slice-definitions.result.now c.split_at.result.1.now c.nodes_of_files.new.next
     c.as_slice-of_files.ensures c.as_slice-of_links.ensures same c.split_at.ensures.back c.in_ok-files.ensures.next c.in_ok-links.ensures in
     are_link_nodes c.args.schema.now ds c.in_ok-files.files.items c.in_ok-links.links.items (length c.args.typing.specs) c.requires.schema c.requires.written c.requires.typed trees links total
+
+pub returns-clause-owned : goal.returns-clause-owned
+returns-clause-owned c =
+    let schema = c.args.schema.now in
+    let whole = c.args.equation.now.definitions in
+    let ds = definitions_of whole in
+    let same : c.as_slice-definitions.result.now ≡ whole = c.as_slice-definitions.ensures.value ∙ ap (λ (e : Equation). e.definitions) c.equation.view_is in
+    let total : length c.args.typing.specs ≡ length (leaves schema ds) = ap (λ (t : Typing). length t.specs) c.requires.leaves ∙ length-map (leaves schema ds) spec_of in
+    let trees = subst (λ (files : List FileDef). AreTreesOfFiles 0 files ds c.in_ok-files.files.items) c.as_slice-of_files.ensures
+    (subst (λ (given : List Definition). AreTreesOfFiles 0 c.as_slice-of_files.result.now (definitions_of given) c.in_ok-files.files.items) same c.in_ok-files.ensures.trees) in
+    let links = taken_back (λ (files : List FileDef) (n : ℕ) (links : List LinkDef) (given : List DefinitionTree). AreTreesOfLinks files n links given c.in_ok-links.links.items) schema.files c.as_slice-of_files.result.now schema.links
+    c.as_slice-of_links.result.now whole c.as_slice-definitions.result.now c.split_at.result.1.now c.nodes_of_files.new.next
+    c.as_slice-of_files.ensures c.as_slice-of_links.ensures same c.split_at.ensures.back c.in_ok-files.ensures.next c.in_ok-links.ensures in
+    subst (λ (owners : List ℕ). AreOwned schema c.in_ok-files.files.items c.in_ok-links.links.items owners (length c.args.typing.specs)) (ap (λ (t : Typing). t.owners) (sym c.requires.leaves))
+    (are_owned schema ds c.in_ok-files.files.items c.in_ok-links.links.items c.requires.typed trees links (length c.args.typing.specs) total)

@@ -14,25 +14,27 @@ returns-clause-step g c =
           answer_carried e.schema e.built e.inside e.commits _ _ _ _ p command c.args.out.now _ c.in_ok-text.text c.requires.follows at.stands asked.reads.reads.working asked.reads.reads.kept (asked.answered (seen_state p) at.whole_is at.stands.working_is)
           (c.in_ok-append.ensures.ok ∙ ap (λ (text : List ℕ). c.args.out.now ++ text) c.as_slice.ensures);
       full = search rules;
-      fresh = λ whole. follow_fresh g.B.View command _ c.requires.follows;
-      unsaid = search rules;
-      stopped = search rules;
-      rest = record {
-        schema = search rules;
-        built = search rules;
-        inside = sym (follow_stays e.inside command c.requires.follows);
-        inside_stays = search rules;
-        commits_stay = search rules;
-        leaves = search rules;
-        limit = search rules;
-        head = search rules;
-        silent = search rules;
-        whole = search rules;
-        kept_whole = search rules;
-        keeps = search rules;
-        work = λ none. absurd (true≢false (sym (follow_selects command c.requires.follows) ∙ none));
+      ends = record {
+        keeps = record {
+          schema = search rules;
+          built = search rules;
+          inside = sym (follow_stays e.inside command c.requires.follows);
+          inside_stays = search rules;
+          commits_stay = search rules;
+          leaves = search rules;
+          limit = search rules;
+          head = search rules;
+          silent = search rules;
+          whole = search rules;
+          kept_whole = search rules;
+          keeps = search rules;
+          work = λ none. absurd (true≢false (sym (follow_selects command c.requires.follows) ∙ none));
+        };
+        stopped = search rules;
+        fresh = λ whole. follow_fresh g.B.View command _ c.requires.follows;
+        unsaid = search rules;
+        kept = search rules;
+        cause = search rules;
+        block = search rules;
       };
-      kept = search rules;
-      cause = search rules;
-      block = search rules;
     }

@@ -35,13 +35,15 @@ returns-clause-step g c =
           (c.in_ok-text.ensures.listed _ at.whole_is (internal_at e.schema e.built c.args.find.now.file c.file_def-def.result.now (tree_of c.file_node-node.result.now) (g.B.View.working e.leaves) (seen_state p) c.file_def-def.ensures c.file_node-node.ensures.tree c.requires.due.of_schema.file at.stands.working_is))
           (c.in_ok-append.ensures.ok ∙ ap (λ (text : List ℕ). c.args.out.now ++ text) c.as_slice.ensures);
       full = search rules;
-      fresh = search rules;
-      unsaid = search rules;
-      stopped = search rules;
-      rest = search rules;
-      kept = search rules;
-      cause = search rules;
-      block = search rules;
+      ends = record {
+        keeps = search rules;
+        stopped = search rules;
+        fresh = search rules;
+        unsaid = search rules;
+        kept = search rules;
+        cause = search rules;
+        block = search rules;
+      };
     }
 
 pub returns-in_err-text-clause-step : goal.returns-in_err-text-clause-step
@@ -50,13 +52,15 @@ returns-in_err-text-clause-step g c =
     record {
       carried = search rules;
       full = search rules;
-      fresh = search rules;
-      unsaid = search rules;
-      stopped = search rules;
-      rest = search rules;
-      kept = search rules;
-      cause = file_cause g.B.View e _ c.args.find.now.file c.file_def-def.result.now (tree_of c.file_node-node.result.now) _ c.from_residual.result c.requires.due.of_schema.file c.file_def-def.ensures c.file_node-node.ensures.tree c.in_err-text.ensures.reads.ends c.from_residual.ensures.1;
-      block = search rules;
+      ends = record {
+        keeps = search rules;
+        stopped = search rules;
+        fresh = search rules;
+        unsaid = search rules;
+        kept = search rules;
+        cause = file_cause g.B.View e _ c.args.find.now.file c.file_def-def.result.now (tree_of c.file_node-node.result.now) _ c.from_residual.result c.requires.due.of_schema.file c.file_def-def.ensures c.file_node-node.ensures.tree c.in_err-text.ensures.reads.ends c.from_residual.ensures.1;
+        block = search rules;
+      };
     }
 
 pub returns-clause-few_steps : goal.returns-clause-few_steps

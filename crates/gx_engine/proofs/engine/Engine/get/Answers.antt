@@ -21,13 +21,15 @@ returns-in_err-found-clause-step g c =
     record {
       carried = search rules;
       full = search rules;
-      fresh = search rules;
-      unsaid = search rules;
-      stopped = search rules;
-      rest = search rules;
-      kept = search rules;
-      cause = file_cause g.B.View e _ c.args.file c.file_def-def.result.now (tree_of c.file_node-node.result.now) _ c.from_residual.result c.requires.due.of_schema.0 c.file_def-def.ensures c.file_node-node.ensures.tree c.in_err-found.ensures.reads.ends c.from_residual.ensures.1;
-      block = search rules;
+      ends = record {
+        keeps = search rules;
+        stopped = search rules;
+        fresh = search rules;
+        unsaid = search rules;
+        kept = search rules;
+        cause = file_cause g.B.View e _ c.args.file c.file_def-def.result.now (tree_of c.file_node-node.result.now) _ c.from_residual.result c.requires.due.of_schema.0 c.file_def-def.ensures c.file_node-node.ensures.tree c.in_err-found.ensures.reads.ends c.from_residual.ensures.1;
+        block = search rules;
+      };
     }
 
 pub returns-clause-few_steps : goal.returns-clause-few_steps
