@@ -1,5 +1,5 @@
 // Keys of leaves in memory.
-ghost use Rattle.std.specs.Prelude.{◌≡◌, ◌<◌, Some, refl, IfOk};
+ghost use Rattle.std.specs.Prelude.{◌≡◌, Some, refl, IfOk};
 ghost use Rattle.std.specs.Ordering.{eq_by_cmp};
 ghost use Rattle.std.specs.Cmp.{po, eq_by_cmp_equiv, partial_equiv_from_equiv};
 ghost use Rattle.std.specs.Cmp.Lexicographic.{nat_list_cmp_total};
@@ -24,70 +24,23 @@ pub struct Key {
     form: KeyForm,
 }
 
+// Both forms have the first eight bytes at one place, so that a comparison need not tell them apart.
 #[derive(Drop)]
 enum KeyForm {
     Short(Short<ROOM>),
-    Long(Long),
-}
-
-// Bytes that copies of a key share, with the first eight of them.
-#[derive(Drop)]
-struct Long {
-    front: [u8; FRONT],
-    bytes: RcSlice<u8>,
-}
-
-impl Model for Long {
-    ghost use Rattle.std.specs.Prelude.{◌≡◌, List, ℕ};
-    ghost use Rattle.std.specs.Rc.{rc_slice_items};
-    ghost use Rattle.gx_memory_leaves.specs.Fronts.{padded};
-
-    ghost Value = { List ℕ };
-
-    ghost view = { λ l. rc_slice_items l.bytes };
-
-    ghost invariant = { λ l. l.front ≡ padded 8 (rc_slice_items l.bytes) };
+    // the first eight bytes, and then all, which copies of the key share
+    Long([u8; FRONT], RcSlice<u8>),
 }
 
 impl Model for Key {
     ghost use Rattle.std.specs.Prelude.{List, ℕ};
-    ghost use Rattle.gx_memory_leaves.specs.Forms.{key_bytes};
+    ghost use Rattle.gx_memory_leaves.specs.Forms.{key_bytes, HasFront};
 
     ghost Value = { List ℕ };
 
     ghost view = { λ k. key_bytes k.form };
-}
 
-impl Long {
-    fn from_slice(alloc: Global, bytes: &[u8]) -> Result<Long, NoMemory>
-        ensures { IfOk result (λ long. long ≡ bytes.now) }
-    {
-        Ok(Long {
-            front: front(bytes),
-            bytes: RcSlice::from_slice(alloc, bytes)?,
-        })
-    }
-
-    fn copy(&self) -> Result<Long, NoMemory>
-        ensures { IfOk result (λ long. long ≡ self.now) }
-    {
-        Ok(Long {
-            front: self.front,
-            bytes: self.bytes.clone()?,
-        })
-    }
-
-    fn as_slice(&self) -> &[u8]
-        ensures { result.now ≡ self.now }
-    {
-        self.bytes.as_slice()
-    }
-
-    fn front(&self) -> [u8; FRONT]
-        ensures { result ≡ padded 8 self.now }
-    {
-        self.front
-    }
+    ghost invariant = { λ k. HasFront k.form };
 }
 
 impl Key {
@@ -97,18 +50,18 @@ impl Key {
     {
         let form = match Short::from_slice(bytes) {
             Some(short) => KeyForm::Short(short),
-            None => KeyForm::Long(Long::from_slice(alloc, bytes)?),
+            None => KeyForm::Long(front(bytes), RcSlice::from_slice(alloc, bytes)?),
         };
         Ok(Key { form })
     }
 
-    /// The same key again. `NoMemory`: it can't be counted.
+    /// The same key again. `NoMemory`: there was none to count it.
     pub fn copy(&self) -> Result<Key, NoMemory>
         ensures { IfOk result (λ key. key ≡ self.now) }
     {
         let form = match &self.form {
             KeyForm::Short(short) => KeyForm::Short(short.copy()),
-            KeyForm::Long(long) => KeyForm::Long(long.copy()?),
+            KeyForm::Long(front, bytes) => KeyForm::Long(*front, bytes.clone()?),
         };
         Ok(Key { form })
     }
@@ -119,7 +72,7 @@ impl Key {
     {
         match &self.form {
             KeyForm::Short(short) => short.as_slice(),
-            KeyForm::Long(long) => long.as_slice(),
+            KeyForm::Long(_, bytes) => bytes.as_slice(),
         }
     }
 
@@ -129,7 +82,7 @@ impl Key {
     {
         match &self.form {
             KeyForm::Short(short) => short.front(),
-            KeyForm::Long(long) => long.front(),
+            KeyForm::Long(front, _) => *front,
         }
     }
 }
