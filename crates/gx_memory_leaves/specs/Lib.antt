@@ -1,4 +1,5 @@
 pub mod Fronts
+pub mod Forms
 pub mod Cells
 pub mod Pairs
 pub mod Plain

@@ -1,62 +1,71 @@
-// Bytes that may be missing, without a word of their own for it.
+// Bytes that may be missing, in the value itself where they are few.
 ghost use Rattle.std.specs.Prelude.{◌≡◌, Some, None, IfOk, is_some};
 ghost use Rattle.std.specs.Option.{option_copied};
-ghost use Rattle.gx_memory_leaves.specs.Fronts.{unmarked};
 
+use crate::short::Short;
 use gx_values::NoMemory;
 use std::alloc::Global;
 use std::marker::Model;
 
-/// Bytes, or none. They have memory of their own, even where they are empty; none has no memory.
+// so many stand in the value, beside what tells the forms apart and a length, in the room of a vector
+const ROOM: usize = 30;
+
+/// Bytes, or none. Few of them have no memory of their own.
 #[derive(Drop)]
 pub struct MaybeBytes {
-    // a zero and then the bytes, or nothing where there are none
-    marked: Vec<u8>,
+    form: Form,
+}
+
+#[derive(Drop)]
+enum Form {
+    None,
+    Short(Short<ROOM>),
+    Long(Vec<u8>),
 }
 
 impl Model for MaybeBytes {
     ghost use Rattle.std.specs.Prelude.{List, ℕ, Option};
-    ghost use Rattle.gx_memory_leaves.specs.Fronts.{unmarked};
+    ghost use Rattle.gx_memory_leaves.specs.Forms.{form_bytes};
 
     ghost Value = { Option (List ℕ) };
 
-    ghost view = { λ b. unmarked b.marked.items };
+    ghost view = { λ b. form_bytes b.form };
 }
 
 impl MaybeBytes {
     /// None.
-    pub fn none(alloc: Global) -> MaybeBytes
+    pub fn none() -> MaybeBytes
         ensures { result ≡ None }
     {
-        MaybeBytes {
-            marked: Vec::new(alloc),
-        }
+        MaybeBytes { form: Form::None }
     }
 
     /// A copy of the bytes. `NoMemory`: there was none for it.
     pub fn from_slice(alloc: Global, bytes: &[u8]) -> Result<MaybeBytes, NoMemory>
         ensures { IfOk result (λ b. b ≡ Some bytes.now) }
     {
-        let mut marked = Vec::with_capacity(alloc, bytes.len() + 1)?;
-        marked.push(0)?;
-        marked.extend_from_slice(bytes)?;
-        Ok(MaybeBytes { marked })
+        let form = match Short::from_slice(bytes) {
+            Some(short) => Form::Short(short),
+            None => Form::Long(Vec::from_slice(alloc, bytes)?),
+        };
+        Ok(MaybeBytes { form })
     }
 
     /// Whether there are bytes.
     pub fn is_some(&self) -> bool
         ensures { result ≡ is_some self.now }
     {
-        !self.marked.is_empty()
+        !matches!(&self.form, Form::None)
     }
 
     /// The bytes, where there are some.
     pub fn as_slice(&self) -> Option<&[u8]>
         ensures { option_copied result ≡ self.now }
     {
-        match self.marked.split_first() {
-            Some((_, bytes)) => Some(bytes),
-            None => None,
+        match &self.form {
+            Form::None => None,
+            Form::Short(short) => Some(short.as_slice()),
+            Form::Long(bytes) => Some(bytes.as_slice()),
         }
     }
 }

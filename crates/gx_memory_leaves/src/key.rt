@@ -1,39 +1,46 @@
-// Keys of leaves in memory, with their first bytes beside them.
-ghost use Rattle.std.specs.Prelude.{◌≡◌, ◌<◌, Some, length, refl, IfOk};
+// Keys of leaves in memory.
+ghost use Rattle.std.specs.Prelude.{◌≡◌, Some, refl, IfOk};
 ghost use Rattle.std.specs.Ordering.{eq_by_cmp};
 ghost use Rattle.std.specs.Cmp.{po, eq_by_cmp_equiv, partial_equiv_from_equiv};
 ghost use Rattle.std.specs.Cmp.Lexicographic.{nat_list_cmp_total};
 ghost use Rattle.gx_ports.specs.Keyed.{key_cmp};
 ghost use Rattle.gx_memory_leaves.specs.Fronts.{padded};
 
-use crate::bytes::MaybeBytes;
+use crate::short::{FRONT, Short, front};
 use gx_order::compare_bytes;
 use gx_values::NoMemory;
 use std::alloc::Global;
 use std::cmp::Ordering;
 use std::marker::Model;
+use std::rc::RcSlice;
 
-const FRONT: usize = 8;
+// so many stand in the key itself, beside what tells the forms apart and a length, in 24 bytes
+const ROOM: usize = 22;
 
 /// A key, seen as its bytes and in their order. Most keys differ in the first eight, which stand in the
-/// key itself: a comparison seldom follows a pointer, and a key of eight bytes has no memory of its
-/// own.
+/// key itself: a comparison seldom follows a pointer, and a short key has no memory of its own.
 #[derive(Drop)]
 pub struct Key {
-    front: [u8; FRONT],
-    // all bytes, where they aren't the eight of the front
-    bytes: MaybeBytes,
+    form: KeyForm,
+}
+
+// Both forms have the first eight bytes at one place, so that a comparison need not tell them apart.
+#[derive(Drop)]
+enum KeyForm {
+    Short(Short<ROOM>),
+    // the first eight bytes, and then all, which copies of the key share
+    Long([u8; FRONT], RcSlice<u8>),
 }
 
 impl Model for Key {
-    ghost use Rattle.std.specs.Prelude.{◌≡◌, List, ℕ};
-    ghost use Rattle.gx_memory_leaves.specs.Fronts.{padded, key_bytes};
+    ghost use Rattle.std.specs.Prelude.{List, ℕ};
+    ghost use Rattle.gx_memory_leaves.specs.Forms.{key_bytes, HasFront};
 
     ghost Value = { List ℕ };
 
-    ghost view = { λ k. key_bytes k.front k.bytes };
+    ghost view = { λ k. key_bytes k.form };
 
-    ghost invariant = { λ k. k.front ≡ padded 8 (key_bytes k.front k.bytes) };
+    ghost invariant = { λ k. HasFront k.form };
 }
 
 impl Key {
@@ -41,46 +48,43 @@ impl Key {
     pub fn from_slice(alloc: Global, bytes: &[u8]) -> Result<Key, NoMemory>
         ensures { IfOk result (λ key. key ≡ bytes.now) }
     {
-        if bytes.len() == FRONT {
-            return Ok(Key {
-                front: front(bytes),
-                bytes: MaybeBytes::none(alloc),
-            });
-        }
-        Ok(Key {
-            front: front(bytes),
-            bytes: MaybeBytes::from_slice(alloc, bytes)?,
-        })
+        let form = match Short::from_slice(bytes) {
+            Some(short) => KeyForm::Short(short),
+            None => KeyForm::Long(front(bytes), RcSlice::from_slice(alloc, bytes)?),
+        };
+        Ok(Key { form })
+    }
+
+    /// The same key again. `NoMemory`: there was none to count it.
+    pub fn copy(&self) -> Result<Key, NoMemory>
+        ensures { IfOk result (λ key. key ≡ self.now) }
+    {
+        let form = match &self.form {
+            KeyForm::Short(short) => KeyForm::Short(short.copy()),
+            KeyForm::Long(front, bytes) => KeyForm::Long(*front, bytes.clone()?),
+        };
+        Ok(Key { form })
     }
 
     /// All the bytes.
     pub fn as_slice(&self) -> &[u8]
         ensures { result.now ≡ self.now }
     {
-        match self.bytes.as_slice() {
-            None => &self.front,
-            Some(bytes) => bytes,
+        match &self.form {
+            KeyForm::Short(short) => short.as_slice(),
+            KeyForm::Long(_, bytes) => bytes.as_slice(),
         }
     }
-}
 
-// The first eight bytes, with zeros behind fewer.
-fn front(bytes: &[u8]) -> [u8; FRONT]
-    ensures { result ≡ padded 8 bytes.now }
-{
-    match bytes.first_chunk::<FRONT>() {
-        Some(front) => *front,
-        None => short_front(bytes),
+    // The first eight bytes, with zeros behind fewer.
+    fn front(&self) -> [u8; FRONT]
+        ensures { result ≡ padded 8 self.now }
+    {
+        match &self.form {
+            KeyForm::Short(short) => short.front(),
+            KeyForm::Long(front, _) => *front,
+        }
     }
-}
-
-fn short_front(bytes: &[u8]) -> [u8; FRONT]
-    requires { length bytes.now < 8 }
-    ensures { result ≡ padded 8 bytes.now }
-{
-    let mut front = [0; FRONT];
-    front[..bytes.len()].copy_from_slice(bytes);
-    front
 }
 
 impl PartialEq for Key {
@@ -117,7 +121,7 @@ impl Ord for Key {
     ghost matches_eq = { λ x y. refl };
 
     fn cmp(&self, other: &Key) -> Ordering {
-        let order = compare_bytes(&self.front, &other.front);
+        let order = compare_bytes(&self.front(), &other.front());
         if order.is_ne() {
             order
         } else {

@@ -58,14 +58,7 @@ impl Leaf {
     {
         let key = Key::from_slice(alloc, key)?;
         let body = Cell::from_slice(alloc, body)?;
-        replace(
-            alloc,
-            &mut self.cells,
-            &mut self.made,
-            &mut self.undos,
-            key,
-            body,
-        )
+        replace(&mut self.cells, &mut self.made, &mut self.undos, key, body)
     }
 
     pub fn remove(&mut self, alloc: Global, key: &[u8]) -> Result<(), NoMemory>
@@ -74,7 +67,7 @@ impl Leaf {
         ensures err { OnErr result (self.new ≡ self.old) }
     {
         let key = Key::from_slice(alloc, key)?;
-        remove_body(alloc, &mut self.cells, &mut self.undos, key)
+        remove_body(&mut self.cells, &mut self.undos, key)
     }
 
     pub fn select(&self, alloc: Global, span: &Span, out: &mut Entries) -> Result<(), NoMemory>
@@ -112,7 +105,6 @@ fn has_body(cells: &BTreeMap<Key, Cell>, key: &Key) -> bool
 
 // Replaces a key's cell, and notes what stood there. After `NoMemory` all is as before.
 fn replace(
-    alloc: Global,
     cells: &mut BTreeMap<Key, Cell>,
     made: &mut Vec<Key>,
     undos: &mut Vec<Undo>,
@@ -127,7 +119,7 @@ fn replace(
         ≡ kept_cells made.old.items undos.old.items (cells_of cells.old.entries) }
     ensures open { IsOpen cells.new.entries undos.new.items }
 {
-    let noted = Key::from_slice(alloc, key.as_slice())?;
+    let noted = key.copy()?;
     made.try_reserve(1)?;
     undos.try_reserve(1)?;
     match cells.insert(key, cell)? {
@@ -143,7 +135,6 @@ fn replace(
 
 // Takes a key's body away, and notes it.
 fn remove_body(
-    alloc: Global,
     cells: &mut BTreeMap<Key, Cell>,
     undos: &mut Vec<Undo>,
     key: Key,
@@ -157,7 +148,7 @@ fn remove_body(
     ensures open { IsOpen cells.new.entries undos.new.items }
 {
     undos.try_reserve(1)?;
-    let before = take_body(alloc, cells, &key);
+    let before = take_body(cells, &key);
     if before.is_some() {
         undos.push(Undo {
             key,
@@ -169,7 +160,7 @@ fn remove_body(
 }
 
 // Takes a key's body out of its cell, if it has one.
-fn take_body(alloc: Global, cells: &mut BTreeMap<Key, Cell>, key: &Key) -> Cell
+fn take_body(cells: &mut BTreeMap<Key, Cell>, key: &Key) -> Cell
     requires { IsAscending cells.old.entries }
     ensures body { result ≡ option_and_then (λ c. c) (get (cells_of cells.old.entries) key.now) }
     ensures cells { cells_of cells.new.entries
@@ -177,8 +168,8 @@ fn take_body(alloc: Global, cells: &mut BTreeMap<Key, Cell>, key: &Key) -> Cell
     ensures ascending { IsAscending cells.new.entries }
 {
     match cells.get_mut(key) {
-        Some(cell) => mem::replace(cell, Cell::none(alloc)),
-        None => Cell::none(alloc),
+        Some(cell) => mem::replace(cell, Cell::none()),
+        None => Cell::none(),
     }
 }
 

@@ -5,6 +5,7 @@ mod bytes;
 mod key;
 mod leaf;
 mod plain;
+mod short;
 mod undo;
 
 pub use plain::PlainLeaves;

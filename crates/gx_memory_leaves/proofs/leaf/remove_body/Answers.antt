@@ -1,4 +1,4 @@
-use Rattle.std.proofs.Common.{◌≡◌, sym, ap, ◌∙◌, refl}
+use Rattle.std.proofs.Common.{sym, ◌∙◌, refl}
 use Rattle.gx_memory_leaves.specs.Cells.{cells_of}
 use Rattle.gx_memory_leaves.proofs.CellLemmas.{removed_body, removal_noted}
 use Rattle.gx_memory_leaves.proofs.leaf.remove_body.Goals as goal

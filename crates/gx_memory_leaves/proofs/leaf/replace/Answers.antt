@@ -1,4 +1,4 @@
-use Rattle.std.proofs.Common.{◌≡◌, rules, sym, ap, ◌∙◌, refl, None, Some}
+use Rattle.std.proofs.Common.{◌≡◌, rules, sym, ap, ◌∙◌, None, Some}
 use Rattle.std.specs.FinMap as fin
 use Rattle.gx_memory_leaves.specs.Cells.{cells_of, without}
 use Rattle.gx_memory_leaves.proofs.MapLemmas.{get_cells, insert_cells}

@@ -1,8 +1,8 @@
-use Rattle.std.proofs.Common.{◌≡◌, sym, ap, ◌∙◌, Some}
+use Rattle.std.proofs.Common.{sym, ap, ◌∙◌}
 use Rattle.std.specs.Prelude.{is_some}
 use Rattle.std.specs.Option.{option_copied_mut}
 use Rattle.std.specs.FinMap as fin
-use Rattle.gx_memory_leaves.specs.Cells.{Cell, cells_of, emptied}
+use Rattle.gx_memory_leaves.specs.Cells.{cells_of, emptied}
 use Rattle.gx_memory_leaves.proofs.MapLemmas.{get_cells, set_cells}
 use Rattle.gx_memory_leaves.proofs.CellLemmas.{flat, emptied_here}
 use Rattle.gx_memory_leaves.proofs.leaf.take_body.Goals as goal

@@ -9,3 +9,8 @@ pub loop-key-preserved : goal.loop-key-preserved
 loop-key-preserved c =
     let rest = taken c.loop-key.undos.items c.pop.new.self.items c.in-Some.field-0 (cells_of c.loop-key.cells.entries) _ _ c.in-Some.ensures.items c.put_back.ensures.cells c.loop-key.invariant.0.can c.loop-key.invariant.1 in
     (record { ascending = c.put_back.ensures.ascending; can = rest.0 }, rest.1)
+
+pub loop-key-preserved-in-Some : goal.loop-key-preserved-in-Some
+loop-key-preserved-in-Some c =
+    let rest = taken c.loop-key.undos.items c.pop.new.self.items c.in-Some.field-0 (cells_of c.loop-key.cells.entries) _ _ c.in-Some.ensures.items c.put_back.ensures.cells c.loop-key.invariant.0.can c.loop-key.invariant.1 in
+    (record { ascending = c.put_back.ensures.ascending; can = rest.0 }, rest.1)
