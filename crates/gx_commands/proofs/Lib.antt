@@ -1,3 +1,4 @@
 pub mod WordLaws
 pub mod CuttingLaws
 pub mod LineLaws
+pub mod BareLaws

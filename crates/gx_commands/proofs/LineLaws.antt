@@ -12,30 +12,30 @@ use Rattle.gx_commands.specs.Lines.{longest_line, Parts, ArePartsOf, with_byte, 
 
 -- ---- the first LF
 
-none_before : (text : List ℕ) (n : ℕ) → ((k : ℕ) → k < n → k < length text → (slice_index text k == 10) ≡ true → ⊥) → AllByRecursion (λ b. (b == 10) ≡ false) (take n text)
-none_before text zero none = tt
-none_before [] (suc n) none = tt
-none_before (b ∷ bs) (suc n) none = (
-  elim (b == 10) as (λ t. (b == 10) ≡ t → t ≡ false) [
+none_before : (byte : ℕ) (text : List ℕ) (n : ℕ) → ((k : ℕ) → k < n → k < length text → (slice_index text k == byte) ≡ true → ⊥) → AllByRecursion (λ b. (b == byte) ≡ false) (take n text)
+none_before byte text zero none = tt
+none_before byte [] (suc n) none = tt
+none_before byte (b ∷ bs) (suc n) none = (
+  elim (b == byte) as (λ t. (b == byte) ≡ t → t ≡ false) [
     | true ↦ λ is. absurd (none 0 (omega arith) (omega arith) is)
     | false ↦ λ _. refl
   ] refl,
-  none_before bs n (λ k lt within. none (suc k) (omega arith) (omega arith)),
+  none_before byte bs n (λ k lt within. none (suc k) (omega arith) (omega arith)),
 )
 
--- of a search that found one
-pub ended_at : (text : List ℕ) (found : Option ℕ) (at : ℕ) → IsFirstByte (is_byte 10) text found → found ≡ Some at
-    → AllByRecursion (λ b. (b == 10) ≡ false) (take at text) × ((at ≤ length text) × (slice_index text at ≡ 10))
-ended_at text None at first e = cc
-ended_at text (Some k) at first e =
+-- of a search for a byte that found one
+pub ended_at : (byte : ℕ) (text : List ℕ) (found : Option ℕ) (at : ℕ) → IsFirstByte (is_byte byte) text found → found ≡ Some at
+    → AllByRecursion (λ b. (b == byte) ≡ false) (take at text) × ((at ≤ length text) × (slice_index text at ≡ byte))
+ended_at byte text None at first e = cc
+ended_at byte text (Some k) at first e =
     let same : k ≡ at = ap (λ o. unwrap_or o 0) e in
-    subst (λ n. AllByRecursion (λ b. (b == 10) ≡ false) (take n text) × ((n ≤ length text) × (slice_index text n ≡ 10))) same
-    (none_before text k (λ j lt _. first.0.before j (omega arith) lt), (let below : k < length text = first.0.high in omega arith, eqb-true (slice_index text k) 10 first.1))
+    subst (λ n. AllByRecursion (λ b. (b == byte) ≡ false) (take n text) × ((n ≤ length text) × (slice_index text n ≡ byte))) same
+    (none_before byte text k (λ j lt _. first.0.before j (omega arith) lt), (let below : k < length text = first.0.high in omega arith, eqb-true (slice_index text k) byte first.1))
 
 -- and of one that found none
-pub not_ended : (text : List ℕ) (found : Option ℕ) (n : ℕ) → IsFirstByte (is_byte 10) text found → found ≡ None → AllByRecursion (λ b. (b == 10) ≡ false) (take n text)
-not_ended text None n none _ = none_before text n (λ k _ lt. none k (omega arith) lt)
-not_ended text (Some k) n none e = cc
+pub not_ended : (byte : ℕ) (text : List ℕ) (found : Option ℕ) (n : ℕ) → IsFirstByte (is_byte byte) text found → found ≡ None → AllByRecursion (λ b. (b == byte) ≡ false) (take n text)
+not_ended byte text None n none _ = none_before byte text n (λ k _ lt. none k (omega arith) lt)
+not_ended byte text (Some k) n none e = cc
 
 -- ---- a CR at the end
 

@@ -8,6 +8,7 @@ ghost use Rattle.gx_tokens.specs.Lexemes.{split_quoted};
 
 use crate::command::LineWhy;
 use gx_tokens::split_quoted;
+use memchr::memchr;
 
 /// A word as it is spelled: a quoted text without the quotes around it, with each quote in it twice.
 #[derive(Clone, Copy, Debug, PartialEq, Eq)]
@@ -120,6 +121,25 @@ fn first_word(line: &[u8]) -> Option<(LineWord<'_>, &[u8])>
     split_word(after_blanks(line))
 }
 
+// What stands behind words without a quote at the front of a line: a quote that begins a word, or nothing. It is the
+// whole line where its first quote stands inside of a word.
+fn from_quote(line: &[u8]) -> &[u8]
+    ensures same { ((ws : List Word) × AreWords result.now ws) ↔ ((ws : List Word) × AreWords line.now ws) }
+    ensures within { length result.now ≤ length line.now }
+{
+    match memchr(b'"', line) {
+        None => &[],
+        Some(0) => line,
+        Some(at) => {
+            if is_blank(line[at - 1]) {
+                &line[at..]
+            } else {
+                line
+            }
+        }
+    }
+}
+
 /// Whether the line is words with blanks between them: each quoted text is closed, has no tab inside, and is followed by a
 /// blank or the end.
 pub fn are_words(line: &[u8]) -> bool
@@ -127,8 +147,10 @@ pub fn are_words(line: &[u8]) -> bool
 {
     let mut rest = line;
     loop {
-        match first_word(rest) {
-            None => return after_blanks(rest).is_empty(),
+        // Only a quoted text may be bad.
+        let quoted = from_quote(rest);
+        match first_word(quoted) {
+            None => return after_blanks(quoted).is_empty(),
             Some((_, after)) => rest = after,
         }
     }
