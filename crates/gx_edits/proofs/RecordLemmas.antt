@@ -173,13 +173,15 @@ pub first_and_rest : (values slice rest : List Value) (k : Value) → slice ≡ 
 first_and_rest values [] rest k same some first others = absurd (omega arith)
 first_and_rest values (v ∷ vs) rest k same some first others = sym same ∙ (λ i. sym first i ∷ (sym (take_all (suc (length vs) - 1) vs (omega arith)) ∙ sym others) i)
 
-pub never_empty : (fs : List Field) (values slice : List Value) → 0 < length fs → AreFit fs values → slice ≡ values → length slice ≡ 0 → ⊥
-never_empty fs values [] some fit same e = none fs (subst (AreFit fs) (sym same) fit) some
-  where
-    none : (gs : List Field) → AreFit gs [] → 0 < length gs → ⊥
-    none [] h lt = absurd (omega arith)
-    none (g ∷ gs) h lt = h
-never_empty fs values (v ∷ vs) some fit same e = absurd (omega arith)
+pub some_values : (fs : List Field) (values : List Value) → 0 < length fs → AreFit fs values → 0 < length values
+some_values [] values some fit = absurd (omega arith)
+some_values (f ∷ fs) [] some fit = absurd fit
+some_values (f ∷ fs) (v ∷ vs) some fit = omega arith
+
+-- the first value and the others
+pub first_and_others : (values : List Value) (v : Value) → 0 < length values → v ≡ get_or values 0 v → values ≡ v ∷ drop 1 values
+first_and_others [] v some is = absurd (omega arith)
+first_and_others (w ∷ ws) v some is = ap (λ (x : Value). x ∷ ws) (sym is)
 
 -- ---- records
 

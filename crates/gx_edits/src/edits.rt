@@ -29,25 +29,25 @@ pub fn edit<B: Leaves>(
     alloc: Global,
     schema: &Schema,
     built: &Built,
-    command: &Command,
+    command: Command,
     leaves: &mut B,
 ) -> Result<Option<Refused>, Stop>
     requires ready { AreFor schema.now built.now (length (B.working leaves.old)) }
-    requires of_schema { IsOfSchema schema.now command.now }
-    requires edit { is_edit command.now ≡ true }
-    ensures { Edits B.View schema.now built.now command.now leaves.old leaves.new result }
+    requires of_schema { IsOfSchema schema.now command }
+    requires edit { is_edit command ≡ true }
+    ensures { Edits B.View schema.now built.now command leaves.old leaves.new result }
 {
     match command {
-        Command::Insert(file, values) => insert(alloc, schema, built, *file, values, leaves),
+        Command::Insert(file, values) => insert(alloc, schema, built, file, values, leaves),
         Command::Update(file, key, changes) => {
-            update(alloc, schema, built, *file, key, changes, leaves)
+            update(alloc, schema, built, file, &key, &changes, leaves)
         }
-        Command::Delete(file, key) => delete(alloc, schema, built, *file, key, leaves),
+        Command::Delete(file, key) => delete(alloc, schema, built, file, &key, leaves),
         Command::Connect(link, owner, member) => {
-            connect(alloc, schema, built, *link, owner, member, leaves)
+            connect(alloc, schema, built, link, &owner, &member, leaves)
         }
         Command::Disconnect(link, member) => {
-            disconnect(alloc, schema, built, *link, member, leaves)
+            disconnect(alloc, schema, built, link, &member, leaves)
         }
         _ => unreachable!(),
     }
@@ -68,12 +68,12 @@ fn insert<B: Leaves>(
     schema: &Schema,
     built: &Built,
     file: u16,
-    values: &Values,
+    values: Values,
     leaves: &mut B,
 ) -> Result<Option<Refused>, Stop>
     requires ready { AreFor schema.now built.now (length (B.working leaves.old)) }
-    requires of_schema { IsOfSchema schema.now (command.Insert file values.now) }
-    ensures { Edits B.View schema.now built.now (command.Insert file values.now) leaves.old
+    requires of_schema { IsOfSchema schema.now (command.Insert file values) }
+    ensures { Edits B.View schema.now built.now (command.Insert file values) leaves.old
         leaves.new result }
 {
     let def = file_def(schema, file);
@@ -141,16 +141,16 @@ fn delete_unlinked<B: Leaves>(
 }
 
 // The key of a new record, and its other values.
-fn key_and_values<'a>(file: &FileDef, values: &'a Values) -> (&'a Value, &'a [Value])
+#[tactic(auto, using(crate::proofs::RecordLemmas::some_values, crate::proofs::RecordLemmas::first_and_others))]
+fn key_and_values(file: &FileDef, values: Values) -> (Value, Values)
     requires storable { 0 < length file.now.fields }
-    requires fit { AreFit file.now.fields values.now }
-    ensures parts { values.now ≡ result.0.now ∷ result.1.now }
-    ensures key { Fits (key_kind file.now) result.0.now }
-    ensures others { AreFit (data_fields file.now) result.1.now }
+    requires fit { AreFit file.now.fields values }
+    ensures parts { values ≡ result.0 ∷ result.1 }
+    ensures key { Fits (key_kind file.now) result.0 }
+    ensures others { AreFit (data_fields file.now) result.1 }
 {
     let _file = file;
-    let [key, others @ ..] = values.0.as_slice() else {
-        unreachable!()
-    };
-    (key, others)
+    let mut others = values.0;
+    let key = others.remove(0);
+    (key, Values(others))
 }

@@ -29,19 +29,14 @@ use gx_values::{NoMemory, Rec, Value, Values};
 use std::alloc::Global;
 
 // The record of a key and other values.
-fn new_record(alloc: Global, key: &Value, values: &[Value]) -> Result<Rec, NoMemory>
-    ensures { AreSized (key.now ∷ values.now) →
-        IfOk result (λ made. made ≡ rec_of (key.now, values.now)) }
+fn new_record(alloc: Global, key: Value, values: Values) -> Result<Rec, NoMemory>
+    ensures { IfOk result (λ made. made ≡ rec_of (key, values)) }
 {
     let mut keys = Vec::with_capacity(alloc, 1)?;
-    keys.push(key.copy(alloc)?)?;
-    let mut fields = Vec::with_capacity(alloc, values.len())?;
-    for value in values {
-        fields.push(value.copy(alloc)?)?;
-    }
+    keys.push(key)?;
     Ok(Rec {
         key: Values(keys),
-        fields: Values(fields),
+        fields: values,
     })
 }
 
@@ -50,20 +45,20 @@ pub(crate) fn insert_record<B: Leaves>(
     alloc: Global,
     file: &FileDef,
     node: &Node<AnyMapping>,
-    key: &Value,
-    values: &[Value],
+    key: Value,
+    values: Values,
     leaves: &mut B,
 ) -> Result<Option<Refused>, Stop>
     requires tree { IsTreeFor file.now (tree_of node.now) (length (B.working leaves.old)) }
     requires storable { IsStorable file.now }
-    requires key { Fits (key_kind file.now) key.now }
-    requires values { AreFit (data_fields file.now) values.now }
+    requires key { Fits (key_kind file.now) key }
+    requires values { AreFit (data_fields file.now) values }
     ensures inserted { (f : FileMap) → B.whole leaves.old →
         IsInternal file.now (tree_of node.now) (B.working leaves.old) f → IfOk result
         (λ why. IsEditedWhere file.now (tree_of node.now)
         (B.working leaves.old) (B.working leaves.new) f
-        (first_refusal ((is_some (fin.get f key.now), key_exists) ∷ []))
-        (fin.insert f key.now values.now) why) }
+        (first_refusal ((is_some (fin.get f key), key_exists) ∷ []))
+        (fin.insert f key values) why) }
     ensures keeps { Keeps B.View leaves.old leaves.new }
     ensures ends { Ends B.View
         (B.whole leaves.old × HasFile file.now (tree_of node.now) (B.working leaves.old))
@@ -71,12 +66,12 @@ pub(crate) fn insert_record<B: Leaves>(
     ensures block { (n : ℕ) → IsErrOf result (Stop.Damaged n) → B.whole leaves.old → n ≡ 0 }
     ensures full { (f : FileMap) → B.whole leaves.old →
         IsInternal file.now (tree_of node.now) (B.working leaves.old) f → IsErrOf result Stop.Full →
-        (fin.get f key.now ≡ Option.None)
+        (fin.get f key ≡ Option.None)
         × IsCrowdedBy (B.limit leaves.old)
         (entry_count (B.working leaves.old)
-        + length (entries_of any_rule (tree_of node.now) (rec_of (key.now, values.now)))) }
+        + length (entries_of any_rule (tree_of node.now) (rec_of (key, values)))) }
 {
-    if find_record(alloc, file, node, key, leaves)?.is_some() {
+    if find_record(alloc, file, node, &key, leaves)?.is_some() {
         return Ok(Some(Refused::KeyExists));
     }
     let new = new_record(alloc, key, values)?;

@@ -103,23 +103,23 @@ impl<B: Leaves + Drop> Engine<B> {
     pub fn step(
         &mut self,
         alloc: Global,
-        command: &Command,
+        command: Command,
         out: &mut Octets,
     ) -> Result<(), StepStop>
         requires ready { IsReady B.View self.old }
-        requires due { IsDue self.old command.now }
+        requires due { IsDue self.old command }
         ensures carried { (p : Playing) → IsAt B.View p self.old →
-            OnOk result (CarriesOut B.View p command.now self.old self.new out.old out.new) }
+            OnOk result (CarriesOut B.View p command self.old self.new out.old out.new) }
         ensures full { (p : Playing) → IsAt B.View p self.old → result ≡ Err (Now Stop.Full) →
-            IsShortFor B.View self.old p command.now }
+            IsShortFor B.View self.old p command }
         ensures few_steps { (p : Playing) → IsAt B.View p self.old →
-            OnOk result (TakesFewSteps B.View p command.now self.old self.new) }
+            OnOk result (TakesFewSteps B.View p command self.old self.new) }
         ensures fresh { B.whole (leaves_of self.old) →
-            OnOk result (AreFresh B.View command.now self.new) }
+            OnOk result (AreFresh B.View command self.new) }
         ensures unsaid { OnErr result (out.new ≡ out.old) }
         ensures served { IsServed (stop_of self.old) (stop_of self.new) result }
         ensures still { IsSome (stop_of self.old) → self.new ≡ self.old }
-        ensures rest { KeepsEngine B.View self.old self.new command.now result }
+        ensures rest { KeepsEngine B.View self.old self.new command result }
         ensures kept { is_fault_now result ≡ false →
             OnErr result (Keeps B.View (leaves_of self.old) (leaves_of self.new)) }
         ensures cause { HasStepCause B.View self.old self.new result }
@@ -146,14 +146,14 @@ impl<B: Leaves + Drop> Engine<B> {
     {}
 
     #[tactic(auto, using(crate::proofs::WorkLemmas::nothing_counted))]
-    fn carry_out(&mut self, alloc: Global, command: &Command, out: &mut Octets) -> Result<(), Stop>
+    fn carry_out(&mut self, alloc: Global, command: Command, out: &mut Octets) -> Result<(), Stop>
         requires ready { IsReady B.View self.old }
-        requires due { IsDue self.old command.now }
-        ensures step { IsStep B.View self.old self.new command.now out.old out.new result }
+        requires due { IsDue self.old command }
+        ensures step { IsStep B.View self.old self.new command out.old out.new result }
         ensures few_steps { (p : Playing) → IsAt B.View p self.old →
-            OnOk result (TakesFewSteps B.View p command.now self.old self.new) }
+            OnOk result (TakesFewSteps B.View p command self.old self.new) }
     {
-        match command {
+        match &command {
             Command::Begin => self.begin(out),
             Command::Commit => self.commit(alloc, out),
             Command::Abort => self.abort(out),
@@ -165,12 +165,12 @@ impl<B: Leaves + Drop> Engine<B> {
             Command::Get(file, key) => self.get(alloc, *file, key, out),
             Command::Find(find) => match find.of {
                 None => self.find(alloc, find, out),
-                Some(_) => self.answer(alloc, command, out),
+                Some(_) => self.answer(alloc, &command, out),
             },
             Command::ReorganizeFile(file) => self.reorganize_file(alloc, *file, out),
             Command::ReorganizeLink(link) => self.reorganize_link(alloc, *link, out),
             Command::Nothing => self.pass(out),
-            Command::Members(..) | Command::Owner(..) => self.answer(alloc, command, out),
+            Command::Members(..) | Command::Owner(..) => self.answer(alloc, &command, out),
         }
     }
 
@@ -230,11 +230,11 @@ impl<B: Leaves + Drop> Engine<B> {
     }
 
     // A command that changes records or links.
-    fn edit(&mut self, alloc: Global, command: &Command, out: &mut Octets) -> Result<(), Stop>
+    fn edit(&mut self, alloc: Global, command: Command, out: &mut Octets) -> Result<(), Stop>
         requires ready { IsReady B.View self.old }
-        requires due { IsDue self.old command.now }
-        requires edit { is_edit command.now ≡ true }
-        ensures { IsStep B.View self.old self.new command.now out.old out.new result }
+        requires due { IsDue self.old command }
+        requires edit { is_edit command ≡ true }
+        ensures { IsStep B.View self.old self.new command out.old out.new result }
     {
         let refused = edit(alloc, &self.schema, &self.built, command, &mut self.leaves)?;
         append(out, edit_answer(refused))?;

@@ -80,7 +80,7 @@ fn play_line<B: Leaves + Drop>(
         (B.faults (leaves_of engine.new)) (is_play_fault result) }
 {
     let command = due_command(alloc, number, line, engine)?;
-    carry_out(alloc, &command, answers, engine, out)?;
+    carry_out(alloc, command, answers, engine, out)?;
     Ok(())
 }
 
@@ -105,20 +105,20 @@ fn due_command<B: Leaves + Drop>(
 // Carries out a command, and says its answer whole or keeps it.
 fn carry_out<B: Leaves + Drop>(
     alloc: Global,
-    command: &Command,
+    command: Command,
     answers: Answers,
     engine: &mut Engine<B>,
     out: &mut Octets,
 ) -> Result<(), Stop>
     requires ready { IsReady B.View engine.old }
-    requires due { IsDue engine.old command.now }
+    requires due { IsDue engine.old command }
     requires going { stop_of engine.old ≡ None }
     ensures answered { (p : Playing) → IsAt B.View p engine.old → OnOk result
-        (IsCommandPlayed (beside B.View answers) p command.now (with_answers engine.old out.old)
+        (IsCommandPlayed (beside B.View answers) p command (with_answers engine.old out.old)
         (with_answers engine.new out.new)) }
     ensures given_up { IsTrue (are_told B.tells answers) → (p : Playing) → IsAt B.View p engine.old →
         (stop : Stop) → result ≡ Err stop →
-        IsCommandGivenUp (beside B.View answers) p command.now (with_answers engine.old out.old)
+        IsCommandGivenUp (beside B.View answers) p command (with_answers engine.old out.old)
         (with_answers engine.new out.new) stop }
     ensures cause { (p : Playing) → IsAt B.View p engine.old → (stop : Stop) → result ≡ Err stop →
         HasPlayCause (B.limit (leaves_of engine.old)) (B.faults (leaves_of engine.old))
@@ -142,19 +142,19 @@ fn carry_out<B: Leaves + Drop>(
 // Carries out a command and appends its answer.
 fn step<B: Leaves + Drop>(
     alloc: Global,
-    command: &Command,
+    command: Command,
     engine: &mut Engine<B>,
     out: &mut Octets,
 ) -> Result<(), Stop>
     requires ready { IsReady B.View engine.old }
-    requires due { IsDue engine.old command.now }
+    requires due { IsDue engine.old command }
     requires going { stop_of engine.old ≡ None }
     ensures carried { (p : Playing) → IsAt B.View p engine.old →
-        OnOk result (CarriesOut B.View p command.now engine.old engine.new out.old out.new) }
+        OnOk result (CarriesOut B.View p command engine.old engine.new out.old out.new) }
     ensures full { (p : Playing) → IsAt B.View p engine.old → result ≡ Err Stop.Full →
-        IsShortFor B.View engine.old p command.now }
+        IsShortFor B.View engine.old p command }
     ensures unsaid { OnErr result (out.new ≡ out.old) }
-    ensures rest { KeepsEngine B.View engine.old engine.new command.now result }
+    ensures rest { KeepsEngine B.View engine.old engine.new command result }
     ensures kept { is_fault result ≡ false →
         OnErr result (Keeps B.View (leaves_of engine.old) (leaves_of engine.new)) }
     ensures ready { IsReady B.View engine.new }

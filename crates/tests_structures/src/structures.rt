@@ -110,7 +110,7 @@ fn carry_out<B: Leaves + Drop>(
     }
     let command = read_command(alloc, engine.schema(), line)?;
     allowed(engine.inside(), &command)?;
-    engine.step(alloc, &command, answers)?;
+    engine.step(alloc, command, answers)?;
     Ok(())
 }
 

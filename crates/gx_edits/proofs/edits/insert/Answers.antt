@@ -26,10 +26,10 @@ returns g c =
     record {
       edit = λ s known whole are.
           ok_one c.insert_record.result _ _ (c.insert_record.ensures.inserted _ whole (internal_at schema built i def t old s def_is tree_is lt are))
-          (λ why is. insert_edited schema built _ old new s i def t why c.requires.ready are lt def_is tree_is c.key_and_values.result.0.now c.args.values.now c.key_and_values.result.1.now c.key_and_values.ensures.parts is);
+          (λ why is. insert_edited schema built _ old new s i def t why c.requires.ready are lt def_is tree_is c.key_and_values-key.result.0 c.args.values c.key_and_values-key.result.1 c.key_and_values-key.ensures.parts is);
       full = λ s known whole are stops.
           let short = c.insert_record.ensures.full _ whole (internal_at schema built i def t old s def_is tree_is lt are) stops in
-          short_insert (g.B.View.limit c.args.leaves.now) schema built _ _ old s i t c.requires.ready are lt tree_is c.key_and_values.result.0.now c.args.values.now c.key_and_values.result.1.now c.key_and_values.ensures.parts short.0 short.1;
+          short_insert (g.B.View.limit c.args.leaves.now) schema built _ _ old s i t c.requires.ready are lt tree_is c.key_and_values-key.result.0 c.args.values c.key_and_values-key.result.1 c.key_and_values-key.ensures.parts short.0 short.1;
       keeps = c.insert_record.ensures.keeps;
       ends = ends_so g.B.View _ _ _ _ _ (λ found. (found.0, has_file schema built i def t old def_is tree_is lt found.1)) c.insert_record.ensures.ends;
       block = c.insert_record.ensures.block;
