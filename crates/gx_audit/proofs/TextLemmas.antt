@@ -41,13 +41,3 @@ pub members_counted : (counts : List ℕ) (s : State) (i n : ℕ) → i < length
 members_counted counts s i n lt are is =
     let there : i < length s.links = omega (arith, lt, ap (λ (xs : List ℕ). length xs) are, length-map s.links fin.len) in
     is ∙ ap (λ (xs : List ℕ). get_or xs i n) are ∙ get_or-map fin.len s.links i fin.empty n there
-
--- ---- entries
-
-keeps_all : {A : Type 0} (p : A → Bool) (xs : List A) → ((x : A) → p x ≡ true) → filter p xs ≡ xs
-keeps_all p [] all = refl
-keeps_all p (x ∷ xs) all = ap (λ b. cond b (x ∷ filter p xs) (filter p xs)) (all x) ∙ ap (λ ys. x ∷ ys) (keeps_all p xs all)
-
--- a span of all keys gives each entry
-pub selected_all : (m : LeafMap) (lo hi : List ℕ) → ((key : List ℕ) → is_inside lo hi key ≡ true) → length (selected lo hi m) ≡ fin.len m
-selected_all m lo hi all = length-map (filter (λ e. is_inside lo hi e.0) (fin.entries m)) entry_of ∙ ap (λ (es : List (List ℕ × List ℕ)). length es) (keeps_all (λ e. is_inside lo hi e.0) (fin.entries m) (λ e. all e.0)) ∙ sym (fin.len-entries m)

@@ -1,6 +1,7 @@
 // The audit of a database.
 ghost use Rattle.std.specs.Prelude.{◌≡◌, ◌↔◌, ◌<◌, true, false, Ok, length, IsTrue, IfSome, IfOk, OnOk};
 ghost use Rattle.gx_ports.specs.Calls.{ReadsMaps};
+ghost use Rattle.gx_stack.specs.Held.{AreCounts};
 ghost use Rattle.gx_states.specs.Internal.{AreFor, HaveState};
 ghost use Rattle.gx_audit.specs.Audits.{IsAnswer, HasAsMany, IsSound};
 
@@ -50,10 +51,19 @@ pub fn audit<B: Leaves>(
     ensures reads { ReadsMaps B.View (B.whole leaves.old) leaves.old leaves.new result }
 {
     check_leaves(alloc, leaves)?;
-    let Some(found) = found_state(alloc, schema, built, leaves)? else {
+    let mut entries = vec![in alloc; None; leaves.leaves() as usize]?;
+    let Some(found) = found_state(alloc, schema, built, leaves, &mut entries)? else {
         return Ok(false);
     };
-    let text = inspect_text(alloc, schema, built, leaves, &found.keys, &found.counts)?;
+    let text = inspect_text(
+        alloc,
+        schema,
+        built,
+        leaves,
+        &entries,
+        &found.keys,
+        &found.counts,
+    )?;
     out.0.extend_from_slice(&text)?;
     Ok(true)
 }
@@ -79,23 +89,27 @@ struct Found {
     counts: PairCounts,
 }
 
-// What the leaves hold of a valid state. `None`: they stand for none.
+// What the leaves hold of a valid state, and how many entries each leaf that was read has. `None`:
+// they stand for none.
 fn found_state<B: Leaves>(
     alloc: Global,
     schema: &Schema,
     built: &Built,
     leaves: &mut B,
+    entries: &mut [Option<usize>],
 ) -> Result<Option<Found>, Stop>
     requires { AreFor schema.now built.now (length (B.working leaves.old)) }
     ensures found { IfOk result
         (IsAnswer schema.now built.now (B.whole leaves.old) (B.working leaves.old)) }
     ensures many { IfOk result (λ answer. IfSome answer (HasAsMany schema.now)) }
+    ensures entries { B.whole leaves.old → AreCounts (B.working leaves.old) entries.old →
+        AreCounts (B.working leaves.old) entries.new }
     ensures reads { ReadsMaps B.View (B.whole leaves.old) leaves.old leaves.new result }
 {
-    let Some(keys) = file_keys(alloc, schema, built, leaves)? else {
+    let Some(keys) = file_keys(alloc, schema, built, leaves, entries)? else {
         return Ok(None);
     };
-    let Some(counts) = pair_counts(alloc, schema, built, leaves, &keys)? else {
+    let Some(counts) = pair_counts(alloc, schema, built, leaves, &keys, entries)? else {
         return Ok(None);
     };
     Ok(Some(Found { keys, counts }))

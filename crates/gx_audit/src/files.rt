@@ -4,6 +4,7 @@ ghost use Rattle.gx_values.specs.declared.records.Rec.{Rec as Record};
 ghost use Rattle.gx_ports.specs.Calls.{ReadsMaps};
 ghost use Rattle.gx_mapping.specs.Rule.{In, IsOf};
 ghost use Rattle.gx_stack.specs.Seen.{tree_of};
+ghost use Rattle.gx_stack.specs.Held.{AreCounts};
 ghost use Rattle.gx_typing.specs.Dues.{file_form};
 ghost use Rattle.gx_scan.specs.Files.{IsStorable, IsTreeFor};
 ghost use Rattle.gx_scan.specs.Within.{row_of};
@@ -40,18 +41,21 @@ pub(crate) fn file_keys<B: Leaves>(
     schema: &Schema,
     built: &Built,
     leaves: &mut B,
+    entries: &mut [Option<usize>],
 ) -> Result<Option<FileKeys>, Stop>
     requires { AreFor schema.now built.now (length (B.working leaves.old)) }
     ensures keys { IfOk result
         (AreAllKeys schema.now built.now.files (B.whole leaves.old) (B.working leaves.old)) }
     ensures many { IfOk result
         (λ found. IfSome found (λ keys. length keys ≡ length schema.now.files)) }
+    ensures entries { B.whole leaves.old → AreCounts (B.working leaves.old) entries.old →
+        AreCounts (B.working leaves.old) entries.new }
     ensures reads { ReadsMaps B.View (B.whole leaves.old) leaves.old leaves.new result }
 {
     let mut keys = Vec::new(alloc);
     for file in 0..built.files.0.len() {
         let def = &schema.files.0[file];
-        let Some(found) = node_keys(alloc, leaves, def, &built.files.0[file])? else {
+        let Some(found) = node_keys(alloc, leaves, def, &built.files.0[file], entries)? else {
             return Ok(None);
         };
         keys.push(found)?;
@@ -65,14 +69,17 @@ fn node_keys<B: Leaves>(
     leaves: &mut B,
     file: &FileDef,
     node: &Node<AnyMapping>,
+    entries: &mut [Option<usize>],
 ) -> Result<Option<Values>, Stop>
     requires storable { IsStorable file.now }
     requires tree { IsTreeFor file.now (tree_of node.now) (length (B.working leaves.old)) }
     ensures keys { IfOk result
         (AreKeys file.now (tree_of node.now) (B.whole leaves.old) (B.working leaves.old)) }
+    ensures entries { B.whole leaves.old → AreCounts (B.working leaves.old) entries.old →
+        AreCounts (B.working leaves.old) entries.new }
     ensures reads { ReadsMaps B.View (B.whole leaves.old) leaves.old leaves.new result }
 {
-    match node.held(alloc, leaves)? {
+    match node.held(alloc, leaves, entries)? {
         Some(records) => Ok(Some(keys_of(alloc, file, records)?)),
         None => Ok(None),
     }

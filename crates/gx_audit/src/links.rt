@@ -3,6 +3,7 @@ ghost use Rattle.std.specs.Prelude.{◌≡◌, ◌<◌, ℕ, true, false, List, 
 ghost use Rattle.std.specs.List.Sorted.{IsStrictlySortedBy};
 ghost use Rattle.gx_values.specs.Values.{value_cmp};
 ghost use Rattle.gx_ports.specs.Calls.{ReadsMaps};
+ghost use Rattle.gx_stack.specs.Held.{AreCounts};
 ghost use Rattle.gx_model.specs.States.{File};
 ghost use Rattle.gx_states.specs.Internal.{AreFor};
 ghost use Rattle.gx_audit.specs.Audits.{keys_of, AreAmong, AreFiles, IsPairCount, ArePairCounts};
@@ -38,6 +39,7 @@ pub(crate) fn pair_counts<B: Leaves>(
     built: &Built,
     leaves: &mut B,
     keys: &FileKeys,
+    entries: &mut [Option<usize>],
 ) -> Result<Option<PairCounts>, Stop>
     requires ready { AreFor schema.now built.now (length (B.working leaves.old)) }
     requires keys { length keys.now ≡ length schema.now.files }
@@ -47,11 +49,14 @@ pub(crate) fn pair_counts<B: Leaves>(
         (ArePairCounts schema.now built.now (B.whole leaves.old) (B.working leaves.old) fs) }
     ensures many { IfOk result
         (λ found. IfSome found (λ counts. length counts ≡ length schema.now.links)) }
+    ensures entries { B.whole leaves.old → AreCounts (B.working leaves.old) entries.old →
+        AreCounts (B.working leaves.old) entries.new }
     ensures reads { ReadsMaps B.View (B.whole leaves.old) leaves.old leaves.new result }
 {
     let mut counts = Vec::new(alloc);
     for link in 0..schema.links.0.len() {
-        let Some(count) = pair_count(alloc, schema, built, leaves, keys, link as u16)? else {
+        let found = pair_count(alloc, schema, built, leaves, keys, link as u16, entries)?;
+        let Some(count) = found else {
             return Ok(None);
         };
         counts.push(count)?;
@@ -67,6 +72,7 @@ fn pair_count<B: Leaves>(
     leaves: &mut B,
     keys: &FileKeys,
     link: u16,
+    entries: &mut [Option<usize>],
 ) -> Result<Option<usize>, Stop>
     requires ready { AreFor schema.now built.now (length (B.working leaves.old)) }
     requires keys { length keys.now ≡ length schema.now.files }
@@ -75,13 +81,15 @@ fn pair_count<B: Leaves>(
         AreFiles schema.now built.now.files (B.working leaves.old) fs →
         keys.now ≡ map keys_of fs → IfOk result
         (IsPairCount schema.now built.now (B.whole leaves.old) (B.working leaves.old) fs link) }
+    ensures entries { B.whole leaves.old → AreCounts (B.working leaves.old) entries.old →
+        AreCounts (B.working leaves.old) entries.new }
     ensures reads { ReadsMaps B.View (B.whole leaves.old) leaves.old leaves.new result }
 {
     let def = &schema.links.0[usize::from(link)];
     let members = &keys.0[usize::from(def.member)];
     let owners = &keys.0[usize::from(def.owner)];
     let linkset = linkset_at(schema, built, link);
-    let Some(pairs) = linkset.pairs(alloc, leaves)? else {
+    let Some(pairs) = linkset.pairs(alloc, leaves, entries)? else {
         return Ok(None);
     };
     if are_among(members, owners, &pairs) {

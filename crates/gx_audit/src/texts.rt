@@ -6,6 +6,7 @@ ghost use Rattle.gx_ports.specs.LeafMaps.{map_at};
 ghost use Rattle.gx_ports.specs.Calls.{ReadsMaps};
 ghost use Rattle.gx_equation.specs.declared.heads.Head.TheVariants as heads;
 ghost use Rattle.gx_equation.specs.Printing.{head_text};
+ghost use Rattle.gx_stack.specs.Held.{AreCounts};
 ghost use Rattle.gx_model.specs.States.{State};
 ghost use Rattle.gx_audit.specs.Audits.{keys_of};
 ghost use Rattle.gx_audit.specs.Texts.{definition_names, leaf_text, file_text, link_text, leaf_line, file_line, link_line, lines_below};
@@ -21,26 +22,30 @@ use itoa::Buffer;
 use std::alloc::{AllocError, Global};
 
 /// What is said of leaves that stand for a state with these keys of the records of each file and so
-/// many pairs of each link. `Damaged`, `Fault`, `NoMemory`: as `select` of leaves.
+/// many pairs of each link. A leaf without a count of its entries is read. `Damaged`, `Fault`,
+/// `NoMemory`: as `select` of leaves.
 pub(crate) fn inspect_text<B: Leaves>(
     alloc: Global,
     schema: &Schema,
     built: &Built,
     leaves: &mut B,
+    entries: &[Option<usize>],
     keys: &FileKeys,
     counts: &PairCounts,
 ) -> Result<Vec<u8>, Stop>
     requires specs { length built.now.specs ≡ length (B.working leaves.old) }
     requires owners { length built.now.owners ≡ length (B.working leaves.old) }
+    requires places { length entries.now ≡ length (B.working leaves.old) }
     requires keys { length keys.now ≡ length schema.now.files }
     requires counts { length counts.now ≡ length schema.now.links }
-    ensures text { (s : State) → B.whole leaves.old → keys.now ≡ map keys_of s.files →
+    ensures text { (s : State) → B.whole leaves.old →
+        AreCounts (B.working leaves.old) entries.now → keys.now ≡ map keys_of s.files →
         counts.now ≡ map len s.links → IfOk result (λ text. text.items
         ≡ the_text schema.now built.now.specs built.now.owners (B.working leaves.old) s) }
     ensures reads { ReadsMaps B.View (B.whole leaves.old) leaves.old leaves.new result }
 {
     let mut text = Vec::new(alloc);
-    push_leaves(alloc, schema, built, leaves, &mut text)?;
+    push_leaves(alloc, schema, built, leaves, entries, &mut text)?;
     push_files(schema, keys, &mut text)?;
     push_links(schema, counts, &mut text)?;
     text.extend_from_slice(b"sound\n")?;
@@ -53,11 +58,14 @@ fn push_leaves<B: Leaves>(
     schema: &Schema,
     built: &Built,
     leaves: &mut B,
+    entries: &[Option<usize>],
     text: &mut Vec<u8>,
 ) -> Result<(), Stop>
     requires specs { length built.now.specs ≡ length (B.working leaves.old) }
     requires owners { length built.now.owners ≡ length (B.working leaves.old) }
-    ensures lines { B.whole leaves.old → OnOk result (text.new.items
+    requires places { length entries.now ≡ length (B.working leaves.old) }
+    ensures lines { B.whole leaves.old → AreCounts (B.working leaves.old) entries.now →
+        OnOk result (text.new.items
         ≡ text.old.items ++ lines_below
         (leaf_line schema.now built.now.specs built.now.owners (B.working leaves.old))
         (length (B.working leaves.old))) }
@@ -66,14 +74,32 @@ fn push_leaves<B: Leaves>(
     for leaf in 0..leaves.leaves() {
         let name = definition_name(schema, built.owners.0[leaf as usize]);
         let kind = built.specs.0[leaf as usize].kind;
-        let entries = entry_count(alloc, leaves, leaf)?;
-        push_leaf(text, leaf, name, kind, entries)?;
+        let count = entry_count(alloc, leaves, leaf, entries)?;
+        push_leaf(text, leaf, name, kind, count)?;
     }
     Ok(())
 }
 
-// How many entries a leaf has.
-fn entry_count<B: Leaves>(alloc: Global, leaves: &mut B, leaf: u32) -> Result<usize, Stop>
+// How many entries a leaf has. It is read only where none of the nodes did.
+fn entry_count<B: Leaves>(
+    alloc: Global,
+    leaves: &mut B,
+    leaf: u32,
+    entries: &[Option<usize>],
+) -> Result<usize, Stop>
+    requires leaf { leaf < length (B.working leaves.old) }
+    requires places { length entries.now ≡ length (B.working leaves.old) }
+    ensures count { B.whole leaves.old → AreCounts (B.working leaves.old) entries.now →
+        IfOk result (λ count. count ≡ len (map_at (B.working leaves.old) leaf)) }
+    ensures reads { ReadsMaps B.View (B.whole leaves.old) leaves.old leaves.new result }
+{
+    match entries[leaf as usize] {
+        Some(count) => Ok(count),
+        None => read_count(alloc, leaves, leaf),
+    }
+}
+
+fn read_count<B: Leaves>(alloc: Global, leaves: &mut B, leaf: u32) -> Result<usize, Stop>
     requires { leaf < length (B.working leaves.old) }
     ensures count { B.whole leaves.old →
         IfOk result (λ count. count ≡ len (map_at (B.working leaves.old) leaf)) }

@@ -5,6 +5,7 @@ ghost use Rattle.gx_values.specs.Values.{Fits};
 ghost use Rattle.gx_ports.specs.LeafMaps.{LeafMap, map_at, entry_count, Extends, IsCrowdedBy};
 ghost use Rattle.gx_ports.specs.Calls.{Keeps, ReadsMaps, Ends};
 ghost use Rattle.gx_mapping.specs.Rule.{In};
+ghost use Rattle.gx_stack.specs.Held.{AreCounts};
 ghost use Rattle.gx_links.specs.Links.{Link, members_of};
 ghost use Rattle.gx_links.specs.Pairs.{ArePairs};
 ghost use Rattle.gx_links.specs.Linksets.{LinkRule, LinksetLaws, HasLink, AreMembers, IsOwner, CanConnect, HasRoom, IsJoined, CanDisconnect, steps_for};
@@ -166,13 +167,21 @@ pub trait Linkset {
             (members_of (remove link member.now) owner.now))) };
 
     /// All pairs of the link, each a member with its owner, in the order of the members. `None`: the
-    /// leaves hold no link. `Damaged`: some leaf's stored form isn't whole.
-    fn pairs<B: Leaves>(&self, alloc: Global, leaves: &mut B) -> Result<Option<Pairs>, Stop>
+    /// leaves hold no link. `Damaged`: some leaf's stored form isn't whole. The entries of each leaf
+    /// that is read are counted, as by `held` of a node.
+    fn pairs<B: Leaves>(
+        &self,
+        alloc: Global,
+        leaves: &mut B,
+        counts: &mut [Option<usize>],
+    ) -> Result<Option<Pairs>, Stop>
         requires valid { valid self.now }
         requires below { (n : ℕ) → In n (rule self.now).leaves → n < length (B.working leaves.old) }
         ensures pairs { IfOk result
             (ArePairs (rule self.now) (held self.now) (B.whole leaves.old)
             (B.working leaves.old)) }
+        ensures counts { B.whole leaves.old → AreCounts (B.working leaves.old) counts.old →
+            AreCounts (B.working leaves.old) counts.new }
         ensures reads { ReadsMaps B.View (B.whole leaves.old) leaves.old leaves.new result };
 
     /// What is true of each linkset.

@@ -94,11 +94,16 @@ impl<'a> Linkset for AnyLinkset<'a> {
         }
     }
 
-    fn pairs<B: Leaves>(&self, alloc: Global, leaves: &mut B) -> Result<Option<Pairs>, Stop> {
+    fn pairs<B: Leaves>(
+        &self,
+        alloc: Global,
+        leaves: &mut B,
+        counts: &mut [Option<usize>],
+    ) -> Result<Option<Pairs>, Stop> {
         match self {
-            AnyLinkset::Array(linkset) => linkset.pairs(alloc, leaves),
-            AnyLinkset::Ring(linkset) => linkset.pairs(alloc, leaves),
-            AnyLinkset::Inverted(linkset) => linkset.pairs(alloc, leaves),
+            AnyLinkset::Array(linkset) => linkset.pairs(alloc, leaves, counts),
+            AnyLinkset::Ring(linkset) => linkset.pairs(alloc, leaves, counts),
+            AnyLinkset::Inverted(linkset) => linkset.pairs(alloc, leaves, counts),
         }
     }
 }

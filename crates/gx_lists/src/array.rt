@@ -19,12 +19,11 @@ ghost use Rattle.gx_lists.specs.Arrays.{one_node, array_rows, array_rule, IsArra
 use crate::array_pairs::{cut_owners, is_each_once, pairs_by_member};
 use crate::arrays::{array_rec, first_body, owner_among, with_member, without_member};
 use crate::pieces::cut_members;
-use crate::spans::whole_span;
 use gx_gather::{NO_BLOCK, Recs};
 use gx_links::{Joining, Linkset, MOST_MEMBERS, Pairs, value_span};
 use gx_mapping::Mapping;
 use gx_ports::{Leaves, Stop};
-use gx_stack::Node;
+use gx_stack::{Node, whole_span};
 use gx_values::{Kind, NoMemory, Value, Values};
 use std::alloc::Global;
 
@@ -121,8 +120,13 @@ impl<'a, M: Mapping> Linkset for PointerArray<'a, M> {
         self.tree.replace(alloc, leaves, Some(&old), Some(&new))
     }
 
-    fn pairs<B: Leaves>(&self, alloc: Global, leaves: &mut B) -> Result<Option<Pairs>, Stop> {
-        let Some(found) = self.tree.held(alloc, leaves)? else {
+    fn pairs<B: Leaves>(
+        &self,
+        alloc: Global,
+        leaves: &mut B,
+        counts: &mut [Option<usize>],
+    ) -> Result<Option<Pairs>, Stop> {
+        let Some(found) = self.tree.held(alloc, leaves, counts)? else {
             return Ok(None);
         };
         Ok(self.told(alloc, &found)?)

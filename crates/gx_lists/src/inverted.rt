@@ -107,11 +107,16 @@ impl<'a, M: Mapping> Linkset for Inverted<'a, M> {
         self.up.replace(alloc, leaves, Some(&owned), None)
     }
 
-    fn pairs<B: Leaves>(&self, alloc: Global, leaves: &mut B) -> Result<Option<Pairs>, Stop> {
-        let Some(down) = self.down.held(alloc, leaves)? else {
+    fn pairs<B: Leaves>(
+        &self,
+        alloc: Global,
+        leaves: &mut B,
+        counts: &mut [Option<usize>],
+    ) -> Result<Option<Pairs>, Stop> {
+        let Some(down) = self.down.held(alloc, leaves, counts)? else {
             return Ok(None);
         };
-        let Some(up) = self.up.held(alloc, leaves)? else {
+        let Some(up) = self.up.held(alloc, leaves, counts)? else {
             return Ok(None);
         };
         Ok(self.told(alloc, down, up)?)

@@ -8,7 +8,6 @@ mod counts;
 mod inverted;
 mod pieces;
 mod records;
-mod spans;
 
 pub use array::PointerArray;
 pub use inverted::Inverted;

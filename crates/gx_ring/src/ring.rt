@@ -119,11 +119,16 @@ impl<'a, M: Mapping> Linkset for Ring<'a, M> {
         replace_both(alloc, leaves, self.chain, &own, self.leading(at), &lead)
     }
 
-    fn pairs<B: Leaves>(&self, alloc: Global, leaves: &mut B) -> Result<Option<Pairs>, Stop> {
-        let Some(heads) = self.heads.held(alloc, leaves)? else {
+    fn pairs<B: Leaves>(
+        &self,
+        alloc: Global,
+        leaves: &mut B,
+        counts: &mut [Option<usize>],
+    ) -> Result<Option<Pairs>, Stop> {
+        let Some(heads) = self.heads.held(alloc, leaves, counts)? else {
             return Ok(None);
         };
-        let Some(chain) = self.chain.held(alloc, leaves)? else {
+        let Some(chain) = self.chain.held(alloc, leaves, counts)? else {
             return Ok(None);
         };
         Ok(self.told(alloc, heads, chain)?)

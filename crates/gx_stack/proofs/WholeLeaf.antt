@@ -66,7 +66,7 @@ part_other ps qs i p q lt read read' other same =
 
 -- ---- one leaf
 
-all_inside : (key : List ℕ) → is_inside [] [] key ≡ true
+pub all_inside : (key : List ℕ) → is_inside [] [] key ≡ true
 all_inside [] = refl
 all_inside (x ∷ key) = refl
 

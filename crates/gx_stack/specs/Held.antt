@@ -1,12 +1,13 @@
 -- What is found where the leaves of a tree are read whole.
-use Rattle.std.specs.Prelude.{◌≢◌, Bool, not, ◌&&◌, nat_eq, List, ◌⊎◌, length, Option, Some, None}
+use Rattle.std.specs.Prelude.{◌≡◌, ◌≢◌, ℕ, Bool, not, ◌&&◌, nat_eq, List, ◌⊎◌, length, slice_get, Option, Some, None}
 use Rattle.std.specs.List.{filter, flat_map}
+use Rattle.std.specs.FinMap.{len}
 use Rattle.std.specs.List.Sorted.{IsPermutation, IsSortedBy, IsStrictlySortedBy}
 use Rattle.std.specs.Ordering.{is_lt, eq_by_cmp}
 use Rattle.gx_values.specs.Values.{values_cmp}
 use Rattle.gx_values.specs.declared.records.Form.{Form}
 use Rattle.gx_values.specs.declared.records.Rec.{Rec}
-use Rattle.gx_ports.specs.LeafMaps.{LeafMap}
+use Rattle.gx_ports.specs.LeafMaps.{LeafMap, map_at}
 use Rattle.gx_mapping.specs.declared.parts.Part.{Part}
 use Rattle.gx_mapping.specs.Rule.{Rule, In, IsOf, part_cmp}
 use Rattle.gx_stack.specs.Tree.{Tree, tree_form}
@@ -35,6 +36,12 @@ pub record AreLeafHeld (form : Form) (whole : Type 0) (m : LeafMap) (found : Lis
 abbrev pub IsLeafHeld : Form → Type 0 → LeafMap → Option (List Rec) → Type 0
 IsLeafHeld form whole m None = whole → ¬ HasLeafSet form m
 IsLeafHeld form whole m (Some found) = AreLeafHeld form whole m found
+
+-- ---- counts of entries
+
+-- each count that was noted at the number of a leaf is that of the leaf's entries
+abbrev pub AreCounts : List LeafMap → List (Option ℕ) → Type 0
+AreCounts maps counts = (leaf count : ℕ) → slice_get counts leaf ≡ Some (Some count) → count ≡ len (map_at maps leaf)
 
 -- ---- the parts of one layer
 

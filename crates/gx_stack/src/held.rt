@@ -1,5 +1,5 @@
 // What the leaves of a tree hold, where they are read whole.
-ghost use Rattle.std.specs.Prelude.{◌≡◌, ◌≢◌, ◌<◌, ◌≤◌, ◌+◌, ◌++◌, [], true, false, not, length, OnOk, IfOk, IfErr};
+ghost use Rattle.std.specs.Prelude.{◌≡◌, ◌≢◌, ◌<◌, ◌≤◌, ◌+◌, ◌++◌, [], ℕ, true, false, not, length, map, slice_set, Some, OnOk, IfOk, IfErr};
 ghost use Rattle.std.specs.List.{filter, flat_map};
 ghost use Rattle.std.specs.FinMap.{len};
 ghost use Rattle.gx_values.specs.declared.records.Rec.{Rec as Record};
@@ -9,7 +9,7 @@ ghost use Rattle.gx_mapping.specs.declared.parts.Part.{Part as ThePart};
 ghost use Rattle.gx_mapping.specs.Rule.{In, IsOf};
 ghost use Rattle.gx_stack.specs.Tree.{IsLeafForm};
 ghost use Rattle.gx_gather.specs.Gather.{AreDataParts};
-ghost use Rattle.gx_stack.specs.Held.{IsLeafHeld, other_parts, is_same_part, AreJoined};
+ghost use Rattle.gx_stack.specs.Held.{IsLeafHeld, AreCounts, other_parts, is_same_part, AreJoined};
 
 use crate::read::read_records;
 use gx_gather::{Recs, gather_parts, is_same_values, sort_parts};
@@ -18,17 +18,21 @@ use gx_ports::{Entries, Leaves, Stop};
 use gx_values::{Form, KeyBuf, NoMemory, Span};
 use std::alloc::{AllocError, Global};
 
-// The records of one leaf, in the order of their keys. `None`: some entry is that of no record.
+// The records of one leaf, in the order of their keys. How many entries it has is noted at its
+// number. `None`: some entry is that of no record.
 pub fn held_leaf<B: Leaves>(
     alloc: Global,
     leaves: &mut B,
     leaf: u32,
     form: &Form,
+    counts: &mut [Option<usize>],
 ) -> Result<Option<Recs>, Stop>
     requires leaf { leaf < length (B.working leaves.old) }
     requires form { IsLeafForm form.now }
     ensures held { IfOk result
         (IsLeafHeld form.now (B.whole leaves.old) (map_at (B.working leaves.old) leaf)) }
+    ensures counts { B.whole leaves.old → AreCounts (B.working leaves.old) counts.old →
+        AreCounts (B.working leaves.old) counts.new }
     ensures few_steps { B.whole leaves.old → OnOk result
         (B.work leaves.new
         ≤ B.work leaves.old + (1 + len (map_at (B.working leaves.old) leaf))) }
@@ -36,6 +40,7 @@ pub fn held_leaf<B: Leaves>(
 {
     let mut entries = Entries::new(alloc);
     leaves.select(alloc, leaf, &whole_span(), &mut entries)?;
+    note_count(counts, leaf, entries.len());
     let mut found = Recs::new(alloc);
     match read_records(alloc, form, &entries, &mut found) {
         Ok(()) => Ok(Some(found)),
@@ -44,7 +49,18 @@ pub fn held_leaf<B: Leaves>(
     }
 }
 
-fn whole_span() -> Span
+// Notes a leaf's count, where there is a place for it.
+fn note_count(counts: &mut [Option<usize>], leaf: u32, count: usize)
+    ensures { counts.new ≡ slice_set counts.old leaf (Some count) }
+{
+    let place = leaf as usize;
+    if place < counts.len() {
+        counts[place] = Some(count);
+    }
+}
+
+/// The span of all keys.
+pub fn whole_span() -> Span
     ensures lo { result.lo ≡ [] }
     ensures hi { result.hi ≡ [] }
 {

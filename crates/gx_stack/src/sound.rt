@@ -8,7 +8,7 @@ ghost use Rattle.gx_mapping.specs.Rule.{In};
 ghost use Rattle.gx_stack.specs.Tree.{leaves_of, IsValid};
 ghost use Rattle.gx_stack.specs.Seen.{tree_of};
 ghost use Rattle.gx_stack.specs.Internal.{HasSet};
-ghost use Rattle.gx_stack.specs.Held.{IsHeld};
+ghost use Rattle.gx_stack.specs.Held.{IsHeld, AreCounts};
 
 use crate::held::{held_leaf, join_parts};
 use crate::node::Node;
@@ -38,17 +38,25 @@ impl<M: Mapping> Node<M> {
             (leaves_of (tree_of self.now))) }
         ensures reads { ReadsMaps B.View (B.whole leaves.old) leaves.old leaves.new result }
     {
-        Ok(self.held(alloc, leaves)?.is_some())
+        Ok(self.held(alloc, leaves, &mut [])?.is_some())
     }
 
     /// The records that the leaves hold, in the order of their keys. `None`: they hold no set of
-    /// records. Each leaf is read once at most, and it ends as `sound` does.
-    pub fn held<B: Leaves>(&self, alloc: Global, leaves: &mut B) -> Result<Option<Recs>, Stop>
+    /// records. Each leaf is read once at most, and it ends as `sound` does. Where `counts` has a
+    /// place for the number of a leaf that it reads, it notes there how many entries the leaf has.
+    pub fn held<B: Leaves>(
+        &self,
+        alloc: Global,
+        leaves: &mut B,
+        counts: &mut [Option<usize>],
+    ) -> Result<Option<Recs>, Stop>
         requires valid { IsValid M.rule (tree_of self.now) }
         requires below { (n : ℕ) → In n (leaves_of (tree_of self.now)) →
             n < length (B.working leaves.old) }
         ensures held { IfOk result
             (IsHeld M.rule (tree_of self.now) (B.whole leaves.old) (B.working leaves.old)) }
+        ensures counts { B.whole leaves.old → AreCounts (B.working leaves.old) counts.old →
+            AreCounts (B.working leaves.old) counts.new }
         ensures few_steps { B.whole leaves.old → OnOk result
             (B.work leaves.new
             ≤ B.work leaves.old
@@ -57,13 +65,13 @@ impl<M: Mapping> Node<M> {
         ensures reads { ReadsMaps B.View (B.whole leaves.old) leaves.old leaves.new result }
     {
         match self {
-            Node::Leaf(node) => held_leaf(alloc, leaves, node.leaf, &node.form),
+            Node::Leaf(node) => held_leaf(alloc, leaves, node.leaf, &node.form, counts),
             Node::Layer(layer) => {
                 let mut main = Parts(Vec::new(alloc));
                 let mut others = Parts(Vec::new(alloc));
                 for child in 0..layer.mapping.kids() {
                     let kid = &layer.kids[child as usize];
-                    let Some(found) = kid.held(alloc, leaves)? else {
+                    let Some(found) = kid.held(alloc, leaves, counts)? else {
                         return Ok(None);
                     };
                     if layer.mapping.holds_rest(child) {

@@ -2,6 +2,7 @@ use Rattle.std.proofs.Common.{◌<◌, sym, subst, length}
 use Rattle.gx_stack.specs.Seen.{tree_of}
 use Rattle.gx_stack.specs.Internal.{IsInternal}
 use Rattle.gx_stack.specs.Held.{IsHeld}
+use Rattle.gx_stack.proofs.CountLemmas.{counts_joined}
 use Rattle.gx_links.specs.Rows.{node_rows}
 use Rattle.gx_lists.specs.Inverted.{inverted_rows}
 use Rattle.gx_lists.proofs.InvertedPairs.{inverted_held, held_before}
@@ -44,3 +45,27 @@ returns-clause-pairs g c =
     inverted_held rule g.met.M.Mapping.laws down up c.requires.valid whole maps c.in-Some.down c.in-Some-2.up c.in_ok-told.field-0 first
     (held_before rule up whole (g.B.View.whole leaves) maps (g.B.View.working leaves) c.in-Some-2.up c.in_ok-down.ensures.reads.ends.whole c.held.ensures.reads.reads.working second)
     c.in_ok-told.ensures
+
+pub returns-in_err-up-clause-counts : goal.returns-in_err-up-clause-counts
+returns-in_err-up-clause-counts g c = λ w.
+    let b = g.B.View in
+    let e = c.held.ensures in
+    counts_joined (b.working c.args.leaves.now) (b.working c.held.new.leaves) c.args.counts.now c.held.new.counts c.held-2.new.counts e.reads.working (e.counts w) (c.held-2.ensures.counts (c.in_ok-down.ensures.ends.whole w))
+
+pub returns-in_default-2-clause-counts : goal.returns-in_default-2-clause-counts
+returns-in_default-2-clause-counts g c = λ w.
+    let b = g.B.View in
+    let e = c.held.ensures in
+    counts_joined (b.working c.args.leaves.now) (b.working c.held.new.leaves) c.args.counts.now c.held.new.counts c.held-2.new.counts e.reads.working (e.counts w) (c.held-2.ensures.counts (c.in_ok-down.ensures.ends.whole w))
+
+pub returns-in_err-told-clause-counts : goal.returns-in_err-told-clause-counts
+returns-in_err-told-clause-counts g c = λ w.
+    let b = g.B.View in
+    let e = c.held.ensures in
+    counts_joined (b.working c.args.leaves.now) (b.working c.held.new.leaves) c.args.counts.now c.held.new.counts c.held-2.new.counts e.reads.working (e.counts w) (c.held-2.ensures.counts (c.in_ok-down.ensures.ends.whole w))
+
+pub returns-clause-counts : goal.returns-clause-counts
+returns-clause-counts g c = λ w.
+    let b = g.B.View in
+    let e = c.held.ensures in
+    counts_joined (b.working c.args.leaves.now) (b.working c.held.new.leaves) c.args.counts.now c.held.new.counts c.held-2.new.counts e.reads.working (e.counts w) (c.held-2.ensures.counts (c.in_ok-down.ensures.ends.whole w))

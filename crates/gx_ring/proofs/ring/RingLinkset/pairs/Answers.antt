@@ -2,6 +2,7 @@ use Rattle.std.proofs.Common.{◌<◌, sym, subst, length}
 use Rattle.gx_stack.specs.Seen.{tree_of}
 use Rattle.gx_stack.specs.Internal.{HasSet}
 use Rattle.gx_stack.specs.Held.{IsHeld}
+use Rattle.gx_stack.proofs.CountLemmas.{counts_joined}
 use Rattle.gx_ring.proofs.FoundLemmas.{heads_below, nexts_below, heads_held, nexts_held}
 use Rattle.gx_ring.proofs.RingPairs.{ring_pairs}
 use Rattle.gx_ring.proofs.ring.RingLinkset.pairs.Goals as goal
@@ -43,3 +44,27 @@ returns-clause-pairs g c =
     let first = subst (IsHeld rule heads (b.whole old) (b.working old)) c.in-Some.is c.in_ok-heads.ensures.held in
     let second = subst (IsHeld rule nexts (b.whole half) (b.working half)) c.in-Some-2.is c.in_ok-chain.ensures.held in
     ring_pairs rule heads nexts c.requires.valid g.met.M.Mapping.laws (b.whole old) (b.whole half) (b.working old) (b.working half) c.in_ok-heads.ensures.reads.ends.whole c.held.ensures.reads.reads.working c.in-Some.heads c.in-Some-2.chain first second c.in_ok-told.field-0 c.in_ok-told.ensures
+
+pub returns-in_err-chain-clause-counts : goal.returns-in_err-chain-clause-counts
+returns-in_err-chain-clause-counts g c = λ w.
+    let b = g.B.View in
+    let e = c.held.ensures in
+    counts_joined (b.working c.args.leaves.now) (b.working c.held.new.leaves) c.args.counts.now c.held.new.counts c.held-2.new.counts e.reads.reads.working (e.counts w) (c.held-2.ensures.counts (c.in_ok-heads.ensures.reads.ends.whole w))
+
+pub returns-in_default-2-clause-counts : goal.returns-in_default-2-clause-counts
+returns-in_default-2-clause-counts g c = λ w.
+    let b = g.B.View in
+    let e = c.held.ensures in
+    counts_joined (b.working c.args.leaves.now) (b.working c.held.new.leaves) c.args.counts.now c.held.new.counts c.held-2.new.counts e.reads.reads.working (e.counts w) (c.held-2.ensures.counts (c.in_ok-heads.ensures.reads.ends.whole w))
+
+pub returns-in_err-told-clause-counts : goal.returns-in_err-told-clause-counts
+returns-in_err-told-clause-counts g c = λ w.
+    let b = g.B.View in
+    let e = c.held.ensures in
+    counts_joined (b.working c.args.leaves.now) (b.working c.held.new.leaves) c.args.counts.now c.held.new.counts c.held-2.new.counts e.reads.reads.working (e.counts w) (c.held-2.ensures.counts (c.in_ok-heads.ensures.reads.ends.whole w))
+
+pub returns-clause-counts : goal.returns-clause-counts
+returns-clause-counts g c = λ w.
+    let b = g.B.View in
+    let e = c.held.ensures in
+    counts_joined (b.working c.args.leaves.now) (b.working c.held.new.leaves) c.args.counts.now c.held.new.counts c.held-2.new.counts e.reads.reads.working (e.counts w) (c.held-2.ensures.counts (c.in_ok-heads.ensures.reads.ends.whole w))

@@ -6,7 +6,7 @@ use Rattle.gx_stack.specs.Tree.{leaves_of}
 use Rattle.gx_stack.specs.Seen.{tree_of, kids_from}
 use Rattle.gx_stack.specs.Internal.{IsSet, IsInternal, child_records}
 use Rattle.gx_gather.specs.Gather.{rec_cmp, part_for, AreDataParts}
-use Rattle.gx_stack.specs.Held.{IsHeld}
+use Rattle.gx_stack.specs.Held.{IsHeld, AreCounts}
 use Rattle.gx_ports.proofs.CallLemmas.{reads_joined}
 use Rattle.gx_gather.proofs.Orders.{ascends}
 use Rattle.gx_stack.proofs.Seen.{seen_leaf, layer_form, child_there, child_valid, child_leaves, child_internal, kid_lower}
@@ -14,6 +14,7 @@ use Rattle.gx_stack.proofs.Children.{child_set}
 use Rattle.gx_stack.proofs.Selects.{data_parts_add}
 use Rattle.gx_stack.proofs.StepLemmas.{tree_steps, steps_below, if_ever, leaf_steps, layer_steps, child_steps}
 use Rattle.std.proofs.lemmas.Result.{on_ok_weaker}
+use Rattle.gx_stack.proofs.CountLemmas.{counts_joined}
 use Rattle.gx_stack.proofs.WholeLayer.{AreRead, read_data, read_other}
 use Rattle.gx_stack.proofs.WholeNode.{ChildHolds, if_ok, one_holds, others_fit, by_members, layer_joined}
 use Rattle.gx_stack.proofs.node.Node.+held.Goals.{then-holds_rest+in_ok-add_parts-in-Layer, else-holds_rest+in_ok-add_parts-in-Layer-2}
@@ -92,6 +93,9 @@ loop-child-preserved g t c =
     let here = subst (λ ms. b.work c.held.new.leaves ≤ b.work at.leaves + tree_steps ms (tree_of k)) inv.reads.working (e.few_steps (inv.whole w)) in
     omega (arith, here, inv.few_steps w, child_steps n l c.in-Layer.is maps child k there read)
     in
+    let counts : b.whole fn → AreCounts maps c.args.counts.now → AreCounts maps c.held.new.counts = λ w.
+    counts_joined maps (b.working at.leaves) c.args.counts.now at.counts c.held.new.counts inv.reads.working (inv.counts w) (e.counts (inv.whole w))
+    in
     let members = by_members rule g.met.M.Mapping.laws n l c.in-Layer.is c.requires.valid maps in
     elim c.if-holds_rest.branch [
       | then-holds_rest+in_ok-add_parts-in-Layer w ↦ (
@@ -100,6 +104,7 @@ loop-child-preserved g t c =
           record {
             whole = λ h. e.reads.ends.whole (inv.whole h);
             reads = reads_joined b inv.reads e.reads.reads;
+            counts = counts;
             counted = e.reads.ends.counted refl ∙ inv.counted;
             few_steps = few;
             fit = subst (AreDataParts (rule l.mapping)) (sym main_are) (data_parts_add (rule l.mapping) child at.main found below rest fit inv.fit);
@@ -114,6 +119,7 @@ loop-child-preserved g t c =
           record {
             whole = λ h. e.reads.ends.whole (inv.whole h);
             reads = reads_joined b inv.reads e.reads.reads;
+            counts = counts;
             counted = e.reads.ends.counted refl ∙ inv.counted;
             few_steps = few;
             fit = subst (AreDataParts (rule l.mapping)) (sym w.main-is) inv.fit;
@@ -164,3 +170,17 @@ returns-after-loop-child-clause-few_steps g t c = λ whole.
     let at = c.loop-child in
     let maps = g.B.View.working c.args.leaves.now in
     if_ever c.join_parts.result (omega (arith, at.invariant.few_steps whole, layer_steps c.args.self.now l c.in-Layer.is maps at.child))
+
+pub returns-in_default-clause-counts : goal.returns-in_default-clause-counts
+returns-in_default-clause-counts g t c = λ w.
+    let b = g.B.View in
+    let at = c.loop-child in
+    let inv = at.invariant in
+    counts_joined (b.working c.args.leaves.now) (b.working at.leaves) c.args.counts.now at.counts c.held.new.counts inv.reads.working (inv.counts w) (c.in_ok-found-in-Layer.ensures.counts (inv.whole w))
+
+pub returns-in_err-add_parts-in-Layer-clause-counts : goal.returns-in_err-add_parts-in-Layer-clause-counts
+returns-in_err-add_parts-in-Layer-clause-counts g t c = λ w.
+    let b = g.B.View in
+    let at = c.loop-child in
+    let inv = at.invariant in
+    counts_joined (b.working c.args.leaves.now) (b.working at.leaves) c.args.counts.now at.counts c.held.new.counts inv.reads.working (inv.counts w) (c.in_ok-found-in-Layer.ensures.counts (inv.whole w))

@@ -4,6 +4,7 @@ use Rattle.gx_mapping.specs.Rule.{In, IsOf}
 use Rattle.gx_stack.specs.Tree.{height}
 use Rattle.gx_stack.specs.Seen.{tree_of, kids_from}
 use Rattle.gx_gather.specs.Gather.{AreDataParts}
+use Rattle.gx_stack.specs.Held.{AreCounts}
 use Rattle.gx_ports.specs.Calls.{Reads}
 use Rattle.gx_stack.proofs.StepLemmas.{steps_below}
 use Rattle.gx_stack.proofs.WholeLayer.{AreRead}
@@ -17,6 +18,7 @@ abbrev pub invariant-loop-child : goal.invariant-loop-child
 invariant-loop-child g l = let rule = g.M.Mapping.rule in let b = g.B.View in record {
   whole : b.whole l.fn.leaves → b.whole l.leaves;
   reads : Reads b l.fn.leaves l.leaves;
+  counts : b.whole l.fn.leaves → AreCounts (b.working l.fn.leaves) l.fn.counts → AreCounts (b.working l.fn.leaves) l.counts;
   counted : b.faults l.leaves ≡ b.faults l.fn.leaves;
   fit : AreDataParts (rule l.layer.mapping) l.main;
   fit_others : (p : Part) → In p l.others → IsOf ((rule l.layer.mapping).kid_form p.child) p.rec;

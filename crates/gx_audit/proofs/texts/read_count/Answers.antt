@@ -1,8 +1,8 @@
 use Rattle.std.proofs.Common.{◌≡◌, ◌++◌, ◌∙◌, List, length, ap}
 use Rattle.gx_ports.specs.declared.leaves.Entry.{Entry}
 use Rattle.gx_ports.specs.LeafMaps.{map_at, selected}
-use Rattle.gx_audit.proofs.TextLemmas.{selected_all}
-use Rattle.gx_audit.proofs.texts.entry_count.Goals as goal
+use Rattle.gx_stack.proofs.CountLemmas.{selected_all}
+use Rattle.gx_audit.proofs.texts.read_count.Goals as goal
 
 pub returns-clause-count : goal.returns-clause-count
 returns-clause-count g c = λ w.
