@@ -1,5 +1,6 @@
 -- Where the records of the layer go: each as one part, with the same key and the body.
-use Rattle.std.specs.Prelude.{true, false, [], ◌∷◌, None}
+use Rattle.std.specs.Prelude.{true, false, List, [], ◌∷◌, None}
+use Rattle.gx_values.specs.declared.values.Value.{Value}
 use Rattle.gx_values.specs.declared.values.Value.TheVariants as value
 use Rattle.gx_values.specs.declared.records.Form.{Form}
 use Rattle.gx_values.specs.declared.records.Rec.{Rec}
@@ -19,6 +20,10 @@ actual_rec r = record { key = r.key; fields = value.Bytes (body_of r.fields) ∷
 
 abbrev pub actual_part : Rec → Part
 actual_part r = record { child = 0; rec = actual_rec r }
+
+-- a part with this key and these data
+abbrev pub body_part : List Value → List Value → Part
+body_part key fields = record { child = 0; rec = record { key = key; fields = fields } }
 
 abbrev pub actual_rule : Form → Rule
 actual_rule form = record {

@@ -1,9 +1,10 @@
 // The layer's mapping.
 ghost use Rattle.std.specs.Prelude.{◌≡◌, ◌≢◌, ◌∷◌, [], List, ℕ, IfOk, IfSome, IfNone};
+ghost use Rattle.gx_values.specs.Values.{AreFit};
 ghost use Rattle.gx_values.specs.declared.values.Value.TheVariants as value;
-ghost use Rattle.gx_mapping.specs.Rule.{IsOf, AreOfKey, IsGathered};
+ghost use Rattle.gx_mapping.specs.Rule.{AreOfKey, IsGathered};
 ghost use Rattle.gx_actual.specs.Bodies.{AreShort};
-ghost use Rattle.gx_actual.specs.Rules.{actual_rec, actual_rule, form_of};
+ghost use Rattle.gx_actual.specs.Rules.{actual_part, actual_rule, body_part, form_of};
 ghost use Rattle.gx_actual.specs.Laws.{actual_laws};
 
 use crate::bodies::{body_bytes, read_body};
@@ -34,15 +35,28 @@ impl Mapping for Actual {
     }
 
     fn parts(&self, alloc: Global, rec: &Rec) -> Result<Parts, NoMemory> {
-        let rec = with_body(alloc, &self.form, rec)?;
-        Parts::one(alloc, Part { child: 0, rec })
+        let key = rec.key.copy(alloc)?;
+        with_body(alloc, &self.form, key, &rec.fields)
+    }
+
+    fn into_parts(&self, alloc: Global, rec: Rec) -> Result<Parts, NoMemory> {
+        let Rec { key, fields } = rec;
+        with_body(alloc, &self.form, key, &fields)
     }
 
     fn gather(&self, alloc: Global, key: &Values, parts: &Parts) -> Result<Option<Rec>, NoMemory> {
         match parts.0.as_slice() {
-            [part] => gather_one(alloc, &self.form, key, part),
+            [part] => {
+                let key = key.copy(alloc)?;
+                without_body(alloc, &self.form, key, &part.rec.fields)
+            }
             _ => Ok(None),
         }
+    }
+
+    fn gather_one(&self, alloc: Global, part: Part) -> Result<Option<Rec>, NoMemory> {
+        let Rec { key, fields } = part.rec;
+        without_body(alloc, &self.form, key, &fields)
     }
 
     fn skips(&self, _child: u16, _span: &Span) -> bool {
@@ -58,16 +72,17 @@ impl Mapping for Actual {
     }
 }
 
-// The record with the body in the place of its data fields.
-fn with_body(alloc: Global, form: &Form, rec: &Rec) -> Result<Rec, NoMemory>
+// The part of the record with this key and these data fields.
+fn with_body(alloc: Global, form: &Form, key: Values, fields: &Values) -> Result<Parts, NoMemory>
     requires short { AreShort form.now.fields }
-    requires is { IsOf form.now rec.now }
-    ensures { IfOk result (λ made. made ≡ actual_rec rec.now) }
+    requires fit { AreFit form.now.fields fields.now }
+    ensures { IfOk result
+        (λ parts. parts ≡ actual_part (record { key = key; fields = fields.now }) ∷ []) }
 {
-    let key = rec.key.copy(alloc)?;
-    let body = body_bytes(alloc, &form.fields.0, &rec.fields.0)?;
+    let body = body_bytes(alloc, &form.fields.0, &fields.0)?;
     let fields = one_value(alloc, Value::Bytes(body))?;
-    Ok(Rec { key, fields })
+    let rec = Rec { key, fields };
+    Parts::one(alloc, Part { child: 0, rec })
 }
 
 fn one_value(alloc: Global, value: Value) -> Result<Values, NoMemory>
@@ -78,24 +93,23 @@ fn one_value(alloc: Global, value: Value) -> Result<Values, NoMemory>
     Ok(Values(values))
 }
 
-// The record with this key that has this one part.
-fn gather_one(
+// The record with this key whose part has these data fields.
+fn without_body(
     alloc: Global,
     form: &Form,
-    key: &Values,
-    part: &Part,
+    key: Values,
+    fields: &Values,
 ) -> Result<Option<Rec>, NoMemory>
     requires short { AreShort form.now.fields }
-    requires under { AreOfKey (actual_rule form.now) key.now (part.now ∷ []) }
-    ensures { IfOk result (IsGathered (actual_rule form.now) key.now (part.now ∷ [])) }
+    requires under { AreOfKey (actual_rule form.now) key (body_part key fields.now ∷ []) }
+    ensures { IfOk result (IsGathered (actual_rule form.now) key (body_part key fields.now ∷ [])) }
 {
-    let Some(body) = the_bytes(&part.rec.fields) else {
+    let Some(body) = the_bytes(fields) else {
         return Ok(None);
     };
     let Some(fields) = read_body(alloc, &form.fields.0, body)? else {
         return Ok(None);
     };
-    let key = key.copy(alloc)?;
     Ok(Some(Rec { key, fields }))
 }
 

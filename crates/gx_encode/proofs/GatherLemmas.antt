@@ -19,7 +19,7 @@ use Rattle.gx_encode.specs.Runs.{runs_of, joined, AreShort, IsUnrle}
 use Rattle.gx_encode.specs.RunLaws.{runs_joined}
 use Rattle.gx_encode.specs.Codes.{code_of, IsCodeKind, coded_kind}
 use Rattle.gx_encode.specs.Forms.{no_field, no_value, changed, coded_field, IsEncode}
-use Rattle.gx_encode.specs.Rules.{coded, encode_rule, bytes_in}
+use Rattle.gx_encode.specs.Rules.{coded, encode_rule, only_part, bytes_in}
 
 pub changed_set : {A : Type 0} (i : ℕ) (x : A) (xs : List A) → set xs i x ≡ changed i (λ y. x) xs
 changed_set i x [] = refl
@@ -95,6 +95,16 @@ module _ (form : Form) (i : ℕ) (c : Code) (sound : IsEncode form i c) (key : L
 
   pub part_length : length form.fields ≡ length p.rec.fields
   part_length = sym (length_changed i c form.fields) ∙ same_length (changed i (coded_field c) form.fields) p.rec.fields part_fits
+
+  pub part_under : p.rec.key ≡ key
+  part_under = let of = req.each p (inl refl) in whole_key form.keys key p.rec.key req.key_fits of.fits.key of.under
+
+  pub part_whole : only_part p.rec ≡ p
+  part_whole = let child : p.child ≡ 0 = (let below = (req.each p (inl refl)).child in omega arith) in λ j. record { child = sym child j; rec = p.rec }
+
+  -- under its own key
+  pub part_alone : AreOfKey (encode_rule form i c) p.rec.key (only_part p.rec ∷ [])
+  part_alone = subst (λ (q : Part). AreOfKey (encode_rule form i c) p.rec.key (q ∷ [])) (sym part_whole) (subst (λ (k : List Value). AreOfKey (encode_rule form i c) k (p ∷ [])) (sym part_under) req)
 
   pub one_gathered : (copy fields : List Value) (v : Value) → IsRead (code_of c) (get_or form.fields i no_field).kind (bytes_in (get_or p.rec.fields i no_value)) (Some v) → copy ≡ key → fields ≡ changed i (λ w. v) p.rec.fields
       → IsGathered (encode_rule form i c) key (p ∷ []) (Some (record { key = copy; fields = fields }))

@@ -25,8 +25,12 @@ used_code_of m = m.code
 abbrev pub coded : Code → Value → Value
 coded c v = value.Bytes (code_of c v)
 
+-- a record as the part of the one child
+abbrev pub only_part : Rec → Part
+only_part r = record { child = 0; rec = r }
+
 abbrev pub encode_part : ℕ → Code → Rec → Part
-encode_part i c r = record { child = 0; rec = record { key = r.key; fields = changed i (coded c) r.fields } }
+encode_part i c r = only_part (record { key = r.key; fields = changed i (coded c) r.fields })
 
 abbrev pub encode_rule : Form → ℕ → Code → Rule
 encode_rule form i c = record {

@@ -1,6 +1,5 @@
 // Codes of values, and back.
 ghost use Rattle.std.specs.Prelude.{◌≡◌, ◌≤◌, ◌<◌, length, slice_index_or, IfOk};
-ghost use Rattle.gx_values.specs.Values.{AreSized};
 ghost use Rattle.gx_values.specs.Written.{IsRead};
 ghost use Rattle.gx_values.specs.declared.values.Code.TheVariants as code;
 ghost use Rattle.gx_values.specs.declared.values.Kind.TheVariants as kind;
@@ -89,19 +88,12 @@ pub(crate) fn bytes_at(values: &Values, number: usize) -> &[u8]
     }
 }
 
-/// The values with another one in the place of the one with the number. `NoMemory`: there was none for
-/// them.
-pub(crate) fn with_value(
-    alloc: Global,
-    values: &Values,
-    number: usize,
-    value: Value,
-) -> Result<Values, NoMemory>
-    requires place { number < length values.now }
-    requires sized { AreSized values.now }
-    ensures { IfOk result (λ made. made ≡ changed number (λ _. value) values.now) }
+/// The values with another one in the place of the one with the number.
+pub(crate) fn with_value(values: Values, number: usize, value: Value) -> Values
+    requires { number < length values }
+    ensures { result ≡ changed number (λ _. value) values }
 {
-    let mut made = values.copy(alloc)?;
+    let mut made = values;
     made.0[number] = value;
-    Ok(made)
+    made
 }

@@ -1,7 +1,7 @@
 // The layer's mapping.
 ghost use Rattle.std.specs.Prelude.{◌≡◌, ◌∷◌, [], IfOk};
-ghost use Rattle.gx_mapping.specs.Rule.{AreOfKey, IsGathered};
-ghost use Rattle.gx_encode.specs.Rules.{rule_of};
+ghost use Rattle.gx_mapping.specs.Rule.{IsOf, AreOfKey, IsGathered};
+ghost use Rattle.gx_encode.specs.Rules.{form_of, only_part, rule_of};
 ghost use Rattle.gx_encode.specs.Laws.{encode_laws};
 
 use crate::codes::{bytes_at, coded, decoded, kind_at, value_at, with_value};
@@ -32,24 +32,26 @@ impl Mapping for Encode {
     }
 
     fn parts(&self, alloc: Global, rec: &Rec) -> Result<Parts, NoMemory> {
-        let field = usize::from(self.field);
-        let bytes = coded(alloc, self.code, value_at(&rec.fields, field))?;
-        let fields = with_value(alloc, &rec.fields, field, Value::Bytes(bytes))?;
-        let key = rec.key.copy(alloc)?;
-        Parts::one(
-            alloc,
-            Part {
-                child: 0,
-                rec: Rec { key, fields },
-            },
-        )
+        let rec = rec.copy(alloc)?;
+        self.part_of(alloc, rec)
     }
 
-    fn gather(&self, alloc: Global, key: &Values, parts: &Parts) -> Result<Option<Rec>, NoMemory> {
+    fn into_parts(&self, alloc: Global, rec: Rec) -> Result<Parts, NoMemory> {
+        self.part_of(alloc, rec)
+    }
+
+    fn gather(&self, alloc: Global, _key: &Values, parts: &Parts) -> Result<Option<Rec>, NoMemory> {
         match parts.0.as_slice() {
-            [part] => self.gather_one(alloc, key, part),
+            [part] => {
+                let rec = part.rec.copy(alloc)?;
+                self.record_of(alloc, rec)
+            }
             _ => Ok(None),
         }
+    }
+
+    fn gather_one(&self, alloc: Global, part: Part) -> Result<Option<Rec>, NoMemory> {
+        self.record_of(alloc, part.rec)
     }
 
     fn skips(&self, _child: u16, _span: &Span) -> bool {
@@ -69,19 +71,32 @@ impl Mapping for Encode {
 }
 
 impl Encode {
-    // The record with this key that has this one part.
-    fn gather_one(&self, alloc: Global, key: &Values, part: &Part) -> Result<Option<Rec>, NoMemory>
-        requires { AreOfKey (rule_of self.now) key.now (part.now ∷ []) }
-        ensures { IfOk result (IsGathered (rule_of self.now) key.now (part.now ∷ [])) }
+    // The one part of a record.
+    fn part_of(&self, alloc: Global, rec: Rec) -> Result<Parts, NoMemory>
+        requires { IsOf (form_of self.now) rec }
+        ensures { IfOk result (λ parts. parts ≡ (rule_of self.now).parts rec) }
+    {
+        let field = usize::from(self.field);
+        let Rec { key, fields } = rec;
+        let bytes = coded(alloc, self.code, value_at(&fields, field))?;
+        let fields = with_value(fields, field, Value::Bytes(bytes));
+        let rec = Rec { key, fields };
+        Parts::one(alloc, Part { child: 0, rec })
+    }
+
+    // The record that has this as its one part.
+    fn record_of(&self, alloc: Global, part: Rec) -> Result<Option<Rec>, NoMemory>
+        requires { AreOfKey (rule_of self.now) part.key (only_part part ∷ []) }
+        ensures { IfOk result (IsGathered (rule_of self.now) part.key (only_part part ∷ [])) }
     {
         let field = usize::from(self.field);
         let kind = kind_at(&self.form.fields, field);
-        let bytes = bytes_at(&part.rec.fields, field);
+        let Rec { key, fields } = part;
+        let bytes = bytes_at(&fields, field);
         let Some(value) = decoded(alloc, self.code, kind, bytes)? else {
             return Ok(None);
         };
-        let fields = with_value(alloc, &part.rec.fields, field, value)?;
-        let key = key.copy(alloc)?;
+        let fields = with_value(fields, field, value);
         Ok(Some(Rec { key, fields }))
     }
 }

@@ -1,5 +1,5 @@
 // Records gathered from the data parts that the children of a layer hold.
-ghost use Rattle.std.specs.Prelude.{◌≡◌, ◌<◌, ◌++◌, ◌∷◌, [], ℕ, true, List, Some, None, length, map, take, OnOk, IsErrOf, IfOk};
+ghost use Rattle.std.specs.Prelude.{◌≡◌, ◌<◌, ◌++◌, ◌∷◌, [], ℕ, true, List, Some, None, length, map, take, OnOk, IsErrOf, IfOk, IfSome, IfNone};
 ghost use Rattle.std.specs.List.Sorted.{IsPermutation, IsSortedBy, IsStrictlySortedBy};
 ghost use Rattle.std.specs.Ordering.{is_lt};
 ghost use Rattle.gx_values.specs.Values.{AreSized};
@@ -12,7 +12,7 @@ use crate::order::{front, is_same_front, sort_parts};
 use crate::recs::Recs;
 use gx_mapping::{Mapping, Part, Parts};
 use gx_ports::Stop;
-use gx_values::{NoMemory, Value, Values};
+use gx_values::{NoMemory, Rec, Value, Values};
 use std::alloc::{AllocError, Global};
 
 /// The block that is reported where records show damage: no record knows from which block it was read.
@@ -78,7 +78,8 @@ fn gather_sorted<M: Mapping>(
     ensures not_fault { ¬ IsErrOf result Stop.Fault }
 {
     if is_one_group(width, &parts.0) {
-        return gather_group(alloc, mapping, width, &parts, out);
+        let mut parts = parts;
+        return gather_group(alloc, mapping, width, &mut parts, out);
     }
     gather_groups(alloc, mapping, width, parts, out)
 }
@@ -107,7 +108,7 @@ fn gather_groups<M: Mapping>(
     let mut group = Parts(Vec::new(alloc));
     for part in parts.0 {
         if begins_next(width, &group.0, &part) {
-            gather_group(alloc, mapping, width, &group, out)?;
+            gather_group(alloc, mapping, width, &mut group, out)?;
             group.0.clear();
         }
         group.0.push(part)?;
@@ -115,7 +116,7 @@ fn gather_groups<M: Mapping>(
     if group.0.is_empty() {
         return Ok(());
     }
-    gather_group(alloc, mapping, width, &group, out)
+    gather_group(alloc, mapping, width, &mut group, out)
 }
 
 // Whether there are parts, and all of one record: so it is where one was looked for by its key.
@@ -141,32 +142,67 @@ fn begins_next(width: usize, group: &[Part], part: &Part) -> bool
     }
 }
 
-// Appends the record of a group of parts.
+// Appends the record of a group of parts. Nothing is said of what is left of the group.
 fn gather_group<M: Mapping>(
     alloc: Global,
     mapping: &M,
     width: usize,
-    group: &Parts,
+    group: &mut Parts,
     out: &mut Recs,
 ) -> Result<(), Stop>
-    requires some { 0 < length group.now }
-    requires of_key { AreOfKey (M.rule mapping.now) (first_front width group.now) group.now }
+    requires some { 0 < length group.old }
+    requires of_key { AreOfKey (M.rule mapping.now) (first_front width group.old) group.old }
     ensures made { OnOk result
         ((r : Record) × (out.new ≡ out.old ++ r ∷ [])
-        × IsGathered (M.rule mapping.now) (first_front width group.now) group.now (Some r)) }
+        × IsGathered (M.rule mapping.now) (first_front width group.old) group.old (Some r)) }
     ensures front { Extends out.old out.new }
     ensures damaged { (block : ℕ) → IsErrOf result (Stop.Damaged block) →
-        IsGathered (M.rule mapping.now) (first_front width group.now) group.now None }
+        IsGathered (M.rule mapping.now) (first_front width group.old) group.old None }
     ensures block { (n : ℕ) → IsErrOf result (Stop.Damaged n) → n ≡ 0 }
     ensures not_full { ¬ IsErrOf result Stop.Full }
     ensures not_fault { ¬ IsErrOf result Stop.Fault }
 {
-    let key = copy_front(alloc, width, &group.0[0].rec.key.0)?;
-    match mapping.gather(alloc, &key, group)? {
+    let made = match take_alone(width, group) {
+        Some(part) => mapping.gather_one(alloc, part)?,
+        None => gather_several(alloc, mapping, width, group)?,
+    };
+    match made {
         Some(rec) => out.0.push(rec)?,
         None => return Err(Stop::Damaged(NO_BLOCK)),
     }
     Ok(())
+}
+
+// Takes out the part where it is alone, and its key no longer than a record's.
+fn take_alone(width: usize, group: &mut Parts) -> Option<Part>
+    ensures some { IfSome result (λ p.
+        (group.old ≡ p ∷ []) × (first_front width group.old ≡ p.rec.key)) }
+    ensures none { IfNone result (group.new ≡ group.old) }
+{
+    match group.0.as_slice() {
+        [part] if part.rec.key.0.len() <= width => group.0.pop(),
+        _ => None,
+    }
+}
+
+// The record of a group of parts.
+fn gather_several<M: Mapping>(
+    alloc: Global,
+    mapping: &M,
+    width: usize,
+    group: &Parts,
+) -> Result<Option<Rec>, NoMemory>
+    requires some { 0 < length group.now }
+    requires of_key { AreOfKey (M.rule mapping.now) (first_front width group.now) group.now }
+    ensures { IfOk result
+        (IsGathered (M.rule mapping.now) (first_front width group.now) group.now) }
+{
+    let first = &group.0[0].rec.key;
+    if first.0.len() <= width {
+        return mapping.gather(alloc, first, group);
+    }
+    let key = copy_front(alloc, width, &first.0)?;
+    mapping.gather(alloc, &key, group)
 }
 
 // The key that a part's key begins with.

@@ -1,7 +1,7 @@
 -- What is gathered from the part of a record.
 use Rattle.std.proofs.lemmas.Bool.Decides.{nat_tests}
 use Rattle.std.proofs.Common.{inl, ◌≡◌, ℕ, ◌<◌, ◌≤◌, List, [], ◌∷◌, length, get_or, cond, Bool, true, false, Option, Some, None, refl, sym, ap, subst, ◌∙◌, arith}
-use Rattle.std.specs.Prelude.{Result, Ok, Err, IfOk, nat_eq}
+use Rattle.std.specs.Prelude.{nat_eq}
 use Rattle.gx_values.specs.declared.values.Value.{Value}
 use Rattle.gx_values.specs.declared.records.Form.{Form}
 use Rattle.gx_values.specs.declared.records.Rec.{Rec}
@@ -12,10 +12,6 @@ use Rattle.gx_partition.specs.declared.place.Where.{Where}
 use Rattle.gx_partition.specs.Places.{value_at}
 use Rattle.gx_partition.specs.Bounds.{child_of}
 use Rattle.gx_partition.specs.Rules.{partition_part, partition_rule, whole_of}
-
-pub if_ok : {A E : Type 0} {P Q : A → Type 0} (result : Result A E) → ((x : A) → P x → Q x) → IfOk result P → IfOk result Q
-if_ok (Ok x) more met = more x met
-if_ok (Err e) more met = tt
 
 -- the record of a part in its own child
 pub whole_there : (at : Where) (bounds : List Value) (p : Part) (n : ℕ) (r : Rec) → n ≡ child_of bounds (value_at at p.rec) → n ≡ p.child → r ≡ p.rec → Some r ≡ whole_of at bounds p

@@ -1,5 +1,5 @@
 // The layer's mapping.
-ghost use Rattle.std.specs.Prelude.{◌≡◌, IfOk};
+ghost use Rattle.std.specs.Prelude.{◌≡◌};
 ghost use Rattle.gx_mapping.specs.Rule.{IsOf};
 ghost use Rattle.gx_partition.specs.Places.{value_at};
 ghost use Rattle.gx_partition.specs.Bounds.{child_of};
@@ -50,9 +50,17 @@ impl Mapping for Partition {
 
     fn gather(&self, alloc: Global, _key: &Values, parts: &Parts) -> Result<Option<Rec>, NoMemory> {
         match parts.0.as_slice() {
-            [part] => self.whole(alloc, part),
+            [part] => {
+                let rec = part.rec.copy(alloc)?;
+                let child = part.child;
+                Ok(self.whole(Part { child, rec }))
+            }
             _ => Ok(None),
         }
+    }
+
+    fn gather_one(&self, _alloc: Global, part: Part) -> Result<Option<Rec>, NoMemory> {
+        Ok(self.whole(part))
     }
 
     fn skips(&self, child: u16, span: &Span) -> bool {
@@ -84,14 +92,14 @@ impl Partition {
     }
 
     // The record of the part, where its value belongs to the part's child.
-    fn whole(&self, alloc: Global, part: &Part) -> Result<Option<Rec>, NoMemory>
-        requires { IsOf (form_of self.now) part.now.rec }
-        ensures { IfOk result (λ found. found ≡ whole_of (at_of self.now) (bounds_of self.now) part.now) }
+    fn whole(&self, part: Part) -> Option<Rec>
+        requires { IsOf (form_of self.now) part.rec }
+        ensures { result ≡ whole_of (at_of self.now) (bounds_of self.now) part }
     {
         if self.child_for(&part.rec) == part.child {
-            Ok(Some(part.rec.copy(alloc)?))
+            Some(part.rec)
         } else {
-            Ok(None)
+            None
         }
     }
 }

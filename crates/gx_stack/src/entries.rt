@@ -7,7 +7,7 @@ ghost use Rattle.gx_stack.specs.Tree.{IsLeafForm, entry_in, leaf_body};
 ghost use Rattle.gx_stack.specs.Internal.{IsPlace, IsAt, SomeAt, NoneAt, AreSmall, IsRemoved, IsPut, SameBut};
 
 use gx_ports::{Leaves, Stop};
-use gx_values::{Form, NoMemory, Octets, Rec, Value, key_bytes};
+use gx_values::{Form, NoMemory, Octets, Rec, Value, Values, key_bytes};
 use std::alloc::Global;
 
 /// One entry of one leaf.
@@ -29,6 +29,30 @@ pub fn leaf_entry(alloc: Global, leaf: u32, form: &Form, rec: &Rec) -> Result<Le
     let key = Octets::from_slice(alloc, key.as_slice())?;
     let body = Octets::from_slice(alloc, body_of(rec))?;
     Ok(LeafEntry { leaf, key, body })
+}
+
+// The same of a record that needn't be kept.
+pub fn into_entry(alloc: Global, leaf: u32, form: &Form, rec: Rec) -> Result<LeafEntry, NoMemory>
+    requires form { IsLeafForm form.now }
+    requires of_form { IsOf form.now rec }
+    ensures { IfOk result (λ e. e ≡ entry_in leaf rec) }
+{
+    let key = key_bytes(&form.keys, &rec.key);
+    let key = Octets::from_slice(alloc, key.as_slice())?;
+    let body = into_body(alloc, rec.fields);
+    Ok(LeafEntry { leaf, key, body })
+}
+
+// The bytes of the first value; none where there is none.
+fn into_body(alloc: Global, fields: Values) -> Octets
+    ensures { result ≡ leaf_body fields }
+{
+    let mut fields = fields;
+    fields.0.truncate(1);
+    match fields.0.pop() {
+        Some(Value::Bytes(bytes)) => bytes,
+        _ => Octets(Vec::new(alloc)),
+    }
 }
 
 fn body_of(rec: &Rec) -> &[u8]

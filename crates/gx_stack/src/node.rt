@@ -10,7 +10,7 @@ ghost use Rattle.gx_stack.specs.Seen.{tree_of};
 ghost use Rattle.gx_stack.specs.Internal.{IsSet, IsInternal, IsUnion, IsChange, IfThere, HasSet, changed, entries_if};
 ghost use Rattle.gx_stack.specs.Selected.{IsKeySpan, IsFound};
 
-use crate::entries::{LeafEntry, leaf_entry, put_new, remove_others};
+use crate::entries::{LeafEntry, into_entry, leaf_entry, put_new, remove_others};
 use crate::read::select_leaf;
 use gx_gather::{Recs, add_parts, gather_parts};
 use gx_mapping::{Mapping, Parts};
@@ -96,9 +96,44 @@ impl<M: Mapping> Node<M> {
                     }
                     None => layer.mapping.parts(alloc, rec)?,
                 };
-                for part in &parts.0 {
+                for part in parts.0 {
                     let kid = &layer.kids[part.child as usize];
-                    kid.entries(alloc, &part.rec, out)?;
+                    kid.into_entries(alloc, part.rec, out)?;
+                }
+                Ok(())
+            }
+        }
+    }
+
+    // The same of a record that needn't be kept: its key and its fields are handed down.
+    fn into_entries(
+        &self,
+        alloc: Global,
+        rec: Rec,
+        out: &mut Vec<LeafEntry>,
+    ) -> Result<(), NoMemory>
+        requires valid { IsValid M.rule (tree_of self.now) }
+        requires of_form { IsOf (tree_form M.rule (tree_of self.now)) rec }
+        ensures { OnOk result
+            (out.new.items ≡ out.old.items ++ entries_of M.rule (tree_of self.now) rec) }
+    {
+        match self {
+            Node::Leaf(node) => {
+                out.push(into_entry(alloc, node.leaf, &node.form, rec)?)?;
+                Ok(())
+            }
+            Node::Layer(layer) => {
+                let parts = match layer.mapping.as_whole(alloc, &rec)? {
+                    Some(whole) => {
+                        let first = &layer.kids[whole.child as usize];
+                        first.into_entries(alloc, rec, out)?;
+                        whole.others
+                    }
+                    None => layer.mapping.into_parts(alloc, rec)?,
+                };
+                for part in parts.0 {
+                    let kid = &layer.kids[part.child as usize];
+                    kid.into_entries(alloc, part.rec, out)?;
                 }
                 Ok(())
             }

@@ -5,7 +5,7 @@ use gx_actual::Actual;
 use gx_divide::Divide;
 use gx_encode::Encode;
 use gx_index::Index;
-use gx_mapping::{Mapping, Parts, Whole};
+use gx_mapping::{Mapping, Part, Parts, Whole};
 use gx_partition::Partition;
 use gx_split::{Segment, Transpose};
 use gx_values::{Form, Name, NoMemory, Rec, Span, Values};
@@ -97,6 +97,18 @@ impl Mapping for AnyMapping {
         }
     }
 
+    fn into_parts(&self, alloc: Global, rec: Rec) -> Result<Parts, NoMemory> {
+        match self {
+            AnyMapping::Actual(mapping) => mapping.into_parts(alloc, rec),
+            AnyMapping::Encode(mapping) => mapping.into_parts(alloc, rec),
+            AnyMapping::Segment(mapping) => mapping.into_parts(alloc, rec),
+            AnyMapping::Transpose(mapping) => mapping.into_parts(alloc, rec),
+            AnyMapping::Partition(mapping) => mapping.into_parts(alloc, rec),
+            AnyMapping::Divide(mapping) => mapping.into_parts(alloc, rec),
+            AnyMapping::Index(mapping) => mapping.into_parts(alloc, rec),
+        }
+    }
+
     fn as_whole(&self, alloc: Global, rec: &Rec) -> Result<Option<Whole>, NoMemory> {
         match self {
             AnyMapping::Actual(mapping) => mapping.as_whole(alloc, rec),
@@ -130,6 +142,18 @@ impl Mapping for AnyMapping {
             AnyMapping::Partition(mapping) => mapping.gather(alloc, key, parts),
             AnyMapping::Divide(mapping) => mapping.gather(alloc, key, parts),
             AnyMapping::Index(mapping) => mapping.gather(alloc, key, parts),
+        }
+    }
+
+    fn gather_one(&self, alloc: Global, part: Part) -> Result<Option<Rec>, NoMemory> {
+        match self {
+            AnyMapping::Actual(mapping) => mapping.gather_one(alloc, part),
+            AnyMapping::Encode(mapping) => mapping.gather_one(alloc, part),
+            AnyMapping::Segment(mapping) => mapping.gather_one(alloc, part),
+            AnyMapping::Transpose(mapping) => mapping.gather_one(alloc, part),
+            AnyMapping::Partition(mapping) => mapping.gather_one(alloc, part),
+            AnyMapping::Divide(mapping) => mapping.gather_one(alloc, part),
+            AnyMapping::Index(mapping) => mapping.gather_one(alloc, part),
         }
     }
 

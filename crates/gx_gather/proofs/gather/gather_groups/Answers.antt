@@ -40,6 +40,16 @@ returns-in_err-gather_group-clause-damaged g c = λ block e.
     unmade_next (g.met.M.Mapping.laws c.args.mapping.now) width c.requires.width ps c.args.out.now at.out at.group (into_iter_items c.next.new.self) q (rises (gather_total width) ps c.requires.in_order) (next_some width at.group q next) next
     (c.in_err-gather_group.ensures.damaged block (sym (p.1 ∙ ap Err p.2) ∙ e)) so_far
 
+pub returns-in_err-push-clause-front : goal.returns-in_err-push-clause-front
+returns-in_err-push-clause-front g c =
+    let front = c.loop-part.invariant.front in
+    elim c.if-begins_next.branch [
+      | then-begins_next+in_ok-gather_group w ↦ (
+          let made = w.in_ok-gather_group.ensures.made in
+          (front.0 ++ made.0 ∷ [], w.out-is ∙ made.1 ∙ ap (λ zs. zs ++ made.0 ∷ []) front.1 ∙ append_assoc c.args.out.now front.0 (made.0 ∷ [])))
+      | else-begins_next w ↦ (front.0, w.out-is ∙ front.1)
+    ]
+
 pub loop-part-preserved : goal.loop-part-preserved
 loop-part-preserved g c =
     let at = c.loop-part in
@@ -59,8 +69,7 @@ loop-part-preserved g c =
       | then-begins_next+in_ok-gather_group w ↦ (
           let next : is_next width at.group q ≡ true = ap (λ gs. is_next width gs q) (sym same) ∙ sym c.begins_next.ensures ∙ w.if-begins_next.true in
           let made = w.in_ok-gather_group.ensures.made in
-          let cleared : c.if-begins_next.group-inside.0.items ≡ [] = search rules in
-          let group : c.push.new.self.items ≡ q ∷ [] = c.in_ok-push.ensures.items ∙ ap (λ zs. zs ++ q ∷ []) cleared in
+          let group : c.push.new.self.items ≡ q ∷ [] = c.in_ok-push.ensures.items ∙ ap (λ zs. zs ++ q ∷ []) (c.group-in-loop-part.view_is ∙ w.group-is ∙ w.clear.ensures.items) in
           record {
             many = many;
             so_far = subst (λ gs. IsGathering rule width ps out c.if-begins_next.out gs rest) (sym group)
@@ -69,8 +78,7 @@ loop-part-preserved g c =
           })
       | else-begins_next w ↦ (
           let next : is_next width at.group q ≡ false = ap (λ gs. is_next width gs q) (sym same) ∙ sym c.begins_next.ensures ∙ w.if-begins_next.false in
-          let kept : c.if-begins_next.group-inside.0.items ≡ at.group = search rules in
-          let group : c.push.new.self.items ≡ at.group ++ q ∷ [] = c.in_ok-push.ensures.items ∙ ap (λ zs. zs ++ q ∷ []) kept in
+          let group : c.push.new.self.items ≡ at.group ++ q ∷ [] = c.in_ok-push.ensures.items ∙ ap (λ zs. zs ++ q ∷ []) (c.group-in-loop-part.view_is ∙ w.group-is) in
           record {
             many = many;
             so_far = subst (λ gs. IsGathering rule width ps out c.if-begins_next.out gs rest) (sym group)

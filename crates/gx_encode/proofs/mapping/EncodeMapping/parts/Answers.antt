@@ -1,39 +1,19 @@
-use Rattle.std.proofs.Common.{◌≡◌, ◌∷◌, [], ◌∙◌, ℕ, get_or, ap, sym, subst, arith}
+use Rattle.std.proofs.Common.{◌≡◌, sym, subst}
 use Rattle.std.specs.Prelude.{IfOk}
-use Rattle.gx_values.specs.declared.values.Value.TheVariants as value
+use Rattle.gx_values.specs.declared.records.Rec.{Rec}
 use Rattle.gx_values.proofs.CopyLemmas.{are_sized}
-use Rattle.gx_mapping.specs.declared.parts.Part.{Part}
-use Rattle.gx_encode.specs.Codes.{code_of, IsCodable}
-use Rattle.gx_encode.specs.Forms.{no_field, no_value, changed}
-use Rattle.gx_encode.specs.Laws.{has_code}
-use Rattle.gx_encode.proofs.GatherLemmas.{same_length, fits_at, changed_value}
+use Rattle.gx_mapping.specs.Rule.{IsOf}
+use Rattle.gx_encode.specs.Rules.{rule_of}
 use Rattle.gx_encode.proofs.mapping.EncodeMapping.parts.Goals as goal
 
-pub value_at-requires : goal.value_at-requires
-value_at-requires c =
+pub part_of-requires : goal.part_of-requires
+part_of-requires c =
     let m = c.args.self.now in
     let r = c.args.rec.now in
-    omega (arith, c.from-field.ensures, m.sound.place, same_length m.form.fields r.fields c.requires.fields)
-
-pub coded-requires : goal.coded-requires
-coded-requires c =
-    let m = c.args.self.now in
-    let r = c.args.rec.now in
-    let v = c.value_at.ensures ∙ ap (λ (n : ℕ). get_or r.fields n no_value) c.from-field.ensures in
-    subst (IsCodable m.code) (sym v) (has_code m.code (get_or m.form.fields m.field no_field).kind (get_or r.fields m.field no_value) m.sound.kind (fits_at m.field m.form.fields r.fields c.requires.fields m.sound.place))
-
-pub with_value-requires : goal.with_value-requires
-with_value-requires c =
-    let m = c.args.self.now in
-    let r = c.args.rec.now in
-    record { place = omega (arith, c.from-field.ensures, m.sound.place, same_length m.form.fields r.fields c.requires.fields); sized = are_sized m.form.fields r.fields c.requires.fields }
+    subst (IsOf m.form) (sym (c.in_ok-rec.ensures (are_sized m.form.keys r.key c.requires.key) (are_sized m.form.fields r.fields c.requires.fields))) c.requires
 
 pub returns : goal.returns
 returns c =
     let m = c.args.self.now in
     let r = c.args.rec.now in
-    let number = c.from-field.ensures in
-    let bytes = c.in_ok-bytes.ensures ∙ ap (code_of m.code) (c.value_at.ensures ∙ ap (λ (n : ℕ). get_or r.fields n no_value) number) in
-    let key = c.in_ok-key.ensures (are_sized m.form.keys r.key c.requires.key) in
-    let fields = c.in_ok-fields.ensures ∙ (λ i. changed (number i) (λ old. value.Bytes (bytes i)) r.fields) ∙ changed_value m.field m.code r.fields in
-    subst (λ (p : Part). IfOk c.one.result (λ parts. parts ≡ p ∷ [])) (λ i. record { child = 0; rec = record { key = key i; fields = fields i } }) c.one.ensures
+    subst (λ (q : Rec). IfOk c.part_of.result (λ parts. parts ≡ (rule_of m).parts q)) (c.in_ok-rec.ensures (are_sized m.form.keys r.key c.requires.key) (are_sized m.form.fields r.fields c.requires.fields)) c.part_of.ensures

@@ -1,13 +1,12 @@
 use Rattle.std.proofs.Common.{rules, ◌≡◌, Some, refl, subst}
 use Rattle.gx_values.specs.Written.{AreRead}
-use Rattle.gx_values.proofs.CopyLemmas.{are_sized}
 use Rattle.gx_actual.specs.Bodies.{field_bytes}
+use Rattle.gx_actual.specs.Rules.{body_part}
 use Rattle.gx_actual.proofs.GatherLemmas.{gathered}
-use Rattle.gx_actual.proofs.mapping.gather_one.Goals as goal
+use Rattle.gx_actual.proofs.mapping.without_body.Goals as goal
 
 pub returns : goal.returns
 returns c =
     let same : c.deref.result.now ≡ c.args.form.now.fields = search rules in
     let read = subst (λ fs. AreRead field_bytes fs c.in-Some.body.now (Some c.in-Some-2.fields)) same (subst (AreRead field_bytes c.deref.result.now c.in-Some.body.now) c.in-Some-2.is c.in_ok-fields.ensures) in
-    gathered c.args.form.now c.args.key.now c.in_ok-key.key c.in-Some-2.fields c.in-Some.body.now c.args.part.now _ c.requires.under refl c.in-Some.ensures.some read
-    (c.in_ok-key.ensures (are_sized c.args.form.now.keys c.args.key.now c.requires.under.key_fits))
+    gathered c.args.form.now c.args.key c.args.key c.in-Some-2.fields c.in-Some.body.now (body_part c.args.key c.args.fields.now) _ c.requires.under refl c.in-Some.ensures.some read refl

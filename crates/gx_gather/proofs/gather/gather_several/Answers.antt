@@ -3,7 +3,7 @@ use Rattle.gx_values.specs.Values.{AreSized}
 use Rattle.gx_values.proofs.CopyLemmas.{are_sized}
 use Rattle.gx_gather.specs.Gather.{first_front}
 use Rattle.gx_gather.proofs.KeyOrder.{first_front_is}
-use Rattle.gx_gather.proofs.gather.gather_group.Goals as goal
+use Rattle.gx_gather.proofs.gather.gather_several.Goals as goal
 
 pub copy_front-requires : goal.copy_front-requires
 copy_front-requires g c =
