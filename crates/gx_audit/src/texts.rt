@@ -1,5 +1,5 @@
 // What is said of a database.
-ghost use Rattle.std.specs.Prelude.{◌≡◌, ◌<◌, ◌++◌, ℕ, [], List, length, map, slice_index_or, codes, IfOk, OnOk};
+ghost use Rattle.std.specs.Prelude.{◌≡◌, ◌<◌, ◌++◌, [], length, map, slice_index_or, codes, IfOk, OnOk};
 ghost use Rattle.std.specs.Fmt.{decimal};
 ghost use Rattle.std.specs.FinMap.{len};
 ghost use Rattle.gx_ports.specs.LeafMaps.{map_at};
