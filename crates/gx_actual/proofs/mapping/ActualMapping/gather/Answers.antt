@@ -1,4 +1,4 @@
-use Rattle.std.proofs.Common.{◌≡◌, ◌∷◌, [], ◌∙◌, List, sym, subst}
+use Rattle.std.proofs.Common.{◌∷◌, [], ◌∙◌, List, sym, subst}
 use Rattle.std.specs.Prelude.{IfOk}
 use Rattle.gx_values.specs.declared.values.Value.{Value}
 use Rattle.gx_values.proofs.CopyLemmas.{are_sized}

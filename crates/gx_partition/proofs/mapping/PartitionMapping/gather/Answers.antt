@@ -1,4 +1,4 @@
-use Rattle.std.proofs.Common.{inl, ◌≡◌, ◌∙◌, refl, sym, ap, subst}
+use Rattle.std.proofs.Common.{inl, ◌∙◌, refl, sym, ap, subst}
 use Rattle.gx_values.specs.declared.records.Rec.{Rec}
 use Rattle.gx_values.proofs.CopyLemmas.{are_sized}
 use Rattle.gx_mapping.specs.Rule.{IsOf, AreOfKey}
