@@ -1,6 +1,6 @@
 -- The leaves that stand for a state have no more entries than the state.
-use Rattle.std.proofs.Common.{◌≡◌, ℕ, zero, suc, ◌+◌, ◌-◌, ◌≤◌, ◌<◌, Bool, true, false, cond, Option, Some, None, List, [], ◌∷◌, ◌++◌, length, map, get_or, refl, sym, ap, subst, ◌∙◌, arith, inl, inr, length-append}
-use Rattle.std.specs.Prelude.{is_some, nat_eq, take}
+use Rattle.std.proofs.Common.{◌≡◌, ℕ, zero, suc, ◌+◌, ◌*◌, ◌-◌, ◌≤◌, ◌<◌, Bool, true, false, cond, Option, Some, None, List, [], ◌∷◌, ◌++◌, length, map, get_or, refl, sym, ap, subst, ◌∙◌, arith, inl, inr, length-append}
+use Rattle.std.specs.Prelude.{nat_eq}
 use Rattle.std.proofs.lemmas.Bool.{cases_Bool, true≢false, eqb-true, eq-eqb}
 use Rattle.std.proofs.lemmas.List.{length-map}
 use Rattle.std.proofs.lemmas.List.Sums.{sum_by-cons, sum_by-append}
@@ -15,7 +15,7 @@ use Rattle.gx_values.specs.declared.records.Form.{Form}
 use Rattle.gx_values.specs.declared.records.Rec.{Rec}
 use Rattle.gx_values.specs.declared.values.Kind.{Kind}
 use Rattle.gx_values.specs.declared.values.Value.{Value}
-use Rattle.gx_ports.specs.LeafMaps.{LeafMap, map_at, entry_count}
+use Rattle.gx_ports.specs.LeafMaps.{LeafMap, Limits, map_at, entry_count}
 use Rattle.gx_schema.specs.declared.schema.FileDef.{FileDef}
 use Rattle.gx_schema.specs.declared.schema.LinkDef.{LinkDef}
 use Rattle.gx_schema.specs.declared.schema.Schema.{Schema}
@@ -28,7 +28,7 @@ use Rattle.gx_typing.specs.Places.{leaves_at}
 use Rattle.gx_mapping.specs.declared.parts.Part.{Part}
 use Rattle.gx_mapping.specs.Rule.{In}
 use Rattle.gx_stack.specs.declared.node.Node.{Node}
-use Rattle.gx_stack.specs.Tree.{Tree as NodeTree, Kids, leaf, layer, no_kids, kid as node_kid, entries_of, kid_entries, entry_total}
+use Rattle.gx_stack.specs.Tree.{Tree as NodeTree, Kids, leaf, layer, no_kids, kid as node_kid, entry_in, entries_of, kid_entries, entry_total}
 use Rattle.gx_stack.specs.Seen.{tree_of}
 use Rattle.gx_stack.specs.Internal.{IsLeafMap, IsInternal, AreInternal as AreHeld, parts_for, child_records}
 use Rattle.gx_stack.proofs.Maps.{key_eq-itself}
@@ -38,14 +38,20 @@ use Rattle.gx_types.specs.declared.built.LinkTree.{LinkTree}
 use Rattle.gx_types.specs.Any.{any_rule}
 use Rattle.gx_types.specs.Build.{leaf_count, leaf_counts, side_leaf_count, all_leaf_count, file_leaf_count, link_definitions, IsLeafOf, IsTreeOf, AreTreesOf, IsTreeOfSide, AreTreesOfFiles, IsLinkTreeOfSide, AreTreesOfLinks}
 use Rattle.gx_types.specs.HeadRules.{IsLayer}
-use Rattle.gx_types.specs.Links.{linkset_of, link_kids, link_kids_at}
+use Rattle.gx_types.specs.Links.{linkset_of, link_kids}
 use Rattle.gx_types.specs.Nodes.{tree_at}
 use Rattle.gx_links.specs.Links.{Link, members_of, owners_of}
-use Rattle.gx_links.specs.Rows.{node_rows, link_parts, owner_entries}
+use Rattle.gx_links.specs.Rows.{node_rows, link_parts}
 use Rattle.gx_linksets.specs.Stored.{rows_of, IsHeldAt}
 use Rattle.gx_scan.specs.Files.{records_of}
+use Rattle.gx_model.specs.Play.{Playing, seen_state, next_of}
 use Rattle.gx_model.specs.States.{File, State}
+use Rattle.gx_play.specs.Built.{IsBuiltOf}
+use Rattle.gx_play.specs.Played.{AreFirst, IsFullAt, IsFull}
+use Rattle.gx_states.proofs.CountLemmas.{crowded_more}
 use Rattle.gx_states.specs.Internal.{AreInternal, entries_from, owner_count, link_entries_from, state_entries}
+use Rattle.gx_top.specs.Needs.{need, AreEnough}
+use Rattle.gx_top.proofs.StoredLemmas.{no_layer}
 
 -- ---- one leaf
 
@@ -185,8 +191,12 @@ parts_total ks (p ∷ ps) =
 parts_append : (ks : Kids AnyMapping) (ps qs : List Part) → part_entries ks (ps ++ qs) ≡ part_entries ks ps + part_entries ks qs
 parts_append ks [] qs = omega arith
 parts_append ks (p ∷ ps) qs =
-    omega (arith, parts_append ks ps qs, length-append (kid_entries any_rule ks p.child p.rec) (flat_map (λ q. kid_entries any_rule ks q.child q.rec) ps),
-    length-append (kid_entries any_rule ks p.child p.rec) (flat_map (λ q. kid_entries any_rule ks q.child q.rec) (ps ++ qs)))
+    omega (
+      arith,
+      parts_append ks ps qs,
+      length-append (kid_entries any_rule ks p.child p.rec) (flat_map (λ q. kid_entries any_rule ks q.child q.rec) ps),
+      length-append (kid_entries any_rule ks p.child p.rec) (flat_map (λ q. kid_entries any_rule ks q.child q.rec) (ps ++ qs)),
+    )
 
 layer_total : (m : AnyMapping) (ks : Kids AnyMapping) (R : List Rec) → kids_total ks (λ c. child_records (any_rule m) c R) ≡ entry_total any_rule (layer m ks) R
 layer_total m ks [] = kids_none ks
@@ -252,9 +262,12 @@ files_few n (file ∷ files) [] xs fs maps are many held = absurd are
 files_few n (file ∷ files) (d ∷ ds) [] fs maps are many held = absurd are
 files_few n (file ∷ files) (d ∷ ds) (x ∷ xs) [] maps are many held = absurd (omega (arith, many))
 files_few n (file ∷ files) (d ∷ ds) (x ∷ xs) (f ∷ fs) maps are many held =
-    omega (arith, side_few n (file_form file) d.side (tree_of x) (records_of f) maps are.0 (held 0 (omega arith)),
-    files_few (n + side_leaf_count d.side) files ds xs fs maps are.1 (omega (arith, many)) (λ i lt. held (suc i) (omega (arith, lt))),
-    run_more maps n (side_leaf_count d.side) (file_leaf_count files ds))
+    omega (
+      arith,
+      side_few n (file_form file) d.side (tree_of x) (records_of f) maps are.0 (held 0 (omega arith)),
+      files_few (n + side_leaf_count d.side) files ds xs fs maps are.1 (omega (arith, many)) (λ i lt. held (suc i) (omega (arith, lt))),
+      run_more maps n (side_leaf_count d.side) (file_leaf_count files ds),
+    )
 
 -- ---- links
 
@@ -278,20 +291,126 @@ links_few files n (link ∷ links) [] xs ls maps are many held = absurd are
 links_few files n (link ∷ links) (d ∷ ds) [] ls maps are many held = absurd are
 links_few files n (link ∷ links) (d ∷ ds) (x ∷ xs) [] maps are many held = absurd (omega (arith, many))
 links_few files n (link ∷ links) (d ∷ ds) (x ∷ xs) (l ∷ ls) maps are many held =
-    omega (arith, link_few n (owner_kind files link) (member_kind files link) d.side x l maps are.0 (held 0 (omega arith)),
-    links_few files (n + side_leaf_count d.side) links ds xs ls maps are.1 (omega (arith, many)) (λ i lt. held (suc i) (omega (arith, lt))),
-    run_more maps n (side_leaf_count d.side) (all_leaf_count ds))
+    omega (
+      arith,
+      link_few n (owner_kind files link) (member_kind files link) d.side x l maps are.0 (held 0 (omega arith)),
+      links_few files (n + side_leaf_count d.side) links ds xs ls maps are.1 (omega (arith, many)) (λ i lt. held (suc i) (omega (arith, lt))),
+      run_more maps n (side_leaf_count d.side) (all_leaf_count ds),
+    )
 
 -- ---- all of them
 
-pub few_entries : (schema : Schema) (ds : List DefinitionTree) (built : Built) (maps : List LeafMap) (s : State) → AreTreesOfFiles 0 schema.files ds built.files
-    → AreTreesOfLinks schema.files (file_leaf_count schema.files ds) schema.links (link_definitions schema.files ds) built.links
-    → length maps ≡ file_leaf_count schema.files ds + all_leaf_count (link_definitions schema.files ds) → AreInternal schema built maps s → entry_count maps ≤ state_entries built s
-few_entries schema ds built maps s files links many is =
+few_entries : (schema : Schema) (ds : List DefinitionTree) (built : Built) (maps : List LeafMap) (s : State) → IsBuiltOf schema ds built → length maps ≡ length built.owners → AreInternal schema built maps s → entry_count maps ≤ state_entries built s
+few_entries schema ds built maps s trees many is =
     let n = file_leaf_count schema.files ds in
     let more = all_leaf_count (link_definitions schema.files ds) in
-    let all : run_count maps 0 (length maps) ≡ run_count maps 0 (n + more) = ap (run_count maps 0) many in
-    let behind : run_count maps (0 + n) more ≡ run_count maps n more = ap (λ x. run_count maps x more) (omega arith) in
-    omega (arith, run_all maps, all, run_more maps 0 n more, behind,
-    files_few 0 schema.files ds built.files s.files maps files is.valid.files_many is.files,
-    links_few schema.files n schema.links (link_definitions schema.files ds) built.links s.links maps links is.valid.links_many is.links)
+    let all : run_count maps 0 (length maps) ≡ run_count maps 0 (n + more) = ap (run_count maps 0) (many ∙ trees.owned) in
+    let from : 0 + n ≡ n = omega arith in
+    let behind : run_count maps (0 + n) more ≡ run_count maps n more = ap (λ x. run_count maps x more) from in
+    omega (
+      arith,
+      run_all maps,
+      all,
+      run_more maps 0 n more,
+      behind,
+      files_few 0 schema.files ds built.files s.files maps trees.files is.valid.files_many is.files,
+      links_few schema.files n schema.links (link_definitions schema.files ds) built.links s.links maps trees.links is.valid.links_many is.links,
+    )
+
+-- a device that is full by the entries of its leaves is full by those of the state
+pub full_by_state : (schema : Schema) (ds : List DefinitionTree) (built : Built) (limit : Option Limits) (start : State) (script answers : List ℕ) (final : Playing) → IsBuiltOf schema ds built
+    → IsFullAt schema built limit start script answers final → IsFull schema ds limit start script answers final
+full_by_state schema ds built limit start script answers final trees full =
+    let at = full.short in
+    let few = few_entries schema ds built at.maps (seen_state final) trees at.many at.before in
+    let behind = state_entries built (seen_state (next_of schema final at.short.command)) in
+    record {
+      built = built;
+      trees = trees;
+      ran = full.ran;
+      later = full.later;
+      parts = full.parts;
+      runs = full.runs;
+      short = record {
+        line = at.short.line;
+        later = at.short.later;
+        lines_are = at.short.lines_are;
+        command = at.short.command;
+        means = at.short.means;
+        placed = at.short.placed;
+        short = crowded_more limit (entry_count at.maps + behind) (state_entries built (seen_state final) + behind) (omega (arith, few)) at.short.short;
+      };
+    }
+
+-- ---- of all nodes that the definitions mean, a state has as many entries
+
+mutual
+  tree_same : (n : ℕ) (form : Form) (t : Tree) (u v : NodeTree AnyMapping) (r : Rec) → IsTreeOf n form t u → IsTreeOf n form t v → entries_of any_rule u r ≡ entries_of any_rule v r
+  tree_same n form (node top kids) (leaf m f) (leaf o g) r x y = ap (λ k. entry_in k r ∷ []) ((one_leaf n form top kids m f x).0 ∙ sym (one_leaf n form top kids o g y).0)
+  tree_same n form (node top kids) (leaf m f) (layer o us) r x y = absurd (no_layer n form top kids m f x y.0.0)
+  tree_same n form (node top kids) (layer m ks) (leaf o g) r x y = absurd (no_layer n form top kids o g y x.0.0)
+  tree_same n form (node top kids) (layer m ks) (layer o us) r x y =
+      let rules : any_rule m ≡ any_rule o = x.0.1 ∙ sym y.0.1 in
+      λ i. flat_map (λ p. kids_same n (kid_form top form) 0 kids ks us p.child p.rec x.1 y.1 i) ((rules i).parts r)
+
+  kids_same : (n : ℕ) (forms : ℕ → Form) (i : ℕ) (ts : Trees) (us vs : Kids AnyMapping) (c : ℕ) (r : Rec) → AreTreesOf n forms i ts us → AreTreesOf n forms i ts vs → kid_entries any_rule us c r ≡ kid_entries any_rule vs c r
+  kids_same n forms i none no_kids no_kids c r x y = refl
+  kids_same n forms i none no_kids (node_kid v vs) c r x y = absurd y
+  kids_same n forms i none (node_kid u us) vs c r x y = absurd x
+  kids_same n forms i (kid t ts) no_kids vs c r x y = absurd x
+  kids_same n forms i (kid t ts) (node_kid u us) no_kids c r x y = absurd y
+  kids_same n forms i (kid t ts) (node_kid u us) (node_kid v vs) zero r x y = tree_same n (forms i) t u v r x.0 y.0
+  kids_same n forms i (kid t ts) (node_kid u us) (node_kid v vs) (suc c) r x y = kids_same (n + leaf_count t) forms (suc i) ts us vs c r x.1 y.1
+
+side_same : (n : ℕ) (form : Form) (side : SideTree) (u v : NodeTree AnyMapping) (r : Rec) → IsTreeOfSide n form side u → IsTreeOfSide n form side v → entries_of any_rule u r ≡ entries_of any_rule v r
+side_same n form (file_side t) u v r x y = tree_same n form t u v r x y
+side_same n form (link_side linkset ts) u v r x y = absurd x
+
+files_same : (n : ℕ) (files : List FileDef) (ds : List DefinitionTree) (xs ys : List (Node AnyMapping)) (fs : List File) → AreTreesOfFiles n files ds xs → AreTreesOfFiles n files ds ys → entries_from xs fs ≡ entries_from ys fs
+files_same n [] ds [] [] fs x y = refl
+files_same n [] ds [] (b ∷ ys) fs x y = absurd y
+files_same n [] ds (a ∷ xs) ys fs x y = absurd x
+files_same n (file ∷ files) [] xs ys fs x y = absurd x
+files_same n (file ∷ files) (d ∷ ds) [] ys fs x y = absurd x
+files_same n (file ∷ files) (d ∷ ds) (a ∷ xs) [] fs x y = absurd y
+files_same n (file ∷ files) (d ∷ ds) (a ∷ xs) (b ∷ ys) [] x y = refl
+files_same n (file ∷ files) (d ∷ ds) (a ∷ xs) (b ∷ ys) (f ∷ fs) x y =
+    let here : entry_total any_rule (tree_of a) (records_of f) ≡ entry_total any_rule (tree_of b) (records_of f) = λ i. sum_by (λ r. length (side_same n (file_form file) d.side (tree_of a) (tree_of b) r x.0 y.0 i)) (records_of f) in
+    omega (arith, here, files_same (n + side_leaf_count d.side) files ds xs ys fs x.1 y.1)
+
+link_same : (n : ℕ) (o m : Kind) (side : SideTree) (a b : LinkTree) (l : Link) (owner : Value) → IsLinkTreeOfSide n o m side a → IsLinkTreeOfSide n o m side b → owner_count a l owner ≡ owner_count b l owner
+link_same n o m (file_side t) a b l owner x y = absurd x
+link_same n o m (link_side linkset ts) a b l owner x y =
+    let heads_are : linkset_of a ≡ linkset_of b = x.head ∙ sym y.head in
+    λ i. length (flat_map (λ p. kids_same n (link_form linkset o m) 0 (kids_from ts) (link_kids a) (link_kids b) p.child p.rec x.trees y.trees i) (rows_of (heads_are i) owner (members_of l owner)))
+
+links_same : (files : List FileDef) (n : ℕ) (links : List LinkDef) (ds : List DefinitionTree) (xs ys : List LinkTree) (ls : List Link) → AreTreesOfLinks files n links ds xs → AreTreesOfLinks files n links ds ys → link_entries_from xs ls ≡ link_entries_from ys ls
+links_same files n [] [] [] [] ls x y = refl
+links_same files n [] [] [] (b ∷ ys) ls x y = absurd y
+links_same files n [] [] (a ∷ xs) ys ls x y = absurd x
+links_same files n [] (d ∷ ds) xs ys ls x y = absurd x
+links_same files n (link ∷ links) [] xs ys ls x y = absurd x
+links_same files n (link ∷ links) (d ∷ ds) [] ys ls x y = absurd x
+links_same files n (link ∷ links) (d ∷ ds) (a ∷ xs) [] ls x y = absurd y
+links_same files n (link ∷ links) (d ∷ ds) (a ∷ xs) (b ∷ ys) [] x y = refl
+links_same files n (link ∷ links) (d ∷ ds) (a ∷ xs) (b ∷ ys) (l ∷ ls) x y =
+    let here : sum_by (owner_count a l) (owners_of l) ≡ sum_by (owner_count b l) (owners_of l) = λ i. sum_by (λ owner. link_same n (owner_kind files link) (member_kind files link) d.side a b l owner x.0 y.0 i) (owners_of l) in
+    omega (arith, here, links_same files (n + side_leaf_count d.side) links ds xs ys ls x.1 y.1)
+
+same_entries : (schema : Schema) (ds : List DefinitionTree) (x y : Built) (s : State) → IsBuiltOf schema ds x → IsBuiltOf schema ds y → state_entries x s ≡ state_entries y s
+same_entries schema ds x y s a b =
+    omega (
+      arith,
+      files_same 0 schema.files ds x.files y.files s.files a.files b.files,
+      links_same schema.files (file_leaf_count schema.files ds) schema.links (link_definitions schema.files ds) x.links y.links s.links a.links b.links,
+    )
+
+-- where the pages are enough, no moment of the play is full
+pub never_full : (schema : Schema) (ds : List DefinitionTree) (built : Built) (l : Limits) (start : State) (script answers : List ℕ) (final : Playing) → IsBuiltOf schema ds built → AreEnough schema built l start script → ¬ IsFull schema ds (Some l) start script answers final
+never_full schema ds built l start script answers final trees enough full =
+    let at = full.short in
+    let first : AreFirst schema start script answers = record { ran = full.ran; later = full.later; parts = full.parts; final = final; runs = full.runs } in
+    let behind = seen_state (next_of schema final at.command) in
+    let fits : need l built (seen_state final) behind ≤ l.pages = enough answers first at.line at.later at.command at.lines_are at.means at.placed in
+    let short : l.pages < l.fixed + 2 * (state_entries full.built (seen_state final) + state_entries full.built behind) + 2 = at.short in
+    omega (arith, fits, short, same_entries schema ds built full.built (seen_state final) trees full.trees, same_entries schema ds built full.built behind trees full.trees)
