@@ -1,6 +1,6 @@
 -- The loop over the lines of a script.
 use Rattle.std.proofs.Common.{◌≡◌, ℕ, ◌+◌, ◌≤◌, List, [], ◌∷◌, ◌++◌, length, take, Bool, true, false, IsTrue, Result, Ok, Err, Option, Some, None, refl, sym, ap, subst, ◌∙◌, arith, inl, inr}
-use Rattle.std.specs.Prelude.{nat_lt, ◌==◌, ◌≢◌, if◌then◌else◌, IsErrAnd, OnErr}
+use Rattle.std.specs.Prelude.{nat_lt, ◌==◌, ◌≢◌, if◌then◌else◌, IsErrAnd, IsSome, OnErr}
 use Rattle.std.proofs.lemmas.List.{append-nil, append_assoc, length-take, length-append, take_all}
 use Rattle.std.proofs.Math.Seq.{take-append-add}
 use Rattle.gx_device.specs.Faults.{Rose}
@@ -12,7 +12,7 @@ use Rattle.gx_commands.specs.declared.command.LineWhy.TheVariants as why
 use Rattle.gx_commands.specs.Commands.{place_reason}
 use Rattle.gx_commands.specs.Lines.{Lines, Parts, with_line, no_lines, with_byte, parts_of, without_cr, last_line, up_to_limit, lines_within, longest_line, longest_script, script_lines, stopped as stopped_lines}
 use Rattle.gx_script.specs.Grammar.{IsLineOf}
-use Rattle.gx_ports.specs.LeafMaps.{Limits, IsCrowdedBy}
+use Rattle.gx_ports.specs.LeafMaps.{Limits}
 use Rattle.gx_ports.specs.Calls.{Keeps}
 use Rattle.gx_ports.specs.declared.view.View.{Ghosts}
 use Rattle.gx_types.specs.declared.built.Built.{Built}
@@ -22,7 +22,7 @@ use Rattle.gx_model.specs.Runs.{Step, Runs, IsBadLine, IsEnd, AreFirstLines}
 use Rattle.gx_model.proofs.RunLemmas.{run_on}
 use Rattle.gx_engine.specs.declared.engine.Engine.{Engine}
 use Rattle.gx_states.specs.Internal.{AreInternal}
-use Rattle.gx_engine.specs.Steps.{schema_of, built_of, leaves_of, is_open, IsDue, IsAt}
+use Rattle.gx_engine.specs.Steps.{schema_of, built_of, leaves_of, is_open, IsDue, IsReady, IsAt}
 use Rattle.gx_ports.specs.declared.stop.Stop.TheVariants as stop
 use Rattle.gx_play.specs.declared.play.PlayEnd.{PlayEnd}
 use Rattle.gx_play.specs.declared.play.PlayEnd.TheVariants as play_end
@@ -126,12 +126,17 @@ kept_at g p old e schema_is built_is at = (
 )
 
 -- the pages may be too few for the line
-short_at : {S : Type 0} (g : Ghosts S) (p : Playing) (before left : Lines) (line : List ℕ) (old e : Engine S) → schema_of e ≡ schema_of old → built_of e ≡ built_of old → g.limit (leaves_of e) ≡ g.limit (leaves_of old) → before ≡ with_line line left → IsAt g p e → IsShortLine g e p line → IsShortAt (schema_of old) (built_of old) (g.limit (leaves_of old)) p before.lines
-short_at g p before left line old e schema_is built_is limit_is before_is at (command, means, placed, short) =
+short_at : {S : Type 0} (g : Ghosts S) (p : Playing) (before left : Lines) (line : List ℕ) (old e : Engine S) → schema_of e ≡ schema_of old → built_of e ≡ built_of old → g.limit (leaves_of e) ≡ g.limit (leaves_of old) → before ≡ with_line line left → IsReady g e → IsAt g p e → IsShortLine g e p line → IsShortAt (schema_of old) (built_of old) (g.limit (leaves_of old)) p before.lines
+short_at g p before left line old e schema_is built_is limit_is before_is ready at (command, means, placed, short) =
     subst (λ (b : Built). IsShortAt (schema_of old) b (g.limit (leaves_of old)) p before.lines) built_is
     (subst (λ (s : Schema). IsShortAt s (built_of e) (g.limit (leaves_of old)) p before.lines) schema_is
     (subst (λ l. IsShortAt (schema_of e) (built_of e) l p before.lines) limit_is
-    (record { line = line; later = left.lines; lines_are = ap (λ (ls : Lines). ls.lines) before_is; command = command; means = means; placed = placed; maps = g.working (leaves_of e); before = at.stands.working_is; short = short })))
+    (record {
+      maps = g.working (leaves_of e);
+      many = sym ready.owned;
+      before = at.stands.working_is;
+      short = record { line = line; later = left.lines; lines_are = ap (λ (ls : Lines). ls.lines) before_is; command = command; means = means; placed = placed; short = short };
+    })))
 
 -- the answers of the lines before it
 part_before : {S : Type 0} (g : Ghosts S) (start : Playing) (all before : Lines) (number : ℕ) (old e new : Engine S) (why : Stop) → (so : IsSoFar g start all before number old e) → (g.content (leaves_of new)).now.said ≡ (g.content (leaves_of e)).now.said → (why ≢ stop.Fault → KeepsState g (schema_of old) (built_of old) (leaves_of new) so.now.kept) → (why ≡ stop.Full → IsShortAt (schema_of old) (built_of old) (g.limit (leaves_of old)) so.now before.lines) → IsPlayedPart g start all old new why
@@ -183,18 +188,18 @@ at_fault g start all before left number line old e new schema_is before_is so (i
     (subst (λ s. IsAnswered s so.now command answer) schema_is answered) said
 
 -- after another stop nothing of it was
-at_other : {S : Type 0} (g : Ghosts S) (start : Playing) (all before left : Lines) (number : ℕ) (line : List ℕ) (why : Stop) (old e new : Engine S) → schema_of e ≡ schema_of old → built_of e ≡ built_of old → g.limit (leaves_of e) ≡ g.limit (leaves_of old) → before ≡ with_line line left → (so : IsSoFar g start all before number old e) → why ≢ stop.Fault → IsGivenUp g so.now line e new why → IsPlayedPart g start all old new why
-at_other g start all before left number line why old e new schema_is built_is limit_is before_is so other up =
+at_other : {S : Type 0} (g : Ghosts S) (start : Playing) (all before left : Lines) (number : ℕ) (line : List ℕ) (why : Stop) (old e new : Engine S) → schema_of e ≡ schema_of old → built_of e ≡ built_of old → g.limit (leaves_of e) ≡ g.limit (leaves_of old) → before ≡ with_line line left → (so : IsSoFar g start all before number old e) → IsReady g e → why ≢ stop.Fault → IsGivenUp g so.now line e new why → IsPlayedPart g start all old new why
+at_other g start all before left number line why old e new schema_is built_is limit_is before_is so ready other up =
     part_before g start all before number old e new why so (up.unsaid other)
     (λ _. kept_after g so.now old e new schema_is built_is so.at (up.kept other))
-    (λ full. short_at g so.now before left line old e schema_is built_is limit_is before_is so.at (up.short full))
+    (λ full. short_at g so.now before left line old e schema_is built_is limit_is before_is ready so.at (up.short full))
 
 -- the same of every stop
-pub at_cut : {S : Type 0} (g : Ghosts S) (start : Playing) (all before left : Lines) (number : ℕ) (line : List ℕ) (why : Stop) (old e new : Engine S) → schema_of e ≡ schema_of old → built_of e ≡ built_of old → g.limit (leaves_of e) ≡ g.limit (leaves_of old) → before ≡ with_line line left → (so : IsSoFar g start all before number old e) → IsGivenUp g so.now line e new why → IsPlayedPart g start all old new why
-at_cut g start all before left number line stop.Fault old e new schema_is built_is limit_is before_is so up = at_fault g start all before left number line old e new schema_is before_is so up.cut
-at_cut g start all before left number line stop.Full old e new schema_is built_is limit_is before_is so up = at_other g start all before left number line stop.Full old e new schema_is built_is limit_is before_is so (λ f. cc) up
-at_cut g start all before left number line stop.NoMemory old e new schema_is built_is limit_is before_is so up = at_other g start all before left number line stop.NoMemory old e new schema_is built_is limit_is before_is so (λ f. cc) up
-at_cut g start all before left number line (stop.Damaged block) old e new schema_is built_is limit_is before_is so up = at_other g start all before left number line (stop.Damaged block) old e new schema_is built_is limit_is before_is so (λ f. cc) up
+pub at_cut : {S : Type 0} (g : Ghosts S) (start : Playing) (all before left : Lines) (number : ℕ) (line : List ℕ) (why : Stop) (old e new : Engine S) → schema_of e ≡ schema_of old → built_of e ≡ built_of old → g.limit (leaves_of e) ≡ g.limit (leaves_of old) → before ≡ with_line line left → (so : IsSoFar g start all before number old e) → IsReady g e → IsGivenUp g so.now line e new why → IsPlayedPart g start all old new why
+at_cut g start all before left number line stop.Fault old e new schema_is built_is limit_is before_is so ready up = at_fault g start all before left number line old e new schema_is before_is so up.cut
+at_cut g start all before left number line stop.Full old e new schema_is built_is limit_is before_is so ready up = at_other g start all before left number line stop.Full old e new schema_is built_is limit_is before_is so ready (λ f. cc) up
+at_cut g start all before left number line stop.NoMemory old e new schema_is built_is limit_is before_is so ready up = at_other g start all before left number line stop.NoMemory old e new schema_is built_is limit_is before_is so ready (λ f. cc) up
+at_cut g start all before left number line (stop.Damaged block) old e new schema_is built_is limit_is before_is so ready up = at_other g start all before left number line (stop.Damaged block) old e new schema_is built_is limit_is before_is so ready (λ f. cc) up
 
 -- the cut of the command that the line means
 pub line_cut : {S : Type 0} (e : Engine S) (p : Playing) (line : List ℕ) (command : Command) (old new : Content) (out : Result (Unit {0}) PlayEnd) → is_open e ≡ is_inside p → IsLineOf (schema_of e) line command → IsDue e command → IsCommandCut (schema_of e) p command old new → OnErr out (IsLineCut (schema_of e) p line old new)
@@ -207,21 +212,21 @@ rose_since before mid now le rose = omega (arith, rose)
 
 pub cause_since : (limit start : Option Limits) (before mid now : ℕ) (why : Stop) → limit ≡ start → before ≤ mid → HasPlayCause limit mid now why → HasPlayCause start before now why
 cause_since limit start before mid now stop.Fault limit_is le cause = rose_since before mid now le cause
-cause_since limit start before mid now stop.Full limit_is le cause = (cause.0, subst (λ l. IsCrowdedBy l cause.0) limit_is cause.1)
+cause_since limit start before mid now stop.Full limit_is le cause = subst IsSome limit_is cause
 cause_since limit start before mid now stop.NoMemory limit_is le cause = tt
 cause_since limit start before mid now (stop.Damaged block) limit_is le cause = absurd cause
 
 -- how the play ends where a line isn't carried out
-pub at_line : {S : Type 0} (g : Ghosts S) (start : Playing) (all before left : Lines) (number : ℕ) (line : List ℕ) (end : PlayEnd) (result : Result (Unit {0}) PlayEnd) (old e new : Engine S) → schema_of e ≡ schema_of old → built_of e ≡ built_of old → g.limit (leaves_of e) ≡ g.limit (leaves_of old) → before ≡ with_line line left → (so : IsSoFar g start all before number old e) → result ≡ Err end → ((n : ℕ) (reason : LineWhy) → end ≡ play_end.Line n reason → IsBadAt (schema_of e) (is_open e) (number + 1) line n reason × (new ≡ e)) → ((why : Stop) → end ≡ play_end.Stop why → IsGivenUp g so.now line e new why) → IsPlayedTo g start all old new result
-at_line g start all before left number line (play_end.Line n reason) result old e new schema_is built_is limit_is before_is so result_is bad up =
+pub at_line : {S : Type 0} (g : Ghosts S) (start : Playing) (all before left : Lines) (number : ℕ) (line : List ℕ) (end : PlayEnd) (result : Result (Unit {0}) PlayEnd) (old e new : Engine S) → schema_of e ≡ schema_of old → built_of e ≡ built_of old → g.limit (leaves_of e) ≡ g.limit (leaves_of old) → before ≡ with_line line left → (so : IsSoFar g start all before number old e) → IsReady g e → result ≡ Err end → ((n : ℕ) (reason : LineWhy) → end ≡ play_end.Line n reason → IsBadAt (schema_of e) (is_open e) (number + 1) line n reason × (new ≡ e)) → ((why : Stop) → end ≡ play_end.Stop why → IsGivenUp g so.now line e new why) → IsPlayedTo g start all old new result
+at_line g start all before left number line (play_end.Line n reason) result old e new schema_is built_is limit_is before_is so ready result_is bad up =
     let at = bad n reason refl in
     subst (λ r. IsPlayedTo g start all old new r) (sym result_is)
     (subst (λ k. IsPlayedUp g start all old new (stopped k reason)) (sym at.0.0)
     (subst (λ x. IsPlayedUp g start all old x (stopped (number + 1) reason)) (sym at.1)
     (at_bad_line g start all before left number line reason old e schema_is before_is so at.0.1)))
-at_line g start all before left number line (play_end.Stop s) result old e new schema_is built_is limit_is before_is so result_is bad up =
+at_line g start all before left number line (play_end.Stop s) result old e new schema_is built_is limit_is before_is so ready result_is bad up =
     subst (λ r. IsPlayedTo g start all old new r) (sym result_is)
-    (at_cut g start all before left number line s old e new schema_is built_is limit_is before_is so (up s refl))
+    (at_cut g start all before left number line s old e new schema_is built_is limit_is before_is so ready (up s refl))
 
 -- ---- how many lines there are
 

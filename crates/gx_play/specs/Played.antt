@@ -1,5 +1,5 @@
 -- What is said of a schema, a start state and a script, and which state is kept then.
-use Rattle.std.specs.Prelude.{◌≡◌, ◌⊎◌, ℕ, ◌+◌, List, ◌∷◌, ◌++◌, take, Option, None}
+use Rattle.std.specs.Prelude.{◌≡◌, ◌⊎◌, ℕ, ◌+◌, List, ◌∷◌, ◌++◌, length, take, Option, None}
 use Rattle.gx_device.specs.Content.{Content}
 use Rattle.gx_ports.specs.LeafMaps.{LeafMap, Limits, IsCrowdedBy, entry_count}
 use Rattle.gx_schema.specs.declared.schema.Schema.{Schema}
@@ -60,18 +60,27 @@ pub record IsShortText (schema : Schema) (start : State) (script text : List ℕ
 
 -- ---- a full device
 
--- The first of these lines has a command for which the pages may be too few: for the entries of the state before it
--- and of that behind it.
-pub record IsShortAt (schema : Schema) (built : Built) (limit : Option Limits) (p : Playing) (lines : List (List ℕ)) : Type 0 where
+-- The first of these lines has a command, which may stand there, and the pages may be too few for so many entries and
+-- those of the state behind it.
+pub record IsShortWith (schema : Schema) (built : Built) (limit : Option Limits) (p : Playing) (entries : ℕ) (lines : List (List ℕ)) : Type 0 where
   pub line : List ℕ
   pub later : List (List ℕ)
   pub lines_are : lines ≡ line ∷ later
   pub command : Command
   pub means : IsLineOf schema line command
   pub placed : place_reason (is_inside p) command ≡ None
+  pub short : IsCrowdedBy limit (entries + state_entries built (seen_state (next_of schema p command)))
+
+-- the same of the entries of the state before it
+abbrev pub IsShort : Schema → Built → Option Limits → Playing → List (List ℕ) → Type 0
+IsShort schema built limit p lines = IsShortWith schema built limit p (state_entries built (seen_state p)) lines
+
+-- the same of the entries of the leaves, which stand for that state; there is one for each owner, and no other
+pub record IsShortAt (schema : Schema) (built : Built) (limit : Option Limits) (p : Playing) (lines : List (List ℕ)) : Type 0 where
   pub maps : List LeafMap
+  pub many : length maps ≡ length built.owners
   pub before : AreInternal schema built maps (seen_state p)
-  pub short : IsCrowdedBy limit (entry_count maps + state_entries built (seen_state (next_of schema p command)))
+  pub short : IsShortWith schema built limit p (entry_count maps) lines
 
 -- The script's first lines run from a state, with these answers, and the pages may be too few for the command of the next one.
 pub record IsFullAt (schema : Schema) (built : Built) (limit : Option Limits) (start : State) (script answers : List ℕ) (final : Playing) : Type 0 where
@@ -81,11 +90,15 @@ pub record IsFullAt (schema : Schema) (built : Built) (limit : Option Limits) (s
   pub runs : Runs schema (start_at start) ran answers final
   pub short : IsShortAt schema built limit final later
 
--- such a moment of the play over nodes that the definitions mean
+-- such a moment of the play, over nodes that the definitions mean: by the entries of the states alone
 pub record IsFull (schema : Schema) (ds : List DefinitionTree) (limit : Option Limits) (start : State) (script answers : List ℕ) (final : Playing) : Type 0 where
   pub built : Built
   pub trees : IsBuiltOf schema ds built
-  pub full : IsFullAt schema built limit start script answers final
+  pub ran : List (List ℕ)
+  pub later : List (List ℕ)
+  pub parts : (script_lines script).lines ≡ ran ++ later
+  pub runs : Runs schema (start_at start) ran answers final
+  pub short : IsShort schema built limit final later
 
 -- those answers, then the line of a full device, and the state that these lines kept
 pub record IsFullText (schema : Schema) (ds : List DefinitionTree) (limit : Option Limits) (start : State) (script text : List ℕ) (kept : State) : Type 0 where

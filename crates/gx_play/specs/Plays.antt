@@ -1,5 +1,5 @@
 -- What the play of a script on an engine says, line by line.
-use Rattle.std.specs.Prelude.{◌≡◌, ◌≢◌, ◌⊎◌, ℕ, ◌+◌, ◌<◌, ◌≤◌, List, [], ◌++◌, length, take, Bool, true, false, IsTrue, Option, None, Result, Ok, Err}
+use Rattle.std.specs.Prelude.{◌≡◌, ◌≢◌, ◌⊎◌, ℕ, ◌+◌, ◌<◌, ◌≤◌, List, [], ◌++◌, length, take, Bool, true, false, IsTrue, Option, None, IsSome, Result, Ok, Err}
 use Rattle.gx_device.specs.Content.{Content, Silent}
 use Rattle.gx_device.specs.Quiet.{IsPrefix}
 use Rattle.gx_device.specs.Faults.{Rose}
@@ -9,7 +9,7 @@ use Rattle.gx_commands.specs.declared.command.LineWhy.{LineWhy}
 use Rattle.gx_commands.specs.Commands.{place_reason}
 use Rattle.gx_script.specs.Grammar.{IsLineOf}
 use Rattle.gx_commands.specs.Lines.{Lines, stopped as stopped_lines}
-use Rattle.gx_ports.specs.LeafMaps.{Limits, IsCrowdedBy}
+use Rattle.gx_ports.specs.LeafMaps.{Limits}
 use Rattle.gx_ports.specs.Calls.{Keeps}
 use Rattle.gx_ports.specs.declared.view.View.{Ghosts}
 use Rattle.gx_ports.specs.Stops.{is_outside}
@@ -58,12 +58,12 @@ IsLineCut schema p line old new = (new.now.said ≡ old.now.said) ⊎ ((command 
 abbrev pub IsBadAt : Schema → Bool → ℕ → List ℕ → ℕ → LineWhy → Type 0
 IsBadAt schema inside number line n why = (n ≡ number) × IsBadLine schema inside line why
 
--- why a line may be given up where the leaves stood for a moment of the play: a call below failed, the pages were
--- too few for what the leaves held, or there was no memory
+-- Why a line may be given up where the leaves stood for a moment of the play: a call below failed, there was no memory,
+-- or the pages were too few, which leaves without a limit never say. `IsPlayedPart` says for which line they were.
 abbrev pub HasPlayCause : Option Limits → ℕ → ℕ → Stop → Type 0
 HasPlayCause limit before now stop.NoMemory = Unit {0}
 HasPlayCause limit before now stop.Fault = Rose before now
-HasPlayCause limit before now stop.Full = (needed : ℕ) × IsCrowdedBy limit needed
+HasPlayCause limit before now stop.Full = IsSome limit
 HasPlayCause limit before now (stop.Damaged block) = ⊥
 
 -- why a call is given up that needs no page: a call below failed, or there was no memory

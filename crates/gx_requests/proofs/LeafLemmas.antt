@@ -1,5 +1,5 @@
 -- There are files of the kind of each leaf of an equation that some text means, and one leaf at least.
-use Rattle.std.proofs.Common.{◌≡◌, ℕ, zero, suc, ◌<◌, ◌≤◌, List, [], ◌∷◌, ◌++◌, length, map, Bool, true, refl, ap, subst, sym, ◌∙◌, arith}
+use Rattle.std.proofs.Common.{◌≡◌, ℕ, zero, suc, ◌+◌, ◌<◌, ◌≤◌, List, [], ◌∷◌, ◌++◌, length, map, Bool, true, refl, ap, subst, sym, ◌∙◌, arith}
 use Rattle.std.specs.Prelude.{nat_lt, ◌&&◌}
 use Rattle.std.specs.List.{list_all, AllByRecursion}
 use Rattle.std.proofs.lemmas.Bool.Decides.{nat_tests}
@@ -20,9 +20,10 @@ use Rattle.gx_forms.specs.Forms.{kid_form, link_form}
 use Rattle.gx_typing.specs.declared.dues.Due.{Due}
 use Rattle.gx_typing.specs.declared.dues.Stored.{Stored}
 use Rattle.gx_typing.specs.declared.dues.Stored.TheVariants as stored
+use Rattle.gx_typing.specs.declared.typing.Typing.{Typing}
 use Rattle.gx_typing.specs.Dues.{dues, file_form, file_due, link_due}
-use Rattle.gx_typing.specs.Typed.{Leaf, spec_of, leaf_here, leaves_of, leaves_of_kids, leaves_of_side, leaves_of_all, leaves, IsTypedSide, AreTyped, IsTyped}
-use Rattle.gx_types.specs.Build.{side_leaf_count, all_leaf_count}
+use Rattle.gx_typing.specs.Typed.{Leaf, spec_of, leaf_here, leaves_of, leaves_of_kids, leaves_of_side, leaves_of_all, leaves, typing_with, IsTypedSide, AreTyped, IsTyped}
+use Rattle.gx_types.specs.Build.{side_leaf_count, all_leaf_count, file_leaf_count, link_definitions}
 use Rattle.gx_types.proofs.FileLaws.{split_count, total_count}
 use Rattle.gx_types.proofs.MakerLaws.{some_leaf}
 use Rattle.gx_leaves.specs.Kinds.{is_built, are_built}
@@ -99,3 +100,10 @@ some_leaves schema ds is written typed =
 pub leaves_built : (schema : Schema) (ds : List DefinitionTree) → AreWritten ds → are_built (map spec_of (leaves schema ds)) ≡ true
 leaves_built schema ds written =
     list_all-map (λ (spec : LeafSpec). is_built spec.kind) spec_of (leaves schema ds) ∙ in_definitions 0 (dues schema) ds written.each
+
+-- each leaf that the definitions mean has an owner
+pub all_owned : (schema : Schema) (ds : List DefinitionTree) (typing : Typing) (specs : List LeafSpec) (owners : List ℕ) → IsTyped schema ds → typing ≡ typing_with (leaves schema ds) → typing ≡ record { specs = specs; owners = owners }
+    → length owners ≡ length specs → length owners ≡ file_leaf_count schema.files ds + all_leaf_count (link_definitions schema.files ds)
+all_owned schema ds typing specs owners typed leaves_are given owned =
+    let total : length specs ≡ length (leaves schema ds) = ap (λ (t : Typing). length t.specs) (sym given ∙ leaves_are) ∙ length-map (leaves schema ds) spec_of in
+    owned ∙ sym (total_count schema ds (length specs) typed total)

@@ -1,5 +1,6 @@
 mod StayLemmas
 mod TryLemmas
+mod EntryLemmas
 mod RowLemmas
 mod StoredLemmas
 mod CompleteLemmas

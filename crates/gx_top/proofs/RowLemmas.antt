@@ -20,6 +20,7 @@ use Rattle.gx_play.specs.Endings.{line_of, status_of, memory_line, full_line}
 use Rattle.gx_play.specs.Say.{IsCut}
 use Rattle.gx_play.specs.Played.{SaysFront, SaysKeeping, IsPlay, AreFirst, IsPlayText, IsStoppedText, IsShortText, IsFullText, IsPlayedText}
 use Rattle.gx_play.specs.Plays.{IsPlayedOut, IsPlayedFirst, IsPlayedFull, IsPlayedFront, IsPlayedAs}
+use Rattle.gx_top.proofs.EntryLemmas.{full_by_state}
 use Rattle.gx_explain.proofs.BehindLemmas.{behind, front_behind, taken}
 
 -- the answers of a play are those of the first lines that ran
@@ -110,7 +111,7 @@ module _ (schema : Schema) (ds : List DefinitionTree) (built : Built) (limit : O
   full_text full = record {
     answers = full.answers;
     final = full.final;
-    full = record { built = built; trees = trees; full = full.full };
+    full = full_by_state schema ds built limit start old.script full.answers full.final trees full.full;
     text_is = refl;
     kept_is = refl;
   }

@@ -47,7 +47,7 @@ leaf_number n form (heads.Divide size) kids m f is = absurd is
 leaf_number n form (heads.Index name) kids m f is = absurd is
 
 -- a leaf is no layer
-no_layer : (n : ℕ) (form : Form) (top : Head) (kids : Trees) (m : ℕ) (f : Form) → IsLeafOf n form top kids m f → IsLayer top → ⊥
+pub no_layer : (n : ℕ) (form : Form) (top : Head) (kids : Trees) (m : ℕ) (f : Form) → IsLeafOf n form top kids m f → IsLayer top → ⊥
 no_layer n form (heads.Leaf kind) kids m f is other = other
 no_layer n form heads.Actual kids m f is other = is
 no_layer n form (heads.Encode name code) kids m f is other = is

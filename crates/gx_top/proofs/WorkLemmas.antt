@@ -33,6 +33,7 @@ use Rattle.gx_top.specs.Found.{IsTold}
 use Rattle.gx_top.specs.Worked.{IsToWork, worked, IsWorkText, IsWorkFull, IsWorkedText, IsFreeFor, IsWorked, Works, CanWork, IsUnworkable, IsWorkFirst, HoldsWork, LeavesWorked, LeavesWorkedBy}
 use Rattle.gx_operations.specs.Working.{IsSettledOf, HoldsFirst, IsPlayedOn, IsNewDevice, IsWorking}
 use Rattle.gx_top.specs.Tries.{IsSaid, IsEnd, IsDueStatus, IsAsDue}
+use Rattle.gx_top.proofs.EntryLemmas.{full_by_state}
 use Rattle.gx_top.proofs.StayLemmas.{devices_same}
 use Rattle.gx_top.proofs.MakeLemmas.{not_both}
 use Rattle.gx_top.proofs.CompleteLemmas.{same_words, one_acceptance, task_not_worked, checked_not_worked, made_not_worked, explained_not_worked, inspected_not_worked, wrong_not_worked, worked_not_refused}
@@ -262,11 +263,9 @@ module _ (words : List (List ℕ)) (device digits number : List ℕ) (count reco
         record {
           answers = out.answers;
           final = out.final;
-          full = record {
-            built = x.built;
-            trees = subst (λ (k : Schema). IsBuiltOf k p.definitions x.built) is_work p.trees;
-            full = subst (λ (ks : List LeafSpec). IsFullAt work_schema x.built (Some (limits_on ks count)) (empty_state work_schema) (work_script records) out.answers out.final) p.specs_are out.full;
-          };
+          full = full_by_state work_schema p.definitions x.built (Some (limits_on p.typing.specs count)) (empty_state work_schema) (work_script records) out.answers out.final
+              (subst (λ (k : Schema). IsBuiltOf k p.definitions x.built) is_work p.trees)
+              (subst (λ (ks : List LeafSpec). IsFullAt work_schema x.built (Some (limits_on ks count)) (empty_state work_schema) (work_script records) out.answers out.final) p.specs_are out.full);
           settled = settled_on made.left.0 out.final.kept made.left.1 out.holds;
           text_is = refl;
         }

@@ -6,5 +6,6 @@ pub mod Ran
 pub mod Inspected
 pub mod Found
 pub mod Worked
+pub mod Needs
 pub mod Tries
 pub mod Fulfilled

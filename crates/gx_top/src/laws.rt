@@ -1,14 +1,21 @@
 // Laws of what a request says.
-ghost use Rattle.std.specs.Prelude.{◌≡◌, List, ℕ};
+ghost use Rattle.std.specs.Prelude.{◌≡◌, List, ℕ, Some};
 ghost use Rattle.gx_device.specs.Content.{Content, Texts};
 ghost use Rattle.gx_play.specs.declared.ending.Ending.{Ending as TheEnding};
 ghost use Rattle.gx_ports.specs.declared.kinds.LeafSpec.{LeafSpec as Spec};
-ghost use Rattle.gx_ports.specs.LeafMaps.{LeafMap};
+ghost use Rattle.gx_ports.specs.LeafMaps.{LeafMap, Limits};
+ghost use Rattle.gx_schema.specs.declared.schema.Schema.{Schema as TheSchema};
+ghost use Rattle.gx_equation.specs.Trees.{DefinitionTree};
+ghost use Rattle.gx_types.specs.declared.built.Built.{Built};
+ghost use Rattle.gx_model.specs.Play.{Playing};
 ghost use Rattle.gx_model.specs.States.{State};
 ghost use Rattle.gx_store.specs.Device.{Reopens};
 ghost use Rattle.gx_requests.specs.Words.{texts_of};
+ghost use Rattle.gx_play.specs.Built.{IsBuiltOf};
 ghost use Rattle.gx_play.specs.Endings.{line_of};
+ghost use Rattle.gx_play.specs.Played.{IsFull};
 ghost use Rattle.gx_requests.specs.Requests.{IsRefused};
+ghost use Rattle.gx_top.specs.Needs.{AreEnough};
 ghost use Rattle.gx_top.specs.Tries.{IsWholeText, PlayOneScript};
 
 /// A request is refused for one reason. It does nothing.
@@ -36,4 +43,14 @@ pub fn one_list_of_maps(schema: &[u8], equation: &[u8])
         → Reopens schema.now equation.now specs maps blocks
         → Reopens schema.now equation.now specs other blocks
         → maps ≡ other }
+{}
+
+/// Where the pages are enough at each command of a script's play, for the entries of the state before it
+/// and of that behind it, the device is never full. It does nothing.
+pub fn enough_pages(script: &[u8])
+    ensures { (schema : TheSchema) (ds : List DefinitionTree) (built : Built) (limits : Limits)
+        (start : State) (answers : List ℕ) (final : Playing)
+        → IsBuiltOf schema ds built
+        → AreEnough schema built limits start script.now
+        → ¬ IsFull schema ds (Some limits) start script.now answers final }
 {}

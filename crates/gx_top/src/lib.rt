@@ -13,5 +13,5 @@ mod run_script;
 mod try_script;
 mod work;
 
-pub use laws::{one_list_of_maps, one_reason, one_text};
+pub use laws::{enough_pages, one_list_of_maps, one_reason, one_text};
 pub use request::top;

@@ -93,15 +93,18 @@ parts_of_all n done ts later ran behind le all parts =
 -- a line that the pages may be too few for, with more lines behind it
 short_before : (built : Built) (limit : Option Limits) (p : Playing) (lines more : List (List ℕ)) → IsShortAt work_schema built limit p lines → IsShortAt work_schema built limit p (lines ++ more)
 short_before built limit p lines more s = record {
-  line = s.line;
-  later = s.later ++ more;
-  lines_are = ap (λ ls. ls ++ more) s.lines_are;
-  command = s.command;
-  means = s.means;
-  placed = s.placed;
   maps = s.maps;
+  many = s.many;
   before = s.before;
-  short = s.short;
+  short = record {
+    line = s.short.line;
+    later = s.short.later ++ more;
+    lines_are = ap (λ ls. ls ++ more) s.short.lines_are;
+    command = s.short.command;
+    means = s.short.means;
+    placed = s.short.placed;
+    short = s.short.short;
+  };
 }
 
 module _ {S : Type 0} (g : Ghosts S) (n : ℕ) (start : State) (done ts later : List Task) (some commits : ℕ) (e f : Engine S) (text : List ℕ) (few_records : n ≤ 10000) (all : tasks n ≡ done ++ ts ++ later) (few : AreFew ts) (schema_is : schema_of e ≡ work_schema) (u : IsUpTo g start done some e) where

@@ -45,7 +45,7 @@ returns-in_err-play_line-clause-played g c = λ told p at.
     let so = c.loop-line.invariant.so_far told p at in
     let now = at_alone g.B.View c.args.answers so.now c.loop-line.engine c.loop-line.out so.at in
     at_line (beside g.B.View c.args.answers) p _ c.loop-line.lines c.next_line.new.lines c.loop-line.number c.in-Some.line.now c.in_err-play_line.field-0.0 c.from_residual-in_err-play_line.result (with_answers c.args.engine.now c.args.out.now) (with_answers c.loop-line.engine c.loop-line.out) (with_answers c.play_line.new.engine c.play_line.new.out)
-    c.loop-line.invariant.keeps.schema c.loop-line.invariant.keeps.built c.loop-line.invariant.keeps.limit (search rules) so (is_err _ _ c.from_residual-in_err-play_line.ensures.1)
+    c.loop-line.invariant.keeps.schema c.loop-line.invariant.keeps.built c.loop-line.invariant.keeps.limit (search rules) so c.loop-line.invariant.keeps.ready (is_err _ _ c.from_residual-in_err-play_line.ensures.1)
     (λ n why e. (c.in_err-play_line.ensures.bad n why (ap Err e), c.in_err-play_line.ensures.stays n why (ap Err e)))
     (λ why e. c.in_err-play_line.ensures.given_up told so.now now why (ap Err e))
 

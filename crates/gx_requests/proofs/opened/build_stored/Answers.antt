@@ -3,14 +3,19 @@ use Rattle.gx_equation.specs.Seen.{definitions_of}
 use Rattle.gx_typing.specs.declared.typing.Typing.{Typing}
 use Rattle.gx_states.proofs.StartLemmas.{are_storable}
 use Rattle.gx_leaves.specs.Kinds.{are_built}
-use Rattle.gx_requests.proofs.LeafLemmas.{leaves_built, some_leaves}
+use Rattle.gx_requests.proofs.LeafLemmas.{leaves_built, some_leaves, all_owned}
 use Rattle.gx_requests.proofs.opened.build_stored.Goals as goal
 
 pub returns-clause-built : goal.returns-clause-built
 returns-clause-built c = record {
   schema_is = refl;
   specs_are = sym (ap (λ (t : Typing). t.specs) c.in_ok-built.ensures.leaves);
-  trees = record { files = c.in_ok-built.ensures.trees; links = c.in_ok-built.ensures.link_trees };
+  trees = record {
+    files = c.in_ok-built.ensures.trees;
+    links = c.in_ok-built.ensures.link_trees;
+    owned = all_owned c.args.checked.schema (definitions_of c.args.checked.equation.definitions) c.args.checked.typing c.in_ok-built.built.specs c.in_ok-built.built.owners
+        c.requires.typed c.requires.leaves_are c.in_ok-built.ensures.leaves c.in_ok-built.ensures.owned;
+  };
   schema_text_is = c.in_ok-schema_text.ensures.exact;
   equation_text_is = c.in_ok-equation_text.ensures.text;
 }
