@@ -43,8 +43,9 @@ returns-in-Ok-clause-fault g c = λ e.
 
 pub returns-in-Ok-clause-shelf : goal.returns-in-Ok-clause-shelf
 returns-in-Ok-clause-shelf g c =
-    let shelf = λ m. (g.M.Device.content m).now.shelf in
-    ap shelf c.into_device.ensures ∙ c.play_over-leaves.ensures.shelf ∙ ap shelf c.in-Ok.ensures.device
+    ap (λ m. (g.M.Device.content m).now.shelf) c.into_device.ensures
+    ∙ c.play_over-leaves.ensures.shelf
+    ∙ ap (λ m. (g.M.Device.content m).now.shelf) c.in-Ok.ensures.device
 
 pub returns-in-Ok-clause-counted : goal.returns-in-Ok-clause-counted
 returns-in-Ok-clause-counted g c = λ e. ap g.M.Device.faults c.into_device.ensures ∙ c.play_over-leaves.ensures.counted e ∙ ap g.M.Device.faults c.in-Ok.ensures.device
