@@ -60,7 +60,7 @@ pub fn play_stored<'a, M: Machine + Drop>(
     (played, close(store))
 }
 
-/// Hears the script and plays it on leaves in memory, from the empty state on.
+/// Hears the script and plays it on leaves in memory, from the empty state on. No device is attached.
 pub fn play_script<'a, M: Machine + Drop>(
     alloc: Global,
     schema: Schema,
@@ -74,6 +74,7 @@ pub fn play_script<'a, M: Machine + Drop>(
         (M.content machine).script (M.content machine).now.said (M.content result.1).now.said
         result.0 }
     ensures heard { IsTrue M.tells → result.0 ≡ Ok tt → (M.content result.1).script ≡ [] }
+    ensures shelf { (M.content result.1).now.shelf ≡ (M.content machine).now.shelf }
     ensures fault { IsErrOf result.0 Ending.Fault → Rose (M.faults machine) (M.faults result.1) }
     ensures ending { IfErr result.0 IsPlayEnding }
     ensures counted { is_fault result.0 ≡ false → M.faults result.1 ≡ M.faults machine }

@@ -122,6 +122,7 @@ all_stored words texts a c x is h =
       typing = c.typing;
       accepted = subst (λ (k : Schema). IsAccepted words texts a k ds c.typing) (sym h.schema_is) is;
       specs_are = h.specs_are;
+      owners_are = h.owners_are;
       trees = subst (λ (k : Schema). IsBuiltOf k ds x.built) (sym h.schema_is) h.trees;
       schema_text_is = h.schema_text_is ∙ ap schema_text (sym h.schema_is);
       equation_text_is = h.equation_text_is;

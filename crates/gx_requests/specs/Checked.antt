@@ -82,6 +82,7 @@ pub record IsPrepared (words : List (List ℕ)) (texts : Texts) (a : Action) (x 
 pub record IsStoredOf (c : Checked) (x : Stored) : Type 0 where
   pub schema_is : x.schema ≡ c.schema
   pub specs_are : x.built.specs ≡ c.typing.specs
+  pub owners_are : x.built.owners ≡ c.typing.owners
   pub trees : IsBuiltOf c.schema (definitions_of c.equation.definitions) x.built
   pub schema_text_is : x.schema_text ≡ schema_text c.schema
   pub equation_text_is : x.equation_text ≡ equation_text (definitions_of c.equation.definitions)
@@ -92,6 +93,7 @@ pub record IsStoredFor (words : List (List ℕ)) (texts : Texts) (a : Action) (x
   pub typing : Typing
   pub accepted : IsAccepted words texts a x.schema definitions typing
   pub specs_are : x.built.specs ≡ typing.specs
+  pub owners_are : x.built.owners ≡ typing.owners
   pub trees : IsBuiltOf x.schema definitions x.built
   pub schema_text_is : x.schema_text ≡ schema_text x.schema
   pub equation_text_is : x.equation_text ≡ equation_text definitions

@@ -8,6 +8,7 @@ use Rattle.gx_schema.specs.Printing.{schema_text}
 use Rattle.gx_equation.specs.Printing.{equation_text}
 use Rattle.gx_model.specs.States.{State}
 use Rattle.gx_states.specs.Internal.{AreInternal}
+use Rattle.gx_audit.specs.Texts.{inspect_text}
 use Rattle.gx_store.specs.Device.{Reopens, IsSettled, ReadAlike}
 use Rattle.gx_store.specs.Opening.{AreOpened, IsUnopened}
 use Rattle.gx_store.specs.Store.{Attaches, OfBlocks, is_fault}
@@ -203,9 +204,12 @@ module _ (words : List (List ℕ)) (device : List ℕ) (x : Stored) (old middle 
         settled = seen.settled f.is_whole;
         internal = record { built = x.built; trees = p.trees; is = f.internal };
       };
-      text_is = f.text_is;
+      text_is = f.text_is ∙ (λ i. inspect_text x.schema (p.specs_are i) (p.owners_are i) maps f.state);
     }
-    found_by (Err (ending.Device (device_why.Damaged block))) f = λ limit s h. let at = internal_here limit s h in f at.0 s at.1
+    found_by (Err (ending.Device (device_why.Damaged block))) f = record {
+      had = (seen.had.0, back seen.had.0 seen.had.1, seen.had.2);
+      stateless = λ limit s h. let at = internal_here limit s h in f at.0 s at.1;
+    }
     found_by (Err (ending.Device device_why.Missing)) f = absurd f
     found_by (Err (ending.Device device_why.Exists)) f = absurd f
     found_by (Err (ending.Device device_why.Size)) f = absurd f

@@ -178,7 +178,7 @@ inspect_end words old new s is unheard = record {
 
 -- a device that holds a valid state isn't wrong
 held_right : (device : List ℕ) (t : Task) (before : Content) (limit : Option Limits) (s : State) (wrong : DeviceWhy) → IsWrongOn device t before wrong → IsHeldOn t device before limit s → ⊥
-held_right device t before limit s (device_why.Damaged block) is held = is limit s held
+held_right device t before limit s (device_why.Damaged block) is held = is.stateless limit s held
 held_right device t before limit s device_why.Missing is held = held_not_wrong device t before limit s device_why.Missing tt is held
 held_right device t before limit s device_why.Exists is held = held_not_wrong device t before limit s device_why.Exists tt is held
 held_right device t before limit s device_why.Size is held = held_not_wrong device t before limit s device_why.Size tt is held
@@ -194,14 +194,14 @@ sound_status t device old new limit state status.Script held row outside = absur
 sound_status t device old new limit state status.Refused held row outside = absurd row
 sound_status t device old new limit state status.Full held row outside = absurd row
 
-unsound_status : (t : Task) (device : List ℕ) (old new : Content) (wrong : DeviceWhy) (s : Status) → IsWrongOn device t old wrong → IsInspected t device old new s → s ≢ status.Outside → (s ≡ status.Device) ⊎ (s ≡ status.Memory)
-unsound_status t device old new wrong status.Device is row outside = inl refl
-unsound_status t device old new wrong status.Memory is row outside = inr refl
-unsound_status t device old new wrong status.Done is row outside = absurd (held_right device t old row.1.limit row.1.state wrong is row.1.held)
-unsound_status t device old new wrong status.Outside is row outside = absurd (outside refl)
-unsound_status t device old new wrong status.Script is row outside = absurd row
-unsound_status t device old new wrong status.Refused is row outside = absurd row
-unsound_status t device old new wrong status.Full is row outside = absurd row
+unsound_status : (t : Task) (device : List ℕ) (old new : Content) (s : Status) → ((limit : Option Limits) (state : State) → ¬ IsHeldOn t device old limit state) → IsInspected t device old new s → s ≢ status.Outside → (s ≡ status.Device) ⊎ (s ≡ status.Memory)
+unsound_status t device old new status.Device none row outside = inl refl
+unsound_status t device old new status.Memory none row outside = inr refl
+unsound_status t device old new status.Done none row outside = absurd (none row.1.limit row.1.state row.1.held)
+unsound_status t device old new status.Outside none row outside = absurd (outside refl)
+unsound_status t device old new status.Script none row outside = absurd row
+unsound_status t device old new status.Refused none row outside = absurd row
+unsound_status t device old new status.Full none row outside = absurd row
 
 -- the same, as another reading of the words has it
 row_of : (words : List (List ℕ)) (old new : Content) (s : Status) (r : IsToInspect words old.aside.texts) → Inspects words old new s → IsInspected (inspected r) r.device old new s
@@ -223,7 +223,7 @@ inspect_due words old new s is due can outside = by_due due can
     by_due status.Script (number, why, inr (r, text, ends)) = absurd (explained_not_inspected words old.aside.texts r is.0)
     by_due status.Device (inl wrong) = absurd (wrong_not_inspected words old wrong.why wrong.wrong is.0)
     by_due status.Device (inr (inr un)) = absurd (inspected_not_worked words old.aside.texts un.blocks un.records is.0 un.request)
-    by_due status.Device (inr (inl (r, wrong, is_wrong))) = unsound_status (inspected r) r.device old new wrong s is_wrong (row_of words old new s r is) outside
+    by_due status.Device (inr (inl (r, none))) = unsound_status (inspected r) r.device old new s none (row_of words old new s r is) outside
     by_due status.Refused refused = absurd (inspected_not_refused words old.aside.texts refused.0 is.0 refused.1)
     by_due status.Memory due = absurd due
     by_due status.Full due = absurd due

@@ -18,6 +18,13 @@ use Rattle.gx_operations.specs.Settled.{limits_on}
 pub devices_same : (old new : Content) → SameDevices old new → (name : List ℕ) → device_at new.now name ≡ device_at old.now name
 devices_same old new same name = λ i. get (with_named (same.shelf i).name (same.blocks i) (same.shelf i).devices) name
 
+-- where none is attached, all of them are others
+pub shelf_same : (old new : Content) → old.now.shelf.name ≡ None → new.now.shelf ≡ old.now.shelf → (name : List ℕ) → device_at new.now name ≡ device_at old.now name
+shelf_same old new free same name =
+    (λ i. get (with_named (same i).name new.now.blocks (same i).devices) name)
+    ∙ (λ i. get (with_named (free i) new.now.blocks old.now.shelf.devices) name)
+    ∙ sym (λ i. get (with_named (free i) old.now.blocks old.now.shelf.devices) name)
+
 -- the device of that name isn't there, and wasn't, or the same is read from its blocks
 pub record ReadsAlike (device : List ℕ) (old new : Content) : Type 0 where
   pub absent : device_at old.now device ≡ None → device_at new.now device ≡ None

@@ -140,6 +140,12 @@ module _ (words : List (List ℕ)) (device : List ℕ) (x : Stored) (old middle 
       subst (λ (t : List ℕ). HasTexts t (equation_text p.definitions) blocks) p.schema_text_is
       (subst (λ (t : List ℕ). HasTexts x.schema_text t blocks) p.equation_text_is is)
 
+  had_opened : (blocks : List (List ℕ)) → AreOpened x.schema_text x.equation_text x.built.specs blocks → AreOpened (schema_text x.schema) (equation_text p.definitions) p.typing.specs blocks
+  had_opened blocks is =
+      subst (λ (t : List ℕ). AreOpened t (equation_text p.definitions) p.typing.specs blocks) p.schema_text_is
+      (subst (λ (t : List ℕ). AreOpened x.schema_text t p.typing.specs blocks) p.equation_text_is
+      (subst (λ (k : List LeafSpec). AreOpened x.schema_text x.equation_text k blocks) p.specs_are is))
+
   -- a device that was opened is wrong in no way that is seen before
   pub not_wrong : OfBlocks device middle (AreOpened x.schema_text x.equation_text x.built.specs) → (wrong : DeviceWhy) → IsBefore wrong → IsWrong words old wrong → ⊥
   not_wrong had wrong early (inl run) =
@@ -202,7 +208,10 @@ module _ (words : List (List ℕ)) (device : List ℕ) (x : Stored) (old middle 
           is = run_is_task;
           device = device;
           action_is = refl;
-          wrong = λ bound start h. subst (λ (r : Result (Unit {0}) Ending). IsPlayedAs x.schema x.built bound start Settled old.script old.now.said mid.now.said r) found (from_start bound start h);
+          wrong = record {
+            had = (o.had.0, subst (λ n. device_at n device ≡ Some o.had.0) same.now o.had.1, had_opened o.had.0 o.had.2);
+            stateless = λ bound start h. subst (λ (r : Result (Unit {0}) Ending). IsPlayedAs x.schema x.built bound start Settled old.script old.now.said mid.now.said r) found (from_start bound start h);
+          };
         }),
         subst (λ (n : List ℕ). IsPrefix n mid.now.said) (o.said ∙ ap (λ n. n.said) same.now) o.begins,
       );

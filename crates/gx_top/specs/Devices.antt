@@ -9,7 +9,8 @@ use Rattle.gx_equation.specs.Printing.{equation_text}
 use Rattle.gx_typing.specs.declared.typing.Typing.{Typing}
 use Rattle.gx_model.specs.States.{State}
 use Rattle.gx_layout.specs.Layout.{pages_of}
-use Rattle.gx_store.specs.Opening.{IsUnopened}
+use Rattle.gx_store.specs.Opening.{AreOpened, IsUnopened}
+use Rattle.gx_store.specs.Store.{OfBlocks}
 use Rattle.gx_store.specs.declared.unopened.Unopened.TheVariants as unopened
 use Rattle.gx_play.specs.declared.ending.DeviceWhy.{DeviceWhy}
 use Rattle.gx_play.specs.declared.ending.DeviceWhy.TheVariants as device_why
@@ -37,14 +38,19 @@ IsMadeText words before text = (blocks : ℕ) × IsToMake words before.aside.tex
 
 -- ---- a device that isn't what was asked for
 
--- Why a script isn't played on the device of that name. Damage is found only where it holds no state.
+-- a device that is there, with the size, the magic and the texts that are asked for, and holds no state
+pub record IsDamagedOn (device : List ℕ) (t : Task) (before : Content) : Type 0 where
+  pub had : OfBlocks device before (AreOpened (schema_text t.schema) (equation_text t.definitions) t.typing.specs)
+  pub stateless : (limit : Option Limits) (s : State) → ¬ IsHeldOn t device before limit s
+
+-- Why a script isn't played on the device of that name, or why it isn't inspected. Each comes only where those before it don't.
 abbrev pub IsWrongOn : List ℕ → Task → Content → DeviceWhy → Type 0
 IsWrongOn device t before device_why.Missing = IsUnopened device (schema_text t.schema) (equation_text t.definitions) t.typing.specs before unopened.Missing
 IsWrongOn device t before device_why.Exists = ⊥
 IsWrongOn device t before device_why.Size = IsUnopened device (schema_text t.schema) (equation_text t.definitions) t.typing.specs before unopened.Size
 IsWrongOn device t before device_why.NoDatabase = IsUnopened device (schema_text t.schema) (equation_text t.definitions) t.typing.specs before unopened.NoDatabase
 IsWrongOn device t before (device_why.OtherEquation place) = IsUnopened device (schema_text t.schema) (equation_text t.definitions) t.typing.specs before (unopened.OtherTexts place)
-IsWrongOn device t before (device_why.Damaged block) = (limit : Option Limits) (s : State) → ¬ IsHeldOn t device before limit s
+IsWrongOn device t before (device_why.Damaged block) = IsDamagedOn device t before
 
 -- the same of a script that is to be played on a device
 pub record IsWrongToRun (words : List (List ℕ)) (before : Content) (why : DeviceWhy) : Type 0 where

@@ -37,15 +37,16 @@ inspected r = record { action = inspecting r.device; schema = r.schema; definiti
 
 -- ---- what is said
 
--- The device held a valid state, and is settled with its internal form. The text tells of both.
+-- The device held a valid state, and is settled with its internal form. The text tells of both, with the leaves that the
+-- equation gives.
 pub record IsInspectText (t : Task) (device : List ℕ) (before after : Content) (text : List ℕ) : Type 0 where
   pub state : State
   pub limit : Option Limits
   pub held : IsHeldOn t device before limit state
   pub settled : IsSettledOn t device after state
-  pub text_is : text ≡ inspect_text t.schema settled.internal.built.specs settled.internal.built.owners settled.maps state
+  pub text_is : text ≡ inspect_text t.schema t.typing.specs t.typing.owners settled.maps state
 
--- the line of why the device isn't what was asked for; that of damage only where it held no valid state
+-- the line of why the device isn't what was asked for, or is damaged
 abbrev pub IsWrongText : Task → List ℕ → Content → List ℕ → Type 0
 IsWrongText t device before text = (why : DeviceWhy) × IsWrongOn device t before why × (text ≡ device_line why)
 
@@ -71,9 +72,9 @@ Inspects words old new s = (r : IsToInspect words old.aside.texts) × IsInspecte
 abbrev pub IsSoundDevice : List (List ℕ) → Content → Type 0
 IsSoundDevice words before = (r : IsToInspect words before.aside.texts) × (limit : Option Limits) × (s : State) × IsHeldOn (inspected r) r.device before limit s
 
--- the device isn't what was asked for, or holds none
+-- the device holds none; it may be missing, or another than was asked for
 abbrev pub IsUnsoundDevice : List (List ℕ) → Content → Type 0
-IsUnsoundDevice words before = (r : IsToInspect words before.aside.texts) × (why : DeviceWhy) × IsWrongOn r.device (inspected r) before why
+IsUnsoundDevice words before = (r : IsToInspect words before.aside.texts) × ((limit : Option Limits) (s : State) → ¬ IsHeldOn (inspected r) r.device before limit s)
 
 -- ---- what is left of the devices
 

@@ -3,6 +3,7 @@ pub mod Tasks
 pub mod Devices
 pub mod Made
 pub mod Ran
+pub mod Stays
 pub mod Inspected
 pub mod Found
 pub mod Worked

@@ -10,13 +10,14 @@ use gx_requests::read_texts;
 use std::alloc::Global;
 
 /// Says what leaves the equation has where both texts of these names are accepted, and the reason
-/// where they aren't. No script is heard.
+/// where they aren't. No script is heard, and no device is attached.
 pub fn check<M: Machine>(alloc: Global, schema: &str, equation: &str, machine: &mut M) -> Status
     ensures said { IsTrue M.tells →
         IsEnd (request_words checking schema.now equation.now) (M.content machine.old)
         (M.content machine.new) result }
     ensures due { IsTrue M.tells →
         IsAsDue (request_words checking schema.now equation.now) (M.content machine.old) result }
+    ensures shelf { (M.content machine.new).now.shelf ≡ (M.content machine.old).now.shelf }
     ensures outside { result ≡ Status.Outside → Rose (M.faults machine.old) (M.faults machine.new) }
     ensures counted { result ≢ Status.Outside → M.faults machine.new ≡ M.faults machine.old }
     ensures later { M.faults machine.old ≤ M.faults machine.new }

@@ -11,13 +11,14 @@ use gx_requests::prepare_nodes;
 use std::alloc::Global;
 
 /// Says the plan of each `find` of the script, under the texts of these names; or says the reason
-/// where the request is refused. No line of the script is carried out.
+/// where the request is refused. No line of the script is carried out, and no device is attached.
 pub fn explain<M: Machine>(alloc: Global, schema: &str, equation: &str, machine: &mut M) -> Status
     ensures said { IsTrue M.tells →
         IsEnd (request_words explaining schema.now equation.now) (M.content machine.old)
         (M.content machine.new) result }
     ensures due { IsTrue M.tells →
         IsAsDue (request_words explaining schema.now equation.now) (M.content machine.old) result }
+    ensures shelf { (M.content machine.new).now.shelf ≡ (M.content machine.old).now.shelf }
     ensures outside { result ≡ Status.Outside → Rose (M.faults machine.old) (M.faults machine.new) }
     ensures counted { result ≢ Status.Outside → M.faults machine.new ≡ M.faults machine.old }
     ensures later { M.faults machine.old ≤ M.faults machine.new }

@@ -5,6 +5,7 @@ ghost use Rattle.gx_top.specs.Made.{LeavesMadeBy};
 ghost use Rattle.gx_top.specs.Ran.{LeavesRunBy};
 ghost use Rattle.gx_top.specs.Inspected.{LeavesInspectedBy};
 ghost use Rattle.gx_top.specs.Worked.{LeavesWorkedBy};
+ghost use Rattle.gx_top.specs.Stays.{LeavesAllBy};
 ghost use Rattle.gx_requests.specs.Requests.{IsFree};
 ghost use Rattle.gx_top.specs.Tries.{IsEnd, IsAsDue, CountsOutside};
 
@@ -42,8 +43,9 @@ use std::alloc::Global;
 /// - `Full`: the pages may be too few for the command of a line. Exactly the answers of the lines before
 ///   it were said, and then `stopped: full`; of `work` that line alone.
 /// - `Device`: the device isn't what was asked for. Its line was said, and nothing else; that of damage,
-///   which is found while the script is played, was said last, behind what was said before, and it isn't
-///   found where the device holds a state. `inspect` finds it exactly where the device holds none.
+///   which is found while the script is played, was said last, behind what was said before. It comes only
+///   of a device that is there, with its size, a database and the same texts, and that holds no state.
+///   `inspect` finds it exactly there.
 /// - `Memory`: there was no memory. Exactly the answers or plans of the script's first lines were said,
 ///   perhaps of none, and then `stopped: memory`.
 /// - `Outside`: a front was said of what one of the others says.
@@ -67,6 +69,9 @@ use std::alloc::Global;
 /// After `Memory` one that is new holds no database, an empty one, or the last state that some first lines
 /// of that play kept. After `Refused` all devices are as they were, after `Device` so is the one of its
 /// name, and those of other names always.
+///
+/// Whatever `check`, `try` and `explain` answer, and of words that are no request, all devices are as they
+/// were, where none is attached before.
 ///
 /// What is said of `run` after it has opened its device holds where that held a state. `Outside` comes
 /// only where a call of the machine failed in this one, and with any other status none did: the count of
@@ -98,6 +103,9 @@ pub fn top<M: Machine + Drop>(alloc: Global, words: &[String], machine: M) -> (S
     // What `work` leaves on the devices.
     ensures worked { IsTrue M.tells → LeavesWorkedBy (texts_of words.now) (M.content machine)
         (M.content result.1) result.0 }
+    // What every other request leaves on the devices.
+    ensures stays { IsTrue M.tells → LeavesAllBy (texts_of words.now) (M.content machine)
+        (M.content result.1) }
     // No failure is passed over, on any machine.
     ensures failures { CountsOutside (M.faults machine) (M.faults result.1) result.0 }
 {

@@ -12,7 +12,7 @@ use gx_requests::prepare_nodes;
 use std::alloc::Global;
 
 /// Plays the script over leaves in memory, under the texts of these names, and says its answers; or
-/// says the reason where the request is refused.
+/// says the reason where the request is refused. No device is attached.
 pub fn try_script<M: Machine + Drop>(
     alloc: Global,
     schema: &str,
@@ -24,6 +24,7 @@ pub fn try_script<M: Machine + Drop>(
         (M.content result.1) result.0 }
     ensures due { IsTrue M.tells →
         IsAsDue (request_words trying schema.now equation.now) (M.content machine) result.0 }
+    ensures shelf { (M.content result.1).now.shelf ≡ (M.content machine).now.shelf }
     ensures outside { result.0 ≡ Status.Outside → Rose (M.faults machine) (M.faults result.1) }
     ensures counted { result.0 ≢ Status.Outside → M.faults result.1 ≡ M.faults machine }
     ensures later { M.faults machine ≤ M.faults result.1 }

@@ -41,6 +41,12 @@ returns-in-Ok-clause-fault g c = λ e.
     subst (λ m. Rose (g.M.Device.faults c.args.machine) (g.M.Device.faults m)) (sym c.into_device.ensures)
     (subst (λ m. Rose (g.M.Device.faults m) (g.M.Device.faults c.play_over-leaves.result.1.device)) c.in-Ok.ensures.device (c.play_over-leaves.ensures.fault e))
 
+pub returns-in-Ok-clause-shelf : goal.returns-in-Ok-clause-shelf
+returns-in-Ok-clause-shelf g c =
+    ap (λ m. (g.M.Device.content m).now.shelf) c.into_device.ensures
+    ∙ c.play_over-leaves.ensures.shelf
+    ∙ ap (λ m. (g.M.Device.content m).now.shelf) c.in-Ok.ensures.device
+
 pub returns-in-Ok-clause-counted : goal.returns-in-Ok-clause-counted
 returns-in-Ok-clause-counted g c = λ e. ap g.M.Device.faults c.into_device.ensures ∙ c.play_over-leaves.ensures.counted e ∙ ap g.M.Device.faults c.in-Ok.ensures.device
 

@@ -10,6 +10,7 @@ pub returns-clause-built : goal.returns-clause-built
 returns-clause-built c = record {
   schema_is = refl;
   specs_are = sym (ap (λ (t : Typing). t.specs) c.in_ok-built.ensures.leaves);
+  owners_are = sym (ap (λ (t : Typing). t.owners) c.in_ok-built.ensures.leaves);
   trees = record {
     files = c.in_ok-built.ensures.trees;
     links = c.in_ok-built.ensures.link_trees;

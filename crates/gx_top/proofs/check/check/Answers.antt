@@ -1,4 +1,4 @@
-use Rattle.std.proofs.Common.{ap}
+use Rattle.std.proofs.Common.{ap, ◌∙◌}
 use Rattle.gx_requests.specs.Words.{checking, request_words}
 use Rattle.gx_requests.proofs.RequestLemmas.{summary}
 use Rattle.gx_top.proofs.EndLemmas.{unprepared_end, unprepared_due, check_end, check_due}
@@ -64,3 +64,9 @@ returns-in-Err-clause-due g c = λ told.
       silent = c.end-in-Err.ensures.silent told;
       script = c.end-in-Err.ensures.rest.script;
     })
+
+pub returns-in-Ok-clause-shelf : goal.returns-in-Ok-clause-shelf
+returns-in-Ok-clause-shelf g c = c.end.ensures.devices.shelf ∙ ap (λ n. n.shelf) c.in-Ok.ensures.content.now
+
+pub returns-in-Err-clause-shelf : goal.returns-in-Err-clause-shelf
+returns-in-Err-clause-shelf g c = c.end.ensures.devices.shelf ∙ ap (λ n. n.shelf) c.in-Err.ensures.content.now

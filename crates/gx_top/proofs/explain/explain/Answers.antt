@@ -1,4 +1,4 @@
-use Rattle.std.proofs.Common.{ap}
+use Rattle.std.proofs.Common.{ap, ◌∙◌}
 use Rattle.gx_requests.specs.Words.{explaining, request_words}
 use Rattle.gx_top.proofs.EndLemmas.{unprepared_end, unprepared_due}
 use Rattle.gx_top.proofs.ExplainRequestLemmas.{explained_by, explain_end, explain_due}
@@ -50,3 +50,9 @@ returns-in-Err-clause-due g c = λ told.
       silent = c.end.ensures.silent told;
       script = c.end.ensures.rest.script;
     })
+
+pub returns-in-Ok-clause-shelf : goal.returns-in-Ok-clause-shelf
+returns-in-Ok-clause-shelf g c = c.explain_script.ensures.shelf ∙ ap (λ n. n.shelf) c.in-Ok.ensures.content.now
+
+pub returns-in-Err-clause-shelf : goal.returns-in-Err-clause-shelf
+returns-in-Err-clause-shelf g c = c.end.ensures.devices.shelf ∙ ap (λ n. n.shelf) c.in-Err.ensures.content.now

@@ -8,6 +8,7 @@ use Rattle.gx_top.proofs.RanLemmas.{not_ran, ran_by_words, check_is_no_run, try_
 use Rattle.gx_top.proofs.ExamineLemmas.{inspected_by_words, not_inspected}
 use Rattle.gx_top.proofs.WorkLemmas.{worked_by_words, not_worked}
 use Rattle.gx_top.proofs.CompleteLemmas.{checking_not_inspecting, trying_not_inspecting, explaining_not_inspecting, making_not_inspecting, running_not_inspecting, checking_not_working, trying_not_working, explaining_not_working, making_not_working, running_not_working, inspecting_not_working, working_not_making, working_not_running, working_not_inspecting}
+use Rattle.gx_top.proofs.StayLemmas.{shelf_same}
 use Rattle.gx_top.proofs.request.top.Goals as goal
 
 pub returns-in-Some-Check-clause-said : goal.returns-in-Some-Check-clause-said
@@ -247,3 +248,35 @@ pub returns-in-Some-Make-clause-worked : goal.returns-in-Some-Make-clause-worked
 returns-in-Some-Make-clause-worked g c = λ told.
     let is = subst (IsRequest (texts_of c.args.words.now)) c.in-Some-Make.field-0-is c.in-Some-Make.ensures.some in
     not_worked (texts_of c.args.words.now) (making _ is.0) _ _ (g.M.Device.content c.args.machine) (g.M.Device.content c.make_database.result.1) c.make_database.result.0 is.2 (making_not_working _ is.0)
+
+pub returns-in-Some-Check-clause-stays : goal.returns-in-Some-Check-clause-stays
+returns-in-Some-Check-clause-stays g c = λ told none free. shelf_same (g.M.Device.content c.args.machine) (g.M.Device.content c.check-status.new.machine) free c.check-status.ensures.shelf
+
+pub returns-in-Some-Try-clause-stays : goal.returns-in-Some-Try-clause-stays
+returns-in-Some-Try-clause-stays g c = λ told none free. shelf_same (g.M.Device.content c.args.machine) (g.M.Device.content c.try_script.result.1) free c.try_script.ensures.shelf
+
+pub returns-in-Some-Explain-clause-stays : goal.returns-in-Some-Explain-clause-stays
+returns-in-Some-Explain-clause-stays g c = λ told none free. shelf_same (g.M.Device.content c.args.machine) (g.M.Device.content c.explain-status.new.machine) free c.explain-status.ensures.shelf
+
+pub returns-in-None-clause-stays : goal.returns-in-None-clause-stays
+returns-in-None-clause-stays g c = λ told none free. shelf_same (g.M.Device.content c.args.machine) (g.M.Device.content c.end-status.new.machine) free c.end-status.ensures.devices.shelf
+
+pub returns-in-Some-Make-clause-stays : goal.returns-in-Some-Make-clause-stays
+returns-in-Some-Make-clause-stays g c = λ told none free name.
+    let is = subst (IsRequest (texts_of c.args.words.now)) c.in-Some-Make.field-0-is c.in-Some-Make.ensures.some in
+    absurd (none (making _ is.0) _ _ tt (_, is.1) is.2)
+
+pub returns-in-Some-Run-clause-stays : goal.returns-in-Some-Run-clause-stays
+returns-in-Some-Run-clause-stays g c = λ told none free name.
+    let is = subst (IsRequest (texts_of c.args.words.now)) c.in-Some-Run.field-0-is c.in-Some-Run.ensures.some in
+    absurd (none (running _) _ _ tt tt is)
+
+pub returns-in-Some-Inspect-clause-stays : goal.returns-in-Some-Inspect-clause-stays
+returns-in-Some-Inspect-clause-stays g c = λ told none free name.
+    let is = subst (IsRequest (texts_of c.args.words.now)) c.in-Some-Inspect.field-0-is c.in-Some-Inspect.ensures.some in
+    absurd (none (inspecting _) _ _ tt tt is)
+
+pub returns-in-Some-Work-clause-stays : goal.returns-in-Some-Work-clause-stays
+returns-in-Some-Work-clause-stays g c = λ told none free name.
+    let is = subst (IsRequest (texts_of c.args.words.now)) c.in-Some-Work.field-0-is c.in-Some-Work.ensures.some in
+    absurd (none (working _ is.0 is.1) [] _ tt ((_, is.2), (_, is.3)) is.4)

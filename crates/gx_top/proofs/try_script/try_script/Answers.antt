@@ -1,3 +1,4 @@
+use Rattle.std.proofs.Common.{ap, ◌∙◌}
 use Rattle.gx_requests.specs.Words.{trying, request_words}
 use Rattle.gx_top.proofs.EndLemmas.{unprepared_end, unprepared_due, run_end, run_due}
 use Rattle.gx_top.proofs.TaskLemmas.{try_task, try_run}
@@ -52,3 +53,9 @@ returns-in-Err-clause-due g c = λ told.
       silent = c.end-status.ensures.silent told;
       script = c.end-status.ensures.rest.script;
     })
+
+pub returns-in-Ok-clause-shelf : goal.returns-in-Ok-clause-shelf
+returns-in-Ok-clause-shelf g c = c.finish-status.ensures.devices.shelf ∙ c.play_script-machine.ensures.shelf ∙ ap (λ n. n.shelf) c.in-Ok.ensures.content.now
+
+pub returns-in-Err-clause-shelf : goal.returns-in-Err-clause-shelf
+returns-in-Err-clause-shelf g c = c.end-status.ensures.devices.shelf ∙ ap (λ n. n.shelf) c.in-Err.ensures.content.now
