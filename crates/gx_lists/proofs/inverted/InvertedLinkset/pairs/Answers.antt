@@ -50,22 +50,22 @@ pub returns-in_err-up-clause-counts : goal.returns-in_err-up-clause-counts
 returns-in_err-up-clause-counts g c = λ w.
     let b = g.B.View in
     let e = c.held.ensures in
-    counts_joined (b.working c.args.leaves.now) (b.working c.held.new.leaves) c.args.counts.now c.held.new.counts c.held-2.new.counts e.reads.working (e.counts w) (c.held-2.ensures.counts (c.in_ok-down.ensures.ends.whole w))
+    counts_joined (b.working c.args.leaves.now) (b.working c.held.new.leaves) c.args.counts.now c.held.new.counts c.held-2.new.counts e.reads.reads.working (e.counts w) (c.held-2.ensures.counts (c.in_ok-down.ensures.reads.ends.whole w))
 
 pub returns-in_default-2-clause-counts : goal.returns-in_default-2-clause-counts
 returns-in_default-2-clause-counts g c = λ w.
     let b = g.B.View in
     let e = c.held.ensures in
-    counts_joined (b.working c.args.leaves.now) (b.working c.held.new.leaves) c.args.counts.now c.held.new.counts c.held-2.new.counts e.reads.working (e.counts w) (c.held-2.ensures.counts (c.in_ok-down.ensures.ends.whole w))
+    counts_joined (b.working c.args.leaves.now) (b.working c.held.new.leaves) c.args.counts.now c.held.new.counts c.held-2.new.counts e.reads.reads.working (e.counts w) (c.held-2.ensures.counts (c.in_ok-down.ensures.reads.ends.whole w))
 
 pub returns-in_err-told-clause-counts : goal.returns-in_err-told-clause-counts
 returns-in_err-told-clause-counts g c = λ w.
     let b = g.B.View in
     let e = c.held.ensures in
-    counts_joined (b.working c.args.leaves.now) (b.working c.held.new.leaves) c.args.counts.now c.held.new.counts c.held-2.new.counts e.reads.working (e.counts w) (c.held-2.ensures.counts (c.in_ok-down.ensures.ends.whole w))
+    counts_joined (b.working c.args.leaves.now) (b.working c.held.new.leaves) c.args.counts.now c.held.new.counts c.held-2.new.counts e.reads.reads.working (e.counts w) (c.held-2.ensures.counts (c.in_ok-down.ensures.reads.ends.whole w))
 
 pub returns-clause-counts : goal.returns-clause-counts
 returns-clause-counts g c = λ w.
     let b = g.B.View in
     let e = c.held.ensures in
-    counts_joined (b.working c.args.leaves.now) (b.working c.held.new.leaves) c.args.counts.now c.held.new.counts c.held-2.new.counts e.reads.working (e.counts w) (c.held-2.ensures.counts (c.in_ok-down.ensures.ends.whole w))
+    counts_joined (b.working c.args.leaves.now) (b.working c.held.new.leaves) c.args.counts.now c.held.new.counts c.held-2.new.counts e.reads.reads.working (e.counts w) (c.held-2.ensures.counts (c.in_ok-down.ensures.reads.ends.whole w))
