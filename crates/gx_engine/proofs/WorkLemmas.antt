@@ -1,13 +1,16 @@
 -- The bound on the steps of commands that read.
-use Rattle.std.proofs.Common.{◌≡◌, ℕ, ◌+◌, ◌*◌, ◌≤◌, length, Option, None, Result, Ok, Err, refl, sym, ap, subst, ◌∙◌, arith}
+use Rattle.std.proofs.Common.{◌≡◌, ℕ, ◌+◌, ◌*◌, ◌≤◌, length, Bool, true, false, Option, None, Result, Ok, Err, refl, sym, ap, subst, ◌∙◌, arith}
 use Rattle.std.specs.Prelude.{OnOk}
 use Rattle.std.specs.FinMap as fin
 use Rattle.std.proofs.Math.Nat.{mul-le-mul_left}
+use Rattle.std.proofs.lemmas.Bool.{true≢false}
 use Rattle.gx_schema.specs.declared.schema.FileDef.{FileDef}
 use Rattle.gx_schema.specs.declared.schema.Schema.{Schema}
 use Rattle.gx_schema.specs.Lookups.{file_at}
 use Rattle.gx_commands.specs.declared.command.Of.{Of}
 use Rattle.gx_commands.specs.declared.command.Find.{Find}
+use Rattle.gx_commands.specs.declared.command.Command.{Command}
+use Rattle.gx_commands.specs.declared.command.Command.TheVariants as command
 use Rattle.gx_stack.specs.Tree.{Tree}
 use Rattle.gx_types.specs.declared.any.AnyMapping.{AnyMapping}
 use Rattle.gx_types.specs.declared.built.Built.{Built}
@@ -18,7 +21,8 @@ use Rattle.gx_model.specs.States.{State, Row, file_in}
 use Rattle.gx_model.specs.Found.{meets_of}
 use Rattle.gx_scan.proofs.ListingLemmas.{same_filter}
 use Rattle.gx_finds.specs.Looked.{plan_for, condition_of, meets_one, rows_meeting, step_bound}
-use Rattle.gx_answers.specs.Work.{meets_plan, candidates, most_with, find_bound}
+use Rattle.gx_edits.specs.Edits.{is_edit}
+use Rattle.gx_answers.specs.Work.{IsBounded, meets_plan, candidates, most_with, find_bound}
 
 -- ---- the records that are looked at
 
@@ -45,6 +49,16 @@ wider count most few leaves before after le steps =
 pub nothing_counted : {A E : Type 0} (r : Result A E) → OnOk r (Unit {0})
 nothing_counted (Ok x) = tt
 nothing_counted (Err e) = tt
+
+-- the steps of an edit aren't bounded
+pub edit_uncounted : {A E : Type 0} (r : Result A E) (schema : Schema) (built : Built) (leaves : ℕ) (s : State) (c : Command) (before after : ℕ) → is_edit c ≡ true → OnOk r (IsBounded schema built leaves s c before after)
+edit_uncounted (Err e) schema built leaves s c before after is = tt
+edit_uncounted (Ok x) schema built leaves s (command.Insert file values) before after is = tt
+edit_uncounted (Ok x) schema built leaves s (command.Update file key changes) before after is = tt
+edit_uncounted (Ok x) schema built leaves s (command.Delete file key) before after is = tt
+edit_uncounted (Ok x) schema built leaves s (command.Connect link owner member) before after is = tt
+edit_uncounted (Ok x) schema built leaves s (command.Disconnect link member) before after is = tt
+edit_uncounted (Ok x) schema built leaves s _ before after is = absurd (true≢false (sym is))
 
 pub find_within : (schema : Schema) (built : Built) (leaves : ℕ) (s : State) (q : Find) (file : FileDef) (t : Tree AnyMapping) (few before after : ℕ) → file ≡ file_at schema q.file → t ≡ tree_at built.files q.file → q.of ≡ None → few ≤ leaves
     → after ≤ before + step_bound (length (rows_meeting (condition_of q (plan_for t file q)) (file_in s q.file))) (most_with built s q.of) few → after ≤ before + find_bound schema built leaves s q

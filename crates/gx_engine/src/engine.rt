@@ -4,6 +4,7 @@ ghost use Rattle.gx_model.specs.States.{State};
 ghost use Rattle.gx_model.specs.Play.{Playing, start_at};
 ghost use Rattle.gx_ports.specs.LeafMaps.{LeafMap};
 ghost use Rattle.gx_ports.specs.Calls.{Keeps, Hearing, Saying};
+ghost use Rattle.gx_edits.specs.Edits.{is_edit};
 
 use crate::reorganize::reorganize;
 use gx_answers::answer;
@@ -44,7 +45,6 @@ impl<B: Leaves + Drop> Engine<B> {
     ghost use Rattle.gx_commands.specs.declared.command.Command.TheVariants as command;
     ghost use Rattle.gx_states.specs.Internal.{AreInternal, AreFor};
     ghost use Rattle.gx_answers.specs.Queries.{follows_link};
-    ghost use Rattle.gx_edits.specs.Edits.{is_edit};
     ghost use Rattle.gx_engine.specs.Steps.{schema_of, built_of, leaves_of, is_open, commits_of, stop_of, is_fault_now, IsReady, IsDue, StandsFor, IsAt, IsShortFor, CarriesOut, AreFresh, KeepsEngine, HasStepCause, IsStep, TakesFewSteps, IsServed, IsSame};
     ghost use Rattle.gx_engine.specs.declared.engine.StepStop.TheVariants.{Now, Stopped};
 
@@ -145,7 +145,7 @@ impl<B: Leaves + Drop> Engine<B> {
             AreInternal (schema_of self.now) (built_of self.now) maps t → s ≡ t }
     {}
 
-    #[tactic(auto, using(crate::proofs::WorkLemmas::nothing_counted))]
+    #[tactic(auto, using(crate::proofs::WorkLemmas::edit_uncounted))]
     fn carry_out(&mut self, alloc: Global, command: Command, out: &mut Octets) -> Result<(), Stop>
         requires ready { IsReady B.View self.old }
         requires due { IsDue self.old command }
@@ -153,7 +153,28 @@ impl<B: Leaves + Drop> Engine<B> {
         ensures few_steps { (p : Playing) → IsAt B.View p self.old →
             OnOk result (TakesFewSteps B.View p command self.old self.new) }
     {
-        match &command {
+        if is_edit(&command) {
+            return self.edit(alloc, command, out);
+        }
+        self.carry_other(alloc, &command, out)
+    }
+
+    // A command that changes no record and no link.
+    #[tactic(auto, using(crate::proofs::WorkLemmas::nothing_counted))]
+    fn carry_other(
+        &mut self,
+        alloc: Global,
+        command: &Command,
+        out: &mut Octets,
+    ) -> Result<(), Stop>
+        requires ready { IsReady B.View self.old }
+        requires due { IsDue self.old command.now }
+        requires other { is_edit command.now ≡ false }
+        ensures step { IsStep B.View self.old self.new command.now out.old out.new result }
+        ensures few_steps { (p : Playing) → IsAt B.View p self.old →
+            OnOk result (TakesFewSteps B.View p command.now self.old self.new) }
+    {
+        match command {
             Command::Begin => self.begin(out),
             Command::Commit => self.commit(alloc, out),
             Command::Abort => self.abort(out),
@@ -161,16 +182,16 @@ impl<B: Leaves + Drop> Engine<B> {
             | Command::Update(..)
             | Command::Delete(..)
             | Command::Connect(..)
-            | Command::Disconnect(..) => self.edit(alloc, command, out),
+            | Command::Disconnect(..) => unreachable!(),
             Command::Get(file, key) => self.get(alloc, *file, key, out),
             Command::Find(find) => match find.of {
                 None => self.find(alloc, find, out),
-                Some(_) => self.answer(alloc, &command, out),
+                Some(_) => self.answer(alloc, command, out),
             },
             Command::ReorganizeFile(file) => self.reorganize_file(alloc, *file, out),
             Command::ReorganizeLink(link) => self.reorganize_link(alloc, *link, out),
             Command::Nothing => self.pass(out),
-            Command::Members(..) | Command::Owner(..) => self.answer(alloc, &command, out),
+            Command::Members(..) | Command::Owner(..) => self.answer(alloc, command, out),
         }
     }
 
@@ -352,6 +373,20 @@ impl<B: Leaves + Drop> Engine<B> {
         } = self;
         leaves
     }
+}
+
+// Whether the command changes records or links.
+fn is_edit(command: &Command) -> bool
+    ensures { result ≡ is_edit command.now }
+{
+    matches!(
+        command,
+        Command::Insert(..)
+            | Command::Update(..)
+            | Command::Delete(..)
+            | Command::Connect(..)
+            | Command::Disconnect(..)
+    )
 }
 
 fn append(out: &mut Octets, bytes: &[u8]) -> Result<(), AllocError>

@@ -1,7 +1,7 @@
 use Rattle.std.proofs.Common.{OnOk, sym, subst}
 use Rattle.gx_commands.specs.declared.command.Command.{Command}
 use Rattle.gx_engine.specs.Steps.{TakesFewSteps}
-use Rattle.gx_engine.proofs.engine.Engine.carry_out.Goals as goal
+use Rattle.gx_engine.proofs.engine.Engine.carry_other.Goals as goal
 
 pub returns-in-Get-clause-few_steps : goal.returns-in-Get-clause-few_steps
 returns-in-Get-clause-few_steps g c = λ p at.
