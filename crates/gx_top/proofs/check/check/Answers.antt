@@ -69,4 +69,4 @@ pub returns-in-Ok-clause-shelf : goal.returns-in-Ok-clause-shelf
 returns-in-Ok-clause-shelf g c = c.end.ensures.devices.shelf ∙ ap (λ n. n.shelf) c.in-Ok.ensures.content.now
 
 pub returns-in-Err-clause-shelf : goal.returns-in-Err-clause-shelf
-returns-in-Err-clause-shelf g c = c.end.ensures.devices.shelf ∙ ap (λ n. n.shelf) c.in-Err.ensures.content.now
+returns-in-Err-clause-shelf g c = c.end-in-Err.ensures.devices.shelf ∙ ap (λ n. n.shelf) c.in-Err.ensures.content.now
