@@ -7,7 +7,7 @@ use gx_values::NoMemory;
 use std::alloc::Global;
 use std::marker::Model;
 
-// so many stand in the value, beside what tells the forms apart and a length, in the room of a vector
+// the most bytes in the value itself, which takes 32 with their length, as it does with a vector
 const ROOM: usize = 30;
 
 /// Bytes, or none. Few of them have no memory of their own.

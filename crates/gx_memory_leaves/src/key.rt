@@ -14,17 +14,17 @@ use std::cmp::Ordering;
 use std::marker::Model;
 use std::rc::RcSlice;
 
-// so many stand in the key itself, beside what tells the forms apart and a length, in 24 bytes
+// the most bytes in the key itself, which takes 24 with their length, as it does with a pointer
 const ROOM: usize = 22;
 
-/// A key, seen as its bytes and in their order. Most keys differ in the first eight, which stand in the
-/// key itself: a comparison seldom follows a pointer, and a short key has no memory of its own.
+/// A key, seen as its bytes and in their order. Most keys differ in the first eight, which stand in
+/// the key itself: a comparison seldom follows a pointer. A short key has no memory of its own.
 #[derive(Drop)]
 pub struct Key {
     form: KeyForm,
 }
 
-// Both forms have the first eight bytes at one place, so that a comparison need not tell them apart.
+// Both forms have the first eight bytes at one place, so that a comparison needn't look for them.
 #[derive(Drop)]
 enum KeyForm {
     Short(Short<ROOM>),
