@@ -1,15 +1,12 @@
 -- Lines, one after the other, and what stands in them.
-use Rattle.std.proofs.Common.{◌≡◌, ◌<◌, ◌+◌, ℕ, suc, List, [], ◌∷◌, ◌++◌, length, map, get_or, cond, Bool, true, refl, sym, ap, ◌∙◌, arith}
-use Rattle.std.specs.Prelude.{filter}
+use Rattle.std.proofs.Common.{◌≡◌, ◌<◌, ◌+◌, ℕ, suc, List, ◌++◌, length, map, get_or, sym, ap, ◌∙◌, arith}
 use Rattle.std.specs.FinMap as fin
 use Rattle.std.proofs.lemmas.List.{get_or-map, get_or_read, length-map}
 use Rattle.gx_values.specs.declared.values.Value.{Value}
-use Rattle.gx_values.specs.Keys.{is_inside}
 use Rattle.gx_schema.specs.declared.schema.FileDef.{FileDef}
 use Rattle.gx_schema.specs.declared.schema.LinkDef.{LinkDef}
 use Rattle.gx_schema.specs.declared.schema.Schema.{Schema}
 use Rattle.gx_schema.specs.Lookups.{no_file, no_link, file_at, link_at}
-use Rattle.gx_ports.specs.LeafMaps.{LeafMap, entry_of, selected}
 use Rattle.gx_model.specs.States.{State, file_in, link_in}
 use Rattle.gx_audit.specs.Audits.{keys_of}
 use Rattle.gx_audit.specs.Texts.{lines_below}

@@ -1,5 +1,5 @@
 // The audit of a database.
-ghost use Rattle.std.specs.Prelude.{◌≡◌, ◌↔◌, ◌<◌, true, false, Ok, length, IsTrue, IfSome, IfOk, OnOk};
+ghost use Rattle.std.specs.Prelude.{◌≡◌, ◌↔◌, ◌<◌, true, false, Ok, None, length, replicate, IsTrue, IfSome, IfOk, OnOk};
 ghost use Rattle.gx_ports.specs.Calls.{ReadsMaps};
 ghost use Rattle.gx_stack.specs.Held.{AreCounts};
 ghost use Rattle.gx_states.specs.Internal.{AreFor, HaveState};
@@ -12,7 +12,7 @@ use gx_ports::{Leaves, Stop};
 use gx_schema::Schema;
 use gx_types::Built;
 use gx_values::Octets;
-use std::alloc::Global;
+use std::alloc::{AllocError, Global};
 
 /// Examines the stored form of every leaf, and then whether the leaves stand for a valid state of
 /// the schema. `true`: they do, and what `inspect` says of them is appended. `false`: each leaf is
@@ -51,7 +51,7 @@ pub fn audit<B: Leaves>(
     ensures reads { ReadsMaps B.View (B.whole leaves.old) leaves.old leaves.new result }
 {
     check_leaves(alloc, leaves)?;
-    let mut entries = vec![in alloc; None; leaves.leaves() as usize]?;
+    let mut entries = no_counts(alloc, leaves.leaves())?;
     let Some(found) = found_state(alloc, schema, built, leaves, &mut entries)? else {
         return Ok(false);
     };
@@ -80,6 +80,13 @@ fn check_leaves<B: Leaves>(alloc: Global, leaves: &mut B) -> Result<(), Stop>
         leaves.check(alloc, leaf)?;
     }
     Ok(())
+}
+
+// A place for the count of each leaf's entries, and no count yet.
+fn no_counts(alloc: Global, leaves: u32) -> Result<Vec<Option<usize>>, AllocError>
+    ensures { IfOk result (λ counts. counts.items ≡ replicate leaves None) }
+{
+    Ok(vec![in alloc; None; leaves as usize]?)
 }
 
 // What leaves were found to hold.

@@ -55,8 +55,8 @@ pub(crate) fn pair_counts<B: Leaves>(
 {
     let mut counts = Vec::new(alloc);
     for link in 0..schema.links.0.len() {
-        let found = pair_count(alloc, schema, built, leaves, keys, link as u16, entries)?;
-        let Some(count) = found else {
+        let Some(count) = pair_count(alloc, schema, built, leaves, keys, link as u16, entries)?
+        else {
             return Ok(None);
         };
         counts.push(count)?;

@@ -15,4 +15,5 @@ pub use check::{Visits, check_chain, no_visits, visit_chain};
 pub use gather::{append_sorted, collect, gather_from};
 pub use make::make_first;
 pub use put::put_in;
+pub use read::read_entries;
 pub use remove::remove_from;

@@ -12,11 +12,7 @@ use gx_ports::{PAGE_LEN, Pages, Stop};
 use gx_slots::{KIND, NONE, is_entries};
 
 /// Reads an entry page. `Damaged`: the bytes of the page are none.
-pub(crate) fn read_entries<P: Pages>(
-    pages: &mut P,
-    number: u32,
-    page: &mut [u8],
-) -> Result<(), Stop>
+pub fn read_entries<P: Pages>(pages: &mut P, number: u32, page: &mut [u8]) -> Result<(), Stop>
     requires number { IsPast (P.ground pages.old) number }
     requires bytes { length page.old ≡ PAGE_LEN }
     ensures read { OnOk result (IsEntryPage page.new) }

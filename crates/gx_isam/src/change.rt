@@ -10,7 +10,7 @@ ghost use Rattle.gx_chain.specs.Chain.{bytes_at, IsEntryAt};
 ghost use Rattle.gx_isam_index.specs.Index.{IsIndexPage, bucket_count, separators_of, first_of};
 ghost use Rattle.gx_isam.specs.Change.{IsHungBefore, IsLeftOut, IsSettled};
 
-use crate::read::read_entries;
+use gx_chain::read_entries;
 use gx_device::Failed;
 use gx_isam_index::{first, set_first};
 use gx_ports::{PAGE_LEN, Pages, Place, Stop};

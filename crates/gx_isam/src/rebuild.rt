@@ -14,7 +14,8 @@ ghost use Rattle.gx_isam_index.specs.Layout.{AreOrdered};
 ghost use Rattle.gx_isam.specs.Rebuild.{HasIndexAt, HasIndex, IsBlankFor, IsEmptied, IsFilled, IsFreed, IsPartlyFilled, IsRun};
 
 use crate::change::{hang_before, leave_out};
-use crate::read::{first_page, read_entries, read_index};
+use crate::read::{first_page, read_index};
+use gx_chain::read_entries;
 use gx_isam_index::{bucket_of, buckets};
 use gx_ports::{Entries, PAGE_LEN, Pages, Place, Stop};
 use gx_slots::{add, clear, next};

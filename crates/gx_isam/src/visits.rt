@@ -9,8 +9,8 @@ ghost use Rattle.gx_isam_index.specs.Index.{IsIndexPage, bucket_count, bucket_of
 ghost use Rattle.gx_isam.specs.Isam.{IsIsam};
 ghost use Rattle.gx_isam.specs.Visited.{AreVisitedBuckets, HasEntryAt, HasRootAndSeen, HasUnseenBucket, IsRootAndSeen, IsVisitedBucket};
 
-use crate::read::{first_page, read_entries};
-use gx_chain::{Visits, visit_chain};
+use crate::read::first_page;
+use gx_chain::{Visits, read_entries, visit_chain};
 use gx_isam_index::{bucket_of, buckets};
 use gx_ports::{PAGE_LEN, Pages, Place, Stop};
 use gx_seen::seek_unseen;

@@ -1,4 +1,5 @@
 use Rattle.std.proofs.Common.{◌≡◌, List, length, map, Some, None, sym, subst}
+use Rattle.gx_stack.proofs.CountLemmas.{counts_joined}
 use Rattle.gx_model.specs.States.{File}
 use Rattle.gx_audit.specs.Audits.{keys_of, AreFiles, AreAllKeys, AreLinks, ArePairCounts}
 use Rattle.gx_audit.proofs.StateLemmas.{no_link_state, state_found}
@@ -40,3 +41,21 @@ returns-clause-found g c =
     (c.in_ok-counts.ensures.counts fs (subst (λ ms. AreFiles schema built.files ms fs) (sym same) files) are) (e.reads.ends.whole w) in
     (ls.0, subst (λ ms. AreLinks schema built ms fs ls.0) same ls.1, ls.2) in
     state_found schema built (length maps) maps c.requires whole c.in-Some.keys c.in-Some-2.counts keys counts
+
+pub returns-in_err-counts-clause-entries : goal.returns-in_err-counts-clause-entries
+returns-in_err-counts-clause-entries g c = λ w.
+    let b = g.B.View in
+    let e = c.file_keys.ensures in
+    counts_joined (b.working c.args.leaves.now) (b.working c.file_keys.new.leaves) c.args.entries.now c.file_keys.new.entries c.pair_counts.new.entries e.reads.reads.working (e.entries w) (c.pair_counts.ensures.entries (c.in_ok-keys.ensures.reads.ends.whole w))
+
+pub returns-in_default-2-clause-entries : goal.returns-in_default-2-clause-entries
+returns-in_default-2-clause-entries g c = λ w.
+    let b = g.B.View in
+    let e = c.file_keys.ensures in
+    counts_joined (b.working c.args.leaves.now) (b.working c.file_keys.new.leaves) c.args.entries.now c.file_keys.new.entries c.pair_counts.new.entries e.reads.reads.working (e.entries w) (c.pair_counts.ensures.entries (c.in_ok-keys.ensures.reads.ends.whole w))
+
+pub returns-clause-entries : goal.returns-clause-entries
+returns-clause-entries g c = λ w.
+    let b = g.B.View in
+    let e = c.file_keys.ensures in
+    counts_joined (b.working c.args.leaves.now) (b.working c.file_keys.new.leaves) c.args.entries.now c.file_keys.new.entries c.pair_counts.new.entries e.reads.reads.working (e.entries w) (c.pair_counts.ensures.entries (c.in_ok-keys.ensures.reads.ends.whole w))

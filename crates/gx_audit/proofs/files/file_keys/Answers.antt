@@ -4,6 +4,7 @@ use Rattle.std.proofs.lemmas.List.{get_or_read, map-append}
 use Rattle.gx_schema.specs.Lookups.{no_file, file_at}
 use Rattle.gx_ports.proofs.CallLemmas.{reads_joined}
 use Rattle.gx_stack.specs.Seen.{tree_of}
+use Rattle.gx_stack.proofs.CountLemmas.{counts_joined}
 use Rattle.gx_types.specs.Nodes.{tree_at, AreNodes}
 use Rattle.gx_scan.specs.Files.{IsTreeFor}
 use Rattle.gx_states.proofs.StoredLemmas.{tree_read, tree_for}
@@ -67,7 +68,29 @@ loop-file-preserved g c =
             c.in_ok-push.ensures.items ∙ (λ i. fs.2 i ++ f.2 i ∷ []) ∙ sym (map-append keys_of fs.0 (f.0 ∷ [])),
           );
       many = search rules;
+      entries = λ w. counts_joined maps (b.working at.leaves) c.args.entries.now at.entries c.node_keys.new.entries inv.reads.working (inv.entries w) (e.entries (inv.whole w));
       reads = reads_joined b inv.reads e.reads.reads;
       whole = λ h. e.reads.ends.whole (inv.whole h);
       counted = e.reads.ends.counted refl ∙ inv.counted;
     }
+
+pub returns-in_default-clause-entries : goal.returns-in_default-clause-entries
+returns-in_default-clause-entries g c = λ w.
+    let b = g.B.View in
+    let at = c.loop-file in
+    let inv = at.invariant in
+    counts_joined (b.working c.args.leaves.now) (b.working at.leaves) c.args.entries.now at.entries c.node_keys.new.entries inv.reads.working (inv.entries w) (c.in_ok-found.ensures.entries (inv.whole w))
+
+pub returns-in_err-push-clause-entries : goal.returns-in_err-push-clause-entries
+returns-in_err-push-clause-entries g c = λ w.
+    let b = g.B.View in
+    let at = c.loop-file in
+    let inv = at.invariant in
+    counts_joined (b.working c.args.leaves.now) (b.working at.leaves) c.args.entries.now at.entries c.node_keys.new.entries inv.reads.working (inv.entries w) (c.in_ok-found.ensures.entries (inv.whole w))
+
+pub returns-in_err-found-clause-entries : goal.returns-in_err-found-clause-entries
+returns-in_err-found-clause-entries g c = λ w.
+    let b = g.B.View in
+    let at = c.loop-file in
+    let inv = at.invariant in
+    counts_joined (b.working c.args.leaves.now) (b.working at.leaves) c.args.entries.now at.entries c.node_keys.new.entries inv.reads.working (inv.entries w) (c.node_keys.ensures.entries (inv.whole w))

@@ -2,6 +2,7 @@ use Rattle.std.proofs.Common.{rules, ◌≡◌, ◌++◌, ◌∷◌, [], ◌∙�
 use Rattle.std.specs.FinMap as fin
 use Rattle.std.proofs.lemmas.List.{map-append}
 use Rattle.gx_ports.proofs.CallLemmas.{reads_joined}
+use Rattle.gx_stack.proofs.CountLemmas.{counts_joined}
 use Rattle.gx_audit.specs.Audits.{AreFiles, IsLinkAt, IsPairCount}
 use Rattle.gx_audit.proofs.StateLemmas.{link_more}
 use Rattle.gx_audit.proofs.links.pair_counts.Goals as goal
@@ -25,7 +26,29 @@ loop-link-preserved g c =
             c.in_ok-push.ensures.items ∙ (λ i. ls.2 i ++ here.2 i ∷ []) ∙ sym (map-append fin.len ls.0 (here.0 ∷ [])),
           );
       many = search rules;
+      entries = λ w. counts_joined maps (b.working at.leaves) c.args.entries.now at.entries c.pair_count.new.entries inv.reads.working (inv.entries w) (e.entries (inv.whole w));
       reads = reads_joined b inv.reads e.reads.reads;
       whole = λ h. e.reads.ends.whole (inv.whole h);
       counted = e.reads.ends.counted refl ∙ inv.counted;
     }
+
+pub returns-in_default-clause-entries : goal.returns-in_default-clause-entries
+returns-in_default-clause-entries g c = λ w.
+    let b = g.B.View in
+    let at = c.loop-link in
+    let inv = at.invariant in
+    counts_joined (b.working c.args.leaves.now) (b.working at.leaves) c.args.entries.now at.entries c.pair_count.new.entries inv.reads.working (inv.entries w) (c.in_ok-count.ensures.entries (inv.whole w))
+
+pub returns-in_err-push-clause-entries : goal.returns-in_err-push-clause-entries
+returns-in_err-push-clause-entries g c = λ w.
+    let b = g.B.View in
+    let at = c.loop-link in
+    let inv = at.invariant in
+    counts_joined (b.working c.args.leaves.now) (b.working at.leaves) c.args.entries.now at.entries c.pair_count.new.entries inv.reads.working (inv.entries w) (c.in_ok-count.ensures.entries (inv.whole w))
+
+pub returns-in_err-count-clause-entries : goal.returns-in_err-count-clause-entries
+returns-in_err-count-clause-entries g c = λ w.
+    let b = g.B.View in
+    let at = c.loop-link in
+    let inv = at.invariant in
+    counts_joined (b.working c.args.leaves.now) (b.working at.leaves) c.args.entries.now at.entries c.pair_count.new.entries inv.reads.working (inv.entries w) (c.pair_count.ensures.entries (inv.whole w))
