@@ -133,7 +133,7 @@ short_at g p before left line old e schema_is built_is limit_is before_is ready 
     (subst (λ l. IsShortAt (schema_of e) (built_of e) l p before.lines) limit_is
     (record {
       maps = g.working (leaves_of e);
-      many = sym ready.owned;
+      many = sym ready.owned.each;
       before = at.stands.working_is;
       short = record { line = line; later = left.lines; lines_are = ap (λ (ls : Lines). ls.lines) before_is; command = command; means = means; placed = placed; short = short };
     })))
