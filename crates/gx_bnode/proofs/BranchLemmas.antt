@@ -2,18 +2,11 @@
 use Rattle.std.proofs.Common.{◌≡◌, ◌≢◌, ℕ, ◌+◌, ◌^◌, ◌<◌, ◌≤◌, List, ◌++◌, length, take, drop, refl, sym, ap, ap₂, ◌∙◌, arith, append_assoc, length-append}
 use Rattle.std.specs.Int.{w16, w32, to_be_bytes, from_be_bytes}
 use Rattle.std.proofs.lemmas.List.{drop_at, take_at, drop-drop, length-take-le, take-append-drop}
-use Rattle.std.proofs.lemmas.Nat.{from_be_bytes-to_be_bytes_2, from_be_bytes-to_be_bytes_4}
 use Rattle.gx_bytes.specs.Parts.{overwritten}
+use Rattle.gx_bytes.proofs.NumberLemmas.{from_be_bytes-front_2, from_be_bytes-front_4}
 use Rattle.gx_bytes.proofs.PartLemmas.{overwritten-overwritten}
 use Rattle.gx_bytes.proofs.RecordLemmas.{IsFormat}
 use Rattle.gx_bnode.specs.Branches.{Branch, IsFit, branch_bytes, branch_len, first_branch}
-
--- the number that bytes begin with
-from_be_bytes-front_2 : (n : ℕ) (rest : List ℕ) → n < 2 ^ 16 → from_be_bytes w16 (to_be_bytes w16 n ++ rest) ≡ n
-from_be_bytes-front_2 n rest fits = from_be_bytes-to_be_bytes_2 n fits
-
-from_be_bytes-front_4 : (n : ℕ) (rest : List ℕ) → n < 2 ^ 32 → from_be_bytes w32 (to_be_bytes w32 n ++ rest) ≡ n
-from_be_bytes-front_4 n rest fits = from_be_bytes-to_be_bytes_4 n fits
 
 branch_parts : (branch : Branch) → branch_bytes branch ≡ to_be_bytes w16 (length branch.separator) ++ (branch.separator ++ to_be_bytes w32 branch.child)
 unfolding branch_bytes

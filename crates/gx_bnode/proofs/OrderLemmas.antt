@@ -1,37 +1,17 @@
 -- The place of a key among separators that ascend.
 use Rattle.std.proofs.Common.{◌≡◌, ℕ, zero, suc, ◌+◌, ◌-◌, ◌<◌, ◌≤◌, Bool, true, false, cond, List, [], ◌∷◌, length, take, drop, get_or, refl, sym, ap, ◌∙◌, subst, arith}
-use Rattle.std.specs.Cmp.Lexicographic.{slice_cmp}
 use Rattle.std.specs.List.{All, count_by, insert}
-use Rattle.std.specs.Ordering.{nat_cmp, is_le, is_lt, ordering_reverse}
-use Rattle.std.specs.declared.cmp.Ordering.{Ordering}
-use Rattle.std.specs.declared.cmp.Ordering.TheVariants.{Less, Equal, Greater}
+use Rattle.std.specs.Ordering.{is_le, ordering_reverse}
+use Rattle.std.specs.declared.cmp.Ordering.TheVariants.{Less}
 use Rattle.std.proofs.lemmas.Cmp.{nat_list_cmp_total}
 use Rattle.std.proofs.lemmas.List.{drop_all, get_or-drop, get_or-take, get_or-map, get_or_default, length-drop, length-map, length-take-le}
 use Rattle.std.proofs.lemmas.List.Elements.{All-head, All-more, All-nil, All-tail, All-weaker}
 use Rattle.std.proofs.lemmas.List.Sums.{sum_by-cons, sum_by-take-drop}
+use Rattle.gx_order.proofs.BelowLemmas.{cmp}
 use Rattle.gx_bytes.proofs.PairLemmas.{all_pairs_insert}
 use Rattle.gx_bytes.proofs.RecordLemmas.{drop-is_cons}
 use Rattle.gx_bnode.specs.Branches.{Branch, AreAscending}
 use Rattle.gx_bnode.specs.Page.{separators_in}
-
-abbrev pub cmp : List ℕ → List ℕ → Ordering
-cmp = slice_cmp nat_cmp
-
-less_from_lt : (o : Ordering) → is_lt o ≡ true → o ≡ Less
-less_from_lt Less h = refl
-less_from_lt Equal h = absurd cc
-less_from_lt Greater h = absurd cc
-
--- a key stands before a separator, or the separator is at or below it
-pub below_is_less : (key separator : List ℕ) (answer : Bool) → answer ≡ is_lt (cmp key separator) → answer ≡ true → cmp key separator ≡ Less
-below_is_less key separator answer is holds = less_from_lt (cmp key separator) (sym is ∙ holds)
-
-pub not_below_is_le : (key separator : List ℕ) (answer : Bool) → answer ≡ is_lt (cmp key separator) → answer ≡ false → is_le (cmp separator key) ≡ true
-not_below_is_le key separator answer is fails = go (cmp key separator) (sym is ∙ fails) (nat_list_cmp_total.antisymm separator key) where
-  go : (o : Ordering) → is_lt o ≡ false → cmp separator key ≡ ordering_reverse o → is_le (cmp separator key) ≡ true
-  go Less bad turned = absurd cc
-  go Equal fails turned = ap is_le turned
-  go Greater fails turned = ap is_le turned
 
 less_is_not_le : (key separator : List ℕ) → cmp key separator ≡ Less → is_le (cmp separator key) ≡ false
 less_is_not_le key separator less = ap is_le (nat_list_cmp_total.antisymm separator key ∙ ap ordering_reverse less)

@@ -17,7 +17,7 @@ use Rattle.gx_bnode.specs.Branches.{Branch, IsFit, AreAscending, branch_bytes}
 use Rattle.gx_bnode.specs.Page.{IsInnerPage, branches_of, separators_in}
 use Rattle.gx_bnode.specs.Scan.{HoldsAscending}
 use Rattle.gx_bnode.proofs.BranchLemmas.{branch_format}
-use Rattle.gx_bnode.proofs.OrderLemmas.{cmp}
+use Rattle.gx_order.proofs.BelowLemmas.{cmp}
 use Rattle.gx_bnode.proofs.PageLemmas.{body_holds, count_is, page_of}
 
 -- so many branches with ascending separators were found, this is the last separator, and these bytes are left

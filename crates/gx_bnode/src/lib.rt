@@ -3,7 +3,6 @@
 
 mod format;
 mod iter;
-mod order;
 mod page;
 mod splitting;
 mod validity;

@@ -4,9 +4,9 @@ ghost use Rattle.gx_bnode.specs.Page.{IsInnerPage};
 ghost use Rattle.gx_bnode.specs.Scan.{HoldsAscending};
 
 use crate::format::split_branch;
-use crate::order::is_below;
 use crate::page::KIND;
 use gx_bytes::{has_kind, page_body, record_count};
+use gx_order::is_below;
 
 /// Whether the bytes are an inner page. The page has 4,096 bytes, of any values.
 pub fn is_inner(page: &[u8]) -> bool

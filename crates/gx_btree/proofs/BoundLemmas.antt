@@ -15,7 +15,13 @@ pub record IsWithout (x : ℕ) (xs : List ℕ) : Type 0 where
 take_out : (x : ℕ) (xs : List ℕ) → AreUnique xs → IsWithout x xs
 take_out x [] u = record { rest = []; shorter = omega arith; unique = tt; members = λ y i. absurd i }
 take_out x (z ∷ xs) u = elim (cases_eq z x) [
-  | inl e ↦ record { rest = xs; shorter = omega arith; unique = u.1; members = λ y i. (inr i, λ f. u.0 (subst (λ n. In n xs) (f ∙ sym e) i)) }
+  | inl e ↦ record {
+    rest = xs;
+    shorter = omega arith;
+    unique = u.1;
+    members = λ y i.
+        (inr i, λ f. u.0 (subst (λ n. In n xs) (f ∙ sym e) i));
+  }
   | inr d ↦ (let w = take_out x xs u.1 in record {
     rest = z ∷ w.rest;
     shorter = (let s = w.shorter in omega (arith, s));
@@ -36,10 +42,12 @@ few (suc n) xs u below =
     let s = w.shorter in
     omega (arith, h, s)
 
-pub ends : {steps : ℕ} (at : ℕ → List ℕ) (owned : ℕ → Type 0) (root p : ℕ) (key : List ℕ) (old : Tree) (size : ℕ) → IsAtHand at owned root p key old steps → ((q : ℕ) → owned q → q < size) → steps < size
+pub ends : {steps : ℕ} (at : ℕ → List ℕ) (owned : ℕ → Type 0) (root p : ℕ) (key : List ℕ) (old : Tree) (size : ℕ)
+    → IsAtHand at owned root p key old steps → ((q : ℕ) → owned q → q < size) → steps < size
 ends at owned root p key old size h within =
     let top = top_in h.subtree in
-    let u : AreUnique (p ∷ h.path) = ((λ i. h.fits.alone p (subst (λ y. In y (pages h.subtree)) h.fits.page_is top) (h.path_in p i)), h.unique) in
+    let u : AreUnique (p ∷ h.path) =
+    ((λ i. h.fits.alone p (subst (λ y. In y (pages h.subtree)) h.fits.page_is top) (h.path_in p i)), h.unique) in
     let k = few size (p ∷ h.path) u (λ x i. within x (elim i [
       | inl e ↦ (h.owns x).1 (inl (subst (λ y. In y (pages h.subtree)) (h.fits.page_is ∙ sym e) top))
       | inr j ↦ (h.owns x).1 (inr (h.path_in x j))

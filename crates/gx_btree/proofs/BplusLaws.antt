@@ -31,12 +31,15 @@ use Rattle.gx_btree.proofs.SheetLemmas.{bytes_same, get_below}
 
 -- ---- it depends on its own pages alone
 
-file_same : (ground : Ground) (place : Place) (s t : Sheets) (m : LeafMap) → SameFor ground place.owner s t → IsBplus ground place s m → IsBplus ground place t m
+file_same : (ground : Ground) (place : Place) (s t : Sheets) (m : LeafMap) → SameFor ground place.owner s t
+    → IsBplus ground place s m → IsBplus ground place t m
 file_same ground place s t m same b = record {
   tree = b.tree;
   whole = record {
     root_is = b.whole.root_is;
-    stands = stands_same (bytes_at s) (bytes_at t) b.tree (λ q i. bytes_same s t q (same.bytes q (b.past q i).past ((b.owned q).1 i))) b.whole.stands;
+    stands =
+        stands_same (bytes_at s) (bytes_at t) b.tree
+        (λ q i. bytes_same s t q (same.bytes q (b.past q i).past ((b.owned q).1 i))) b.whole.stands;
     ordered = b.whole.ordered;
     apart = b.whole.apart;
   };
@@ -49,7 +52,9 @@ file_same ground place s t m same b = record {
 
 -- a page of a tree is an entry page, whose entries are in the tree, or an inner page
 abbrev IsSeen : (ℕ → List ℕ) → List Entry → ℕ → Type 0
-IsSeen p all q = ((es : List Entry) × ShowsEntries (p q) es × ((x : Entry) → In x es → In x all)) ⊎ ((first : ℕ) × (bs : List Branch) × ShowsInner (p q) first bs)
+IsSeen p all q =
+    ((es : List Entry) × ShowsEntries (p q) es × ((x : Entry) → In x es → In x all))
+    ⊎ ((first : ℕ) × (bs : List Branch) × ShowsInner (p q) first bs)
 
 wider : (p : ℕ → List ℕ) (some all : List Entry) (q : ℕ) → ((x : Entry) → In x some → In x all) → IsSeen p some q → IsSeen p all q
 wider p some all q f (inl a) = inl (a.0, a.1, λ x i. f x (a.2 x i))
@@ -57,7 +62,8 @@ wider p some all q f (inr b) = inr b
 
 mutual
   page_seen : (p : ℕ → List ℕ) (t : Tree) (q : ℕ) → Stands p t → In q (pages t) → IsSeen p (entries t) q
-  page_seen p (leaf r es) q stands i = elim i [ inl e ↦ inl (es, subst (λ n. ShowsEntries (p n) es) (sym e) stands, λ x j. j) | inr n ↦ absurd n ]
+  page_seen p (leaf r es) q stands i =
+      elim i [ inl e ↦ inl (es, subst (λ n. ShowsEntries (p n) es) (sym e) stands, λ x j. j) | inr n ↦ absurd n ]
   page_seen p (node r kids) q stands i = elim i [
     | inl e ↦ inr (first_of kids, branches_of kids, subst (λ n. ShowsInner (p n) (first_of kids) (branches_of kids)) (sym e) stands.0)
     | inr j ↦ kids_seen p kids q stands.1 j
@@ -66,8 +72,10 @@ mutual
   kids_seen : (p : ℕ → List ℕ) (kids : Kids) (q : ℕ) → AllStand p kids → In q (kids_pages kids) → IsSeen p (kids_entries kids) q
   kids_seen p (last t) q stand i = page_seen p t q stand i
   kids_seen p (more t s kids) q stand i = elim (in_cases q (pages t) (kids_pages kids) i) [
-    | inl a ↦ wider p (entries t) (entries t ++ kids_entries kids) q (λ x j. in_left x (entries t) (kids_entries kids) j) (page_seen p t q stand.0 a)
-    | inr b ↦ wider p (kids_entries kids) (entries t ++ kids_entries kids) q (λ x j. in_right x (entries t) (kids_entries kids) j) (kids_seen p kids q stand.1 b)
+    | inl a ↦ wider p (entries t) (entries t ++ kids_entries kids) q
+        (λ x j. in_left x (entries t) (kids_entries kids) j) (page_seen p t q stand.0 a)
+    | inr b ↦ wider p (kids_entries kids) (entries t ++ kids_entries kids) q
+        (λ x j. in_right x (entries t) (kids_entries kids) j) (kids_seen p kids q stand.1 b)
   ]
 
 -- an entry of a tree stands on one of its entry pages
@@ -104,13 +112,16 @@ itself n = grind (arith, nat_tests)
 -- where there is an entry, one is found
 found_some : (es : List Entry) (k b : List ℕ) → In (at k b) es → (c : List ℕ) × (fin.find key_cmp k (map pair es) ≡ Some c)
 found_some [] k b i = absurd i
-found_some (e ∷ es) k b i = elim (eq_by_cmp key_cmp k e.key) as (λ t. eq_by_cmp key_cmp k e.key ≡ t → (c : List ℕ) × (cond t (Some e.body) (fin.find key_cmp k (map pair es)) ≡ Some c)) [
-  | true ↦ λ _. (e.body, refl)
-  | false ↦ λ other. elim i [
-    | inl same ↦ (let is : true ≡ false = sym (tied e.key) ∙ ap (λ z. eq_by_cmp key_cmp z e.key) (sym (ap (λ (x : Entry). x.key) same)) ∙ other in let no : ⊥ = cc in absurd no)
-    | inr later ↦ found_some es k b later
-  ]
-] refl
+found_some (e ∷ es) k b i =
+    elim (eq_by_cmp key_cmp k e.key) as
+    (λ t. eq_by_cmp key_cmp k e.key ≡ t → (c : List ℕ) × (cond t (Some e.body) (fin.find key_cmp k (map pair es)) ≡ Some c)) [
+      | true ↦ λ _. (e.body, refl)
+      | false ↦ λ other. elim i [
+        | inl same ↦ (let is : true ≡ false = sym (tied e.key)
+            ∙ ap (λ z. eq_by_cmp key_cmp z e.key) (sym (ap (λ (x : Entry). x.key) same)) ∙ other in let no : ⊥ = cc in absurd no)
+        | inr later ↦ found_some es k b later
+      ]
+    ] refl
 
 -- an entry page of the owner has the entry
 pub record IsOwnedEntry (owner : ℕ) (s : Sheets) (e : Entry) : Type 0 where
@@ -121,18 +132,21 @@ pub record IsOwnedEntry (owner : ℕ) (s : Sheets) (e : Entry) : Type 0 where
 owned_from : (owner : ℕ) (s : Sheets) (n : ℕ) (e : Entry) → In e (owned_entries owner s n) → IsOwnedEntry owner s e
 owned_from owner s zero e i = absurd i
 owned_from owner s (suc n) e i = elim (in_cases e (entries_if_owned owner s n) (owned_entries owner s n) i) [
-  | inl here ↦ elim (has_entries owner s n) as (λ b. has_entries owner s n ≡ b → In e (cond b (entries_of (bytes_at s n)) []) → IsOwnedEntry owner s e) [
-    | true ↦ λ is j. record { page = n; owned = is; here = j }
-    | false ↦ λ _ j. absurd j
-  ] refl here
+  | inl here ↦ elim (has_entries owner s n) as
+      (λ b. has_entries owner s n ≡ b → In e (cond b (entries_of (bytes_at s n)) []) → IsOwnedEntry owner s e) [
+        | true ↦ λ is j. record { page = n; owned = is; here = j }
+        | false ↦ λ _ j. absurd j
+      ] refl here
   | inr later ↦ owned_from owner s n e later
 ]
 
-owned_to : (owner : ℕ) (s : Sheets) (n q : ℕ) (e : Entry) → q < n → has_entries owner s q ≡ true → In e (entries_of (bytes_at s q)) → In e (owned_entries owner s n)
+owned_to : (owner : ℕ) (s : Sheets) (n q : ℕ) (e : Entry) → q < n → has_entries owner s q ≡ true
+    → In e (entries_of (bytes_at s q)) → In e (owned_entries owner s n)
 owned_to owner s zero q e less is i = absurd (omega (arith, less))
 owned_to owner s (suc n) q e less is i = elim (cases_eq q n) [
   | inl same ↦ in_left e (entries_if_owned owner s n) (owned_entries owner s n)
-      (subst (λ b. In e (cond b (entries_of (bytes_at s n)) [])) (sym (ap (has_entries owner s) (sym same) ∙ is)) (subst (λ r. In e (entries_of (bytes_at s r))) same i))
+      (subst (λ b. In e (cond b (entries_of (bytes_at s n)) [])) (sym (ap (has_entries owner s) (sym same) ∙ is))
+      (subst (λ r. In e (entries_of (bytes_at s r))) same i))
   | inr other ↦ in_right e (entries_if_owned owner s n) (owned_entries owner s n) (owned_to owner s n q e (omega (arith, less, other)) is i)
 ]
 
@@ -143,17 +157,22 @@ module _ (ground : Ground) (place : Place) (s : Sheets) (m : LeafMap) (some : 1 
 
   owner_at : (q : ℕ) → has_entries place.owner s q ≡ true → IsOwned place.owner s q
   owner_at q is =
-      let here : slice_index_or s.owners q 0 ≡ place.owner = eqb-true (slice_index_or s.owners q 0) place.owner (first_true (slice_index_or s.owners q 0 == place.owner) (slice_index_or (bytes_at s q) 0 0 == 68) is) in
+      let here : slice_index_or s.owners q 0 ≡ place.owner =
+      eqb-true (slice_index_or s.owners q 0) place.owner
+      (first_true (slice_index_or s.owners q 0 == place.owner) (slice_index_or (bytes_at s q) 0 0 == 68) is) in
       shown (slice_get s.owners q) (unwrap_or-slice_get s.owners q 0 ∙ here)
 
   -- what is read stands in the tree
   read_in : (e : Entry) → In e (owned_entries place.owner s (length s.owners)) → In e (entries b.tree)
   read_in e i =
       let o = owned_from place.owner s (length s.owners) e i in
-      let kind : slice_index_or (bytes_at s o.page) 0 0 ≡ 68 = eqb-true (slice_index_or (bytes_at s o.page) 0 0) 68 (second_true (slice_index_or s.owners o.page 0 == place.owner) (slice_index_or (bytes_at s o.page) 0 0 == 68) o.owned) in
+      let kind : slice_index_or (bytes_at s o.page) 0 0 ≡ 68 =
+      eqb-true (slice_index_or (bytes_at s o.page) 0 0) 68
+      (second_true (slice_index_or s.owners o.page 0 == place.owner) (slice_index_or (bytes_at s o.page) 0 0 == 68) o.owned) in
       elim (page_seen (bytes_at s) b.tree o.page b.whole.stands ((b.owned o.page).0 (owner_at o.page o.owned))) [
         | inl a ↦ a.2 e (subst (In e) (entries_of-page a.0 NONE (bytes_at s o.page) a.1) o.here)
-        | inr a ↦ (let other : slice_index_or (bytes_at s o.page) 0 0 ≡ 73 = ap (λ (xs : List ℕ). get_or xs 0 0) a.2.page.is in absurd (omega (arith, kind, other)))
+        | inr a ↦ (let other : slice_index_or (bytes_at s o.page) 0 0 ≡ 73 = ap
+            (λ (xs : List ℕ). get_or xs 0 0) a.2.page.is in absurd (omega (arith, kind, other)))
       ]
 
   -- what stands in the tree is read
@@ -161,17 +180,21 @@ module _ (ground : Ground) (place : Place) (s : Sheets) (m : LeafMap) (some : 1 
   in_read e i =
       let o = on_page (bytes_at s) b.tree e b.whole.stands i in
       let mine : IsOwned place.owner s o.0 = (b.owned o.0).1 o.1 in
-      let first : (slice_index_or s.owners o.0 0 == place.owner) ≡ true = ap (λ n. n == place.owner) (sym (unwrap_or-slice_get s.owners o.0 0) ∙ ap (λ x. unwrap_or x 0) mine) ∙ itself place.owner in
+      let first : (slice_index_or s.owners o.0 0 == place.owner) ≡ true =
+      ap (λ n. n == place.owner) (sym (unwrap_or-slice_get s.owners o.0 0) ∙ ap (λ x. unwrap_or x 0) mine) ∙ itself place.owner in
       let kind : slice_index_or (bytes_at s o.0) 0 0 ≡ 68 = ap (λ (xs : List ℕ). get_or xs 0 0) o.2.1.page.is in
       let second : (slice_index_or (bytes_at s o.0) 0 0 == 68) ≡ true = ap (λ n. n == 68) kind ∙ itself 68 in
-      owned_to place.owner s (length s.owners) o.0 e (get_below s.owners o.0 place.owner mine) (both_true (slice_index_or s.owners o.0 0 == place.owner) (slice_index_or (bytes_at s o.0) 0 0 == 68) first second)
+      owned_to place.owner s (length s.owners) o.0 e (get_below s.owners o.0 place.owner mine)
+      (both_true (slice_index_or s.owners o.0 0 == place.owner) (slice_index_or (bytes_at s o.0) 0 0 == 68) first second)
       (subst (In e) (sym (entries_of-page o.2.0 NONE (bytes_at s o.0) o.2.1)) o.2.2)
 
-  found_at : (k : List ℕ) → fin.get (bplus_map ground place s) k ≡ fin.find key_cmp k (map pair (owned_entries place.owner s (length s.owners)))
+  found_at : (k : List ℕ) → fin.get (bplus_map ground place s) k ≡ fin.find key_cmp k
+      (map pair (owned_entries place.owner s (length s.owners)))
   found_at k = fin.get-from_entries nat_list_cmp_total (map pair (owned_entries place.owner s (length s.owners))) k
 
   read_to : (k v : List ℕ) → fin.get (bplus_map ground place s) k ≡ Some v → fin.get m k ≡ Some v
-  read_to k v is = (b.map_is k v).1 (read_in (at k v) (found_in (owned_entries place.owner s (length s.owners)) k v (sym (found_at k) ∙ is)))
+  read_to k v is =
+      (b.map_is k v).1 (read_in (at k v) (found_in (owned_entries place.owner s (length s.owners)) k v (sym (found_at k) ∙ is)))
 
   to_read : (k v : List ℕ) → fin.get m k ≡ Some v → fin.get (bplus_map ground place s) k ≡ Some v
   to_read k v is =
@@ -180,9 +203,12 @@ module _ (ground : Ground) (place : Place) (s : Sheets) (m : LeafMap) (some : 1 
       found ∙ sym (read_to k f.0 found) ∙ is
 
   one_map : bplus_map ground place s ≡ m
-  one_map = fin.same_map nat_list_cmp_total only_equal (bplus_map ground place s) m (λ k. same_option (fin.get (bplus_map ground place s) k) (fin.get m k) (read_to k) (to_read k))
+  one_map =
+      fin.same_map nat_list_cmp_total only_equal (bplus_map ground place s) m
+      (λ k. same_option (fin.get (bplus_map ground place s) k) (fin.get m k) (read_to k) (to_read k))
 
-pub bplus_laws : (ground : Ground) (place : Place) → place.spec.kind ≡ kinds.Bplus → IsPlace ground place → AreFileLaws ground place (IsBplus ground place) (bplus_map ground place)
+pub bplus_laws : (ground : Ground) (place : Place) → place.spec.kind ≡ kinds.Bplus → IsPlace ground place
+    → AreFileLaws ground place (IsBplus ground place) (bplus_map ground place)
 bplus_laws ground place kind is = record {
   one = λ s m b. one_map ground place s m is.least b;
   same = λ old new m same b. file_same ground place old new m same b;

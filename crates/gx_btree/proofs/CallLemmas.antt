@@ -13,14 +13,24 @@ same_or_more n = omega arith
 
 module _ {S : Type 0} (g : Ghosts S) where
   -- what shows less is shown by more
-  pub ends_weaker : {T : Type 0} (more less : Type 0) (a b : S) (r : Result T Stop) → (more → less) → EndsFile g less a b r → EndsFile g more a b r
+  pub ends_weaker : {T : Type 0} (more less : Type 0) (a b : S) (r : Result T Stop) → (more → less)
+      → EndsFile g less a b r → EndsFile g more a b r
   ends_weaker more less a b r f e = record {
-    cause = record { later = e.cause.later; fault = e.cause.fault; counted = e.cause.counted; damaged = λ n is h. e.cause.damaged n is (f h) };
+    cause =
+        record { later = e.cause.later; fault = e.cause.fault; counted = e.cause.counted; damaged = λ n is h. e.cause.damaged n is (f h) };
     bound = e.bound;
   }
 
   pub pages_keep_itself : (a : S) → KeepsPages g a a
-  pages_keep_itself a = record { ground = refl; kept = refl; steady = (λ h. h, λ h. h); calm = λ s h. h; silent = record { said = refl; shelf = refl; script = refl; aside = refl } }
+  pages_keep_itself a =
+      record {
+        ground = refl;
+        kept = refl;
+        steady =
+            (λ h. h, λ h. h);
+        calm = λ s h. h;
+        silent = record { said = refl; shelf = refl; script = refl; aside = refl };
+      }
 
   pub pages_keep_joined : {a b c : S} → KeepsPages g a b → KeepsPages g b c → KeepsPages g a c
   pages_keep_joined x y = record {
@@ -28,7 +38,14 @@ module _ {S : Type 0} (g : Ghosts S) where
     kept = y.kept ∙ x.kept;
     steady = (λ h. y.steady.0 (x.steady.0 h), λ h. x.steady.1 (y.steady.1 h));
     calm = λ s h. y.calm s (x.calm s h);
-    silent = record { said = y.silent.said ∙ x.silent.said; shelf = y.silent.shelf ∙ x.silent.shelf; script = y.silent.script ∙ x.silent.script; aside = y.silent.aside ∙ x.silent.aside };
+    silent =
+        record {
+          said = y.silent.said ∙ x.silent.said;
+          shelf = y.silent.shelf
+              ∙ x.silent.shelf;
+          script = y.silent.script ∙ x.silent.script;
+          aside = y.silent.aside ∙ x.silent.aside;
+        };
   }
 
   pub pages_read_itself : (a : S) → ReadsPages g a a
@@ -38,7 +55,8 @@ module _ {S : Type 0} (g : Ghosts S) where
   pages_read_joined x y = record { working = y.working ∙ x.working; keeps = pages_keep_joined x.keeps y.keeps }
 
   -- a call whose count of faults begins where an earlier one ended
-  pub ends_after : {T : Type 0} (more less : Type 0) (a b c : S) (r : Result T Stop) → g.faults b ≡ g.faults a → g.ground b ≡ g.ground a → (more → less) → EndsFile g less b c r → EndsFile g more a c r
+  pub ends_after : {T : Type 0} (more less : Type 0) (a b c : S) (r : Result T Stop) → g.faults b ≡ g.faults a
+      → g.ground b ≡ g.ground a → (more → less) → EndsFile g less b c r → EndsFile g more a c r
   ends_after more less a b c r f h w e =
       let k = ends_weaker more less b c r w e in
       record {
@@ -52,7 +70,8 @@ module _ {S : Type 0} (g : Ghosts S) where
       }
 
   -- a page shows that something isn't sound
-  pub ends_shown : {T : Type 0} (sound : Type 0) (a b : S) (n : ℕ) → g.faults b ≡ g.faults a → n < (g.ground a).blocks → ¬ sound → EndsFile {T = T} g sound a b (Err (Damaged n))
+  pub ends_shown : {T : Type 0} (sound : Type 0) (a b : S) (n : ℕ) → g.faults b ≡ g.faults a
+      → n < (g.ground a).blocks → ¬ sound → EndsFile {T = T} g sound a b (Err (Damaged n))
   ends_shown sound a b n f block off = record {
     cause = record {
       later = subst (λ m. m ≤ g.faults b) f (same_or_more (g.faults b));
@@ -67,12 +86,21 @@ module _ {S : Type 0} (g : Ghosts S) where
   recast : (T U : Type 0) (why v : Stop) → IsErrOf {T = U} (Err why) v → IsErrOf {T = T} (Err why) v
   recast T U why v h = let e : why ≡ v = cc in ap Err e
 
-  pub ends_err : (T U : Type 0) (sound : Type 0) (a b : S) (why : Stop) → EndsFile {T = T} g sound a b (Err why) → EndsFile {T = U} g sound a b (Err why)
+  pub ends_err : (T U : Type 0) (sound : Type 0) (a b : S) (why : Stop) → EndsFile {T = T} g sound a b (Err why)
+      → EndsFile {T = U} g sound a b (Err why)
   ends_err T U sound a b why e = record {
-    cause = record { later = e.cause.later; fault = λ h. e.cause.fault (recast T U why Fault h); counted = e.cause.counted; damaged = λ n h. e.cause.damaged n (recast T U why (Damaged n) h) };
+    cause =
+        record {
+          later = e.cause.later;
+          fault = λ h. e.cause.fault
+              (recast T U why Fault h);
+          counted = e.cause.counted;
+          damaged = λ n h. e.cause.damaged n (recast T U why (Damaged n) h);
+        };
     bound = λ n h. e.bound n (recast T U why (Damaged n) h);
   }
 
-  pub ends_handed : (T U : Type 0) (sound : Type 0) (a b : S) (why : Stop) (r : Result U Stop) → EndsFile {T = T} g sound a b (Err why) → IsErrAnd r (λ s. s ≡ why) → EndsFile {T = U} g sound a b r
+  pub ends_handed : (T U : Type 0) (sound : Type 0) (a b : S) (why : Stop) (r : Result U Stop)
+      → EndsFile {T = T} g sound a b (Err why) → IsErrAnd r (λ s. s ≡ why) → EndsFile {T = U} g sound a b r
   ends_handed T U sound a b why (Ok x) e same = absurd same
   ends_handed T U sound a b why (Err s) e same = subst (λ x. EndsFile {T = U} g sound a b (Err x)) (sym same) (ends_err T U sound a b why e)

@@ -19,7 +19,8 @@ pub record IsPlaceOf {A : Type 0} (x : A) (xs : List A) : Type 0 where
 pub place_in : {A : Type 0} (x : A) (xs : List A) → In x xs → IsPlaceOf x xs
 place_in x [] i = absurd i
 place_in x (y ∷ ys) (inl e) = record { place = 0; below = omega arith; is = λ d. sym e }
-place_in x (y ∷ ys) (inr i) = let p = place_in x ys i in record { place = suc p.place; below = (let b = p.below in omega (arith, b)); is = p.is }
+place_in x (y ∷ ys) (inr i) =
+    let p = place_in x ys i in record { place = suc p.place; below = (let b = p.below in omega (arith, b)); is = p.is }
 
 pub in_place : {A : Type 0} (xs : List A) (i : ℕ) (d : A) → i < length xs → In (get_or xs i d) xs
 in_place [] i d below = absurd (omega (arith, below))
@@ -30,7 +31,8 @@ in_place (y ∷ ys) (suc i) d below = inr (in_place ys i d (omega (arith, below)
 pub ascending_of : (es : List Entry) → AreAscending es → Ascending es
 ascending_of [] up = tt
 ascending_of (x ∷ xs) up = (
-  (λ y i. let p = place_in y xs i in subst (λ (e : Entry). IsBelow x.key e.key) (p.is x) (up 0 (suc p.place) x (omega arith) (let b = p.below in omega (arith, b)))),
+  (λ y i. let p = place_in y xs i in
+      subst (λ (e : Entry). IsBelow x.key e.key) (p.is x) (up 0 (suc p.place) x (omega arith) (let b = p.below in omega (arith, b)))),
   ascending_of xs (λ i j d lt below. up (suc i) (suc j) d (omega (arith, lt)) (omega (arith, below))),
 )
 

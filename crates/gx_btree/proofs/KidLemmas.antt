@@ -19,12 +19,21 @@ within_itself hi = record { under = λ key h. h; over = λ key h. h }
 
 -- a separator that is up to a key under a bound
 pub within_bound : (s x : List ℕ) (hi : Option (List ℕ)) → IsUpTo s x → IsUnder x hi → IsWithin (Some s) hi
-within_bound s x hi h k = record { under = under_within s x hi h k; over = λ y over. elim (below_or_not y s) [ inl l ↦ absurd (not_under_over y hi (under_within s x hi h k y l) over) | inr m ↦ m ] }
+within_bound s x hi h k =
+    record {
+      under = under_within s x hi h k;
+      over = λ y over. elim
+          (below_or_not y s) [ inl l ↦ absurd (not_under_over y hi (under_within s x hi h k y l) over) | inr m ↦ m ];
+    }
 
 mutual
   pub stands_same : (at new : ℕ → List ℕ) (t : Tree) → Same (pages t) at new → Stands at t → Stands new t
   stands_same at new (leaf p es) same h = subst (λ b. ShowsEntries b es) (sym (same p (inl refl))) h
-  stands_same at new (node p kids) same h = (subst (λ b. ShowsInner b (first_of kids) (branches_of kids)) (sym (same p (inl refl))) h.0, all_stand_same at new kids (λ q i. same q (inr i)) h.1)
+  stands_same at new (node p kids) same h = (
+    subst (λ b. ShowsInner b (first_of kids) (branches_of kids))
+        (sym (same p (inl refl))) h.0,
+    all_stand_same at new kids (λ q i. same q (inr i)) h.1,
+  )
 
   pub all_stand_same : (at new : ℕ → List ℕ) (kids : Kids) → Same (kids_pages kids) at new → AllStand at kids → AllStand new kids
   all_stand_same at new (last t) same h = stands_same at new t same h
@@ -34,15 +43,18 @@ mutual
   )
 
 -- separators stand above a bound below all entries
-above_bound : (kids : Kids) → AreOrdered kids → (s : List ℕ) → ((x : Entry) → In x (kids_entries kids) → IsUpTo s x.key) → (m : List ℕ) → In m (separators_in (branches_of kids)) → IsBelow s m
+above_bound : (kids : Kids) → AreOrdered kids → (s : List ℕ)
+    → ((x : Entry) → In x (kids_entries kids) → IsUpTo s x.key) → (m : List ℕ) → In m (separators_in (branches_of kids)) → IsBelow s m
 above_bound (last t) ordered s above m i = absurd i
 above_bound (more t n kids) ordered s above m i =
     let some = ordered.1 in
-    let here : IsBelow s n = up_to_below s some.0.key n (above some.0 (in_left some.0 (entries t) (kids_entries kids) some.1)) (ordered.2 some.0 some.1) in
+    let here : IsBelow s n = up_to_below s some.0.key n
+    (above some.0 (in_left some.0 (entries t) (kids_entries kids) some.1)) (ordered.2 some.0 some.1) in
     elim i [ inl e ↦ subst (IsBelow s) (sym e) here | inr j ↦ below_below s n m here (above_bound kids ordered.4 n ordered.3 m j) ]
 
 -- the last child
-hole_last : (at : ℕ → List ℕ) (t : Tree) (key lo : List ℕ) (hi : Option (List ℕ)) → AllStand at (last t) → AreOrdered (last t) → AreApart (last t)
+hole_last : (at : ℕ → List ℕ) (t : Tree) (key lo : List ℕ) (hi : Option (List ℕ)) → AllStand at (last t)
+    → AreOrdered (last t) → AreApart (last t)
     → ((x : Entry) → In x (entries t) → IsUpTo lo x.key × IsUnder x.key hi) → IsUpTo lo key → IsUnder key hi → KidHole at (last t) key lo hi
 hole_last at t key lo hi stand ordered apart bounds from to = record {
   kid = t;
@@ -96,8 +108,10 @@ hole_last at t key lo hi stand ordered apart bounds from to = record {
 }
 
 -- the first child, which stands before a separator
-hole_first : (at : ℕ → List ℕ) (t : Tree) (s : List ℕ) (kids : Kids) (key lo : List ℕ) (hi : Option (List ℕ)) → AllStand at (more t s kids) → AreOrdered (more t s kids) → AreApart (more t s kids)
-    → ((x : Entry) → In x (kids_entries (more t s kids)) → IsUpTo lo x.key × IsUnder x.key hi) → IsUpTo lo key → IsUnder key hi → is_below key s ≡ true → IsWithin (Some s) hi → KidHole at (more t s kids) key lo hi
+hole_first : (at : ℕ → List ℕ) (t : Tree) (s : List ℕ) (kids : Kids) (key lo : List ℕ) (hi : Option (List ℕ))
+    → AllStand at (more t s kids) → AreOrdered (more t s kids) → AreApart (more t s kids)
+    → ((x : Entry) → In x (kids_entries (more t s kids)) → IsUpTo lo x.key × IsUnder x.key hi) → IsUpTo lo key
+    → IsUnder key hi → is_below key s ≡ true → IsWithin (Some s) hi → KidHole at (more t s kids) key lo hi
 hole_first at t s kids key lo hi stand ordered apart bounds from to is s_hi = record {
   kid = t;
   low = lo;
@@ -105,7 +119,16 @@ hole_first at t s kids key lo hi stand ordered apart bounds from to is s_hi = re
   rest = kids_entries kids;
   others = kids_pages kids;
   way = cond-true (is_below key s) (page_of t) (child_for (first_of kids) (branches_of kids) key) is;
-  fits = record { page_is = refl; stands = stand.0; ordered = ordered.0; apart = apart.0; bounds = λ x i. ((bounds x (in_left x (entries t) (kids_entries kids) i)).0, ordered.2 x i); alone = apart.1 };
+  fits =
+      record {
+        page_is = refl;
+        stands = stand.0;
+        ordered = ordered.0;
+        apart = apart.0;
+        bounds = λ x i.
+            ((bounds x (in_left x (entries t) (kids_entries kids) i)).0, ordered.2 x i);
+        alone = apart.1;
+      };
   filled = ordered.1;
   lower = up_to_itself lo;
   higher = s_hi;
@@ -115,7 +138,8 @@ hole_first at t s kids key lo hi stand ordered apart bounds from to is s_hi = re
   out = λ x h. inr (ordered.3 x h);
   beside = λ x least most m i. elim i [
     | inl e ↦ is_below_of x m (subst (IsBelow x) (sym e) most) ∙ sym (ap (is_below key) e ∙ is)
-    | inr j ↦ (let up = above_bound kids ordered.4 s ordered.3 m j in is_below_of x m (below_below x s m most up) ∙ sym (is_below_of key m (below_below key s m (below_of key s is) up)))
+    | inr j ↦ (let up = above_bound kids ordered.4 s ordered.3 m j in is_below_of x m (below_below x s m most up)
+        ∙ sym (is_below_of key m (below_below key s m (below_of key s is) up)))
   ];
   entries_are = joins_append (entries t) (kids_entries kids);
   pages_are = joins_append (pages t) (kids_pages kids);
@@ -138,7 +162,12 @@ hole_first at t s kids key lo hi stand ordered apart bounds from to is s_hi = re
       fit_l.ordered,
       filled_l,
       below,
-      (λ x i. elim (in_cases x (entries r) (kids_entries kids) i) [ inl a ↦ above x a | inr b ↦ up_to_up_to m s x.key (below_is_up_to m s (up_to_below m filled_r.0.key s (above filled_r.0 filled_r.1) (fit_r.bounds filled_r.0 filled_r.1).1)) (ordered.3 x b) ]),
+      (λ x i. elim (in_cases x (entries r) (kids_entries kids) i) [
+        | inl a ↦ above x a
+        | inr b ↦ up_to_up_to m s x.key
+            (below_is_up_to m s (up_to_below m filled_r.0.key s (above filled_r.0 filled_r.1)
+            (fit_r.bounds filled_r.0 filled_r.1).1)) (ordered.3 x b)
+      ]),
       (fit_r.ordered, filled_r, (λ x i. (fit_r.bounds x i).1), ordered.3, ordered.4),
     );
     apart = (
@@ -167,7 +196,9 @@ hole_first at t s kids key lo hi stand ordered apart bounds from to is s_hi = re
     ordered = (
       b.ordered,
       b.filled,
-      (λ x i. below_below x.key m s (b.below x i) (up_to_below m ordered.1.0.key s (b.above ordered.1.0 (in_left ordered.1.0 (entries t) (kids_entries kids) ordered.1.1)) (ordered.2 ordered.1.0 ordered.1.1))),
+      (λ x i. below_below x.key m s (b.below x i)
+          (up_to_below m ordered.1.0.key s
+          (b.above ordered.1.0 (in_left ordered.1.0 (entries t) (kids_entries kids) ordered.1.1)) (ordered.2 ordered.1.0 ordered.1.1))),
       ordered.3,
       ordered.4,
     );
@@ -178,8 +209,10 @@ hole_first at t s kids key lo hi stand ordered apart bounds from to is s_hi = re
 }
 
 -- a child behind a separator
-hole_behind : (at : ℕ → List ℕ) (t : Tree) (s : List ℕ) (kids : Kids) (key lo : List ℕ) (hi : Option (List ℕ)) → AllStand at (more t s kids) → AreOrdered (more t s kids) → AreApart (more t s kids)
-    → ((x : Entry) → In x (kids_entries (more t s kids)) → IsUpTo lo x.key × IsUnder x.key hi) → is_below key s ≡ false → IsUpTo lo s → KidHole at kids key s hi → KidHole at (more t s kids) key lo hi
+hole_behind : (at : ℕ → List ℕ) (t : Tree) (s : List ℕ) (kids : Kids) (key lo : List ℕ) (hi : Option (List ℕ))
+    → AllStand at (more t s kids) → AreOrdered (more t s kids) → AreApart (more t s kids)
+    → ((x : Entry) → In x (kids_entries (more t s kids)) → IsUpTo lo x.key × IsUnder x.key hi)
+    → is_below key s ≡ false → IsUpTo lo s → KidHole at kids key s hi → KidHole at (more t s kids) key lo hi
 hole_behind at t s kids key lo hi stand ordered apart bounds is lo_s h = record {
   kid = h.kid;
   low = h.low;
@@ -193,7 +226,8 @@ hole_behind at t s kids key lo hi stand ordered apart bounds is lo_s h = record 
     ordered = h.fits.ordered;
     apart = h.fits.apart;
     bounds = h.fits.bounds;
-    alone = λ q i j. elim (in_cases q (pages t) h.others j) [ inl a ↦ apart.1 q a ((h.pages_are q).1 (inl i)) | inr b ↦ h.fits.alone q i b ];
+    alone =
+        λ q i j. elim (in_cases q (pages t) h.others j) [ inl a ↦ apart.1 q a ((h.pages_are q).1 (inl i)) | inr b ↦ h.fits.alone q i b ];
   };
   filled = h.filled;
   lower = up_to_up_to lo s h.low lo_s h.lower;
@@ -212,7 +246,16 @@ hole_behind at t s kids key lo hi stand ordered apart bounds is lo_s h = record 
   entries_are = joins_more (entries t) (kids_entries kids) (entries h.kid) h.rest h.entries_are;
   pages_are = joins_more (pages t) (kids_pages kids) (pages h.kid) h.others h.pages_are;
   one = λ new u same fit filled.
-      let below : IsFitting new (page_of h.kid) h.low h.high h.others u = record { page_is = fit.page_is; stands = fit.stands; ordered = fit.ordered; apart = fit.apart; bounds = fit.bounds; alone = λ q i j. fit.alone q i (in_right q (pages t) h.others j) } in
+      let below : IsFitting new (page_of h.kid) h.low h.high h.others u =
+      record {
+        page_is = fit.page_is;
+        stands = fit.stands;
+        ordered = fit.ordered;
+        apart = fit.apart;
+        bounds =
+            fit.bounds;
+        alone = λ q i j. fit.alone q i (in_right q (pages t) h.others j);
+      } in
       let r = h.one new u (λ q i. same q (in_right q (pages t) h.others i)) below filled in
       record {
         kids = more t s r.kids;
@@ -241,13 +284,31 @@ hole_behind at t s kids key lo hi stand ordered apart bounds is lo_s h = record 
         pages_are = joins_more (pages t) (kids_pages r.kids) (pages u) h.others r.pages_are;
       };
   two = λ new l r m same fit_l filled_l fit_r filled_r apart_lr below above.
-      let fit_l' : IsFitting new (page_of h.kid) h.low h.high h.others l = record { page_is = fit_l.page_is; stands = fit_l.stands; ordered = fit_l.ordered; apart = fit_l.apart; bounds = fit_l.bounds; alone = λ q i j. fit_l.alone q i (in_right q (pages t) h.others j) } in
-      let fit_r' : IsFitting new (page_of r) h.low h.high h.others r = record { page_is = fit_r.page_is; stands = fit_r.stands; ordered = fit_r.ordered; apart = fit_r.apart; bounds = fit_r.bounds; alone = λ q i j. fit_r.alone q i (in_right q (pages t) h.others j) } in
+      let fit_l' : IsFitting new (page_of h.kid) h.low h.high h.others l =
+      record {
+        page_is = fit_l.page_is;
+        stands = fit_l.stands;
+        ordered = fit_l.ordered;
+        apart = fit_l.apart;
+        bounds = fit_l.bounds;
+        alone = λ q i j. fit_l.alone q i (in_right q (pages t) h.others j);
+      } in
+      let fit_r' : IsFitting new (page_of r) h.low h.high h.others r =
+      record {
+        page_is = fit_r.page_is;
+        stands = fit_r.stands;
+        ordered = fit_r.ordered;
+        apart = fit_r.apart;
+        bounds = fit_r.bounds;
+        alone = λ q i j. fit_r.alone q i (in_right q (pages t) h.others j);
+      } in
       let w = h.two new l r m (λ q i. same q (in_right q (pages t) h.others i)) fit_l' filled_l fit_r' filled_r apart_lr below above in
       record {
         kids = more t s w.kids;
         first_is = refl;
-        branches_are = ap (λ f. branch s f ∷ branches_of w.kids) w.first_is ∙ ap (λ bs. branch s (first_of kids) ∷ bs) w.branches_are ∙ sym (cond-false (is_below key s) _ _ is);
+        branches_are =
+            ap (λ f. branch s f ∷ branches_of w.kids) w.first_is
+            ∙ ap (λ bs. branch s (first_of kids) ∷ bs) w.branches_are ∙ sym (cond-false (is_below key s) _ _ is);
         stand = (stands_same at new t (λ q i. same q (in_left q (pages t) h.others i)) stand.0, w.stand);
         ordered = (
           ordered.0,
@@ -311,14 +372,20 @@ hole_behind at t s kids key lo hi stand ordered apart bounds is lo_s h = record 
       record {
         kids = more f m r.kids;
         first_is = refl;
-        branches_are = ap (λ n. branch m n ∷ branches_of r.kids) r.first_is ∙ ap (λ bs. branch m (page_of t) ∷ bs) r.branches_are ∙ sym (cond-false (is_below key s) _ _ is);
+        branches_are =
+            ap (λ n. branch m n ∷ branches_of r.kids) r.first_is
+            ∙ ap (λ bs. branch m (page_of t) ∷ bs) r.branches_are ∙ sym (cond-false (is_below key s) _ _ is);
         stand = (b.stands, r.stand);
         ordered = (
           b.ordered,
           b.filled,
           b.below,
           (λ x i. b.above x (elim ((r.entries_are x).0 i) [
-            | inl a ↦ elim (in_cases x (entries t) h.rest a) [ inl d ↦ in_left x (entries t) (kids_entries kids) d | inr d ↦ in_right x (entries t) (kids_entries kids) ((h.entries_are x).1 (inr d)) ]
+            | inl a ↦ elim (in_cases x (entries t) h.rest a) [
+              | inl d ↦ in_left x (entries t) (kids_entries kids) d
+              | inr d ↦ in_right x (entries t)
+                  (kids_entries kids) ((h.entries_are x).1 (inr d))
+            ]
             | inr n ↦ absurd n
           ])),
           r.ordered,
@@ -326,7 +393,11 @@ hole_behind at t s kids key lo hi stand ordered apart bounds is lo_s h = record 
         apart = (
           b.apart,
           (λ q i j. b.alone q i (elim ((r.pages_are q).0 j) [
-            | inl a ↦ elim (in_cases q (pages t) h.others a) [ inl d ↦ in_left q (pages t) (kids_pages kids) d | inr d ↦ in_right q (pages t) (kids_pages kids) ((h.pages_are q).1 (inr d)) ]
+            | inl a ↦ elim (in_cases q (pages t) h.others a) [
+              | inl d ↦ in_left q (pages t) (kids_pages kids) d
+              | inr d ↦ in_right q (pages t) (kids_pages kids)
+                  ((h.pages_are q).1 (inr d))
+            ]
             | inr n ↦ absurd n
           ])),
           r.apart,
@@ -342,7 +413,8 @@ some_key (last t) o = o.1
 some_key (more t s kids) o = (o.1.0, in_left o.1.0 (entries t) (kids_entries kids) o.1.1)
 
 pub kid_hole : (at : ℕ → List ℕ) (kids : Kids) (key lo : List ℕ) (hi : Option (List ℕ)) → AllStand at kids → AreOrdered kids → AreApart kids
-    → ((x : Entry) → In x (kids_entries kids) → IsUpTo lo x.key × IsUnder x.key hi) → IsUpTo lo key → IsUnder key hi → KidHole at kids key lo hi
+    → ((x : Entry) → In x (kids_entries kids) → IsUpTo lo x.key × IsUnder x.key hi) → IsUpTo lo key → IsUnder key hi
+    → KidHole at kids key lo hi
 kid_hole at (last t) key lo hi stand ordered apart bounds from to = hole_last at t key lo hi stand ordered apart bounds from to
 kid_hole at (more t s kids) key lo hi stand ordered apart bounds from to =
     let front = ordered.1 in
@@ -354,5 +426,6 @@ kid_hole at (more t s kids) key lo hi stand ordered apart bounds from to =
     elim (cases_Bool (is_below key s)) [
       | inl is ↦ hole_first at t s kids key lo hi stand ordered apart bounds from to is (within_bound s behind.0.key hi d c.1)
       | inr is ↦ hole_behind at t s kids key lo hi stand ordered apart bounds is (below_is_up_to lo s (up_to_below lo front.0.key s a.0 b))
-          (kid_hole at kids key s hi stand.1 ordered.4 apart.2 (λ x i. (ordered.3 x i, (bounds x (in_right x (entries t) (kids_entries kids) i)).1)) (up_to_of key s is) to)
+          (kid_hole at kids key s hi stand.1 ordered.4 apart.2
+          (λ x i. (ordered.3 x i, (bounds x (in_right x (entries t) (kids_entries kids) i)).1)) (up_to_of key s is) to)
     ]

@@ -61,10 +61,12 @@ joins_more_left zs xs ys j x = (
 )
 
 pub joins_end : {A : Type 0} (xs : List A) → Joins xs (xs ++ []) []
-joins_end xs x = ((λ i. inl (in_left x xs [] i)), λ h. elim h [ inl a ↦ elim (in_cases x xs [] a) [ inl b ↦ b | inr n ↦ absurd n ] | inr n ↦ absurd n ])
+joins_end xs x =
+    ((λ i. inl (in_left x xs [] i)), λ h. elim h [ inl a ↦ elim (in_cases x xs [] a) [ inl b ↦ b | inr n ↦ absurd n ] | inr n ↦ absurd n ])
 
 -- below a node: one part of what is left over is the node itself and the children beside
-pub joins_below : {A : Type 0} (p : A) (all kid others rest xs : List A) → Joins all kid others → Joins xs (p ∷ all) rest → Joins xs kid (p ∷ (others ++ rest))
+pub joins_below : {A : Type 0} (p : A) (all kid others rest xs : List A) → Joins all kid others
+    → Joins xs (p ∷ all) rest → Joins xs kid (p ∷ (others ++ rest))
 joins_below p all kid others rest xs j k x = (
   λ h. elim ((k x).0 h) [
     | inl a ↦ elim a [ inl c ↦ inr (inl c) | inr d ↦ elim ((j x).0 d) [ inl e ↦ inl e | inr f ↦ inr (inr (in_left x others rest f)) ] ]
@@ -80,7 +82,8 @@ joins_below p all kid others rest xs j k x = (
 )
 
 -- parts of a part
-pub joins_through : {A : Type 0} (all kid beside rest xs : List A) → Joins all kid beside → Joins xs all rest → Joins xs kid (beside ++ rest)
+pub joins_through : {A : Type 0} (all kid beside rest xs : List A) → Joins all kid beside → Joins xs all rest
+    → Joins xs kid (beside ++ rest)
 joins_through all kid beside rest xs j k x = (
   λ h. elim ((k x).0 h) [
     | inl a ↦ elim ((j x).0 a) [ inl c ↦ inl c | inr d ↦ inr (in_left x beside rest d) ]

@@ -36,7 +36,9 @@ below_or_not a b = go (cmp a b) refl (nat_list_cmp_total.antisymm b a) where
   go Greater e turned = inr (ap is_le (turned ∙ ap ordering_reverse e))
 
 pub not_both : (a b : List ℕ) → IsBelow a b → IsUpTo b a → ⊥
-not_both a b h k = let turned : is_le (cmp b a) ≡ false = ap is_le (nat_list_cmp_total.antisymm b a ∙ ap ordering_reverse h) in let clash : true ≡ false = sym k ∙ turned in cc
+not_both a b h k =
+    let turned : is_le (cmp b a) ≡ false =
+    ap is_le (nat_list_cmp_total.antisymm b a ∙ ap ordering_reverse h) in let clash : true ≡ false = sym k ∙ turned in cc
 
 pub not_itself : (a : List ℕ) → IsBelow a a → ⊥
 not_itself a h = not_both a a h (up_to_itself a)
@@ -71,7 +73,8 @@ below_of a b h = go (cmp a b) refl h where
   go Greater e h = absurd cc
 
 pub up_to_of : (a b : List ℕ) → is_below a b ≡ false → IsUpTo b a
-up_to_of a b h = elim (below_or_not a b) [ inl l ↦ (let clash : true ≡ false = sym (ap is_lt l) ∙ h in let no : ⊥ = cc in absurd no) | inr k ↦ k ]
+up_to_of a b h =
+    elim (below_or_not a b) [ inl l ↦ (let clash : true ≡ false = sym (ap is_lt l) ∙ h in let no : ⊥ = cc in absurd no) | inr k ↦ k ]
 
 pub is_below_of : (a b : List ℕ) → IsBelow a b → is_below a b ≡ true
 is_below_of a b h = ap is_lt h

@@ -31,7 +31,8 @@ mutual
       let n = length-append (pages t) (kids_pages kids) in
       omega (arith, a, b, k, n)
 
-  few_below : (p : ℕ → List ℕ) (kids : Kids) → AllStand p kids → AreOrdered kids → length (kids_pages kids) + 1 ≤ 2 * length (kids_entries kids)
+  few_below : (p : ℕ → List ℕ) (kids : Kids) → AllStand p kids → AreOrdered kids
+      → length (kids_pages kids) + 1 ≤ 2 * length (kids_entries kids)
   few_below p (last t) stand ordered = few_pages p t stand ordered.0 ordered.1
   few_below p (more t s kids) stand ordered =
       let a = few_pages p t stand.0 ordered.0 ordered.1 in
@@ -47,12 +48,18 @@ tree_few p (node q kids) stands ordered = let f = few_pages p (node q kids) stan
 pub contains_of : (x : ℕ) (xs : List ℕ) → In x xs → Contains xs x
 contains_of x xs i = let p = place_in x xs i in (p.place, p.below, p.is x)
 
-pub map_many : (ground : Ground) (place : Place) (s : Sheets) (m : LeafMap) (b : IsBplus ground place s m) → fin.len m ≡ length (entries b.tree)
-map_many ground place s m b = fin.len-entries m ∙ ap length (map_entries m (entries b.tree) (tree_up b.tree b.whole.ordered) b.map_is) ∙ length-map (entries b.tree) pair
+pub map_many : (ground : Ground) (place : Place) (s : Sheets) (m : LeafMap) (b : IsBplus ground place s m)
+    → fin.len m ≡ length (entries b.tree)
+map_many ground place s m b =
+    fin.len-entries m ∙ ap length (map_entries m (entries b.tree) (tree_up b.tree b.whole.ordered) b.map_is)
+    ∙ length-map (entries b.tree) pair
 
-pub file_few : (ground : Ground) (place : Place) (s : Sheets) (m : LeafMap) → IsBplus ground place s m → page_count place.owner s ≤ 1 + 2 * fin.len m
+pub file_few : (ground : Ground) (place : Place) (s : Sheets) (m : LeafMap) → IsBplus ground place s m
+    → page_count place.owner s ≤ 1 + 2 * fin.len m
 file_few ground place s m b =
-    let listed = count_listed s.owners place.owner 0 (pages b.tree) (λ q o. subst (Contains (pages b.tree)) (let z : q ≡ 0 + q = omega arith in z) (contains_of q (pages b.tree) ((b.owned q).0 o))) in
+    let listed =
+    count_listed s.owners place.owner 0 (pages b.tree)
+    (λ q o. subst (Contains (pages b.tree)) (let z : q ≡ 0 + q = omega arith in z) (contains_of q (pages b.tree) ((b.owned q).0 o))) in
     let few = tree_few (bytes_at s) b.tree b.whole.stands b.whole.ordered in
     let many = map_many ground place s m b in
     omega (arith, listed, few, many)

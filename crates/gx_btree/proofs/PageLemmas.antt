@@ -16,7 +16,8 @@ use Rattle.gx_btree.specs.Tree.{ShowsEntries, ShowsInner}
 pub one_list : (bytes : List ℕ) (es fs : List Entry) → ShowsEntries bytes es → ShowsEntries bytes fs → es ≡ fs
 one_list bytes es fs a b = (slots.one_meaning es fs NONE NONE bytes a b).0
 
-pub one_inner : (bytes : List ℕ) (first other : ℕ) (bs cs : List Branch) → ShowsInner bytes first bs → ShowsInner bytes other cs → (first ≡ other) × (bs ≡ cs)
+pub one_inner : (bytes : List ℕ) (first other : ℕ) (bs cs : List Branch) → ShowsInner bytes first bs
+    → ShowsInner bytes other cs → (first ≡ other) × (bs ≡ cs)
 one_inner bytes first other bs cs a b = bnode.one_meaning first other bs cs bytes a b
 
 -- no page is of both kinds
@@ -26,6 +27,8 @@ one_kind bytes es first bs a b =
     omega (arith, e)
 
 -- a page of a tree has one of two headers
-pub shows_header : (bytes : List ℕ) (shape : Shape) → Shows shape bytes → ((get_or bytes 0 0 ≡ 0x49) × (get_or bytes 1 0 ≡ 0) → ⊥) → ((get_or bytes 0 0 ≡ 0x44) × (get_or bytes 1 0 ≡ 0) → number_of bytes ≡ NONE → ⊥) → ⊥
+pub shows_header : (bytes : List ℕ) (shape : Shape) → Shows shape bytes
+    → ((get_or bytes 0 0 ≡ 0x49) × (get_or bytes 1 0 ≡ 0) → ⊥)
+    → ((get_or bytes 0 0 ≡ 0x44) × (get_or bytes 1 0 ≡ 0) → number_of bytes ≡ NONE → ⊥) → ⊥
 shows_header bytes shapes.Inner s inner outer = inner (inner_kind bytes s)
 shows_header bytes shapes.Entries s inner outer = outer (entries_kind bytes s.0.page) (slots.next_is bytes ∙ s.1)

@@ -21,16 +21,22 @@ leaf_shape : (bytes : List ℕ) (es : List Entry) → ShowsEntries bytes es → 
 leaf_shape bytes es s up = record {
   shape = shapes.Entries;
   shows = (
-    record { page = record { entries = es; next = NONE; is = s }; ascending = subst AreAscending (sym (entries_of-page es NONE bytes s)) (ascending_from es up) },
+    record {
+      page = record { entries = es; next = NONE; is = s };
+      ascending = subst AreAscending
+          (sym (entries_of-page es NONE bytes s)) (ascending_from es up);
+    },
     next_of-page es NONE bytes s,
   );
 }
 
 mutual
   pub tree_shape : (at : ℕ → List ℕ) (t : Tree) (q : ℕ) → Stands at t → Ordered t → In q (pages t) → HasShape (at q)
-  tree_shape at (leaf p es) q stands ordered i = elim i [ inl e ↦ subst (λ n. HasShape (at n)) (sym e) (leaf_shape (at p) es stands ordered) | inr n ↦ absurd n ]
+  tree_shape at (leaf p es) q stands ordered i =
+      elim i [ inl e ↦ subst (λ n. HasShape (at n)) (sym e) (leaf_shape (at p) es stands ordered) | inr n ↦ absurd n ]
   tree_shape at (node p kids) q stands ordered i = elim i [
-    | inl e ↦ subst (λ n. HasShape (at n)) (sym e) (record { shape = shapes.Inner; shows = record { first = first_of kids; branches = branches_of kids; is = stands.0 } })
+    | inl e ↦ subst (λ n. HasShape (at n)) (sym e)
+        (record { shape = shapes.Inner; shows = record { first = first_of kids; branches = branches_of kids; is = stands.0 } })
     | inr j ↦ kids_shape at kids q stands.1 ordered j
   ]
 
@@ -46,7 +52,8 @@ first_in (last t) = top_in t
 first_in (more t s kids) = in_left (page_of t) (pages t) (kids_pages kids) (top_in t)
 
 -- the page at hand is one of the tree
-pub hand_page : {steps : ℕ} (ground : Ground) (owner : ℕ) (sheets : Sheets) (root p : ℕ) (key : List ℕ) (old : Tree) → IsAtHand (bytes_at sheets) (IsOwned owner sheets) root p key old steps → ArePast ground owner sheets → IsTreePage ground sheets p
+pub hand_page : {steps : ℕ} (ground : Ground) (owner : ℕ) (sheets : Sheets) (root p : ℕ) (key : List ℕ) (old : Tree)
+    → IsAtHand (bytes_at sheets) (IsOwned owner sheets) root p key old steps → ArePast ground owner sheets → IsTreePage ground sheets p
 hand_page ground owner sheets root p key old h past =
     let top : In p (pages h.subtree) = subst (λ q. In q (pages h.subtree)) h.fits.page_is (top_in h.subtree) in
     let shape = tree_shape (bytes_at sheets) h.subtree p h.fits.stands h.fits.ordered top in

@@ -43,7 +43,8 @@ bytes_same old new q e = same_or new.bytes old.bytes q e
 pub others_itself : (ground : Ground) (owner : ℕ) (sheets : Sheets) → OthersStay ground owner sheets sheets
 others_itself ground owner sheets other d n = record { owned = λ q. (λ h. h, λ h. h); bytes = λ q past is. refl }
 
-pub others_joined : (ground : Ground) (owner : ℕ) (a b c : Sheets) → OthersStay ground owner a b → OthersStay ground owner b c → OthersStay ground owner a c
+pub others_joined : (ground : Ground) (owner : ℕ) (a b c : Sheets) → OthersStay ground owner a b
+    → OthersStay ground owner b c → OthersStay ground owner a c
 others_joined ground owner a b c h k other d n =
     let x = h other d n in
     let y = k other d n in
@@ -61,24 +62,30 @@ one_owner sheets q a b x y = let e : Some a ≡ Some b = sym x ∙ y in cc
 pub written_owners : (page : ℕ) (bytes : List ℕ) (old new : Sheets) → IsWritten page bytes old new → new.owners ≡ old.owners
 written_owners page bytes old new w = ap (λ (s : Sheets). s.owners) w
 
-pub written_owned : (page : ℕ) (bytes : List ℕ) (old new : Sheets) → IsWritten page bytes old new → (owner q : ℕ) → (IsOwned owner new q → IsOwned owner old q) × (IsOwned owner old q → IsOwned owner new q)
+pub written_owned : (page : ℕ) (bytes : List ℕ) (old new : Sheets) → IsWritten page bytes old new → (owner q : ℕ)
+    → (IsOwned owner new q → IsOwned owner old q) × (IsOwned owner old q → IsOwned owner new q)
 written_owned page bytes old new w owner q =
     let e = written_owners page bytes old new w in
     (λ h. subst (λ (os : List ℕ). slice_get os q ≡ Some owner) e h, λ h. subst (λ (os : List ℕ). slice_get os q ≡ Some owner) (sym e) h)
 
-written_get : (page : ℕ) (bytes : List ℕ) (old new : Sheets) → IsWritten page bytes old new → (q : ℕ) → q ≢ page → slice_get new.bytes q ≡ slice_get old.bytes q
+written_get : (page : ℕ) (bytes : List ℕ) (old new : Sheets) → IsWritten page bytes old new → (q : ℕ) → q ≢ page
+    → slice_get new.bytes q ≡ slice_get old.bytes q
 written_get page bytes old new w q d = ap (λ (s : Sheets). slice_get s.bytes q) w ∙ get_set_other old.bytes page q bytes d
 
-pub written_other : (page : ℕ) (bytes : List ℕ) (old new : Sheets) → IsWritten page bytes old new → (q : ℕ) → q ≢ page → bytes_at new q ≡ bytes_at old q
+pub written_other : (page : ℕ) (bytes : List ℕ) (old new : Sheets) → IsWritten page bytes old new → (q : ℕ)
+    → q ≢ page → bytes_at new q ≡ bytes_at old q
 written_other page bytes old new w q d = bytes_same old new q (written_get page bytes old new w q d)
 
-pub written_here : (page : ℕ) (bytes : List ℕ) (old new : Sheets) → IsWritten page bytes old new → page < length old.bytes → bytes_at new page ≡ bytes
-written_here page bytes old new w below = get_or_from_slice_get new.bytes page bytes [] (ap (λ (s : Sheets). slice_get s.bytes page) w ∙ get_set_same old.bytes page bytes below)
+pub written_here : (page : ℕ) (bytes : List ℕ) (old new : Sheets) → IsWritten page bytes old new
+    → page < length old.bytes → bytes_at new page ≡ bytes
+written_here page bytes old new w below =
+    get_or_from_slice_get new.bytes page bytes [] (ap (λ (s : Sheets). slice_get s.bytes page) w ∙ get_set_same old.bytes page bytes below)
 
 pub written_length : (page : ℕ) (bytes : List ℕ) (old new : Sheets) → IsWritten page bytes old new → length new.owners ≡ length old.owners
 written_length page bytes old new w = ap length (written_owners page bytes old new w)
 
-pub written_others : (ground : Ground) (owner page : ℕ) (bytes : List ℕ) (old new : Sheets) → IsWritten page bytes old new → IsOwned owner old page → OthersStay ground owner old new
+pub written_others : (ground : Ground) (owner page : ℕ) (bytes : List ℕ) (old new : Sheets)
+    → IsWritten page bytes old new → IsOwned owner old page → OthersStay ground owner old new
 written_others ground owner page bytes old new w mine other d n = record {
   owned = λ q. let o = written_owned page bytes old new w other q in (o.1, o.0);
   bytes = λ q past is. written_get page bytes old new w q (λ e. d (one_owner old page other owner (subst (IsOwned other old) e is) mine));
@@ -86,23 +93,30 @@ written_others ground owner page bytes old new w mine other d n = record {
 
 -- ---- a page has another owner
 
-pub anew_other : (page to : ℕ) (ground : Ground) (old new : Sheets) → IsOwnedAnew page to ground old new → (owner q : ℕ) → q ≢ page → (IsOwned owner new q → IsOwned owner old q) × (IsOwned owner old q → IsOwned owner new q)
+pub anew_other : (page to : ℕ) (ground : Ground) (old new : Sheets) → IsOwnedAnew page to ground old new
+    → (owner q : ℕ) → q ≢ page → (IsOwned owner new q → IsOwned owner old q) × (IsOwned owner old q → IsOwned owner new q)
 anew_other page to ground old new a owner q d =
-    let e : slice_get new.owners q ≡ slice_get old.owners q = ap (λ (os : List ℕ). slice_get os q) a.owners ∙ get_set_other old.owners page q to d in
+    let e : slice_get new.owners q ≡ slice_get old.owners q = ap (λ (os : List ℕ). slice_get os q) a.owners
+    ∙ get_set_other old.owners page q to d in
     (λ h. sym e ∙ h, λ h. e ∙ h)
 
-pub anew_here : (page to : ℕ) (ground : Ground) (old new : Sheets) → IsOwnedAnew page to ground old new → page < length old.owners → IsOwned to new page
+pub anew_here : (page to : ℕ) (ground : Ground) (old new : Sheets) → IsOwnedAnew page to ground old new
+    → page < length old.owners → IsOwned to new page
 anew_here page to ground old new a below = ap (λ (os : List ℕ). slice_get os page) a.owners ∙ get_set_same old.owners page to below
 
-pub anew_bytes : (page to : ℕ) (ground : Ground) (old new : Sheets) → IsOwnedAnew page to ground old new → (q : ℕ) → ground.tables ≤ q → bytes_at new q ≡ bytes_at old q
+pub anew_bytes : (page to : ℕ) (ground : Ground) (old new : Sheets) → IsOwnedAnew page to ground old new → (q : ℕ)
+    → ground.tables ≤ q → bytes_at new q ≡ bytes_at old q
 anew_bytes page to ground old new a q past = bytes_same old new q (a.bytes q past)
 
 -- a page that was the owner's or free, and is free or the owner's
-anew_others : (page from to owner : ℕ) (ground : Ground) (old new : Sheets) → IsOwnedAnew page to ground old new → IsOwned from old page → (from ≡ owner) ⊎ (from ≡ 0) → (to ≡ owner) ⊎ (to ≡ 0) → OthersStay ground owner old new
+anew_others : (page from to owner : ℕ) (ground : Ground) (old new : Sheets) → IsOwnedAnew page to ground old new
+    → IsOwned from old page → (from ≡ owner) ⊎ (from ≡ 0) → (to ≡ owner) ⊎ (to ≡ 0) → OthersStay ground owner old new
 anew_others page from to owner ground old new a was f t other d n =
     let here = anew_here page to ground old new a (get_below old.owners page from was) in
-    let no_old : IsOwned other old page → ⊥ = λ h. let e = one_owner old page other from h was in elim f [ inl x ↦ d (e ∙ x) | inr x ↦ n (e ∙ x) ] in
-    let no_new : IsOwned other new page → ⊥ = λ h. let e = one_owner new page other to h here in elim t [ inl x ↦ d (e ∙ x) | inr x ↦ n (e ∙ x) ] in
+    let no_old : IsOwned other old page → ⊥ = λ h. let e =
+    one_owner old page other from h was in elim f [ inl x ↦ d (e ∙ x) | inr x ↦ n (e ∙ x) ] in
+    let no_new : IsOwned other new page → ⊥ = λ h. let e =
+    one_owner new page other to h here in elim t [ inl x ↦ d (e ∙ x) | inr x ↦ n (e ∙ x) ] in
     record {
       owned = λ q. elim (cases_eq q page) [
         | inl e ↦ (λ h. absurd (no_old (subst (IsOwned other old) e h)), λ h. absurd (no_new (subst (IsOwned other new) e h)))
@@ -111,13 +125,16 @@ anew_others page from to owner ground old new a was f t other d n =
       bytes = λ q past is. a.bytes q past;
     }
 
-pub freed_others : (page owner : ℕ) (ground : Ground) (old new : Sheets) → IsOwnedAnew page 0 ground old new → IsOwned owner old page → OthersStay ground owner old new
+pub freed_others : (page owner : ℕ) (ground : Ground) (old new : Sheets) → IsOwnedAnew page 0 ground old new
+    → IsOwned owner old page → OthersStay ground owner old new
 freed_others page owner ground old new a was = anew_others page owner 0 owner ground old new a was (inl refl) (inr refl)
 
-pub claimed_others : (page owner : ℕ) (ground : Ground) (old new : Sheets) → IsClaimed page owner ground old new → OthersStay ground owner old new
+pub claimed_others : (page owner : ℕ) (ground : Ground) (old new : Sheets) → IsClaimed page owner ground old new
+    → OthersStay ground owner old new
 claimed_others page owner ground old new c = anew_others page 0 owner owner ground old new c.owned c.was_free (inr refl) (inl refl)
 
-pub freed_owned : (page owner : ℕ) (ground : Ground) (old new : Sheets) → 1 ≤ owner → IsOwnedAnew page 0 ground old new → IsOwned owner old page
+pub freed_owned : (page owner : ℕ) (ground : Ground) (old new : Sheets) → 1 ≤ owner
+    → IsOwnedAnew page 0 ground old new → IsOwned owner old page
     → (q : ℕ) → (IsOwned owner new q → IsOwned owner old q × (q ≢ page)) × (IsOwned owner old q × (q ≢ page) → IsOwned owner new q)
 freed_owned page owner ground old new least a was q =
     let here = anew_here page 0 ground old new a (get_below old.owners page owner was) in (
@@ -135,9 +152,11 @@ claimed_owned page owner ground old new c q =
       λ h. elim (cases_eq q page) [ inl e ↦ inl e | inr e ↦ inr ((anew_other page owner ground old new c.owned owner q e).0 h) ],
       λ h. elim h [
         | inl e ↦ subst (IsOwned owner new) (sym e) here
-        | inr i ↦ elim (cases_eq q page) [ inl e ↦ subst (IsOwned owner new) (sym e) here | inr e ↦ (anew_other page owner ground old new c.owned owner q e).1 i ]
+        | inr i ↦ elim (cases_eq q page)
+            [ inl e ↦ subst (IsOwned owner new) (sym e) here | inr e ↦ (anew_other page owner ground old new c.owned owner q e).1 i ]
       ],
     )
 
-pub claimed_free : (page owner : ℕ) (ground : Ground) (old new : Sheets) → 1 ≤ owner → IsClaimed page owner ground old new → IsOwned owner old page → ⊥
+pub claimed_free : (page owner : ℕ) (ground : Ground) (old new : Sheets) → 1 ≤ owner
+    → IsClaimed page owner ground old new → IsOwned owner old page → ⊥
 claimed_free page owner ground old new least c h = let z = one_owner old page owner 0 h c.was_free in omega (arith, z, least)

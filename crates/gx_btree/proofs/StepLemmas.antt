@@ -11,7 +11,8 @@ use Rattle.gx_btree.proofs.PageLemmas.{one_list, one_inner, one_kind}
 use Rattle.gx_btree.proofs.KidLemmas.{some_key, kid_hole}
 
 -- at first it stands at the root
-pub at_root : (at : ℕ → List ℕ) (owned : ℕ → Type 0) (root : ℕ) (key : List ℕ) (t : Tree) → IsWhole at root t → Owns owned t → IsAtHand at owned root root key t 0
+pub at_root : (at : ℕ → List ℕ) (owned : ℕ → Type 0) (root : ℕ) (key : List ℕ) (t : Tree) → IsWhole at root t
+    → Owns owned t → IsAtHand at owned root root key t 0
 at_root at owned root key t w owns = record {
   lo = [];
   hi = None;
@@ -27,7 +28,16 @@ at_root at owned root key t w owns = record {
       pages_are = joins_none (pages u);
     };
   };
-  fits = record { page_is = w.root_is; stands = w.stands; ordered = w.ordered; apart = w.apart; bounds = λ x i. (nothing_up_to x.key, tt); alone = λ q i n. n };
+  fits =
+      record {
+        page_is = w.root_is;
+        stands = w.stands;
+        ordered = w.ordered;
+        apart = w.apart;
+        bounds = λ x i.
+            (nothing_up_to x.key, tt);
+        alone = λ q i n. n;
+      };
   from = nothing_up_to key;
   to = tt;
   entries_are = joins_none (entries t);
@@ -39,7 +49,8 @@ at_root at owned root key t w owns = record {
 }
 
 -- and nothing bounds it
-pub root_hi : (at : ℕ → List ℕ) (owned : ℕ → Type 0) (root : ℕ) (key : List ℕ) (t : Tree) (w : IsWhole at root t) (owns : Owns owned t) → (at_root at owned root key t w owns).hi ≡ None
+pub root_hi : (at : ℕ → List ℕ) (owned : ℕ → Type 0) (root : ℕ) (key : List ℕ) (t : Tree) (w : IsWhole at root t)
+    (owns : Owns owned t) → (at_root at owned root key t w owns).hi ≡ None
 unfolding at_root
 root_hi at owned root key t w owns = refl
 
@@ -50,7 +61,8 @@ pub record IsNode (first : ℕ) (branches : List Branch) (p : ℕ) (t : Tree) : 
   pub first_is : first_of kids ≡ first
   pub branches_are : branches_of kids ≡ branches
 
-pub node_at : (at : ℕ → List ℕ) (first : ℕ) (branches : List Branch) (t : Tree) → ShowsInner (at (page_of t)) first branches → Stands at t → IsNode first branches (page_of t) t
+pub node_at : (at : ℕ → List ℕ) (first : ℕ) (branches : List Branch) (t : Tree)
+    → ShowsInner (at (page_of t)) first branches → Stands at t → IsNode first branches (page_of t) t
 node_at at first branches (leaf p es) e stands = absurd (one_kind (at p) es first branches stands e)
 node_at at first branches (node p kids) e stands =
     let same = one_inner (at p) (first_of kids) first (branches_of kids) branches stands.0 e in
@@ -65,7 +77,8 @@ top_in (leaf p es) = inl refl
 top_in (node p kids) = inl refl
 
 -- The subtree at hand has children, of which one is on the way.
-pub record IsAtNode {steps : ℕ} (at : ℕ → List ℕ) (owned : ℕ → Type 0) (root p : ℕ) (key : List ℕ) (old : Tree) (first : ℕ) (branches : List Branch) (h : IsAtHand at owned root p key old steps) : Type 0 where
+pub record IsAtNode {steps : ℕ} (at : ℕ → List ℕ) (owned : ℕ → Type 0) (root p : ℕ) (key : List ℕ) (old : Tree)
+    (first : ℕ) (branches : List Branch) (h : IsAtHand at owned root p key old steps) : Type 0 where
   pub kids : Kids
   pub is : h.subtree ≡ node p kids
   pub first_is : first_of kids ≡ first
@@ -87,7 +100,8 @@ pub record IsAtNode {steps : ℕ} (at : ℕ → List ℕ) (owned : ℕ → Type 
   pub in_kids : (x : ℕ) → In x (pages hole.kid) → In x (kids_pages kids)
   pub in_others : (x : ℕ) → In x hole.others → In x (kids_pages kids)
 
-pub at_node : {steps : ℕ} (at : ℕ → List ℕ) (owned : ℕ → Type 0) (root p : ℕ) (key : List ℕ) (old : Tree) (first : ℕ) (branches : List Branch) → ShowsInner (at p) first branches
+pub at_node : {steps : ℕ} (at : ℕ → List ℕ) (owned : ℕ → Type 0) (root p : ℕ) (key : List ℕ) (old : Tree)
+    (first : ℕ) (branches : List Branch) → ShowsInner (at p) first branches
     → (h : IsAtHand at owned root p key old steps) → IsAtNode at owned root p key old first branches h
 at_node at owned root p key old first branches e h =
     let n = node_at at first branches h.subtree (subst (λ q. ShowsInner (at q) first branches) (sym h.fits.page_is) e) h.fits.stands in
@@ -97,7 +111,8 @@ at_node at owned root p key old first branches e h =
     let apart : Apart (node p n.kids) = subst Apart is h.fits.apart in
     let entries_is : entries h.subtree ≡ kids_entries n.kids = ap entries is in
     let pages_is : pages h.subtree ≡ p ∷ kids_pages n.kids = ap pages is in
-    let bounds : (x : Entry) → In x (kids_entries n.kids) → IsUpTo h.lo x.key × IsUnder x.key h.hi = λ x i. h.fits.bounds x (subst (In x) (sym entries_is) i) in
+    let bounds : (x : Entry) → In x (kids_entries n.kids) → IsUpTo h.lo x.key × IsUnder x.key h.hi =
+    λ x i. h.fits.bounds x (subst (In x) (sym entries_is) i) in
     let k = kid_hole at n.kids key h.lo h.hi stands.1 ordered apart.1 bounds h.from h.to in
     record {
       kids = n.kids;
@@ -117,18 +132,23 @@ at_node at owned root p key old first branches e h =
       kids_owned = λ x i. (h.owns x).1 (inl (subst (In x) (sym pages_is) (inr i)));
       top_owned = (h.owns p).1 (inl (subst (In p) (sym pages_is) (inl refl)));
       hole = k;
-      goes = ap (λ f. child_for f branches key) (sym n.first_is) ∙ ap (λ bs. child_for (first_of n.kids) bs key) (sym n.branches_are) ∙ k.way;
+      goes =
+          ap (λ f. child_for f branches key) (sym n.first_is) ∙ ap (λ bs. child_for (first_of n.kids) bs key) (sym n.branches_are) ∙ k.way;
       in_kids = λ x i. (k.pages_are x).1 (inl i);
       in_others = λ x i. (k.pages_are x).1 (inr i);
     }
 
 -- one page down
-pub descend : {steps : ℕ} (at : ℕ → List ℕ) (owned : ℕ → Type 0) (root p : ℕ) (key : List ℕ) (old : Tree) (first : ℕ) (branches : List Branch) → ShowsInner (at p) first branches
-    → (g : IsAtHand at owned root p key old steps) → (h : IsAtHand at owned root (child_for first branches key) key old (steps + 1)) × IsFilled h.subtree × (h.hi ≡ bound_for branches key g.hi)
+pub descend : {steps : ℕ} (at : ℕ → List ℕ) (owned : ℕ → Type 0) (root p : ℕ) (key : List ℕ) (old : Tree)
+    (first : ℕ) (branches : List Branch) → ShowsInner (at p) first branches
+    → (g : IsAtHand at owned root p key old steps)
+    → (h : IsAtHand at owned root (child_for first branches key) key old (steps + 1)) × IsFilled h.subtree
+    × (h.hi ≡ bound_for branches key g.hi)
 descend {steps = steps} at owned root p key old first branches e h =
     let n = at_node at owned root p key old first branches e h in
     let k = n.hole in
-    subst (λ c. (d : IsAtHand at owned root c key old (steps + 1)) × IsFilled d.subtree × (d.hi ≡ bound_for branches key h.hi)) (sym n.goes) (
+    subst (λ c. (d : IsAtHand at owned root c key old (steps + 1)) × IsFilled d.subtree
+    × (d.hi ≡ bound_for branches key h.hi)) (sym n.goes) (
       record {
         lo = k.low;
         hi = k.high;
@@ -145,12 +165,22 @@ descend {steps = steps} at owned root p key old first branches e h =
           ];
           fill = λ new u same fit filled.
               let beside : Same k.others at new = λ x i. same x (inr (in_left x k.others h.others i)) in
-              let fit_below : IsFitting new (page_of k.kid) k.low k.high k.others u = record { page_is = fit.page_is; stands = fit.stands; ordered = fit.ordered; apart = fit.apart; bounds = fit.bounds; alone = λ x i j. fit.alone x i (inr (in_left x k.others h.others j)) } in
+              let fit_below : IsFitting new (page_of k.kid) k.low k.high k.others u =
+              record {
+                page_is = fit.page_is;
+                stands = fit.stands;
+                ordered = fit.ordered;
+                apart = fit.apart;
+                bounds = fit.bounds;
+                alone = λ x i j. fit.alone x i (inr (in_left x k.others h.others j));
+              } in
               let w = k.one new u beside fit_below filled in
               let at_p : ShowsInner (new p) (first_of w.kids) (branches_of w.kids) =
               subst (λ b. ShowsInner b (first_of w.kids) (branches_of w.kids)) (sym (same p (inl refl)))
-              (subst (λ f. ShowsInner (at p) f (branches_of w.kids)) (sym w.first_is) (subst (ShowsInner (at p) (first_of n.kids)) (sym w.branches_are) n.shows)) in
-              let inside : (x : Entry) → In x (kids_entries w.kids) → IsUpTo h.lo x.key × IsUnder x.key h.hi = λ x i. elim ((w.entries_are x).0 i) [
+              (subst (λ f. ShowsInner (at p) f (branches_of w.kids)) (sym w.first_is)
+              (subst (ShowsInner (at p) (first_of n.kids)) (sym w.branches_are) n.shows)) in
+              let inside : (x : Entry) → In x (kids_entries w.kids) → IsUpTo h.lo x.key × IsUnder x.key h.hi =
+              λ x i. elim ((w.entries_are x).0 i) [
                 | inl a ↦ (let b = fit.bounds x a in (up_to_up_to h.lo k.low x.key k.lower b.0, k.higher.under x.key b.1))
                 | inr a ↦ n.bounds x ((k.entries_are x).1 (inr a))
               ] in
@@ -165,8 +195,19 @@ descend {steps = steps} at owned root p key old first branches e h =
                   | inr d ↦ n.alone x (n.in_others x d) j
                 ]
               ] in
-              let whole : IsFitting new p h.lo h.hi h.others (node p w.kids) = record { page_is = refl; stands = (at_p, w.stand); ordered = w.ordered; apart = (fresh, w.apart); bounds = inside; alone = apart_from } in
-              let v = h.hole.fill new (node p w.kids) (λ x i. same x (inr (in_right x k.others h.others i))) whole (some_key w.kids w.ordered) in
+              let whole : IsFitting new p h.lo h.hi h.others (node p w.kids) =
+              record {
+                page_is = refl;
+                stands = (at_p, w.stand);
+                ordered = w.ordered;
+                apart =
+                    (fresh, w.apart);
+                bounds = inside;
+                alone = apart_from;
+              } in
+              let v =
+              h.hole.fill new (node p w.kids) (λ x i. same x (inr (in_right x k.others h.others i))) whole
+              (some_key w.kids w.ordered) in
               record {
                 tree = v.tree;
                 whole = v.whole;
@@ -190,7 +231,9 @@ descend {steps = steps} at owned root p key old first branches e h =
         };
         from = k.from;
         to = k.to;
-        entries_are = joins_through (kids_entries n.kids) (entries k.kid) k.rest h.rest (entries old) k.entries_are (subst (λ xs. Joins (entries old) xs h.rest) n.entries_is h.entries_are);
+        entries_are =
+            joins_through (kids_entries n.kids) (entries k.kid) k.rest h.rest (entries old) k.entries_are
+            (subst (λ xs. Joins (entries old) xs h.rest) n.entries_is h.entries_are);
         owns = λ x. (
           (λ o. elim ((h.owns x).0 o) [
             | inl a ↦ elim (subst (In x) n.pages_is a) [

@@ -9,14 +9,13 @@ ghost use Rattle.gx_slots.specs.Page.{entries_of};
 ghost use Rattle.gx_bnode.specs.Page.{IsInnerPage, first_of, branches_of};
 ghost use Rattle.gx_btree.specs.declared.reading.Shape.TheVariants as shapes;
 ghost use Rattle.gx_btree.specs.Bplus.{IsBplus, Shows};
-ghost use Rattle.gx_btree.specs.Order.{is_below};
 ghost use Rattle.gx_btree.specs.Search.{IsFound};
 ghost use Rattle.gx_btree.specs.Tree.{child_for, bound_for};
 
 use crate::reading::{Shape, read_kind};
 use gx_bnode::split_branch;
 use gx_bytes::{page_body, page_number, record_count};
-use gx_order::compare_bytes;
+use gx_order::is_below;
 use gx_ports::{Pages, Place, Stop};
 use gx_values::KeyBuf;
 
@@ -94,11 +93,4 @@ fn way_on(page: &[u8], key: &[u8], bound: Option<KeyBuf>) -> Option<Way>
         rest = behind;
     }
     Some(Way { page: child, bound })
-}
-
-// Whether `a` stands before `b`, byte by byte, a proper front first.
-fn is_below(a: &[u8], b: &[u8]) -> bool
-    ensures { result ≡ is_below a.now b.now }
-{
-    compare_bytes(a, b).is_lt()
 }

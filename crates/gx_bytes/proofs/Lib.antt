@@ -1,3 +1,4 @@
+pub mod NumberLemmas
 pub mod PageLemmas
 pub mod PairLemmas
 pub mod PartLemmas

@@ -5,15 +5,11 @@ use Rattle.std.specs.List.{count_by}
 use Rattle.std.proofs.lemmas.Bool.{cases_lt}
 use Rattle.std.proofs.lemmas.List.{drop_at, drop-drop, length-take-le, get_or-take, get_or-drop, get_or_append_left}
 use Rattle.std.proofs.lemmas.List.Sums.{sum_by-cons}
-use Rattle.std.proofs.lemmas.Nat.{from_be_bytes-to_be_bytes_4}
 use Rattle.gx_bytes.specs.Parts.{overwritten}
+use Rattle.gx_bytes.proofs.NumberLemmas.{from_be_bytes-front_4}
 use Rattle.gx_bytes.proofs.RecordLemmas.{count_behind, records-next}
 use Rattle.gx_isam_index.specs.Index.{IsFit, HoldsAscending, HoldsCount, IsIndexPage, behind_firsts, bucket_count, first_of, separator_bytes, separators_in, separators_of}
 use Rattle.gx_isam_index.proofs.SeparatorLemmas.{separator_format}
-
--- the number that bytes begin with
-pub front_4 : (n : ℕ) (rest : List ℕ) → n < 2 ^ 32 → from_be_bytes w32 (to_be_bytes w32 n ++ rest) ≡ n
-front_4 n rest fits = from_be_bytes-to_be_bytes_4 n fits
 
 -- the separators of an index page
 pub page_holds : (bytes : List ℕ) → IsIndexPage bytes → HoldsCount (bucket_count bytes - 1) (behind_firsts bytes)
@@ -130,7 +126,7 @@ module _ (bytes new : List ℕ) (bucket first at : ℕ) (page : IsIndexPage byte
   pub first_is : first_of new bucket ≡ first
   first_is =
       let same : drop (4 + 4 * bucket) new ≡ to_be_bytes w32 first ++ drop (at + 4) bytes = ap (λ (n : ℕ). drop n new) (sym at_is) ∙ ap (drop at) is ∙ drop_here bytes (to_be_bytes w32 first) at room in
-      ap (from_be_bytes w32) same ∙ front_4 first (drop (at + 4) bytes) fits
+      ap (from_be_bytes w32) same ∙ from_be_bytes-front_4 first (drop (at + 4) bytes) fits
 
   pub others_stay : (other : ℕ) → other < bucket_count bytes → other ≢ bucket → first_of new other ≡ first_of bytes other
   others_stay other in' apart = ap (λ (b : List ℕ). first_of b other) is ∙ go (cases_lt other bucket) where

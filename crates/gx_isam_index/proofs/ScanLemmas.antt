@@ -1,9 +1,8 @@
 -- A scan of bytes for ascending separators.
-use Rattle.std.proofs.Common.{◌≡◌, ◌≢◌, ◌⊎◌, inl, inr, ℕ, ◌+◌, ◌<◌, ◌≤◌, Bool, true, false, List, [], ◌∷◌, ◌++◌, length, take, drop, get_or, refl, sym, ap, ◌∙◌, subst, arith, append_assoc}
+use Rattle.std.proofs.Common.{◌≡◌, ◌≢◌, ◌⊎◌, inl, inr, ℕ, ◌+◌, ◌<◌, ◌≤◌, false, List, [], ◌∷◌, ◌++◌, length, take, drop, get_or, refl, sym, ap, ◌∙◌, subst, arith, append_assoc}
 use Rattle.std.specs.List.{flat_map, All}
 use Rattle.std.specs.Ordering.{is_lt}
-use Rattle.std.specs.declared.cmp.Ordering.{Ordering}
-use Rattle.std.specs.declared.cmp.Ordering.TheVariants.{Less, Equal, Greater}
+use Rattle.std.specs.declared.cmp.Ordering.TheVariants.{Less}
 use Rattle.std.proofs.lemmas.Bool.{cases_lt, false≢true}
 use Rattle.std.proofs.lemmas.Cmp.{nat_list_cmp_total}
 use Rattle.std.proofs.lemmas.List.{append-nil, drop_more, get_or-take, get_or_at, length-drop, length-take-le, length_push}
@@ -15,14 +14,6 @@ use Rattle.gx_bytes.proofs.RecordLemmas.{same_records, same_tails, holds_parts, 
 use Rattle.gx_ports.specs.Keyed.{key_cmp}
 use Rattle.gx_isam_index.specs.Index.{IsFit, AreAscending, HoldsAscending, separator_bytes}
 use Rattle.gx_isam_index.proofs.SeparatorLemmas.{separator_format}
-
-less_from_lt : (o : Ordering) → is_lt o ≡ true → o ≡ Less
-less_from_lt Less h = refl
-less_from_lt Equal h = absurd cc
-less_from_lt Greater h = absurd cc
-
-pub below_is_less : (a b : List ℕ) (answer : Bool) → answer ≡ is_lt (key_cmp a b) → answer ≡ true → key_cmp a b ≡ Less
-below_is_less a b answer is holds = less_from_lt (key_cmp a b) (sym is ∙ holds)
 
 -- so many ascending separators were found, this is the last one, and these bytes are left
 pub record Scanned (bytes : List ℕ) (place : ℕ) (rest last : List ℕ) : Type 0 where

@@ -2,17 +2,13 @@
 use Rattle.std.proofs.Common.{◌≡◌, ◌≢◌, ℕ, ◌+◌, ◌^◌, ◌<◌, ◌≤◌, List, ◌++◌, length, take, drop, refl, sym, ap, ap₂, ◌∙◌, arith, length-append}
 use Rattle.std.specs.Int.{w16, to_be_bytes, from_be_bytes}
 use Rattle.std.proofs.lemmas.List.{take_at, length-take-le, take-append-drop}
-use Rattle.std.proofs.lemmas.Nat.{from_be_bytes-to_be_bytes_2}
+use Rattle.gx_bytes.proofs.NumberLemmas.{from_be_bytes-front_2}
 use Rattle.gx_bytes.proofs.RecordLemmas.{IsFormat}
 use Rattle.gx_isam_index.specs.Index.{IsFit, separator_bytes, first_separator}
 
 -- how many bytes a separator takes
 abbrev pub separator_len : List ℕ → ℕ
 separator_len separator = 2 + length separator
-
--- the number that bytes begin with
-front_2 : (n : ℕ) (rest : List ℕ) → n < 2 ^ 16 → from_be_bytes w16 (to_be_bytes w16 n ++ rest) ≡ n
-front_2 n rest fits = from_be_bytes-to_be_bytes_2 n fits
 
 pub length-separator_bytes : (separator : List ℕ) → length (separator_bytes separator) ≡ separator_len separator
 unfolding separator_bytes
@@ -33,7 +29,7 @@ pub first_separator-written : (separator tail : List ℕ) → IsFit separator �
 unfolding first_separator
 first_separator-written separator tail fit =
     let all = to_be_bytes w16 (length separator) ++ (separator ++ tail) in
-    let len : from_be_bytes w16 all ≡ length separator = front_2 (length separator) (separator ++ tail) fit.short in
+    let len : from_be_bytes w16 all ≡ length separator = from_be_bytes-front_2 (length separator) (separator ++ tail) fit.short in
     ap first_separator (written_parts separator tail) ∙ ap (λ (n : ℕ). take n (drop 2 all)) len ∙ take_at separator tail (length separator) refl
 
 -- separators are a format of records
@@ -51,7 +47,7 @@ pub none_unfit : (bytes tail : List ℕ) (len : ℕ) → bytes ≡ to_be_bytes w
 none_unfit bytes tail len is fits few separator rest fit begins =
     let behind = separator ++ rest in
     let same : to_be_bytes w16 len ++ tail ≡ to_be_bytes w16 (length separator) ++ behind = sym is ∙ begins ∙ written_parts separator rest in
-    let own : len ≡ length separator = sym (front_2 len tail fits) ∙ ap (from_be_bytes w16) same ∙ front_2 (length separator) behind fit.short in
+    let own : len ≡ length separator = sym (from_be_bytes-front_2 len tail fits) ∙ ap (from_be_bytes w16) same ∙ from_be_bytes-front_2 (length separator) behind fit.short in
     let size : length tail ≡ length separator + length rest = ap length (ap (λ (xs : List ℕ). drop 2 xs) same) ∙ length-append separator rest in
     absurd (omega (arith, own, size, few))
 

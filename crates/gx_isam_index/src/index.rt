@@ -1,12 +1,13 @@
 // The index page of an indexed sequential file.
 ghost use Rattle.std.specs.Prelude.{◌≡◌, ◌≢◌, ◌↔◌, ℕ, ◌+◌, ◌-◌, ◌*◌, ◌<◌, ◌≤◌, length, take, IsTrue};
-ghost use Rattle.std.specs.Ordering.{is_le, is_lt};
+ghost use Rattle.std.specs.Ordering.{is_le};
 ghost use Rattle.gx_bytes.specs.Records.{SplitsRecord};
 ghost use Rattle.gx_bytes.specs.declared.page.TheConstants.{NONE};
 ghost use Rattle.gx_ports.specs.Keyed.{key_cmp};
 ghost use Rattle.gx_isam_index.specs.Index.{IsFit, HoldsAscending, IsIndexPage, behind_firsts, bucket_count, bucket_of, first_of, last_bucket, lent, separator_bytes, separators_of};
 
 use gx_bytes::{NONE, has_kind, overwrite, record_count, split_u16, split_u32, write_header};
+use gx_order::is_below;
 
 /// The byte that an index page begins with.
 pub(crate) const KIND: u8 = 0x58;
@@ -170,13 +171,6 @@ fn are_some_separators(bytes: &[u8], count: u16) -> bool
         rest = behind;
     }
     true
-}
-
-/// Whether `a` stands before `b`, byte by byte, a proper front first.
-pub(crate) fn is_below(a: &[u8], b: &[u8]) -> bool
-    ensures { result ≡ is_lt (key_cmp a.now b.now) }
-{
-    a.cmp(b).is_lt()
 }
 
 // Whether the front of `a` that is as long as `hi` is `hi`, or stands before it.

@@ -8,8 +8,9 @@ ghost use Rattle.gx_isam_index.specs.Fresh.{HasFreshBuckets, begin_of, fresh_cou
 ghost use Rattle.gx_isam_index.specs.Index.{IsIndexPage, bucket_count, first_of, separator_bytes};
 ghost use Rattle.gx_isam_index.specs.Layout.{AreOrdered, FitsPage, HasFront, HasSeparators, keys_of};
 
-use crate::index::{FIRST_LEN, FIRSTS_AT, KIND, MAX_BUCKETS, is_below, set_first};
+use crate::index::{FIRST_LEN, FIRSTS_AT, KIND, MAX_BUCKETS, set_first};
 use gx_bytes::{NONE, overwrite, write_header};
+use gx_order::is_below;
 use gx_ports::{Entries, EntryRef, MAX_ENTRY_LEN, MAX_KEY_LEN};
 
 /// The most bytes that the buckets of an index take together.

@@ -3,7 +3,6 @@ use Rattle.std.proofs.Common.{◌≡◌, ℕ, List, true, Result, Ok, Err, None,
 use Rattle.std.specs.Prelude.{OnOk, IfErr}
 use Rattle.gx_device.specs.Content.{Content, device_at}
 use Rattle.gx_ports.specs.declared.kinds.LeafSpec.{LeafSpec}
-use Rattle.gx_typing.specs.Typed.{leaves}
 use Rattle.gx_store.specs.Device.{IsSize, IsMadeOn, IsNoneOrEmpty}
 use Rattle.gx_store.specs.Making.{IsUnmade}
 use Rattle.gx_store.specs.Opening.{is_untouched}

@@ -2,7 +2,7 @@
 ghost use Rattle.std.specs.Prelude.{◌≡◌, ◌^◌, ◌<◌, ◌++◌, length, MatchOption};
 ghost use Rattle.std.specs.Cmp.Lexicographic.{slice_cmp};
 ghost use Rattle.std.specs.Int.{w64, to_be_bytes};
-ghost use Rattle.std.specs.Ordering.{nat_cmp};
+ghost use Rattle.std.specs.Ordering.{nat_cmp, is_lt};
 
 use std::cmp::Ordering;
 
@@ -15,6 +15,13 @@ pub fn compare_bytes(a: &[u8], b: &[u8]) -> Ordering
         return a.cmp(b);
     };
     if x != y { x.cmp(&y) } else { rest.cmp(others) }
+}
+
+/// Whether `a` stands before `b`, byte by byte, a proper prefix first.
+pub fn is_below(a: &[u8], b: &[u8]) -> bool
+    ensures { result ≡ is_lt (slice_cmp nat_cmp a.now b.now) }
+{
+    compare_bytes(a, b).is_lt()
 }
 
 // The number that the bytes begin with, in eight bytes and big endian, and the bytes behind it. None

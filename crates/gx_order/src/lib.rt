@@ -3,4 +3,4 @@
 
 mod bytes;
 
-pub use bytes::compare_bytes;
+pub use bytes::{compare_bytes, is_below};

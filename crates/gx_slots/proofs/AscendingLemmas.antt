@@ -17,7 +17,7 @@ use Rattle.gx_slots.specs.Entries.{Entry, IsFit, AreDistinct, AreAscending, entr
 use Rattle.gx_slots.specs.Page.{IsPageOf, IsAscendingPage, entries_of}
 use Rattle.gx_slots.specs.Scan.{HoldsAscending}
 use Rattle.gx_slots.proofs.EntryLemmas.{entry_format}
-use Rattle.gx_slots.proofs.OrderLemmas.{cmp}
+use Rattle.gx_order.proofs.BelowLemmas.{cmp}
 use Rattle.gx_slots.proofs.PageLemmas.{body_holds, count_is, entries_of-page}
 
 -- so many entries with ascending keys were found, this is the last key, and these bytes are left

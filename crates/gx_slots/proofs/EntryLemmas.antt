@@ -2,15 +2,11 @@
 use Rattle.std.proofs.Common.{◌≡◌, ◌≢◌, ℕ, ◌+◌, ◌^◌, ◌<◌, ◌≤◌, List, ◌++◌, length, take, drop, refl, sym, ap, ap₂, ◌∙◌, arith, append_assoc, length-append}
 use Rattle.std.specs.Int.{w16, to_be_bytes, from_be_bytes}
 use Rattle.std.proofs.lemmas.List.{drop_at, take_at, drop-drop, length-take-le, length-drop, take-append-drop}
-use Rattle.std.proofs.lemmas.Nat.{from_be_bytes-to_be_bytes_2}
 use Rattle.gx_bytes.specs.Parts.{overwritten}
+use Rattle.gx_bytes.proofs.NumberLemmas.{from_be_bytes-front_2}
 use Rattle.gx_bytes.proofs.PartLemmas.{overwritten-overwritten}
 use Rattle.gx_bytes.proofs.RecordLemmas.{IsFormat}
 use Rattle.gx_slots.specs.Entries.{Entry, IsFit, entry_bytes, entry_len, first_entry}
-
--- the number that bytes begin with
-pub from_be_bytes-front_2 : (n : ℕ) (rest : List ℕ) → n < 2 ^ 16 → from_be_bytes w16 (to_be_bytes w16 n ++ rest) ≡ n
-from_be_bytes-front_2 n rest fits = from_be_bytes-to_be_bytes_2 n fits
 
 pub entry_parts : (entry : Entry) → entry_bytes entry ≡ to_be_bytes w16 (length entry.key) ++ (to_be_bytes w16 (length entry.body) ++ (entry.key ++ entry.body))
 unfolding entry_bytes

@@ -1,35 +1,15 @@
 -- The place of a key among entries that ascend.
 use Rattle.std.proofs.Common.{◌≡◌, ℕ, zero, suc, ◌+◌, ◌<◌, ◌≤◌, Bool, true, false, List, [], ◌∷◌, length, take, drop, get_or, refl, sym, ap, ◌∙◌, subst, arith}
-use Rattle.std.specs.Cmp.Lexicographic.{slice_cmp}
 use Rattle.std.specs.List.{All}
-use Rattle.std.specs.Ordering.{nat_cmp, is_le, is_lt, ordering_reverse}
-use Rattle.std.specs.declared.cmp.Ordering.{Ordering}
-use Rattle.std.specs.declared.cmp.Ordering.TheVariants.{Less, Equal, Greater}
+use Rattle.std.specs.Ordering.{is_le, is_lt, ordering_reverse}
+use Rattle.std.specs.declared.cmp.Ordering.TheVariants.{Less}
 use Rattle.std.proofs.lemmas.Bool.{false≢true}
 use Rattle.std.proofs.lemmas.Cmp.{nat_list_cmp_total}
 use Rattle.std.proofs.lemmas.List.{drop_all, get_or-drop, length-drop}
 use Rattle.std.proofs.lemmas.List.Elements.{All-more, All-nil}
+use Rattle.gx_order.proofs.BelowLemmas.{cmp, less_from_lt, not_below_is_le}
 use Rattle.gx_bytes.proofs.RecordLemmas.{drop-is_cons}
 use Rattle.gx_slots.specs.Entries.{Entry, AreAscending}
-
-abbrev pub cmp : List ℕ → List ℕ → Ordering
-cmp = slice_cmp nat_cmp
-
-less_from_lt : (o : Ordering) → is_lt o ≡ true → o ≡ Less
-less_from_lt Less h = refl
-less_from_lt Equal h = absurd cc
-less_from_lt Greater h = absurd cc
-
--- one key stands before another, or the other is at or below it
-pub below_is_less : (a b : List ℕ) (answer : Bool) → answer ≡ is_lt (cmp a b) → answer ≡ true → cmp a b ≡ Less
-below_is_less a b answer is holds = less_from_lt (cmp a b) (sym is ∙ holds)
-
-pub not_below_is_le : (a b : List ℕ) (answer : Bool) → answer ≡ is_lt (cmp a b) → answer ≡ false → is_le (cmp b a) ≡ true
-not_below_is_le a b answer is fails = go (cmp a b) (sym is ∙ fails) (nat_list_cmp_total.antisymm b a) where
-  go : (o : Ordering) → is_lt o ≡ false → cmp b a ≡ ordering_reverse o → is_le (cmp b a) ≡ true
-  go Less bad turned = absurd cc
-  go Equal fails turned = ap is_le turned
-  go Greater fails turned = ap is_le turned
 
 -- a key that is at or below one is so to all behind that
 le_less : (a b c : List ℕ) → is_le (cmp a b) ≡ true → cmp b c ≡ Less → is_le (cmp a c) ≡ true

@@ -2,7 +2,7 @@
 ghost use Rattle.std.specs.Prelude.{◌≡◌, ◌<◌, ◌≤◌, ◌↔◌, IsTrue, length, take, drop};
 ghost use Rattle.std.specs.Cmp.Lexicographic.{slice_cmp};
 ghost use Rattle.std.specs.List.{All};
-ghost use Rattle.std.specs.Ordering.{nat_cmp, is_le, is_lt};
+ghost use Rattle.std.specs.Ordering.{nat_cmp, is_le};
 ghost use Rattle.std.specs.declared.cmp.Ordering.TheVariants.{Less};
 ghost use Rattle.gx_slots.specs.Entries.{AreAscending};
 ghost use Rattle.gx_slots.specs.Page.{IsEntryPage, IsAscendingPage, entries_of};
@@ -11,7 +11,7 @@ ghost use Rattle.gx_slots.specs.Scan.{HoldsAscending};
 use crate::format::split_entry;
 use crate::page::{KIND, entries};
 use gx_bytes::{has_kind, page_body, record_count};
-use gx_order::compare_bytes;
+use gx_order::is_below;
 
 /// Whether the bytes are an entry page whose keys ascend. The page has 4,096 bytes, of any values.
 pub fn is_ascending(page: &[u8]) -> bool
@@ -64,11 +64,4 @@ pub fn rank(page: &[u8], key: &[u8]) -> u16
         place += 1;
     }
     place
-}
-
-// Whether `a` stands before `b`, byte by byte, a proper front first.
-fn is_below(a: &[u8], b: &[u8]) -> bool
-    ensures { result ≡ is_lt (slice_cmp nat_cmp a.now b.now) }
-{
-    compare_bytes(a, b).is_lt()
 }

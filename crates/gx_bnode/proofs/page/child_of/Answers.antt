@@ -1,7 +1,8 @@
 use Rattle.std.proofs.Common.{◌∙◌, arith}
 use Rattle.gx_bnode.specs.Branches.{lent}
 use Rattle.gx_bnode.specs.Page.{branches_of}
-use Rattle.gx_bnode.proofs.OrderLemmas.{at_start, at_next, at_more, at_behind, at_end, at_number, below_is_less, not_below_is_le}
+use Rattle.gx_order.proofs.BelowLemmas.{below_is_less, not_below_is_le}
+use Rattle.gx_bnode.proofs.OrderLemmas.{at_start, at_next, at_more, at_behind, at_end, at_number}
 use Rattle.gx_bnode.proofs.PageLemmas.{page_of, six_each, used_most}
 use Rattle.gx_bnode.proofs.page.child_of.Goals as goal
 

@@ -2,7 +2,7 @@ use Rattle.std.proofs.Common.{◌≡◌, ℕ, refl, subst, sym, arith}
 use Rattle.std.proofs.lemmas.Bool.{false≢true}
 use Rattle.gx_bnode.specs.Branches.{lent}
 use Rattle.gx_bnode.specs.Scan.{HoldsAscending}
-use Rattle.gx_bnode.proofs.OrderLemmas.{below_is_less}
+use Rattle.gx_order.proofs.BelowLemmas.{below_is_less}
 use Rattle.gx_bnode.proofs.ScanLemmas.{scanned_first, scanned_more, scanned_all, none_first, no_more, not_ascending}
 use Rattle.gx_bnode.proofs.validity.are_branches.Goals as goal
 

@@ -8,4 +8,5 @@ returns c =
     let page = c.args.page.now in
     let key = c.args.key.now in
     let e = c.child_of.ensures in
-    c.child.ensures ∙ child_is (first_of page) (branches_of page) key c.child_of.result (place_for page key c.child_of.result e.number e.before e.behind)
+    c.child.ensures ∙ child_is (first_of page) (branches_of page) key c.child_of.result
+    (place_for page key c.child_of.result e.number e.before e.behind)

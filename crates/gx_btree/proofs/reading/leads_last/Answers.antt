@@ -7,4 +7,5 @@ returns c =
     let page = c.args.page.now in
     let key = c.args.key.now in
     let e = c.child_of.ensures in
-    last_is (branches_of page) key c.child_of.result c.separators.result (place_for page key c.child_of.result e.number e.before e.behind) c.separators.ensures
+    last_is (branches_of page) key c.child_of.result c.separators.result
+    (place_for page key c.child_of.result e.number e.before e.behind) c.separators.ensures

@@ -1,7 +1,8 @@
 use Rattle.std.proofs.Common.{◌≡◌, ℕ, refl, subst, sym, arith}
 use Rattle.std.proofs.lemmas.Bool.{false≢true}
 use Rattle.gx_isam_index.specs.Index.{HoldsAscending}
-use Rattle.gx_isam_index.proofs.ScanLemmas.{below_is_less, scanned_first, scanned_more, scanned_all, none_first, no_more, not_ascending}
+use Rattle.gx_order.proofs.BelowLemmas.{below_is_less}
+use Rattle.gx_isam_index.proofs.ScanLemmas.{scanned_first, scanned_more, scanned_all, none_first, no_more, not_ascending}
 use Rattle.gx_isam_index.proofs.index.are_some_separators.Goals as goal
 
 pub returns-in_default : goal.returns-in_default

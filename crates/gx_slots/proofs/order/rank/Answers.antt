@@ -1,7 +1,8 @@
 use Rattle.std.proofs.Common.{◌∙◌, arith}
 use Rattle.gx_slots.specs.Entries.{lent}
 use Rattle.gx_slots.specs.Page.{entries_of}
-use Rattle.gx_slots.proofs.OrderLemmas.{at_start, at_next, at_more, at_behind, at_end, below_is_less, not_below_is_le}
+use Rattle.gx_order.proofs.BelowLemmas.{below_is_less, not_below_is_le}
+use Rattle.gx_slots.proofs.OrderLemmas.{at_start, at_next, at_more, at_behind, at_end}
 use Rattle.gx_slots.proofs.PageLemmas.{four_each, used_most}
 use Rattle.gx_slots.proofs.order.rank.Goals as goal
 
