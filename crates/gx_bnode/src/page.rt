@@ -10,11 +10,11 @@ ghost use Rattle.gx_bnode.specs.Page.{IsInnerPage, HasRoom, branches_of, childre
 
 use crate::format::{MAX_BRANCH_LEN, branch_len, branches_len, write_branch};
 use crate::iter::Branches;
-use crate::order::is_below;
 use gx_bytes::{
     HEADER_LEN, PAGE_LEN, page_body, page_number, record_count, set_page_number, set_record_count,
     write_header,
 };
+use gx_order::is_below;
 
 /// The byte that an inner page begins with.
 pub const KIND: u8 = 0x49;
