@@ -135,7 +135,7 @@ short_at g p before left line old e schema_is built_is limit_is before_is ready 
       maps = g.working (leaves_of e);
       many = sym ready.owned.each;
       before = at.stands.working_is;
-      short = record { line = line; later = left.lines; lines_are = ap (λ (ls : Lines). ls.lines) before_is; command = command; means = means; placed = placed; short = short };
+      short = record { line = line; later = left.lines; lines_are = ap (λ (ls : Lines). ls.lines) before_is; command = command; means = means; placed = placed; wants = short.0; short = short.1 };
     })))
 
 -- the answers of the lines before it

@@ -175,7 +175,8 @@ fn step<B: Leaves + Drop>(
 /// stands for its last moment; after `Stop` exactly the answers of the first lines, and the kept
 /// leaves stand for the last state that these kept; after `Stop(Fault)` a front of the answers. Of
 /// a stop, `Fault` comes only where the count of faults rose, `Full` only where the pages may be
-/// too few for the command of the next line, and `Damaged` never where the leaves hold a state.
+/// too few for the command of the next line, which changes records or links and isn't refused, or
+/// is a `reorganize`, and `Damaged` never where the leaves hold a state.
 pub fn play_script<B: Leaves + Drop>(
     alloc: Global,
     script: &[u8],
