@@ -15,7 +15,7 @@ ghost use Rattle.gx_scan.specs.Where.{rows_at_key};
 ghost use Rattle.gx_scan.specs.Steps.{HaveAtMost, is_key_inside, rows_inside};
 
 use crate::places::Place;
-use crate::records::{NO_BLOCK, key_span};
+use crate::records::{NO_BLOCK, set_key};
 use crate::scan::add_chosen_rows;
 use gx_commands::Cond;
 use gx_ports::{Entries, Leaves, Stop};
@@ -60,13 +60,15 @@ pub(crate) fn add_by_entries<B: Leaves>(
     Ok(())
 }
 
-/// Appends the record at a key, where there is one and it meets the conditions.
+/// Appends the record at a key, where there is one and it meets the conditions. The key is written in the
+/// span.
 pub(crate) fn add_at_key<B: Leaves>(
     alloc: Global,
     file: &FileDef,
     node: &Node<AnyMapping>,
     places: &[Place],
     key: &Value,
+    span: &mut Span,
     conds: &[Cond],
     leaves: &mut B,
     rows: &mut Vec<Row>,
@@ -88,8 +90,8 @@ pub(crate) fn add_at_key<B: Leaves>(
         (B.whole leaves.old × HasFile file.now (tree_of node.now) (B.working leaves.old))
         leaves.old leaves.new result }
 {
-    let span = key_span(key);
-    add_by_entries(alloc, file, node, places, &span, conds, leaves, rows)
+    set_key(span, key);
+    add_by_entries(alloc, file, node, places, span, conds, leaves, rows)
 }
 
 // Appends those in one leaf, in the order of their keys.

@@ -22,6 +22,7 @@ use crate::by_entries::add_at_key;
 use crate::by_records::{into_row, meets_all};
 use crate::places::{Place, places_of};
 use crate::records::find_record;
+use crate::within::whole_span;
 use gx_commands::Cond;
 use gx_ports::{Leaves, Stop};
 use gx_rows::Row;
@@ -122,20 +123,25 @@ fn add_by_keys<B: Leaves>(
         (B.whole leaves.old × HasFile file.now (tree_of node.now) (B.working leaves.old))
         leaves.old leaves.new result }
 {
+    let mut span = whole_span();
     for key in keys {
-        add_by_key(alloc, file, node, places, key, conds, leaves, rows)?;
+        add_by_key(
+            alloc, file, node, places, key, &mut span, conds, leaves, rows,
+        )?;
     }
     Ok(())
 }
 
 // Appends the record at a key, where there is one and it meets the conditions. Where records stand whole
-// in leaves, the conditions are tested on the bytes of its entry.
+// in one leaf, the conditions are tested on the bytes of its entry. Of several leaves, the node passes
+// over those that can't have the key. The key is written in the span.
 fn add_by_key<B: Leaves>(
     alloc: Global,
     file: &FileDef,
     node: &Node<AnyMapping>,
     places: Option<&[Place]>,
     key: &Values,
+    span: &mut Span,
     conds: &[Cond],
     leaves: &mut B,
     rows: &mut Vec<Row>,
@@ -160,8 +166,10 @@ fn add_by_key<B: Leaves>(
     let Some(key) = key.0.first() else {
         unreachable!()
     };
-    if let Some(places) = places {
-        return add_at_key(alloc, file, node, places, key, conds, leaves, rows);
+    if let Some(places) = places
+        && places.len() == 1
+    {
+        return add_at_key(alloc, file, node, places, key, span, conds, leaves, rows);
     }
     let Some(rec) = find_record(alloc, file, node, key, leaves)? else {
         return Ok(());
