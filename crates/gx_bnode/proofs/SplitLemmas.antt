@@ -13,51 +13,16 @@ use Rattle.gx_bytes.specs.Page.{header, used}
 use Rattle.gx_bytes.specs.Parts.{overwritten}
 use Rattle.gx_bytes.specs.Records.{HoldsRecords}
 use Rattle.gx_bytes.proofs.PageLemmas as pages
-use Rattle.gx_bytes.proofs.RecordLemmas.{drop-is_cons, first_same, holds_behind, length-flat_map}
+use Rattle.gx_bytes.proofs.RecordLemmas.{holds_behind, length-flat_map, next_same}
 use Rattle.gx_bnode.specs.Branches.{Branch, IsFit, AreAscending, branch_bytes, branch_len}
 use Rattle.gx_bnode.specs.Page.{IsPageOf, IsInnerPage, HasRoom, separators_in, first_of, branches_of}
 use Rattle.gx_bnode.proofs.BranchLemmas.{branch_format}
 use Rattle.gx_bytes.proofs.PairLemmas.{all_pairs_take, all_pairs_drop}
 use Rattle.gx_bnode.proofs.PageLemmas.{page_of, separators_len}
 
--- a search for the middle has come to a place: the branches before it take at most half, and these are left
-pub record IsAt (branches : List Branch) (place taken : ℕ) (left : List Branch) : Type 0 where
-  pub left_is : left ≡ drop place branches
-  pub within : place ≤ length branches
-  pub taken_is : taken ≡ sum_by branch_len (take place branches)
-  pub half : taken ≤ 2044
-
-pub at_start : (branches left : List Branch) → left ≡ branches → IsAt branches 0 0 left
-at_start branches left is = record { left_is = is; within = omega arith; taken_is = refl; half = omega arith }
-
-pub at_next : (branches : List Branch) (place taken : ℕ) (left : List Branch) (branch : Branch) (rest : List Branch) → IsAt branches place taken left → left ≡ branch ∷ rest
-    → (place < length branches) × ((d : Branch) → get_or branches place d ≡ branch) × (drop (place + 1) branches ≡ rest)
-at_next branches place taken left branch rest at is = drop-is_cons branches place branch rest (sym at.left_is ∙ is)
-
-pub at_fit : (branches : List Branch) (place taken : ℕ) (left : List Branch) (branch : Branch) (rest : List Branch) → All IsFit branches → IsAt branches place taken left → left ≡ branch ∷ rest → IsFit branch
-at_fit branches place taken left branch rest fit at is =
-    let next = at_next branches place taken left branch rest at is in
-    subst IsFit (next.1 branch) (fit place branch next.0)
-
-pub at_taken : (branches : List Branch) (place taken : ℕ) (left : List Branch) (branch : Branch) (rest : List Branch) → IsAt branches place taken left → left ≡ branch ∷ rest → taken + branch_len branch ≡ sum_by branch_len (take (place + 1) branches)
-at_taken branches place taken left branch rest at is =
-    let next = at_next branches place taken left branch rest at is in
-    let more = sum_by_more branch_len branches place branch next.0 ∙ ap (λ (b : Branch). sum_by branch_len (take place branches) + branch_len b) (next.1 branch) in
-    omega (arith, more, at.taken_is)
-
-pub at_more : (branches : List Branch) (place taken : ℕ) (left : List Branch) (branch : Branch) (rest : List Branch) → IsAt branches place taken left → left ≡ branch ∷ rest → taken + branch_len branch ≤ 2044 → IsAt branches (place + 1) (taken + branch_len branch) rest
-at_more branches place taken left branch rest at is half =
-    let next = at_next branches place taken left branch rest at is in
-    record { left_is = sym next.2; within = omega (arith, next.0); taken_is = at_taken branches place taken left branch rest at is; half = half }
-
 -- a page without room is more than half full
 pub full_is : (branches : List Branch) → (HasRoom (separators_in branches) → ⊥) → 3682 < sum_by branch_len branches
 full_is branches full = elim (cases_lt 3682 (sum_by branch_len branches)) [ inl more ↦ more | inr less ↦ absurd (full (omega (arith, less, separators_len branches))) ]
-
-pub at_end : (branches : List Branch) (place taken : ℕ) (left : List Branch) → IsAt branches place taken left → left ≡ [] → 3682 < sum_by branch_len branches → ⊥
-at_end branches place taken left at none full =
-    let whole = ap (sum_by branch_len) (take_all place branches (omega (arith, ap length (sym at.left_is ∙ none), length-drop place branches))) in
-    omega (arith, whole, at.taken_is, at.half)
 
 -- the branches on both sides of the one across the middle
 pub sides : (branches : List Branch) (place : ℕ) (d : Branch) → All IsFit branches → place < length branches → 3682 < sum_by branch_len branches → sum_by branch_len branches ≤ 4088
@@ -94,16 +59,11 @@ right_page branches place child bytes top new others fit ascending below most fi
       ascending = subst AreAscending (drop-map (λ b. b.separator) (place + 1) branches) (all_pairs_drop (λ a b. slice_cmp nat_cmp a b ≡ Less) (separators_in branches) (place + 1) ascending);
     }
 
--- the branch at the middle, and those behind it
-held_there : (branches : List Branch) (place : ℕ) (found : Branch) (rest : List ℕ) → HoldsRecords branch_bytes IsFit (drop place branches) rest → place < length branches
-    → HoldsRecords branch_bytes IsFit (get_or branches place found ∷ drop (place + 1) branches) rest
-held_there branches place found rest holds below = subst (λ (bs : List Branch). HoldsRecords branch_bytes IsFit bs rest) (drop_more branches place found below) holds
-
-pub found_is : (branches : List Branch) (place : ℕ) (found : Branch) (rest behind : List ℕ) → HoldsRecords branch_bytes IsFit (drop place branches) rest → place < length branches → IsFit found → rest ≡ branch_bytes found ++ behind → found ≡ get_or branches place found
-found_is branches place found rest behind holds below = first_same branch_format (get_or branches place found) found (drop (place + 1) branches) rest behind (held_there branches place found rest holds below)
-
+-- the branches behind the one at the middle
 others_hold : (branches : List Branch) (place : ℕ) (found : Branch) (rest behind : List ℕ) → HoldsRecords branch_bytes IsFit (drop place branches) rest → place < length branches → IsFit found → rest ≡ branch_bytes found ++ behind → HoldsRecords branch_bytes IsFit (drop (place + 1) branches) behind
-others_hold branches place found rest behind holds below = holds_behind branch_format (get_or branches place found) found (drop (place + 1) branches) rest behind (held_there branches place found rest holds below)
+others_hold branches place found rest behind holds below = 
+    holds_behind branch_format (get_or branches place found) found (drop (place + 1) branches) rest behind
+    (subst (λ (bs : List Branch). HoldsRecords branch_bytes IsFit bs rest) (drop_more branches place found below) holds)
 
 -- the bytes of the branches behind the middle
 pub others_are : (branches : List Branch) (place : ℕ) (found : Branch) (rest behind others : List ℕ) (len : ℕ) → HoldsRecords branch_bytes IsFit (drop place branches) rest → place < length branches → IsFit found → rest ≡ branch_bytes found ++ behind
@@ -124,7 +84,7 @@ others_fit branches place found rest behind holds below fit is =
 pub others_len : (branches : List Branch) (place : ℕ) (found : Branch) (rest behind : List ℕ) (at end len : ℕ) → HoldsRecords branch_bytes IsFit (drop place branches) rest → place < length branches → IsFit found → rest ≡ branch_bytes found ++ behind
     → at ≡ used branch_len (take place branches) → end ≡ used branch_len branches → len ≡ branch_len found → end - at - len ≡ sum_by branch_len (drop (place + 1) branches)
 others_len branches place found rest behind at end len holds below fit is at_is end_is len_is =
-    let same = ap branch_len (found_is branches place found rest behind holds below fit is) in
+    let same = ap branch_len (next_same branch_format found place branches rest behind holds below fit is) in
     omega (arith, same, sum_by-take-drop branch_len branches place, sum_by-drop_more branch_len branches place found below)
 
 -- the branches of a page around the one at a place

@@ -8,10 +8,10 @@ use Rattle.std.proofs.lemmas.List.Elements.{All-append, All-cons, All-take, All-
 use Rattle.std.proofs.lemmas.List.Sums.{sum_by-cons, sum_by-take-drop, sum_by-take-le, sum_by_more_le}
 use Rattle.std.proofs.lemmas.Nat.{be_bytes_2, be_bytes_4, from_be_bytes-to_be_bytes_2, from_be_bytes-to_be_bytes_4}
 use Rattle.gx_bytes.specs.Parts.{overwritten}
-use Rattle.gx_bytes.specs.Records.{records, HoldsRecords}
+use Rattle.gx_bytes.specs.Records.{records, HoldsRecords, HoldsRecordCount}
 use Rattle.gx_bytes.specs.Page.{header, count_of, number_of, records_of, used, IsRecordPage}
 use Rattle.gx_bytes.proofs.PartLemmas.{overwritten-same, overwritten-overwritten, moved_up, moved_down}
-use Rattle.gx_bytes.proofs.RecordLemmas.{IsFormat, length-flat_map, records-held, records-take, holds_parts, holds_drop, flat_map-insert, flat_map-remove}
+use Rattle.gx_bytes.proofs.RecordLemmas.{IsFormat, count_take, length-flat_map, records-held, records-take, holds_parts, holds_drop, flat_map-insert, flat_map-remove}
 
 -- the first eight bytes and those behind them
 pub eight_first : (bytes : List ℕ) → 8 ≤ length bytes
@@ -77,22 +77,46 @@ module _ {R : Type 0} {written : R → List ℕ} {first : List ℕ → R} {Fits 
   pub page_holds : (kind : ℕ) (rs : List R) (number : ℕ) (bytes body : List ℕ) → IsRecordPage written Fits kind rs number bytes → body ≡ drop 8 bytes → HoldsRecords written Fits rs body
   page_holds kind rs number bytes body page behind = subst (HoldsRecords written Fits rs) (sym (behind ∙ ap (drop 8) page.is)) page.holds
 
-  pub passed_start : (rs : List R) (body : List ℕ) (i start : ℕ) → HoldsRecords written Fits rs body → i ≤ length rs → start ≡ sum_by size (records written first i body) → start ≡ sum_by size (take i rs)
-  passed_start rs body i start holds within is = is ∙ ap (sum_by size) (records-take format i rs body holds within)
+  passed_start : (rs : List R) (body : List ℕ) (i start : ℕ) → HoldsRecords written Fits rs body
+      → i ≤ length rs → start ≡ sum_by size (records written first i body)
+      → start ≡ sum_by size (take i rs)
+  passed_start rs body i start holds within is =
+      is ∙ ap (sum_by size) (records-take format i rs body holds within)
 
-  pub start_within : (rs : List R) (body : List ℕ) (i start : ℕ) → HoldsRecords written Fits rs body → start ≡ sum_by size (take i rs) → start ≤ length body
-  start_within rs body i start holds is =
-      omega (arith, sum_by-take-le size rs i, ap length holds.is, length-append (flat_map written rs) holds.rest, length-flat_map format rs)
+  pub start_within : (rs : List R) (body : List ℕ) (i start : ℕ) → HoldsRecords written Fits rs body
+      → i ≤ length rs → start ≡ sum_by size (records written first i body) → start ≤ length body
+  start_within rs body i start holds within is =
+      omega (arith, passed_start rs body i start holds within is, sum_by-take-le size rs i,
+      ap length holds.is, length-append (flat_map written rs) holds.rest, length-flat_map format rs)
 
-  pub rest_holds : (rs : List R) (body rest : List ℕ) (i start : ℕ) → HoldsRecords written Fits rs body → start ≡ sum_by size (take i rs) → rest ≡ drop start body → HoldsRecords written Fits (drop i rs) rest
-  rest_holds rs body rest i start holds is rest_is = subst (HoldsRecords written Fits (drop i rs)) (sym rest_is) (holds_drop format i start rs body holds is)
+  rest_holds : (rs : List R) (body rest : List ℕ) (i start : ℕ) → HoldsRecords written Fits rs body
+      → start ≡ sum_by size (take i rs) → rest ≡ drop start body
+      → HoldsRecords written Fits (drop i rs) rest
+  rest_holds rs body rest i start holds is rest_is =
+      subst (HoldsRecords written Fits (drop i rs)) (sym rest_is) (holds_drop format i start rs body holds is)
 
-  pub passed_end : (rs : List R) (rest : List ℕ) (i start count len : ℕ) → HoldsRecords written Fits (drop i rs) rest → start ≡ sum_by size (take i rs) → count ≡ length rs → len ≡ sum_by size (records written first (count - i) rest)
-      → start + len ≡ sum_by size rs
-  passed_end rs rest i start count len holds start_is counted len_is =
+  pub rest_count : (rs : List R) (body rest : List ℕ) (i start count : ℕ)
+      → HoldsRecords written Fits rs body → i ≤ length rs
+      → start ≡ sum_by size (records written first i body) → rest ≡ drop start body
+      → count ≡ length rs → HoldsRecordCount written Fits (count - i) rest
+  rest_count rs body rest i start count holds within is rest_is counted =
+      let start_is = passed_start rs body i start holds within is in
+      count_take format (count - i) (drop i rs) rest (rest_holds rs body rest i start holds start_is rest_is)
+      (omega (arith, length-drop i rs))
+
+  -- where the records before a place end, and where all of them do
+  pub parts_end : (rs : List R) (body rest : List ℕ) (i start count len : ℕ)
+      → HoldsRecords written Fits rs body → i ≤ length rs
+      → start ≡ sum_by size (records written first i body) → rest ≡ drop start body
+      → count ≡ length rs → len ≡ sum_by size (records written first (count - i) rest)
+      → (start ≡ sum_by size (take i rs)) × (start + len ≡ sum_by size rs)
+  parts_end rs body rest i start count len holds within is rest_is counted len_is =
+      let start_is = passed_start rs body i start holds within is in
+      let behind = rest_holds rs body rest i start holds start_is rest_is in
       let left : length (drop i rs) ≡ count - i = omega (arith, length-drop i rs) in
-      let all = len_is ∙ ap (λ (n : ℕ). sum_by size (records written first n rest)) (sym left) ∙ ap (sum_by size) (records-held format (drop i rs) rest holds) in
-      omega (arith, all, sum_by-take-drop size rs i)
+      let all = len_is ∙ ap (λ (n : ℕ). sum_by size (records written first n rest)) (sym left)
+      ∙ ap (sum_by size) (records-held format (drop i rs) rest behind) in
+      (start_is, omega (arith, all, start_is, sum_by-take-drop size rs i))
 
   -- the record at a place of a page
   pub place_holds : (kind : ℕ) (rs : List R) (number : ℕ) (bytes rest : List ℕ) (i at : ℕ) → IsRecordPage written Fits kind rs number bytes → at ≡ used size (take i rs) → rest ≡ drop at bytes → HoldsRecords written Fits (drop i rs) rest
@@ -100,14 +124,31 @@ module _ {R : Type 0} {written : R → List ℕ} {first : List ℕ → R} {Fits 
       let start = sum_by size (take i rs) in
       rest_holds rs (drop 8 bytes) rest i start (page_holds kind rs number bytes (drop 8 bytes) page refl) refl (rest_is ∙ ap (λ (n : ℕ). drop n bytes) is ∙ sym (drop-drop start 8 bytes))
 
-  pub first_len : (rs : List R) (rest : List ℕ) (i len : ℕ) (d : R) → HoldsRecords written Fits (drop i rs) rest → i < length rs → len ≡ sum_by size (records written first 1 rest) → len ≡ size (get_or rs i d)
+  first_len : (rs : List R) (rest : List ℕ) (i len : ℕ) (d : R) → HoldsRecords written Fits (drop i rs) rest → i < length rs → len ≡ sum_by size (records written first 1 rest) → len ≡ size (get_or rs i d)
   first_len rs rest i len d holds below is =
       let one : take 1 (drop i rs) ≡ get_or rs i d ∷ [] = ap (take 1) (drop-cons rs i d below) in
       let all = is ∙ ap (sum_by size) (records-take format 1 (drop i rs) rest holds (omega (arith, length-drop i rs)) ∙ one) ∙ sum_by-cons size (get_or rs i d) [] in
       omega (arith, all)
 
-  pub place_end : (rs : List R) (i at end : ℕ) (d : R) → i < length rs → at ≡ used size (take i rs) → end ≡ used size rs → at + size (get_or rs i d) ≤ end
+  place_end : (rs : List R) (i at end : ℕ) (d : R) → i < length rs → at ≡ used size (take i rs) → end ≡ used size rs → at + size (get_or rs i d) ≤ end
   place_end rs i at end d below at_is end_is = omega (arith, sum_by_more_le size rs i d below)
+
+  pub place_count : (kind : ℕ) (rs : List R) (number : ℕ) (bytes rest : List ℕ) (i at : ℕ)
+      → IsRecordPage written Fits kind rs number bytes → i < length rs → at ≡ used size (take i rs)
+      → rest ≡ drop at bytes → HoldsRecordCount written Fits 1 rest
+  place_count kind rs number bytes rest i at page below at_is rest_is =
+      count_take format 1 (drop i rs) rest (place_holds kind rs number bytes rest i at page at_is rest_is)
+      (omega (arith, length-drop i rs))
+
+  -- it has the length that is read, and ends where the records end, or before
+  pub place_len : (kind : ℕ) (rs : List R) (number : ℕ) (bytes rest : List ℕ) (i at end len : ℕ) (d : R)
+      → IsRecordPage written Fits kind rs number bytes → i < length rs → at ≡ used size (take i rs)
+      → end ≡ used size rs → rest ≡ drop at bytes → len ≡ sum_by size (records written first 1 rest)
+      → (len ≡ size (get_or rs i d)) × (at + len ≤ end)
+  place_len kind rs number bytes rest i at end len d page below at_is end_is rest_is len_is =
+      let ahead = place_holds kind rs number bytes rest i at page at_is rest_is in
+      let same = first_len rs rest i len d ahead below len_is in
+      (same, omega (arith, same, place_end rs i at end d below at_is end_is))
 
   -- a page after its count and its records were changed
   page_changed : (kind : ℕ) (rs changed : List R) (number : ℕ) (bytes moved new rest : List ℕ) → IsRecordPage written Fits kind rs number bytes → All Fits changed

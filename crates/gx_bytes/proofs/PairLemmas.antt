@@ -1,8 +1,8 @@
 -- Lists of which each element stands in a relation to those behind it.
-use Rattle.std.proofs.Common.{◌≡◌, ◌⊎◌, inl, inr, ℕ, ◌+◌, ◌-◌, ◌<◌, ◌≤◌, List, length, take, drop, get_or, sym, ap, ◌∙◌, subst, arith}
+use Rattle.std.proofs.Common.{◌≡◌, ◌⊎◌, inl, inr, ℕ, ◌+◌, ◌-◌, ◌<◌, ◌≤◌, List, [], ◌∷◌, length, map, take, drop, get_or, sym, ap, ◌∙◌, subst, arith}
 use Rattle.std.specs.List.{AllPairs, insert}
 use Rattle.std.proofs.lemmas.Bool.{cases_lt}
-use Rattle.std.proofs.lemmas.List.{get_or-take, get_or-drop, length-take, length-drop}
+use Rattle.std.proofs.lemmas.List.{get_or-take, get_or-drop, get_or-map, length-map, length-take, length-drop}
 use Rattle.std.proofs.lemmas.List.Edits.{get_or-insert_below, get_or-insert_at, get_or-insert_above, length-insert}
 
 -- another element between those that it stands behind and those that stand behind it
@@ -41,3 +41,24 @@ pub all_pairs_drop : {X : Type 0} (R : X → X → Type 0) (xs : List X) (n : �
 all_pairs_drop R xs n pairs i j d lt below =
     let short = length-drop n xs in
     subst (λ x. R x (get_or (drop n xs) j d)) (sym (get_or-drop n xs i d)) (subst (R (get_or xs (n + i) d)) (sym (get_or-drop n xs j d)) (pairs (n + i) (n + j) d (omega arith) (omega arith)))
+
+-- the list read through a function
+pub all_pairs_map : {X Y : Type 0} (R : Y → Y → Type 0) (f : X → Y) (xs : List X)
+    → AllPairs (λ a b. R (f a) (f b)) xs → AllPairs R (map f xs)
+all_pairs_map R f [] pairs i j d lt below = absurd (omega arith)
+all_pairs_map {X} R f (x ∷ xs) pairs i j d lt below =
+    let all : List X = x ∷ xs in
+    let within : j < length all = omega (arith, length-map all f) in
+    let left = get_or-map f all i x d (omega arith) in
+    let right = get_or-map f all j x d within in
+    subst (λ y. R y (get_or (map f all) j d)) (sym left)
+    (subst (R (f (get_or all i x))) (sym right) (pairs i j x lt within))
+
+pub all_pairs_of_map : {X Y : Type 0} (R : Y → Y → Type 0) (f : X → Y) (xs : List X)
+    → AllPairs R (map f xs) → AllPairs (λ a b. R (f a) (f b)) xs
+all_pairs_of_map R f xs pairs i j d lt below =
+    let left = get_or-map f xs i d (f d) (omega arith) in
+    let right = get_or-map f xs j d (f d) below in
+    subst (λ y. R y (f (get_or xs j d))) left
+    (subst (R (get_or (map f xs) i (f d))) right
+    (pairs i j (f d) lt (omega (arith, length-map xs f))))

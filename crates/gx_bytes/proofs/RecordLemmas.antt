@@ -83,6 +83,18 @@ module _ {R : Type 0} {written : R → List ℕ} {first : List ℕ → R} {Fits 
     go [] count holds = absurd (omega arith)
     go (r ∷ rs) count holds = record { held = rs; count = omega arith; holds = holds_behind r found rs bytes behind holds fit is }
 
+  pub length-records : (n : ℕ) (bytes : List ℕ) → length (records written first n bytes) ≡ n
+  length-records zero bytes = refl
+  length-records (suc n) bytes =
+      ap suc (length-records n (drop (length (written (first bytes))) bytes))
+
+  pub count_holds : (n : ℕ) (bytes : List ℕ) → HoldsRecordCount written Fits n bytes
+      → HoldsRecords written Fits (records written first n bytes) bytes
+  count_holds n bytes all =
+      let same : records written first n bytes ≡ all.held =
+      ap (λ (k : ℕ). records written first k bytes) (sym all.count) ∙ records-held all.held bytes all.holds in
+      subst (λ (rs : List R). HoldsRecords written Fits rs bytes) (sym same) all.holds
+
   pub records-next : (n : ℕ) (found : R) (bytes behind : List ℕ) → 0 < n → Fits found → bytes ≡ written found ++ behind → records written first n bytes ≡ found ∷ records written first (n - 1) behind
   records-next n found bytes behind some fit is = ap (λ (k : ℕ). records written first k bytes) (let more : n ≡ suc (n - 1) = omega arith in more) ∙ records-cons (n - 1) found bytes behind fit is
 
@@ -113,6 +125,47 @@ module _ {R : Type 0} {written : R → List ℕ} {first : List ℕ → R} {Fits 
 
   pub flat_map-remove : (rs : List R) (i : ℕ) → flat_map written (remove rs i) ≡ flat_map written (take i rs) ++ flat_map written (drop (suc i) rs)
   flat_map-remove rs i = flat_map-append written (take i rs) (drop (suc i) rs)
+
+  -- records that bytes hold begin with those that were found there, and the rest hold the others
+  pub found_same : (found : List R) (place : ℕ) (bytes rest : List ℕ) → All Fits found
+      → bytes ≡ flat_map written found ++ rest → length found ≡ place → (rs : List R)
+      → HoldsRecords written Fits rs bytes → place ≤ length rs
+      → (found ≡ take place rs) × HoldsRecords written Fits (drop place rs) rest
+  found_same found place bytes rest fit is count rs holds within =
+      let front = take place rs in
+      let tail = flat_map written (drop place rs) ++ holds.rest in
+      let joined : flat_map written found ++ rest ≡ flat_map written front ++ tail =
+      sym is ∙ holds_parts place rs bytes holds in
+      let counts : length found ≡ length front = count ∙ sym (length-take-le place rs within) in
+      let fits = All-take Fits place rs holds.fit in (
+        same_records found front rest tail fit fits counts joined,
+        record {
+          fit = All-drop Fits place rs holds.fit;
+          rest = holds.rest;
+          is = same_tails found front rest tail fit fits counts joined;
+        },
+      )
+
+  -- one more of them
+  pub found_more : (found : List R) (r : R) (bytes rest behind : List ℕ)
+      → bytes ≡ flat_map written found ++ rest → rest ≡ written r ++ behind
+      → bytes ≡ flat_map written (found ++ r ∷ []) ++ behind
+  found_more found r bytes rest behind is next =
+      let pieces : flat_map written (found ++ r ∷ []) ≡ flat_map written found ++ written r =
+      flat_map-append written found (r ∷ [])
+      ∙ ap (λ (b : List ℕ). flat_map written found ++ b) (append-nil (written r)) in
+      is ∙ ap (λ (b : List ℕ). flat_map written found ++ b) next
+      ∙ sym (append_assoc (flat_map written found) (written r) behind)
+      ∙ ap (λ (b : List ℕ). b ++ behind) (sym pieces)
+
+  -- a record ahead is the next of those that stand there
+  pub next_same : (found : R) (place : ℕ) (rs : List R) (rest behind : List ℕ)
+      → HoldsRecords written Fits (drop place rs) rest → place < length rs → Fits found
+      → rest ≡ written found ++ behind → found ≡ get_or rs place found
+  next_same found place rs rest behind holds below fit is =
+      let ahead : HoldsRecords written Fits (get_or rs place found ∷ drop (place + 1) rs) rest =
+      subst (λ (ss : List R). HoldsRecords written Fits ss rest) (drop_more rs place found below) holds in
+      first_same (get_or rs place found) found (drop (place + 1) rs) rest behind ahead fit is
 
 -- of the records of some bytes, i are passed, and the rest is ahead
 pub record Passed {R : Type 0} (written : R → List ℕ) (Fits : R → Type 0) (rs : List R) (i : ℕ) (bytes rest : List ℕ) : Type 0 where

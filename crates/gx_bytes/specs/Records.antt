@@ -2,7 +2,10 @@
 -- `first` reads the one that bytes begin with, and `Fits` tells which records may stand there.
 use Rattle.std.specs.Prelude.{◌≡◌, ◌≢◌, ℕ, zero, suc, List, [], ◌∷◌, ◌++◌, length, drop, Option, MatchOption}
 use Rattle.std.specs.Borrow.{Bor}
-use Rattle.std.specs.List.{All, flat_map}
+use Rattle.std.specs.Cmp.Lexicographic.{slice_cmp}
+use Rattle.std.specs.List.{All, AllPairs, flat_map}
+use Rattle.std.specs.Ordering.{nat_cmp}
+use Rattle.std.specs.declared.cmp.Ordering.TheVariants.{Less}
 
 -- the first n records of bytes
 abbrev pub records : {R : Type 0} → (R → List ℕ) → (List ℕ → R) → ℕ → List ℕ → List R
@@ -20,6 +23,14 @@ pub record HoldsRecordCount {R : Type 0} (written : R → List ℕ) (Fits : R �
   pub held : List R
   pub count : length held ≡ n
   pub holds : HoldsRecords written Fits held bytes
+
+-- the bytes begin with n records, and the key of each stands before those of the records behind it
+pub record HoldsAscendingRecords {R : Type 0} (written : R → List ℕ) (Fits : R → Type 0)
+    (key_of : R → List ℕ) (n : ℕ) (bytes : List ℕ) : Type 0 where
+  pub held : List R
+  pub count : length held ≡ n
+  pub holds : HoldsRecords written Fits held bytes
+  pub ascending : AllPairs (λ r s. slice_cmp nat_cmp (key_of r) (key_of s) ≡ Less) held
 
 -- the record that bytes begin with, as it is lent, and the bytes behind it; None where they begin with no record
 abbrev pub SplitsRecord : {R A : Type 0} → (R → List ℕ) → (R → Type 0) → (A → R) → List ℕ → Option (A × Bor (List ℕ)) → Type 0

@@ -2,54 +2,19 @@
 use Rattle.std.proofs.Common.{◌≡◌, ◌≢◌, ℕ, ◌+◌, ◌^◌, ◌-◌, ◌<◌, ◌≤◌, List, [], ◌∷◌, length, take, drop, get_or, refl, sym, ap, ◌∙◌, subst, arith}
 use Rattle.std.specs.Int.{w16, to_be_bytes}
 use Rattle.std.specs.List.{flat_map, All, sum_by}
-use Rattle.std.proofs.lemmas.List.{length-drop, take_all, take_at}
+use Rattle.std.proofs.lemmas.List.{length-drop, take_at}
 use Rattle.std.proofs.lemmas.List.Elements.{All-drop}
-use Rattle.std.proofs.lemmas.List.Sums.{sum_by-take-drop, sum_by_more}
+use Rattle.std.proofs.lemmas.List.Sums.{sum_by-take-drop}
 use Rattle.gx_bytes.specs.Page.{header}
 use Rattle.gx_bytes.specs.Parts.{overwritten}
 use Rattle.gx_bytes.specs.Records.{HoldsRecords}
 use Rattle.gx_bytes.proofs.PageLemmas as pages
 use Rattle.gx_bytes.proofs.PairLemmas.{all_pairs_take, all_pairs_drop}
-use Rattle.gx_bytes.proofs.RecordLemmas.{drop-is_cons, length-flat_map}
+use Rattle.gx_bytes.proofs.RecordLemmas.{length-flat_map}
 use Rattle.gx_slots.specs.Entries.{Entry, IsFit, entry_bytes, entry_len}
 use Rattle.gx_slots.specs.Page.{IsPageOf, IsEntryPage, entries_of, next_of, used_by}
 use Rattle.gx_slots.proofs.EntryLemmas.{entry_format}
 use Rattle.gx_slots.proofs.PageLemmas.{page_of}
-
--- a search for the middle has come to a place: the entries before it take at most half, and these are left
-pub record IsAt (entries : List Entry) (place taken : ℕ) (left : List Entry) : Type 0 where
-  pub left_is : left ≡ drop place entries
-  pub within : place ≤ length entries
-  pub taken_is : taken ≡ sum_by entry_len (take place entries)
-  pub half : taken ≤ 2044
-
-pub at_start : (entries left : List Entry) → left ≡ entries → IsAt entries 0 0 left
-at_start entries left is = record { left_is = is; within = omega arith; taken_is = refl; half = omega arith }
-
-pub at_next : (entries : List Entry) (place taken : ℕ) (left : List Entry) (entry : Entry) (rest : List Entry) → IsAt entries place taken left → left ≡ entry ∷ rest
-    → (place < length entries) × ((d : Entry) → get_or entries place d ≡ entry) × (drop (place + 1) entries ≡ rest)
-at_next entries place taken left entry rest at is = drop-is_cons entries place entry rest (sym at.left_is ∙ is)
-
-pub at_fit : (entries : List Entry) (place taken : ℕ) (left : List Entry) (entry : Entry) (rest : List Entry) → All IsFit entries → IsAt entries place taken left → left ≡ entry ∷ rest → IsFit entry
-at_fit entries place taken left entry rest fit at is =
-    let next = at_next entries place taken left entry rest at is in
-    subst IsFit (next.1 entry) (fit place entry next.0)
-
-pub at_taken : (entries : List Entry) (place taken : ℕ) (left : List Entry) (entry : Entry) (rest : List Entry) → IsAt entries place taken left → left ≡ entry ∷ rest → taken + entry_len entry ≡ sum_by entry_len (take (place + 1) entries)
-at_taken entries place taken left entry rest at is =
-    let next = at_next entries place taken left entry rest at is in
-    let more = sum_by_more entry_len entries place entry next.0 ∙ ap (λ (e : Entry). sum_by entry_len (take place entries) + entry_len e) (next.1 entry) in
-    omega (arith, more, at.taken_is)
-
-pub at_more : (entries : List Entry) (place taken : ℕ) (left : List Entry) (entry : Entry) (rest : List Entry) → IsAt entries place taken left → left ≡ entry ∷ rest → taken + entry_len entry ≤ 2044 → IsAt entries (place + 1) (taken + entry_len entry) rest
-at_more entries place taken left entry rest at is half =
-    let next = at_next entries place taken left entry rest at is in
-    record { left_is = sym next.2; within = omega (arith, next.0); taken_is = at_taken entries place taken left entry rest at is; half = half }
-
-pub at_end : (entries : List Entry) (place taken : ℕ) (left : List Entry) → IsAt entries place taken left → left ≡ [] → 2044 < sum_by entry_len entries → ⊥
-at_end entries place taken left at none full =
-    let whole = ap (sum_by entry_len) (take_all place entries (omega (arith, ap length (sym at.left_is ∙ none), length-drop place entries))) in
-    omega (arith, whole, at.taken_is, at.half)
 
 -- the entries of a page from a place on
 pub back_holds : (page rest : List ℕ) (place at : ℕ) → IsEntryPage page → at ≡ used_by (take place (entries_of page)) → rest ≡ drop at page → HoldsRecords entry_bytes IsFit (drop place (entries_of page)) rest

@@ -1,14 +1,14 @@
 use Rattle.std.proofs.Common.{◌+◌, ◌-◌, ◌≤◌, take, drop, ap, sym, ◌∙◌, subst, arith}
 use Rattle.std.specs.List.{sum_by}
 use Rattle.std.proofs.lemmas.List.{length-drop}
-use Rattle.gx_bytes.proofs.RecordLemmas.{holds_split, split_found}
+use Rattle.gx_bytes.proofs.RecordLemmas.{holds_split, next_same, split_found}
 use Rattle.gx_bytes.specs.Page.{header}
 use Rattle.gx_bytes.specs.Parts.{overwritten}
 use Rattle.gx_bnode.specs.Branches.{IsFit, branch_bytes, branch_len, lent}
 use Rattle.gx_bnode.specs.Page.{first_of, branches_of, HasRoom}
 use Rattle.gx_bnode.proofs.BranchLemmas.{branch_format}
 use Rattle.gx_bnode.proofs.PageLemmas.{page_of, says, separators_count, used_most}
-use Rattle.gx_bnode.proofs.SplitLemmas.{full_is, sides, left_page, right_page, middle_holds, found_is, others_are, others_fit, others_len, separators_around, children_around, half_has_room}
+use Rattle.gx_bnode.proofs.SplitLemmas.{full_is, sides, left_page, right_page, middle_holds, others_are, others_fit, others_len, separators_around, children_around, half_has_room}
 use Rattle.gx_bnode.proofs.splitting.split.Goals as goal
 
 pub unwrap-child-requires : goal.unwrap-child-requires
@@ -51,7 +51,7 @@ returns c =
     let side = sides branches place branch old.page.holds.fit below full most c.middle-place.ensures.before c.middle-place.ensures.across in
     let holds = middle_holds page rest place at c.requires.page c.offsets-at.ensures.start c.split_at.ensures.back in
     let found = split_found branch_bytes IsFit lent rest c.split_branch.result c.unwrap-child.result c.unwrap-child.ensures c.split_branch.ensures in
-    let is = found_is branches place branch rest behind holds below found.0 found.1 in
+    let is = next_same branch_format branch place branches rest behind holds below found.0 found.1 in
     let len = others_len branches place branch rest behind at end c.branch_len.result holds below found.0 found.1 c.offsets-at.ensures.start c.offsets-at.ensures.end c.branch_len.ensures in
     let others = others_are branches place branch rest behind c.split_at-2.result.0.now (end - at - c.branch_len.result) holds below found.0 found.1 c.split_at-2.ensures.front len in
     let on_left = left_page first branches page old place left side.0 (omega (arith, below)) c.set_record_count.ensures (c.set_record_count.auto.page ∙ old.page.size) in
