@@ -29,7 +29,8 @@ pub record Scanned {R : Type 0} (written : R → List ℕ) (Fits : R → Type 0)
 
 module _ {R : Type 0} {written : R → List ℕ} {first : List ℕ → R} {Fits : R → Type 0} {size : R → ℕ}
     (format : IsFormat written first Fits size) (key_of : R → List ℕ) where
-  pub scanned_first : (bytes : List ℕ) (r : R) (behind : List ℕ) → Fits r → bytes ≡ written r ++ behind
+  pub scanned_first : (bytes : List ℕ) (r : R) (behind : List ℕ) → Fits r
+      → bytes ≡ written r ++ behind
       → Scanned written Fits key_of bytes 1 behind (key_of r)
   scanned_first bytes r behind fit is = record {
     before = [];
@@ -60,7 +61,8 @@ module _ {R : Type 0} {written : R → List ℕ} {first : List ℕ → R} {Fits 
     end = r;
     count = omega (arith, length_push scan.before scan.end, scan.count);
     fit = All-push Fits all r scan.fit fit;
-    ascending = all_pairs_push (λ (a b : R). cmp (key_of a) (key_of b) ≡ Less) all r scan.ascending less_than;
+    ascending = all_pairs_push (λ (a b : R). cmp (key_of a) (key_of b) ≡ Less) all r scan.ascending
+        less_than;
     is = found_more format all r bytes rest behind scan.is is;
     last_is = refl;
   }
@@ -94,7 +96,8 @@ module _ {R : Type 0} {written : R → List ℕ} {first : List ℕ → R} {Fits 
   held_same : (bytes : List ℕ) (place : ℕ) (rest last : List ℕ)
       (scan : Scanned written Fits key_of bytes place rest last) (rs : List R)
       → HoldsRecords written Fits rs bytes → place ≤ length rs
-      → (scan.before ++ scan.end ∷ [] ≡ take place rs) × HoldsRecords written Fits (drop place rs) rest
+      → (scan.before ++ scan.end ∷ [] ≡ take place rs)
+      × HoldsRecords written Fits (drop place rs) rest
   held_same bytes place rest last scan =
       found_same format (scan.before ++ scan.end ∷ []) place bytes rest scan.fit scan.is
       (length_push scan.before scan.end ∙ scan.count)
@@ -111,7 +114,8 @@ module _ {R : Type 0} {written : R → List ℕ} {first : List ℕ → R} {Fits 
       → ((r : R) (tail : List ℕ) → Fits r → rest ≢ written r ++ tail)
       → HoldsAscendingRecords written Fits key_of count bytes → ⊥
   no_more bytes place rest last count scan below none held =
-      let same = held_same bytes place rest last scan held.held held.holds (omega (arith, held.count)) in
+      let same =
+      held_same bytes place rest last scan held.held held.holds (omega (arith, held.count)) in
       holds_first format (drop place held.held) rest same.1
       (omega (arith, length-drop place held.held, held.count)) none
 

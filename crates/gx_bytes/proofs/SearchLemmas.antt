@@ -15,12 +15,14 @@ module _ {X : Type 0} where
   pub at_start : (xs left : List X) → left ≡ xs → IsAt xs 0 left
   at_start xs left is = record { left_is = is; within = omega arith }
 
-  pub at_next : (xs : List X) (place : ℕ) (left : List X) (x : X) (rest : List X) → IsAt xs place left
+  pub at_next : (xs : List X) (place : ℕ) (left : List X) (x : X) (rest : List X)
+      → IsAt xs place left
       → left ≡ x ∷ rest
       → (place < length xs) × ((d : X) → get_or xs place d ≡ x) × (drop (place + 1) xs ≡ rest)
   at_next xs place left x rest at is = drop-is_cons xs place x rest (sym at.left_is ∙ is)
 
-  pub at_more : (xs : List X) (place : ℕ) (left : List X) (x : X) (rest : List X) → IsAt xs place left
+  pub at_more : (xs : List X) (place : ℕ) (left : List X) (x : X) (rest : List X)
+      → IsAt xs place left
       → left ≡ x ∷ rest → IsAt xs (place + 1) rest
   at_more xs place left x rest at is =
       let next = at_next xs place left x rest at is in
@@ -39,7 +41,8 @@ module _ {X : Type 0} where
       omega (arith, ap length (sym at.left_is ∙ none), length-drop place xs)
 
 -- a search has come to a place, and P holds of each element before it
-pub record HasPassed {X : Type 0} (P : X → Type 0) (xs : List X) (place : ℕ) (left : List X) : Type 0 where
+pub record HasPassed {X : Type 0} (P : X → Type 0) (xs : List X) (place : ℕ) (left : List X) : Type
+    0 where
   pub at : IsAt xs place left
   pub before : All P (take place xs)
 

@@ -15,10 +15,17 @@ at_found entries key place left entry rest at is same =
     (next.0, λ d. ap (λ (e : Entry). e.key) (next.1 d) ∙ same)
 
 -- a search that found no place tells that no entry has the key
-pub none_found : (result : Option ℕ) (answer : Bool) (entries same : List Entry) (key : List ℕ) → is_some result ≡ not answer → IfSome result (λ i. (i < length same) × HoldsAt (λ entry. entry.key ≡ key) same i)
-    → IfNone result (All (λ entry. entry.key ≢ key) same) → same ≡ entries → (answer ≡ true → All (λ entry. entry.key ≢ key) entries) × (All (λ entry. entry.key ≢ key) entries → answer ≡ true)
-none_found None true entries same key is found missing equal = (λ _. subst (All (λ entry. entry.key ≢ key)) equal missing, λ _. refl)
+pub none_found : (result : Option ℕ) (answer : Bool) (entries same : List Entry) (key : List ℕ)
+    → is_some result ≡ not answer
+    → IfSome result (λ i. (i < length same) × HoldsAt (λ entry. entry.key ≡ key) same i)
+    → IfNone result (All (λ entry. entry.key ≢ key) same) → same ≡ entries
+    → (answer ≡ true → All (λ entry. entry.key ≢ key) entries)
+    × (All (λ entry. entry.key ≢ key) entries → answer ≡ true)
+none_found None true entries same key is found missing equal =
+    (λ _. subst (All (λ entry. entry.key ≢ key)) equal missing, λ _. refl)
 none_found (Some i) true entries same key is found missing equal = absurd (false≢true (sym is))
 none_found None false entries same key is found missing equal = absurd (false≢true is)
 none_found (Some i) false entries same key is found missing equal =
-    (λ bad. absurd (false≢true bad), λ all. absurd (subst (All (λ entry. entry.key ≢ key)) (sym equal) all i (record { key = []; body = [] }) found.0 (found.1 (record { key = []; body = [] }))))
+    (λ bad. absurd (false≢true bad),
+    λ all. absurd (subst (All (λ entry. entry.key ≢ key)) (sym equal) all i
+    (record { key = []; body = [] }) found.0 (found.1 (record { key = []; body = [] }))))

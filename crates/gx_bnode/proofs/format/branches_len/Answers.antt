@@ -13,8 +13,10 @@ loop-init c =
 pub unwrap-requires : goal.unwrap-requires
 unwrap-requires c =
     let bytes = c.args.bytes.now in
-    passed_split branch_format lent (branches_in c.args.count bytes) c.loop.counter bytes c.loop.rest.now
-    c.split_branch.result c.loop.invariant (omega (arith, length-records branch_format c.args.count bytes))
+    passed_split branch_format lent (branches_in c.args.count bytes) c.loop.counter bytes
+    c.loop.rest.now
+    c.split_branch.result c.loop.invariant
+    (omega (arith, length-records branch_format c.args.count bytes))
     c.split_branch.ensures
 
 pub loop-preserved : goal.loop-preserved

@@ -20,7 +20,8 @@ returns-then-is_below c =
     let branches = branches_of page in
     let left = c.loop-separator.separator-iterator in
     let passed = c.loop-separator.invariant in
-    let less = below_is_less key c.in-Some.separator.now c.is_below.result c.is_below.ensures c.if-is_below.true in
+    let less = below_is_less key c.in-Some.separator.now c.is_below.result c.is_below.ensures
+    c.if-is_below.true in
     let behind = at_behind branches key c.loop-separator.place left
     (lent (c.in-Some.separator, c.in-Some.field-0-1)) c.next.new.self
     (page_of page c.requires).ascending passed.at c.in-Some.ensures.steps less in

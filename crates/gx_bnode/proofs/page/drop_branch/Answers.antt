@@ -22,8 +22,10 @@ split_at-requires c =
 pub branches_len-requires : goal.branches_len-requires
 branches_len-requires c =
     let page = c.args.page.now in
-    place_count branch_format 0x49 (branches_of page) (first_of page) page c.split_at.result.1.now c.args.i
-    c.offsets-at.result.0 (page_of page c.requires.page).page c.requires.place c.offsets-at.ensures.start
+    place_count branch_format 0x49 (branches_of page) (first_of page) page c.split_at.result.1.now
+    c.args.i
+    c.offsets-at.result.0 (page_of page c.requires.page).page c.requires.place
+    c.offsets-at.ensures.start
     c.split_at.ensures.back
 
 pub overflow_add-behind : goal.overflow_add-behind
@@ -62,11 +64,14 @@ returns c =
     let at = c.offsets-at.result.0 in
     let len = place_len branch_format 0x49 branches first page c.split_at.result.1.now c.args.i at
     c.offsets-at.result.1 c.branches_len.result no_branch old.page c.requires.place
-    c.offsets-at.ensures.start c.offsets-at.ensures.end c.split_at.ensures.back c.branches_len.ensures in
+    c.offsets-at.ensures.start c.offsets-at.ensures.end c.split_at.ensures.back
+    c.branches_len.ensures in
     let counted = c.set_record_count.ensures
-    ∙ ap (λ n. overwritten moved 2 (to_be_bytes w16 (n - 1))) (c.separators-count.ensures ∙ separators_count branches) in
+    ∙ ap (λ n. overwritten moved 2 (to_be_bytes w16 (n - 1)))
+    (c.separators-count.ensures ∙ separators_count branches) in
     let is = page_taken first branches page old c.args.i at (at + c.branches_len.result)
-    c.offsets-at.result.1 no_branch moved new c.requires.place c.requires.several c.offsets-at.ensures.start
+    c.offsets-at.result.1 no_branch moved new c.requires.place c.requires.several
+    c.offsets-at.ensures.start
     (ap (λ n. at + n) len.0) c.offsets-at.ensures.end c.copy_within.ensures.after counted
     (c.set_record_count.auto.page ∙ c.copy_within.ensures.len ∙ old.page.size) in
     record {

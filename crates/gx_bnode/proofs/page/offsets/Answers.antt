@@ -18,7 +18,8 @@ split_at-requires c =
     let page = c.args.page.now in
     let body = c.page_body-body.result.now in
     let held = body_holds page body c.requires.page c.page_body-body.ensures in
-    start_within branch_format (branches_of page) body c.args.i c.branches_len-start.result held c.requires.place
+    start_within branch_format (branches_of page) body c.args.i c.branches_len-start.result held
+    c.requires.place
     c.branches_len-start.ensures
 
 pub branches_len-requires : goal.branches_len-requires
@@ -26,7 +27,8 @@ branches_len-requires c =
     let page = c.args.page.now in
     let body = c.page_body-body.result.now in
     let held = body_holds page body c.requires.page c.page_body-body.ensures in
-    rest_count branch_format (branches_of page) body c.split_at.result.1.now c.args.i c.branches_len-start.result
+    rest_count branch_format (branches_of page) body c.split_at.result.1.now c.args.i
+    c.branches_len-start.result
     c.separators.result held c.requires.place c.branches_len-start.ensures c.split_at.ensures.back
     (c.separators.ensures ∙ separators_count (branches_of page))
 
@@ -37,7 +39,8 @@ overflow_add-end c =
     let held = body_holds page body c.requires.page c.page_body-body.ensures in
     let ends = parts_end branch_format (branches_of page) body c.split_at.result.1.now c.args.i
     c.branches_len-start.result c.separators.result c.branches_len.result held c.requires.place
-    c.branches_len-start.ensures c.split_at.ensures.back (c.separators.ensures ∙ separators_count (branches_of page))
+    c.branches_len-start.ensures c.split_at.ensures.back
+    (c.separators.ensures ∙ separators_count (branches_of page))
     c.branches_len.ensures in
     omega (arith, ends.1, used_most page c.requires.page)
 
@@ -48,7 +51,8 @@ overflow_add-result-2 c =
     let held = body_holds page body c.requires.page c.page_body-body.ensures in
     let ends = parts_end branch_format (branches_of page) body c.split_at.result.1.now c.args.i
     c.branches_len-start.result c.separators.result c.branches_len.result held c.requires.place
-    c.branches_len-start.ensures c.split_at.ensures.back (c.separators.ensures ∙ separators_count (branches_of page))
+    c.branches_len-start.ensures c.split_at.ensures.back
+    (c.separators.ensures ∙ separators_count (branches_of page))
     c.branches_len.ensures in
     omega (arith, ends.1, used_most page c.requires.page)
 
@@ -59,6 +63,7 @@ returns c =
     let held = body_holds page body c.requires.page c.page_body-body.ensures in
     let ends = parts_end branch_format (branches_of page) body c.split_at.result.1.now c.args.i
     c.branches_len-start.result c.separators.result c.branches_len.result held c.requires.place
-    c.branches_len-start.ensures c.split_at.ensures.back (c.separators.ensures ∙ separators_count (branches_of page))
+    c.branches_len-start.ensures c.split_at.ensures.back
+    (c.separators.ensures ∙ separators_count (branches_of page))
     c.branches_len.ensures in
     record { start = ap (λ n. 8 + n) ends.0; end = ap (λ n. 8 + n) ends.1 }

@@ -13,8 +13,10 @@ loop-init c =
 pub unwrap-requires : goal.unwrap-requires
 unwrap-requires c =
     let bytes = c.args.bytes.now in
-    passed_split entry_format lent (entries_in c.args.count bytes) c.loop.counter bytes c.loop.rest.now
-    c.split_entry.result c.loop.invariant (omega (arith, length-records entry_format c.args.count bytes))
+    passed_split entry_format lent (entries_in c.args.count bytes) c.loop.counter bytes
+    c.loop.rest.now
+    c.split_entry.result c.loop.invariant
+    (omega (arith, length-records entry_format c.args.count bytes))
     c.split_entry.ensures
 
 pub loop-preserved : goal.loop-preserved

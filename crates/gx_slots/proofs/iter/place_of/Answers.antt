@@ -31,12 +31,15 @@ overflow_add-place c =
 
 pub loop-found-preserved : goal.loop-found-preserved
 loop-found-preserved c =
-    passed_more (HasOther c.args.key.now) c.args.entries c.loop-found.place c.loop-found.found-iterator
+    passed_more (HasOther c.args.key.now) c.args.entries c.loop-found.place
+    c.loop-found.found-iterator
     (lent (c.in-Some.found, c.in-Some.field-0-1)) c.next.new.self c.loop-found.invariant
     c.in-Some.ensures.steps
-    (λ same. false≢true (sym c.if-eq.false ∙ (slice_eq-Decides Decides-eqb _ _ _ c.eq.ensures).1 same))
+    (λ same. false≢true
+    (sym c.if-eq.false ∙ (slice_eq-Decides Decides-eqb _ _ _ c.eq.ensures).1 same))
 
 pub returns-clause-missing : goal.returns-clause-missing
 returns-clause-missing c =
-    passed_end (HasOther c.args.key.now) c.args.entries c.loop-found.place c.loop-found.found-iterator
+    passed_end (HasOther c.args.key.now) c.args.entries c.loop-found.place
+    c.loop-found.found-iterator
     c.loop-found.invariant c.in-None.ensures.steps.0

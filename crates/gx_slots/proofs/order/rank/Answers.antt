@@ -9,13 +9,15 @@ use Rattle.gx_slots.proofs.order.rank.Goals as goal
 
 pub loop-found-init : goal.loop-found-init
 loop-found-init c =
-    passed_start (IsBefore c.args.key.now) (entries_of c.args.page.now) c.into_iter-found-iterator.result
+    passed_start (IsBefore c.args.key.now) (entries_of c.args.page.now)
+    c.into_iter-found-iterator.result
     (c.into_iter-found-iterator.ensures.into_iter_gives ∙ c.entries-found-items.ensures)
 
 pub returns-then-not-is_below : goal.returns-then-not-is_below
 returns-then-not-is_below c =
     let passed = c.loop-found.invariant in
-    let le = not_below_is_le c.in-Some.found.now c.args.key.now c.is_below.result c.is_below.ensures c.if-not-is_below.true in
+    let le = not_below_is_le c.in-Some.found.now c.args.key.now c.is_below.result c.is_below.ensures
+    c.if-not-is_below.true in
     record {
       place = passed.at.within;
       before = passed.before;
@@ -34,7 +36,8 @@ overflow_add-place c =
 
 pub loop-found-preserved : goal.loop-found-preserved
 loop-found-preserved c =
-    let less = below_is_less c.in-Some.found.now c.args.key.now c.is_below.result c.is_below.ensures c.if-not-is_below.false in
+    let less = below_is_less c.in-Some.found.now c.args.key.now c.is_below.result c.is_below.ensures
+    c.if-not-is_below.false in
     passed_more (IsBefore c.args.key.now) (entries_of c.args.page.now) c.loop-found.place
     c.loop-found.found-iterator (lent (c.in-Some.found, c.in-Some.field-0-1)) c.next.new.self
     c.loop-found.invariant c.in-Some.ensures.steps less

@@ -18,7 +18,8 @@ split_at-requires c =
     let page = c.args.page.now in
     let body = c.page_body-body.result.now in
     let held = body_holds page body c.requires.page c.page_body-body.ensures in
-    start_within entry_format (entries_of page) body c.args.i c.entries_len-start.result held c.requires.place
+    start_within entry_format (entries_of page) body c.args.i c.entries_len-start.result held
+    c.requires.place
     c.entries_len-start.ensures
 
 pub entries_len-requires : goal.entries_len-requires
@@ -26,7 +27,8 @@ entries_len-requires c =
     let page = c.args.page.now in
     let body = c.page_body-body.result.now in
     let held = body_holds page body c.requires.page c.page_body-body.ensures in
-    rest_count entry_format (entries_of page) body c.split_at.result.1.now c.args.i c.entries_len-start.result
+    rest_count entry_format (entries_of page) body c.split_at.result.1.now c.args.i
+    c.entries_len-start.result
     c.count.result held c.requires.place c.entries_len-start.ensures c.split_at.ensures.back
     c.count.ensures
 

@@ -22,8 +22,10 @@ split_at-requires c =
 pub entries_len-requires : goal.entries_len-requires
 entries_len-requires c =
     let page = c.args.page.now in
-    place_count entry_format 0x44 (entries_of page) (next_of page) page c.split_at.result.1.now c.args.i
-    c.offsets-at.result.0 (page_of page c.requires.page).page c.requires.place c.offsets-at.ensures.start
+    place_count entry_format 0x44 (entries_of page) (next_of page) page c.split_at.result.1.now
+    c.args.i
+    c.offsets-at.result.0 (page_of page c.requires.page).page c.requires.place
+    c.offsets-at.ensures.start
     c.split_at.ensures.back
 
 pub overflow_add-behind : goal.overflow_add-behind
@@ -62,7 +64,8 @@ returns c =
     let at = c.offsets-at.result.0 in
     let len = place_len entry_format 0x44 entries next page c.split_at.result.1.now c.args.i at
     c.offsets-at.result.1 c.entries_len.result no_entry old.page c.requires.place
-    c.offsets-at.ensures.start c.offsets-at.ensures.end c.split_at.ensures.back c.entries_len.ensures in
+    c.offsets-at.ensures.start c.offsets-at.ensures.end c.split_at.ensures.back
+    c.entries_len.ensures in
     let counted = c.set_record_count.ensures
     ∙ ap (λ n. overwritten moved 2 (to_be_bytes w16 (n - 1))) c.count-count.ensures in
     let is = page_taken entries next page old c.args.i at (at + c.entries_len.result)
