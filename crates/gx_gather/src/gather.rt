@@ -117,7 +117,8 @@ fn gather_in_place<M: Mapping>(
     Ok(())
 }
 
-// The parts of one record stand together.
+// The parts of one record stand together. They are put into a group of their own, where there are
+// parts of other records too.
 fn gather_sorted<M: Mapping>(
     alloc: Global,
     mapping: &M,
@@ -142,30 +143,6 @@ fn gather_sorted<M: Mapping>(
         let mut parts = parts;
         return gather_group(alloc, mapping, width, &mut parts, out);
     }
-    gather_groups(alloc, mapping, width, parts, out)
-}
-
-// The parts of each record are put into a group of their own.
-fn gather_groups<M: Mapping>(
-    alloc: Global,
-    mapping: &M,
-    width: usize,
-    parts: Parts,
-    out: &mut Recs,
-) -> Result<(), Stop>
-    requires parts { AreDataParts (M.rule mapping.now) parts }
-    requires width { width ≡ length (M.rule mapping.now).form.keys }
-    requires in_order { IsSortedBy (λ a b. is_lt (gather_cmp width a b)) parts }
-    ensures made { OnOk result
-        ((found : List Record) × (out.new ≡ out.old ++ found)
-        × AreMadeOf (M.rule mapping.now) parts found) }
-    ensures front { Extends out.old out.new }
-    ensures damaged { (block : ℕ) → IsErrOf result (Stop.Damaged block) →
-        IsUnmade (M.rule mapping.now) width (IsStrictlySortedBy (gather_cmp width) parts) parts }
-    ensures block { (n : ℕ) → IsErrOf result (Stop.Damaged n) → n ≡ 0 }
-    ensures not_full { ¬ IsErrOf result Stop.Full }
-    ensures not_fault { ¬ IsErrOf result Stop.Fault }
-{
     let mut group = Parts(Vec::new(alloc));
     for part in parts.0 {
         if begins_next(width, &group.0, &part) {

@@ -2,7 +2,7 @@ use Rattle.std.proofs.Common.{◌≡◌, length}
 use Rattle.std.specs.Vec.Iter.{into_iter_items, into_iter_len}
 use Rattle.gx_ports.specs.LeafMaps.{Extends}
 use Rattle.gx_gather.proofs.Made.{IsGathering}
-use Rattle.gx_gather.proofs.gather.gather_groups.Given as goal
+use Rattle.gx_gather.proofs.gather.gather_sorted.Given as goal
 
 abbrev pub invariant-loop-part : goal.invariant-loop-part
 invariant-loop-part g l = record {
