@@ -5,6 +5,8 @@
 mod by_entries;
 mod by_index;
 mod by_records;
+mod coded;
+mod codes;
 mod places;
 mod records;
 mod scan;
