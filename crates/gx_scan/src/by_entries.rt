@@ -14,9 +14,9 @@ ghost use Rattle.gx_scan.specs.Within.{is_within, AreAdded};
 ghost use Rattle.gx_scan.specs.Where.{rows_at_key};
 ghost use Rattle.gx_scan.specs.Steps.{HaveAtMost, is_key_inside, rows_inside};
 
+use crate::coded::add_rows_at;
 use crate::places::Place;
 use crate::records::{NO_BLOCK, set_key};
-use crate::scan::add_chosen_rows;
 use gx_commands::Cond;
 use gx_ports::{Entries, Leaves, Stop};
 use gx_rows::Row;
@@ -55,7 +55,7 @@ pub(crate) fn add_by_entries<B: Leaves>(
         leaves.old leaves.new result }
 {
     for place in places {
-        add_at(alloc, file, node, *place, span, conds, leaves, rows)?;
+        add_at(alloc, file, node, place, span, conds, leaves, rows)?;
     }
     Ok(())
 }
@@ -99,25 +99,25 @@ fn add_at<B: Leaves>(
     alloc: Global,
     file: &FileDef,
     node: &Node<AnyMapping>,
-    place: Place,
+    place: &Place,
     span: &Span,
     conds: &[Cond],
     leaves: &mut B,
     rows: &mut Vec<Row>,
 ) -> Result<(), Stop>
-    requires place { IsPlaceOf (tree_of node.now) place }
+    requires place { IsPlaceOf (tree_of node.now) place.now }
     requires tree { IsTreeFor file.now (tree_of node.now) (length (B.working leaves.old)) }
     requires storable { IsStorable file.now }
     ensures rows { (f : FileMap) → B.whole leaves.old →
         IsInternal file.now (tree_of node.now) (B.working leaves.old) f → OnOk result
         (rows.new.items
         ≡ rows.old.items ++ filter (is_within span.now conds.now)
-        (rows_at (tree_of node.now) place.leaf f)) }
+        (rows_at (tree_of node.now) place.now.leaf f)) }
     ensures steps { (f : FileMap) → B.whole leaves.old →
         IsInternal file.now (tree_of node.now) (B.working leaves.old) f → OnOk result
         (B.work leaves.new
         ≤ B.work leaves.old
-        + (1 + length (filter (is_key_inside span.now) (rows_at (tree_of node.now) place.leaf f)))) }
+        + (1 + length (filter (is_key_inside span.now) (rows_at (tree_of node.now) place.now.leaf f)))) }
     ensures front { Extends rows.old.items rows.new.items }
     ensures reads { ReadsMaps B.View
         (B.whole leaves.old × HasFile file.now (tree_of node.now) (B.working leaves.old))
@@ -126,7 +126,7 @@ fn add_at<B: Leaves>(
     node.internal_is_union();
     let mut entries = Entries::new(alloc);
     leaves.select(alloc, place.leaf, span, &mut entries)?;
-    if add_chosen_rows(alloc, file, place.lengths, conds, &entries, rows)? {
+    if add_rows_at(alloc, file, place, conds, &entries, rows)? {
         Ok(())
     } else {
         Err(Stop::Damaged(NO_BLOCK))

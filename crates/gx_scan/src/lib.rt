@@ -6,6 +6,8 @@ mod by_entries;
 mod by_index;
 mod by_key;
 mod by_records;
+mod coded;
+mod codes;
 mod places;
 mod records;
 mod scan;

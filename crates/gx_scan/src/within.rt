@@ -26,9 +26,9 @@ use gx_values::{KeyBuf, Span};
 use std::alloc::Global;
 
 /// Appends the records of the file within the span that meet the conditions, in any order. Where each
-/// layer of the node passes its records whole, the conditions are tested on the bytes of leaf entries,
-/// and no other record is made. It takes a step for each leaf, and one for each leaf entry of a record
-/// within the span.
+/// record stands whole in one leaf, the conditions are tested on the bytes of leaf entries, and no other
+/// record is made. It takes a step for each leaf, and one for each leaf entry of a record within the
+/// span.
 ///
 /// After an error `rows` may have more at its end. `Damaged`: some leaf's stored form isn't whole, or the
 /// leaves hold no file, which is said of block 0. `Fault`: the count of faults rose; with any other answer
