@@ -52,7 +52,7 @@ pub next_replaced : (rule : Rule) (c n : ℕ) (qs rs : List Rec) (d made : Rec) 
 next_replaced rule c n qs rs d made lt h is =
     let next : suc n ≡ n + 1 = omega arith in
     subst (λ k. AreEachUpTo rule c k qs (set rs n made)) next
-        (replaced rule c n qs rs d made lt h is)
+    (replaced rule c n qs rs d made lt h is)
 
 -- all are replaced
 pub all_replaced : (rule : Rule) (c n : ℕ) (qs rs : List Rec) → n ≡ length rs
@@ -82,7 +82,7 @@ module _ (rule : Rule) (c : ℕ) where
   each_those (q ∷ qs) [] h = absurd h
   each_those (q ∷ qs) (s ∷ rs) h =
       ap (λ (ps : List Part). ps ++ flat_map (data_parts rule) rs) h.0.2
-          ∙ ap (λ (ps : List Part). part_for c q ∷ ps) (each_those qs rs h.1)
+      ∙ ap (λ (ps : List Part). part_for c q ∷ ps) (each_those qs rs h.1)
 
   each_key : (qs rs : List Rec) → AreEach rule c qs rs → (r : Rec) → In r rs
       → (q : Rec) × In q qs × (r.key ≡ q.key)
@@ -99,11 +99,11 @@ module _ (rule : Rule) (c : ℕ) where
   each_ascends [] (s ∷ rs) h a = absurd h
   each_ascends (q ∷ qs) [] h a = absurd h
   each_ascends (q ∷ qs) (s ∷ rs) h a = (
-      all_of (λ y. rec_cmp s y ≡ Less) rs (λ r there.
-      let k = each_key qs rs h.1 r there in
-      (λ i. values_cmp (h.0.1 i) (k.2 i)) ∙ all_at (λ y. rec_cmp q y ≡ Less) qs k.0 a.0 k.1),
-      each_ascends qs rs h.1 a.1,
-    )
+    all_of (λ y. rec_cmp s y ≡ Less) rs (λ r there.
+        let k = each_key qs rs h.1 r there in
+        (λ i. values_cmp (h.0.1 i) (k.2 i)) ∙ all_at (λ y. rec_cmp q y ≡ Less) qs k.0 a.0 k.1),
+    each_ascends qs rs h.1 a.1,
+  )
 
   pub made_of_each : (qs rs : List Rec) → AreEach rule c qs rs → Ascends rec_cmp qs
       → AreMade rule (map (part_for c) qs) rs

@@ -10,14 +10,14 @@ is_own_part-requires g c =
     let at = c.loop-rec in
     let q = get_or at.recs at.rec-index c.rec-item.result in
     c.requires q (next_in (g.M.Mapping.rule c.args.mapping.now) c.args.child at.rec-index
-        c.args.recs.now at.recs c.rec-item.result (omega arith) at.invariant)
+    c.args.recs.now at.recs c.rec-item.result (omega arith) at.invariant)
 
 pub gather_in_place-requires : goal.gather_in_place-requires
 gather_in_place-requires g c =
     let at = c.loop-rec in
     let q = get_or at.recs at.rec-index c.rec-item.result in
     c.requires q (next_in (g.M.Mapping.rule c.args.mapping.now) c.args.child at.rec-index
-        c.args.recs.now at.recs c.rec-item.result (omega arith) at.invariant)
+    c.args.recs.now at.recs c.rec-item.result (omega arith) at.invariant)
 
 pub returns-in_err-gather_in_place-clause-damaged
     : goal.returns-in_err-gather_in_place-clause-damaged
@@ -43,15 +43,15 @@ loop-rec-preserved g c =
       | then-not-is_own_part+in_ok-gather_in_place w ↦ subst
           (λ (rs : List Rec). AreEachUpTo rule child (at.rec-index + 1) given rs) (sym w.recs-is)
           (next_replaced rule child at.rec-index given at.recs d w.gather_in_place.new.rec lt
-              at.invariant w.in_ok-gather_in_place.ensures.made)
+          at.invariant w.in_ok-gather_in_place.ensures.made)
       | else-not-is_own_part w ↦ subst
           (λ (rs : List Rec). AreEachUpTo rule child (at.rec-index + 1) given rs) (sym w.recs-is)
           (next_replaced rule child at.rec-index given at.recs d (get_or at.recs at.rec-index d) lt
-              at.invariant (c.is_own_part.ensures w.if-not-is_own_part.false))
+          at.invariant (c.is_own_part.ensures w.if-not-is_own_part.false))
     ]
 
 pub returns-clause-made : goal.returns-clause-made
 returns-clause-made g c =
     let at = c.loop-rec in
     all_replaced (g.M.Mapping.rule c.args.mapping.now) c.args.child at.rec-index c.args.recs.now
-        at.recs (omega arith) at.invariant
+    at.recs (omega arith) at.invariant
