@@ -18,7 +18,7 @@ ghost use Rattle.gx_scan.specs.Entries.{ArePlaces};
 ghost use Rattle.gx_scan.specs.Where.{AreNamed, AreAddedWhere, rows_at_key};
 ghost use Rattle.gx_scan.specs.Steps.{HaveAtMost, rows_with};
 
-use crate::by_entries::add_at_key;
+use crate::by_entries::{add_at_key, are_few};
 use crate::by_records::{into_row, meets_all};
 use crate::places::{Place, places_of};
 use crate::records::find_record;
@@ -133,8 +133,7 @@ fn add_by_keys<B: Leaves>(
 }
 
 // Appends the record at a key, where there is one and it meets the conditions. Where records stand whole
-// in one leaf, the conditions are tested on the bytes of its entry. Of several leaves, the node passes
-// over those that can't have the key. The key is written in the span.
+// in few leaves, the conditions are tested on the bytes of its entry. The key is written in the span.
 fn add_by_key<B: Leaves>(
     alloc: Global,
     file: &FileDef,
@@ -167,7 +166,7 @@ fn add_by_key<B: Leaves>(
         unreachable!()
     };
     if let Some(places) = places
-        && places.len() == 1
+        && are_few(places)
     {
         return add_at_key(alloc, file, node, places, key, span, conds, leaves, rows);
     }

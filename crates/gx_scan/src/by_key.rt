@@ -12,7 +12,7 @@ ghost use Rattle.gx_scan.specs.Entries.{ArePlaces};
 ghost use Rattle.gx_scan.specs.Records.{list_of_one};
 ghost use Rattle.gx_scan.specs.Steps.{HaveAtMost};
 
-use crate::by_entries::add_at_key;
+use crate::by_entries::{add_at_key, are_few};
 use crate::places::{Place, places_of};
 use crate::records::find_record;
 use crate::within::whole_span;
@@ -25,7 +25,7 @@ use gx_values::{Value, Values};
 use std::alloc::Global;
 
 /// The values of the record with this key, but for the key, where there is one. Where the records stand
-/// whole in one leaf, they are read from the bytes of its entry. It takes a step for each leaf, and one for
+/// whole in few leaves, they are read from the bytes of its entry. It takes a step for each leaf, and one for
 /// each leaf entry of the record.
 ///
 /// `Damaged`: some leaf's stored form isn't whole, or the leaves hold no file, which is said of block 0.
@@ -53,7 +53,7 @@ pub fn find_values<B: Leaves>(
         leaves.old leaves.new result }
 {
     match places_of(alloc, node)? {
-        Some(places) if places.len() == 1 => {
+        Some(places) if are_few(&places) => {
             values_by_entry(alloc, file, node, &places, key, leaves)
         }
         _ => values_by_record(alloc, file, node, key, leaves),

@@ -13,7 +13,7 @@ ghost use Rattle.gx_scan.specs.Files.{IsInternal, HasFile, IsStorable, IsTreeFor
 ghost use Rattle.gx_scan.specs.Within.{AreAdded};
 ghost use Rattle.gx_scan.specs.Steps.{HaveAtMost, rows_inside};
 
-use crate::by_entries::add_by_entries;
+use crate::by_entries::{add_by_entries, are_few};
 use crate::by_records::add_by_records;
 use crate::places::places_of;
 use gx_commands::Cond;
@@ -27,8 +27,8 @@ use std::alloc::Global;
 
 /// Appends the records of the file within the span that meet the conditions, in any order. Where each
 /// record stands whole in one leaf, the conditions are tested on the bytes of leaf entries, and no other
-/// record is made. It takes a step for each leaf, and one for each leaf entry of a record within the
-/// span.
+/// record is made, but for a single key that may stand in one of many leaves. It takes a step for each
+/// leaf, and one for each leaf entry of a record within the span.
 ///
 /// After an error `rows` may have more at its end. `Damaged`: some leaf's stored form isn't whole, or the
 /// leaves hold no file, which is said of block 0. `Fault`: the count of faults rose; with any other answer
@@ -59,9 +59,16 @@ pub fn rows_within<B: Leaves>(
         leaves.old leaves.new result }
 {
     match places_of(alloc, node)? {
-        Some(places) => add_by_entries(alloc, file, node, &places, span, conds, leaves, rows),
-        None => add_by_records(alloc, file, node, span, conds, leaves, rows),
+        Some(places) if are_few(&places) || !is_one_key(span) => {
+            add_by_entries(alloc, file, node, &places, span, conds, leaves, rows)
+        }
+        _ => add_by_records(alloc, file, node, span, conds, leaves, rows),
     }
+}
+
+// Whether the span is that of one key.
+fn is_one_key(span: &Span) -> bool {
+    !span.lo.as_slice().is_empty() && span.lo.as_slice() == span.hi.as_slice()
 }
 
 /// The span of all keys.

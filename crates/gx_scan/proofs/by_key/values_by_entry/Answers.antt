@@ -15,6 +15,6 @@ returns-clause-found g c = λ f whole is.
     let one = option_map (λ (vs : List Value). (key, vs)) values in
     let rows = filter (meets_conds []) (rows_at_key f (key ∷ [])) in
     let found = c.in_ok-add_at_key.ensures.rows f whole is
-        ∙ ap (λ (before : List Row). before ++ rows) c.new-rows.ensures.items
-        ∙ one_unfiltered key values in
+    ∙ ap (λ (before : List Row). before ++ rows) c.new-rows.ensures.items
+    ∙ one_unfiltered key values in
     c.last_values.ensures one found ∙ row_values key values
