@@ -7,6 +7,7 @@ mod by_index;
 mod by_records;
 mod coded;
 mod codes;
+mod conditions;
 mod places;
 mod records;
 mod scan;
