@@ -23,7 +23,8 @@ abbrev pub wrapped : ℕ → Rec → Rec
 wrapped zero r = r
 wrapped (suc n) r = actual_rec (wrapped n r)
 
--- a record below layers, of which so many are `actual` and the others give its data fields these codes
+-- a record below layers, of which so many are `actual` and the others give its data fields these
+-- codes
 abbrev pub below : ℕ → List (Option Code) → Rec → Rec
 below n cs r = wrapped n (stored_rec cs r)
 
@@ -35,9 +36,11 @@ entry_of_row n cs r = (bytes_of r.0, leaf_body (below (suc n) cs (rec_of r)).fie
 abbrev pub IsStoredRow : FileDef → List (Option Code) → Row → Type 0
 IsStoredRow file cs r = IsRowOf file r × HaveCodes cs r.1
 
--- A layer passes each record that is below n layers `actual` and has the codes cs to one data child, where it is below b of them and
--- has the codes ds. What else comes of the record goes to children that aren't data children.
-pub record IsPassed (rule : Rule) (n : ℕ) (cs : List (Option Code)) (b : ℕ) (ds : List (Option Code)) (r : Rec) : Type 0 where
+-- A layer passes each record that is below n layers `actual` and has the codes cs to one data
+-- child, where it is below b of them and has the codes ds. What else comes of the record goes to
+-- children that aren't data children.
+pub record IsPassed (rule : Rule) (n : ℕ) (cs : List (Option Code)) (b : ℕ)
+    (ds : List (Option Code)) (r : Rec) : Type 0 where
   pub child : ℕ
   pub rest : rule.holds_rest child ≡ true
   pub others : List Part
@@ -45,9 +48,12 @@ pub record IsPassed (rule : Rule) (n : ℕ) (cs : List (Option Code)) (b : ℕ) 
   pub beside : (p : Part) → In p others → rule.holds_rest p.child ≡ false
   pub coded : HaveCodes ds r.fields
 
-pub record PassesOn (rule : Rule) (n : ℕ) (cs : List (Option Code)) (b : ℕ) (ds : List (Option Code)) : Type 0 where
-  pub each : (r : Rec) → IsOf rule.form (below n cs r) → HaveCodes cs r.fields → IsPassed rule n cs b ds r
-  pub plain : (c : ℕ) → rule.holds_rest c ≡ true → (n ≡ 0 → cs ≡ [] → AreKeyFields rule.form.fields) → b ≡ 0 → ds ≡ [] → AreKeyFields (rule.kid_form c).fields
+pub record PassesOn (rule : Rule) (n : ℕ) (cs : List (Option Code)) (b : ℕ)
+    (ds : List (Option Code)) : Type 0 where
+  pub each : (r : Rec) → IsOf rule.form (below n cs r) → HaveCodes cs r.fields
+      → IsPassed rule n cs b ds r
+  pub plain : (c : ℕ) → rule.holds_rest c ≡ true → (n ≡ 0 → cs ≡ [] → AreKeyFields rule.form.fields)
+      → b ≡ 0 → ds ≡ [] → AreKeyFields (rule.kid_form c).fields
 
 -- the leaves that records are gathered from
 abbrev mutual
@@ -66,13 +72,16 @@ pub record IsAlone (leaves : List ℕ) (e : LeafEntry) (es : List LeafEntry) : T
   pub first : es ≡ e ∷ others
   pub elsewhere : (o : LeafEntry) → In o others → In o.leaf leaves → ⊥
 
--- The places are the leaves that the tree's records are gathered from, each once and in their order. Each record of the tree, which is
--- below n layers `actual` and has the codes cs, stands whole in one of them, by the codes of that place, and none of its other entries
--- stands in any.
-pub record ArePlacesBelow (n : ℕ) (cs : List (Option Code)) (t : Tree AnyMapping) (places : List Place) : Type 0 where
+-- The places are the leaves that the tree's records are gathered from, each once and in their
+-- order. Each record of the tree, which is below n layers `actual` and has the codes cs, stands
+-- whole in one of them, by the codes of that place, and none of its other entries stands in any.
+pub record ArePlacesBelow (n : ℕ) (cs : List (Option Code)) (t : Tree AnyMapping)
+    (places : List Place) : Type 0 where
   pub leaves : map (λ p. p.leaf) places ≡ data_leaves t
   pub stand : (r : Rec) → IsOf (tree_form any_rule t) (below n cs r) → HaveCodes cs r.fields
-      → (p : Place) × In p places × HaveCodes p.codes r.fields × IsAlone (data_leaves t) (entry_in p.leaf (below (suc p.lengths) p.codes r)) (entries_of any_rule t (below n cs r))
+      → (p : Place) × In p places × HaveCodes p.codes r.fields
+      × IsAlone (data_leaves t) (entry_in p.leaf (below (suc p.lengths) p.codes r))
+      (entries_of any_rule t (below n cs r))
 
 -- the same where no field has a code above
 abbrev pub ArePlaces : ℕ → Tree AnyMapping → List Place → Type 0

@@ -1,12 +1,18 @@
--- Records some of whose data fields stand by their codes. Of each data field, from the first on, it is told whether it has a code and
--- which; those past the last that is told of have none.
-use Rattle.std.specs.Prelude.{[], ◌≡◌, ◌≢◌, ℕ, List, ◌∷◌, Option, Some, None, slice_index_or}
+-- Records some of whose data fields stand by their codes. Of each data field, from the first on, it
+-- is told whether it has a code and which; those past the last that is told of have none.
+use Rattle.std.specs.Prelude.{[], ◌≡◌, ◌≢◌, ℕ, zero, suc, List, ◌∷◌, Option, Some, None, slice_index_or}
 use Rattle.gx_values.specs.declared.values.Code.{Code}
 use Rattle.gx_values.specs.declared.values.Value.{Value}
 use Rattle.gx_values.specs.declared.records.Rec.{Rec}
 use Rattle.gx_encode.specs.Codes.{IsCodable}
 use Rattle.gx_encode.specs.Forms.{changed, no_value}
 use Rattle.gx_encode.specs.Rules.{coded}
+
+-- the code of a field, if it has one
+abbrev pub code_at : List (Option Code) → ℕ → Option Code
+code_at [] i = None
+code_at (c ∷ cs) zero = c
+code_at (c ∷ cs) (suc i) = code_at cs i
 
 -- a value, by its code where its field has one
 abbrev pub stored_value : Option Code → Value → Value
@@ -32,7 +38,9 @@ HaveCodes (c ∷ cs) [] = Unit {0}
 HaveCodes (c ∷ cs) (v ∷ vs) = HasCode c v × HaveCodes cs vs
 
 -- the codes with one more, of a field that had none
-pub record IsWithCode (cs : List (Option Code)) (i : ℕ) (c : Code) (ds : List (Option Code)) : Type 0 where
+pub record IsWithCode (cs : List (Option Code)) (i : ℕ) (c : Code)
+    (ds : List (Option Code)) : Type 0 where
   pub some : ds ≢ []
   pub values : (vs : List Value) → stored_values ds vs ≡ changed i (coded c) (stored_values cs vs)
-  pub have : (vs : List Value) → HaveCodes cs vs → IsCodable c (slice_index_or (stored_values cs vs) i no_value) → HaveCodes ds vs
+  pub have : (vs : List Value) → HaveCodes cs vs
+      → IsCodable c (slice_index_or (stored_values cs vs) i no_value) → HaveCodes ds vs

@@ -21,9 +21,10 @@ ghost use Rattle.gx_scan.specs.Entries.{entry_of_row, IsStoredRow};
 ghost use Rattle.gx_scan.specs.Stored.{stored_value, stored_values, HasCode, HaveCodes};
 
 use crate::codes::Codes;
+use crate::conditions::is_chosen;
 use crate::places::Place;
 use crate::records::data_fields;
-use crate::scan::{add_chosen_rows, behind_lengths, meets_all, read_row, split_bytes, split_value};
+use crate::scan::{add_chosen_rows, behind_lengths, read_row, split_bytes, split_value};
 use gx_commands::Cond;
 use gx_encode::{unpack, unrle};
 use gx_ports::Entries;
@@ -75,17 +76,17 @@ fn add_coded_rows(
     let mut plain = Vec::new(alloc);
     for index in 0..entries.len() {
         let entry = entries.entry(index);
-        if !make_plain_body(alloc, file, place, entry.body, &mut plain)? {
-            return Ok(false);
-        }
-        let body = plain.as_slice();
-        let Some(is_chosen) = meets_all(file, conds, entry.key, body) else {
+        let found = is_chosen(alloc, file, place, conds, entry.key, entry.body, &mut plain)?;
+        let Some(is_chosen) = found else {
             return Ok(false);
         };
         if !is_chosen {
             continue;
         }
-        let Some(row) = read_row(alloc, file, entry.key, body)? else {
+        if !make_plain_body(alloc, file, place, entry.body, &mut plain)? {
+            return Ok(false);
+        }
+        let Some(row) = read_row(alloc, file, entry.key, plain.as_slice())? else {
             return Ok(false);
         };
         rows.push(row)?;
@@ -133,7 +134,7 @@ fn push_plain_body(
         if at >= codes.0.len() {
             break;
         }
-        let Some(more) = push_plain_value(alloc, field.kind, codes.0[at], rest, plain)? else {
+        let Some(more) = push_plain_value(alloc, field.kind, codes.code_at(at), rest, plain)? else {
             return Ok(false);
         };
         rest = more;
@@ -144,7 +145,7 @@ fn push_plain_body(
 
 // Appends the bytes of the value at the front of a body, which stands there by its code if it has one, and
 // gives what follows. `None`: there is none.
-fn push_plain_value<'a>(
+pub(crate) fn push_plain_value<'a>(
     alloc: Global,
     kind: Kind,
     code: Option<Code>,

@@ -1,6 +1,6 @@
 // Which data fields of records stand by their codes.
 ghost use Rattle.std.specs.Prelude.{◌≡◌, [], true, IfOk, IfSome};
-ghost use Rattle.gx_scan.specs.Stored.{IsWithCode};
+ghost use Rattle.gx_scan.specs.Stored.{code_at, IsWithCode};
 
 use gx_values::{Code, NoMemory};
 use std::alloc::Global;
@@ -34,6 +34,17 @@ impl Codes {
         ensures no { self.now ≡ [] → result ≡ true }
     {
         self.0.is_empty()
+    }
+
+    /// The code of a field, if it has one.
+    pub(crate) fn code_at(&self, field: usize) -> Option<Code>
+        ensures { result ≡ code_at self.now field }
+    {
+        if field < self.0.len() {
+            self.0[field]
+        } else {
+            None
+        }
     }
 
     /// The same codes. `NoMemory`: there was none for them.

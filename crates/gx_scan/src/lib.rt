@@ -8,6 +8,7 @@ mod by_key;
 mod by_records;
 mod coded;
 mod codes;
+mod conditions;
 mod places;
 mod records;
 mod scan;

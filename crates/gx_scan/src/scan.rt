@@ -97,7 +97,7 @@ pub(crate) fn read_row(
 }
 
 // Whether the record of an entry meets every condition. `None`: the entry is that of no record.
-pub(crate) fn meets_all(file: &FileDef, conds: &[Cond], key: &[u8], body: &[u8]) -> Option<bool>
+fn meets_all(file: &FileDef, conds: &[Cond], key: &[u8], body: &[u8]) -> Option<bool>
     requires { IsStorable file.now }
     ensures { (r : TheRow) → IsRowOf file.now r → key.now ≡ bytes_of r.0 → body.now ≡ body_of r.1 →
         result ≡ Some (meets_conds conds.now r) }
@@ -119,7 +119,7 @@ pub(crate) enum ValueRef<'a> {
     Bytes(&'a [u8]),
 }
 
-fn holds(op: Op, order: Ordering) -> bool
+pub(crate) fn holds(op: Op, order: Ordering) -> bool
     ensures { result ≡ is_met op order }
 {
     match op {
@@ -132,7 +132,7 @@ fn holds(op: Op, order: Ordering) -> bool
     }
 }
 
-fn compare(value: ValueRef<'_>, bound: &Value) -> Ordering
+pub(crate) fn compare(value: ValueRef<'_>, bound: &Value) -> Ordering
     ensures { result ≡ value_cmp (value_of value.entry) bound.now }
 {
     match (value, bound) {
@@ -165,7 +165,7 @@ fn field_value<'a>(
 }
 
 // The value that has these key bytes.
-fn key_value(kind: Kind, key: &[u8]) -> Option<ValueRef<'_>>
+pub(crate) fn key_value(kind: Kind, key: &[u8]) -> Option<ValueRef<'_>>
     requires { IsKeyKind kind }
     ensures { (v : FieldValue) → Fits kind v → key.now ≡ bytes_of v →
         IsSomeAnd result (λ r. value_of r ≡ v) }

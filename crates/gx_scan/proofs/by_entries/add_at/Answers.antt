@@ -15,7 +15,9 @@ use Rattle.gx_scan.proofs.StepLemmas.{counted_most}
 use Rattle.gx_scan.proofs.by_entries.add_at.Goals as goal
 
 pub select-requires : goal.select-requires
-select-requires g c = c.requires.tree.below c.args.place.now.leaf (place_there (tree_of c.args.node.now) c.args.place.now c.requires.place)
+select-requires g c =
+    c.requires.tree.below c.args.place.now.leaf
+    (place_there (tree_of c.args.node.now) c.args.place.now c.requires.place)
 
 pub returns-then-branch-clause-rows : goal.returns-then-branch-clause-rows
 returns-then-branch-clause-rows g c = λ f whole is.
@@ -28,8 +30,11 @@ returns-then-branch-clause-rows g c = λ f whole is.
     let inside = λ (r : Row). is_inside lo hi (bytes_of r.0) in
     let union = (c.internal_is_union.ensures (records_of f) maps).0 is.held in
     let stored = place_entries file t _ maps f c.requires.storable c.requires.tree is.fit union p c.requires.place in
-    let same = span_entries _ p.lengths p.codes (rows_at t p.leaf f) lo hi _ _ _ stored c.new-entries.ensures (c.in_ok-select.ensures.ok whole) refl in
-    let fit = filter_fits (IsStoredRow file p.codes) inside (rows_at t p.leaf f) (rows_stored file t _ maps f c.requires.storable c.requires.tree is.fit p c.requires.place) in
+    let same = span_entries _ p.lengths p.codes (rows_at t p.leaf f) lo hi _ _ _ stored
+    c.new-entries.ensures (c.in_ok-select.ensures.ok whole) refl in
+    let fit = filter_fits (IsStoredRow file p.codes) inside (rows_at t p.leaf f)
+    (rows_stored file t _ maps f c.requires.storable c.requires.tree is.fit p
+    c.requires.place) in
     (c.in_ok-add_rows_at.ensures.chosen (filter inside (rows_at t p.leaf f)) fit same).1
     ∙ ap (λ (l : List Row). c.args.rows.now.items ++ l) (filter_twice (meets_conds c.args.conds.now) inside (rows_at t p.leaf f))
 
@@ -53,9 +58,13 @@ returns-clause-reads g c = record {
         let is = sound.1.1 in
         let union = (c.internal_is_union.ensures (records_of f) maps).0 is.held in
         let stored = place_entries file t _ maps f c.requires.storable c.requires.tree is.fit union p c.requires.place in
-        let same = span_entries _ p.lengths p.codes (rows_at t p.leaf f) lo hi _ _ _ stored c.new-entries.ensures (c.in_ok-select.ensures.ok sound.0) refl in
-        let fit = filter_fits (IsStoredRow file p.codes) inside (rows_at t p.leaf f) (rows_stored file t _ maps f c.requires.storable c.requires.tree is.fit p c.requires.place) in
-        let all = (c.in_ok-add_rows_at.ensures.chosen (filter inside (rows_at t p.leaf f)) fit same).0 in
+        let same = span_entries _ p.lengths p.codes (rows_at t p.leaf f) lo hi _ _ _ stored
+        c.new-entries.ensures (c.in_ok-select.ensures.ok sound.0) refl in
+        let fit = filter_fits (IsStoredRow file p.codes) inside (rows_at t p.leaf f)
+        (rows_stored file t _ maps f c.requires.storable c.requires.tree is.fit p
+        c.requires.place) in
+        let all = (c.in_ok-add_rows_at.ensures.chosen (filter inside (rows_at t p.leaf f)) fit
+        same).0 in
         true≢false (sym all ∙ c.if-branch.false);
   };
   block = search rules;
@@ -73,6 +82,14 @@ returns-then-branch-clause-steps g c = λ f whole is.
     let rows = filter (λ (r : Row). is_inside lo hi (bytes_of r.0)) (rows_at t p.leaf f) in
     let union = (c.internal_is_union.ensures (records_of f) maps).0 is.held in
     let stored = place_entries file t _ maps f c.requires.storable c.requires.tree is.fit union p c.requires.place in
-    let same = span_entries _ p.lengths p.codes (rows_at t p.leaf f) lo hi _ _ _ stored c.new-entries.ensures (c.in_ok-select.ensures.ok whole) refl in
+    let same = span_entries _ p.lengths p.codes (rows_at t p.leaf f) lo hi _ _ _ stored
+    c.new-entries.ensures (c.in_ok-select.ensures.ok whole) refl in
     counted_most _ _ (length c.select.new.out - length c.new-entries.result) (length rows) c.in_ok-select.ensures.steps
-    (omega (arith, ap length same, length-map rows (λ (r : Row). entry_of (entry_of_row p.lengths p.codes r)), ap length c.new-entries.ensures))
+    (omega (
+      arith,
+      ap length same,
+      length-map rows
+          (λ (r : Row). entry_of (entry_of_row p.lengths p.codes r)),
+      ap length
+          c.new-entries.ensures,
+    ))

@@ -58,7 +58,9 @@ loop-place-preserved g c =
           let now = e.rows f (inv.whole whole) (subst (λ (maps : List LeafMap). IsInternal c.args.file.now t maps f) (sym inv.reads.working) is) in (
             so_far.0 ++ more,
             now ∙ ap (λ (l : List Row). l ++ more) so_far.1 ∙ append_assoc c.args.rows.now.items so_far.0 more,
-            place_chosen t test f ps i p so_far.0 (so_far.0 ++ more) (subst IsOnce (sym are.leaves) (data_once t c.requires.tree.valid)) c.loop-place-test.true c.place-item.is so_far.2 refl,
+            place_chosen t test f ps i p so_far.0 (so_far.0 ++ more)
+                (subst IsOnce (sym are.leaves) (data_once t c.requires.tree.valid))
+                c.loop-place-test.true c.place-item.is so_far.2 refl,
           );
       steps = λ f whole is.
           let inside = is_key_inside c.args.span.now in
@@ -66,7 +68,9 @@ loop-place-preserved g c =
           let more = filter inside (rows_at t p.leaf f) in
           let now = e.steps f (inv.whole whole) (subst (λ (maps : List LeafMap). IsInternal c.args.file.now t maps f) (sym inv.reads.working) is) in (
             so_far.0 ++ more,
-            place_chosen t inside f ps i p so_far.0 (so_far.0 ++ more) (subst IsOnce (sym are.leaves) (data_once t c.requires.tree.valid)) c.loop-place-test.true c.place-item.is so_far.1 refl,
+            place_chosen t inside f ps i p so_far.0 (so_far.0 ++ more)
+                (subst IsOnce (sym are.leaves) (data_once t c.requires.tree.valid))
+                c.loop-place-test.true c.place-item.is so_far.1 refl,
             omega (arith, so_far.2, now, length-append so_far.0 more, length-take i ps, length-take (i + 1) ps),
           );
       front = (inv.front.0 ++ e.front.0, e.front.1 ∙ ap (λ (l : List Row). l ++ e.front.0) inv.front.1 ∙ append_assoc c.args.rows.now.items inv.front.0 e.front.0);

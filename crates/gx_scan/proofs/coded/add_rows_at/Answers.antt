@@ -10,4 +10,5 @@ returns-then-is_empty-clause-chosen c = λ rs all same.
     let place = c.args.place.now in
     let none = c.is_empty.ensures.yes c.if-is_empty.true in
     c.add_chosen_rows.ensures.chosen rs (rows_fit c.args.file.now place.codes rs all)
-    (subst (λ cs. c.args.entries.now ≡ map (λ (r : Row). entry_of (entry_of_row place.lengths cs r)) rs) none same)
+    (subst (λ cs. c.args.entries.now ≡ map (λ (r : Row). entry_of (entry_of_row place.lengths cs r))
+    rs) none same)

@@ -14,5 +14,8 @@ returns-in_default c = λ text fits few same.
 pub returns : goal.returns
 returns c = λ text fits few same.
     let read = subst (IsUnrle c.args.most c.args.bytes.now) c.in-Some.is c.in_ok-text.ensures in
-    let one = same_rle c.in-Some.text text (read.1 ∙ same) in
-    (refl, c.in_ok-push_text.ensures ∙ ap (λ t. c.args.plain.now.items ++ field_bytes (value.Text t)) (c.as_slice.ensures ∙ one))
+    let one = same_rle c.in-Some.text text (read.1 ∙ same) in (
+      refl,
+      c.in_ok-push_text.ensures
+          ∙ ap (λ t. c.args.plain.now.items ++ field_bytes (value.Text t)) (c.as_slice.ensures ∙ one),
+    )
