@@ -31,13 +31,13 @@ use Rattle.gx_stack.proofs.Same.{internal_of_members, internal_elsewhere}
 use Rattle.gx_links.specs.Kinds.{AreOfKinds, no_value}
 use Rattle.gx_links.specs.Links.{Link, members_of, IsLink}
 use Rattle.gx_links.specs.Linksets.{HasLink, entries_if}
-use Rattle.gx_links.specs.Rows.{two_forms, link_parts, node_rows, owner_entries, IsHeldLink, RowLaws, two_nodes}
+use Rattle.gx_links.specs.Rows.{two_forms, link_parts, node_rows, owner_entries, IsHeldLink, RowLaws, two_nodes, owner_kind, member_kind}
 use Rattle.gx_links.proofs.KindLemmas.{fit_kinds}
 use Rattle.gx_links.proofs.JoinLemmas.{crowded_more}
 use Rattle.gx_links.proofs.MemberLemmas.{same_value, value_itself, in_members, from_members, members_ascend, new_here, from_insert, still_there, from_remove, kept_there}
 use Rattle.gx_links.proofs.RowLemmas.{node_set}
 use Rattle.gx_links.specs.Spans.{begins_with}
-use Rattle.gx_lists.specs.Inverted.{pair_rec, owned_rec, inverted_rows, owner_kind, member_kind, IsInverted, inverted_rule, member_in, owner_in}
+use Rattle.gx_lists.specs.Inverted.{pair_rec, owned_rec, inverted_rows, IsInverted, inverted_rule, member_in, owner_in}
 use Rattle.gx_lists.specs.InvertedLaws.{row_of, of_row, inverted_row_laws, pair_fits, owned_fits}
 
 -- ---- the records of each node

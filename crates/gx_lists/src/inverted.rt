@@ -11,9 +11,9 @@ ghost use Rattle.gx_stack.specs.Seen.{tree_of};
 ghost use Rattle.gx_links.specs.Links.{Link, members_of};
 ghost use Rattle.gx_links.specs.Linksets.{HasLink, CanConnect};
 ghost use Rattle.gx_links.specs.Pairs.{IsTold, two_parts};
-ghost use Rattle.gx_links.specs.Rows.{owner_entries, IsHeldLink, two_nodes};
+ghost use Rattle.gx_links.specs.Rows.{owner_entries, IsHeldLink, two_nodes, owner_kind, member_kind};
 ghost use Rattle.gx_lists.specs.Counts.{IsMemberCount};
-ghost use Rattle.gx_lists.specs.Inverted.{inverted_rows, owner_kind, member_kind, IsInverted, inverted_rule};
+ghost use Rattle.gx_lists.specs.Inverted.{inverted_rows, IsInverted, inverted_rule};
 
 use crate::counts::count_within;
 use crate::records::{add_members, inverted_rows, owned_pairs, owned_rec, owner_of, pair_rec};

@@ -9,11 +9,11 @@ use Rattle.gx_stack.specs.Tree.{Tree}
 use Rattle.gx_stack.specs.Internal.{entries_if}
 use Rattle.gx_links.specs.Links.{Link, members_of, most_members, IsLink, without_member}
 use Rattle.gx_links.specs.Linksets.{LinkRule, AreMembers, CanConnect, CanDisconnect}
-use Rattle.gx_links.specs.Rows.{IsHeldLink, two_nodes}
+use Rattle.gx_links.specs.Rows.{IsHeldLink, two_nodes, owner_kind, member_kind}
 use Rattle.gx_links.proofs.JoinLemmas.{crowded_more}
 use Rattle.gx_links.proofs.MemberLemmas.{insert_link, remove_link, gone_free, gone_comes, members_gone, from_without}
 use Rattle.gx_ring.specs.declared.changes.Change.{Change}
-use Rattle.gx_ring.specs.Ring.{ring_rows, owner_kind, member_kind, IsRing, ring_rule}
+use Rattle.gx_ring.specs.Ring.{ring_rows, IsRing, ring_rule}
 use Rattle.gx_ring.specs.Places.{before_in, next_in}
 use Rattle.gx_ring.specs.Steps.{leading, lead_change, own_change, reversed}
 use Rattle.gx_ring.specs.Changes.{AreReplaced}

@@ -8,7 +8,8 @@ use Rattle.gx_stack.specs.Tree.{tree_form}
 use Rattle.gx_stack.specs.Seen.{tree_of}
 use Rattle.gx_links.specs.Pairs.{two_parts, IsTold}
 use Rattle.gx_links.proofs.PairLemmas.{told_many, told_other, told_pairs}
-use Rattle.gx_lists.specs.Inverted.{owned_pair, inverted_rows, owner_kind, member_kind}
+use Rattle.gx_links.specs.Rows.{owner_kind, member_kind}
+use Rattle.gx_lists.specs.Inverted.{owned_pair, inverted_rows}
 use Rattle.gx_lists.specs.InvertedLaws.{inverted_row_laws}
 use Rattle.gx_lists.proofs.InvertedPairs.{inverted_read, inverted_apart, key_ready, fields_ready}
 use Rattle.gx_lists.proofs.inverted.Inverted.told.Goals as goal

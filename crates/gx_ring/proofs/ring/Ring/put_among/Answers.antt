@@ -6,7 +6,7 @@ use Rattle.gx_mapping.specs.Rule.{In}
 use Rattle.gx_stack.specs.Tree.{leaves_of, tree_form}
 use Rattle.gx_stack.specs.Seen.{tree_of}
 use Rattle.gx_stack.specs.Internal.{IfThere}
-use Rattle.gx_ring.specs.Ring.{owner_kind, member_kind}
+use Rattle.gx_links.specs.Rows.{owner_kind, member_kind}
 use Rattle.gx_ring.specs.Records.{IsKeyValue}
 use Rattle.gx_ring.specs.Places.{before_in, next_in}
 use Rattle.gx_ring.specs.Steps.{leading}

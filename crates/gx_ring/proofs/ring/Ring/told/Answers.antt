@@ -7,7 +7,8 @@ use Rattle.gx_mapping.specs.Rule.{In, part_cmp}
 use Rattle.gx_stack.specs.Seen.{tree_of}
 use Rattle.gx_links.specs.Pairs.{two_parts, IsTold}
 use Rattle.gx_links.proofs.PairLemmas.{told_many, told_other, told_pairs}
-use Rattle.gx_ring.specs.Ring.{chain_pair, ring_rows, owner_kind, member_kind}
+use Rattle.gx_links.specs.Rows.{owner_kind, member_kind}
+use Rattle.gx_ring.specs.Ring.{chain_pair, ring_rows}
 use Rattle.gx_ring.proofs.ComeLemmas.{key_value_of}
 use Rattle.gx_ring.proofs.RingPairs.{ring_read, ring_apart, ring_rows_lawful, key_ready, fields_ready}
 use Rattle.gx_ring.proofs.ring.Ring.told.Goals as goal

@@ -7,11 +7,11 @@ use Rattle.gx_mapping.specs.Rule.{In}
 use Rattle.std.specs.FinMap.{remove}
 use Rattle.gx_links.specs.Links.{members_of}
 use Rattle.gx_links.specs.Linksets.{CanDisconnect}
-use Rattle.gx_links.specs.Rows.{IsHeldLink, two_nodes}
+use Rattle.gx_links.specs.Rows.{IsHeldLink, two_nodes, owner_kind, member_kind}
 use Rattle.gx_stack.specs.Tree.{leaves_of, tree_form}
 use Rattle.gx_stack.specs.Seen.{tree_of}
 use Rattle.gx_stack.specs.Internal.{IfThere}
-use Rattle.gx_ring.specs.Ring.{owner_kind, member_kind, ring_rule, ring_rows}
+use Rattle.gx_ring.specs.Ring.{ring_rule, ring_rows}
 use Rattle.gx_ring.specs.Places.{before_in, next_in}
 use Rattle.gx_ring.specs.Steps.{leading, lead_change, own_change, reversed}
 use Rattle.gx_ring.specs.Changes.{FitsChange}
