@@ -10,6 +10,7 @@ use Rattle.gx_gather.specs.Gather.{part_for}
 use Rattle.gx_stack.specs.Tree.{Tree, tree_form, AreValid}
 use Rattle.gx_links.specs.Kinds.{kinds_of, no_value}
 use Rattle.gx_links.specs.Linksets.{LinkRule}
+use Rattle.gx_links.specs.Pairs.{pair_at}
 use Rattle.gx_links.specs.Rows.{two_forms, link_rule, two_nodes, owner_kind, member_kind}
 
 -- the record of a pair under its owner and then its member, without data
@@ -53,4 +54,4 @@ owner_in (r ∷ rs) = Some (get_or r.fields 0 no_value)
 
 -- the pair in the record of a member
 abbrev pub owned_pair : Rec → Value × Value
-owned_pair r = (get_or r.key 0 no_value, get_or r.fields 0 no_value)
+owned_pair = pair_at 0

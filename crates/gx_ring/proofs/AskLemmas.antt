@@ -12,11 +12,11 @@ use Rattle.gx_links.specs.Linksets.{LinkRule, AreMembers, CanConnect, CanDisconn
 use Rattle.gx_links.specs.Rows.{IsHeldLink, two_nodes, owner_kind, member_kind}
 use Rattle.gx_links.proofs.JoinLemmas.{crowded_more}
 use Rattle.gx_links.proofs.MemberLemmas.{insert_link, remove_link, gone_free, gone_comes, members_gone, from_without}
-use Rattle.gx_ring.specs.declared.changes.Change.{Change}
+use Rattle.gx_links.specs.declared.changes.Change.{Change}
 use Rattle.gx_ring.specs.Ring.{ring_rows, IsRing, ring_rule}
 use Rattle.gx_ring.specs.Places.{before_in, next_in}
-use Rattle.gx_ring.specs.Steps.{leading, lead_change, own_change, reversed}
-use Rattle.gx_ring.specs.Changes.{AreReplaced}
+use Rattle.gx_ring.specs.Steps.{leading, lead_change, own_change}
+use Rattle.gx_links.specs.Changes.{AreReplaced, reversed}
 use Rattle.gx_ring.proofs.ChainLemmas.{members_between}
 use Rattle.gx_ring.proofs.HeldLemmas.{comes, goes, came_entries, went_entries}
 use Rattle.gx_ring.proofs.ComeLemmas.{place_among}

@@ -20,7 +20,7 @@ use Rattle.gx_ring.specs.RingLaws.{head_fits, chain_fits}
 use Rattle.gx_ring.specs.Records.{IsKeyValue}
 use Rattle.gx_ring.specs.Places.{place_of, before_in, next_in}
 use Rattle.gx_ring.specs.Steps.{leading, lead_change, own_change}
-use Rattle.gx_ring.specs.Changes.{FitsChange}
+use Rattle.gx_links.specs.Changes.{FitsChange}
 use Rattle.gx_ring.proofs.PlaceLemmas.{IsPlace, place_there, cut}
 use Rattle.gx_ring.proofs.HeldLemmas.{heads_valid, nexts_valid}
 use Rattle.gx_ring.proofs.FoundLemmas.{heads_below, nexts_below}

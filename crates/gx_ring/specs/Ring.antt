@@ -13,6 +13,7 @@ use Rattle.gx_gather.specs.Gather.{part_for}
 use Rattle.gx_stack.specs.Tree.{Tree, tree_form, AreValid}
 use Rattle.gx_links.specs.Kinds.{kinds_of, no_value}
 use Rattle.gx_links.specs.Linksets.{LinkRule}
+use Rattle.gx_links.specs.Pairs.{pair_at}
 use Rattle.gx_links.specs.Rows.{two_forms, link_rule, two_nodes, owner_kind, member_kind}
 
 abbrev pub first : List Value → Option Value
@@ -67,4 +68,4 @@ key_value r = get_or r.key 0 no_value
 
 -- the pair in the record of a member
 abbrev pub chain_pair : Rec → Value × Value
-chain_pair r = (key_value r, get_or r.fields 2 no_value)
+chain_pair = pair_at 2

@@ -13,8 +13,8 @@ use Rattle.gx_stack.specs.Seen.{tree_of}
 use Rattle.gx_stack.specs.Internal.{IfThere}
 use Rattle.gx_ring.specs.Ring.{ring_rule, ring_rows}
 use Rattle.gx_ring.specs.Places.{before_in, next_in}
-use Rattle.gx_ring.specs.Steps.{leading, lead_change, own_change, reversed}
-use Rattle.gx_ring.specs.Changes.{FitsChange}
+use Rattle.gx_ring.specs.Steps.{leading, lead_change, own_change}
+use Rattle.gx_links.specs.Changes.{FitsChange, reversed}
 use Rattle.gx_stack.proofs.PassLemmas.{read_passes, ends_after}
 use Rattle.gx_ring.proofs.FoundLemmas.{nexts_below}
 use Rattle.gx_ring.proofs.ComeLemmas.{key_value_of, key_value_if, before_fits, next_fits, leading_below, lead_fits, own_fits}
