@@ -6,8 +6,7 @@ ghost use Rattle.gx_mapping.specs.Rule.{In};
 ghost use Rattle.gx_stack.specs.Tree.{leaves_of, tree_form, IsValid};
 ghost use Rattle.gx_stack.specs.Seen.{tree_of};
 ghost use Rattle.gx_stack.specs.Internal.{entries_if};
-ghost use Rattle.gx_ring.specs.Steps.{reversed};
-ghost use Rattle.gx_ring.specs.Changes.{FitsChange, AreReplaced};
+ghost use Rattle.gx_links.specs.Changes.{FitsChange, AreReplaced, coming, reversed};
 
 use gx_mapping::Mapping;
 use gx_ports::{Leaves, Stop};
@@ -15,14 +14,27 @@ use gx_stack::Node;
 use gx_values::Rec;
 use std::alloc::Global;
 
-// A record before and after, of one key.
+/// A record before and after, of one key.
 #[derive(Drop)]
 pub struct Change {
+    /// The record before. `None`: there was none of the key.
     pub old: Option<Rec>,
+    /// The record after. `None`: there is none of the key.
     pub new: Option<Rec>,
 }
 
 impl Change {
+    /// A record that comes.
+    pub fn coming(rec: Rec) -> Change
+        ensures { result ≡ coming rec }
+    {
+        Change {
+            old: None,
+            new: Some(rec),
+        }
+    }
+
+    /// The change undone.
     pub fn reversed(self) -> Change
         ensures { result ≡ reversed self }
     {
@@ -33,7 +45,11 @@ impl Change {
     }
 }
 
-// Changes a record of one node and then one of another or of the same.
+/// Changes a record of one node and then one of another or of the same.
+///
+/// `Full`: the pages may not be enough for the entries of the new records, besides all that there are.
+/// `Damaged`: some leaf's stored form isn't whole. `Fault`: the count of faults rose; with any other
+/// answer it stays. `NoMemory`: there was none. After a refusal a part of the changes may be made.
 pub fn replace_both<M: Mapping, B: Leaves>(
     alloc: Global,
     leaves: &mut B,
