@@ -17,6 +17,7 @@ ghost use Rattle.gx_scan.specs.Steps.{HaveAtMost, is_key_inside, rows_inside};
 use crate::coded::add_rows_at;
 use crate::places::Place;
 use crate::records::{NO_BLOCK, set_key};
+use crate::within::whole_span;
 use gx_commands::Cond;
 use gx_ports::{Entries, Leaves, Stop};
 use gx_rows::Row;
@@ -35,8 +36,27 @@ pub(crate) fn are_few(places: &[Place]) -> bool {
     places.len() <= FEW_PLACES
 }
 
+/// What is used again where one key after another is looked up.
+pub(crate) struct KeyProbe {
+    /// the span of the key
+    span: Span,
+    /// the entries there
+    entries: Entries,
+}
+
+impl KeyProbe {
+    /// One that has no key yet.
+    pub(crate) fn new(alloc: Global) -> KeyProbe {
+        KeyProbe {
+            span: whole_span(),
+            entries: Entries::new(alloc),
+        }
+    }
+}
+
 /// Appends the records of the file within the span that meet the conditions, in the order of the places,
-/// which are those of the node.
+/// which are those of the node. The entries are a buffer: what stood there is gone, and nothing is said of
+/// what is left.
 pub(crate) fn add_by_entries<B: Leaves>(
     alloc: Global,
     file: &FileDef,
@@ -45,6 +65,7 @@ pub(crate) fn add_by_entries<B: Leaves>(
     span: &Span,
     conds: &[Cond],
     leaves: &mut B,
+    entries: &mut Entries,
     rows: &mut Vec<Row>,
 ) -> Result<(), Stop>
     requires places { ArePlaces 0 (tree_of node.now) places.now }
@@ -64,20 +85,19 @@ pub(crate) fn add_by_entries<B: Leaves>(
         leaves.old leaves.new result }
 {
     for place in places {
-        add_at(alloc, file, node, place, span, conds, leaves, rows)?;
+        add_at(alloc, file, node, place, span, conds, leaves, entries, rows)?;
     }
     Ok(())
 }
 
-/// Appends the record at a key, where there is one and it meets the conditions. The key is written in the
-/// span.
+/// Appends the record at a key, where there is one and it meets the conditions.
 pub(crate) fn add_at_key<B: Leaves>(
     alloc: Global,
     file: &FileDef,
     node: &Node<AnyMapping>,
     places: &[Place],
     key: &Value,
-    span: &mut Span,
+    probe: &mut KeyProbe,
     conds: &[Cond],
     leaves: &mut B,
     rows: &mut Vec<Row>,
@@ -99,8 +119,18 @@ pub(crate) fn add_at_key<B: Leaves>(
         (B.whole leaves.old × HasFile file.now (tree_of node.now) (B.working leaves.old))
         leaves.old leaves.new result }
 {
-    set_key(span, key);
-    add_by_entries(alloc, file, node, places, span, conds, leaves, rows)
+    set_key(&mut probe.span, key);
+    add_by_entries(
+        alloc,
+        file,
+        node,
+        places,
+        &probe.span,
+        conds,
+        leaves,
+        &mut probe.entries,
+        rows,
+    )
 }
 
 // Appends those in one leaf, in the order of their keys.
@@ -112,6 +142,7 @@ fn add_at<B: Leaves>(
     span: &Span,
     conds: &[Cond],
     leaves: &mut B,
+    entries: &mut Entries,
     rows: &mut Vec<Row>,
 ) -> Result<(), Stop>
     requires place { IsPlaceOf (tree_of node.now) place.now }
@@ -133,9 +164,9 @@ fn add_at<B: Leaves>(
         leaves.old leaves.new result }
 {
     node.internal_is_union();
-    let mut entries = Entries::new(alloc);
-    leaves.select(alloc, place.leaf, span, &mut entries)?;
-    if add_rows_at(alloc, file, place, conds, &entries, rows)? {
+    entries.clear();
+    leaves.select(alloc, place.leaf, span, entries)?;
+    if add_rows_at(alloc, file, place, conds, entries, rows)? {
         Ok(())
     } else {
         Err(Stop::Damaged(NO_BLOCK))

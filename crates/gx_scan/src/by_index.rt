@@ -18,11 +18,10 @@ ghost use Rattle.gx_scan.specs.Entries.{ArePlaces};
 ghost use Rattle.gx_scan.specs.Where.{AreNamed, AreAddedWhere, rows_at_key};
 ghost use Rattle.gx_scan.specs.Steps.{HaveAtMost, rows_with};
 
-use crate::by_entries::{add_at_key, are_few};
+use crate::by_entries::{KeyProbe, add_at_key, are_few};
 use crate::by_records::{into_row, meets_all};
 use crate::places::{Place, places_of};
 use crate::records::find_record;
-use crate::within::whole_span;
 use gx_commands::Cond;
 use gx_ports::{Leaves, Stop};
 use gx_rows::Row;
@@ -123,24 +122,24 @@ fn add_by_keys<B: Leaves>(
         (B.whole leaves.old × HasFile file.now (tree_of node.now) (B.working leaves.old))
         leaves.old leaves.new result }
 {
-    let mut span = whole_span();
+    let mut probe = KeyProbe::new(alloc);
     for key in keys {
         add_by_key(
-            alloc, file, node, places, key, &mut span, conds, leaves, rows,
+            alloc, file, node, places, key, &mut probe, conds, leaves, rows,
         )?;
     }
     Ok(())
 }
 
 // Appends the record at a key, where there is one and it meets the conditions. Where records stand whole
-// in few leaves, the conditions are tested on the bytes of its entry. The key is written in the span.
+// in few leaves, the conditions are tested on the bytes of its entry.
 fn add_by_key<B: Leaves>(
     alloc: Global,
     file: &FileDef,
     node: &Node<AnyMapping>,
     places: Option<&[Place]>,
     key: &Values,
-    span: &mut Span,
+    probe: &mut KeyProbe,
     conds: &[Cond],
     leaves: &mut B,
     rows: &mut Vec<Row>,
@@ -168,7 +167,7 @@ fn add_by_key<B: Leaves>(
     if let Some(places) = places
         && are_few(places)
     {
-        return add_at_key(alloc, file, node, places, key, span, conds, leaves, rows);
+        return add_at_key(alloc, file, node, places, key, probe, conds, leaves, rows);
     }
     let Some(rec) = find_record(alloc, file, node, key, leaves)? else {
         return Ok(());

@@ -12,10 +12,9 @@ ghost use Rattle.gx_scan.specs.Entries.{ArePlaces};
 ghost use Rattle.gx_scan.specs.Records.{list_of_one};
 ghost use Rattle.gx_scan.specs.Steps.{HaveAtMost};
 
-use crate::by_entries::{add_at_key, are_few};
+use crate::by_entries::{KeyProbe, add_at_key, are_few};
 use crate::places::{Place, places_of};
 use crate::records::find_record;
-use crate::within::whole_span;
 use gx_ports::{Leaves, Stop};
 use gx_rows::Row;
 use gx_schema::FileDef;
@@ -85,7 +84,7 @@ fn values_by_entry<B: Leaves>(
         (B.whole leaves.old × HasFile file.now (tree_of node.now) (B.working leaves.old))
         leaves.old leaves.new result }
 {
-    let mut span = whole_span();
+    let mut probe = KeyProbe::new(alloc);
     let mut rows = Vec::new(alloc);
     add_at_key(
         alloc,
@@ -93,7 +92,7 @@ fn values_by_entry<B: Leaves>(
         node,
         places,
         key,
-        &mut span,
+        &mut probe,
         &[],
         leaves,
         &mut rows,

@@ -17,7 +17,7 @@ use crate::by_entries::{add_by_entries, are_few};
 use crate::by_records::add_by_records;
 use crate::places::places_of;
 use gx_commands::Cond;
-use gx_ports::{Leaves, Stop};
+use gx_ports::{Entries, Leaves, Stop};
 use gx_rows::Row;
 use gx_schema::FileDef;
 use gx_stack::Node;
@@ -60,7 +60,18 @@ pub fn rows_within<B: Leaves>(
 {
     match places_of(alloc, node)? {
         Some(places) if are_few(&places) || !is_one_key(span) => {
-            add_by_entries(alloc, file, node, &places, span, conds, leaves, rows)
+            let mut entries = Entries::new(alloc);
+            add_by_entries(
+                alloc,
+                file,
+                node,
+                &places,
+                span,
+                conds,
+                leaves,
+                &mut entries,
+                rows,
+            )
         }
         _ => add_by_records(alloc, file, node, span, conds, leaves, rows),
     }

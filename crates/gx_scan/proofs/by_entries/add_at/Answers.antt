@@ -31,7 +31,7 @@ returns-then-branch-clause-rows g c = λ f whole is.
     let union = (c.internal_is_union.ensures (records_of f) maps).0 is.held in
     let stored = place_entries file t _ maps f c.requires.storable c.requires.tree is.fit union p c.requires.place in
     let same = span_entries _ p.lengths p.codes (rows_at t p.leaf f) lo hi _ _ _ stored
-    c.new-entries.ensures (c.in_ok-select.ensures.ok whole) refl in
+    c.clear.ensures (c.in_ok-select.ensures.ok whole) refl in
     let fit = filter_fits (IsStoredRow file p.codes) inside (rows_at t p.leaf f)
     (rows_stored file t _ maps f c.requires.storable c.requires.tree is.fit p
     c.requires.place) in
@@ -59,7 +59,7 @@ returns-clause-reads g c = record {
         let union = (c.internal_is_union.ensures (records_of f) maps).0 is.held in
         let stored = place_entries file t _ maps f c.requires.storable c.requires.tree is.fit union p c.requires.place in
         let same = span_entries _ p.lengths p.codes (rows_at t p.leaf f) lo hi _ _ _ stored
-        c.new-entries.ensures (c.in_ok-select.ensures.ok sound.0) refl in
+        c.clear.ensures (c.in_ok-select.ensures.ok sound.0) refl in
         let fit = filter_fits (IsStoredRow file p.codes) inside (rows_at t p.leaf f)
         (rows_stored file t _ maps f c.requires.storable c.requires.tree is.fit p
         c.requires.place) in
@@ -83,13 +83,13 @@ returns-then-branch-clause-steps g c = λ f whole is.
     let union = (c.internal_is_union.ensures (records_of f) maps).0 is.held in
     let stored = place_entries file t _ maps f c.requires.storable c.requires.tree is.fit union p c.requires.place in
     let same = span_entries _ p.lengths p.codes (rows_at t p.leaf f) lo hi _ _ _ stored
-    c.new-entries.ensures (c.in_ok-select.ensures.ok whole) refl in
-    counted_most _ _ (length c.select.new.out - length c.new-entries.result) (length rows) c.in_ok-select.ensures.steps
+    c.clear.ensures (c.in_ok-select.ensures.ok whole) refl in
+    counted_most _ _ (length c.select.new.out - length c.clear.new.self) (length rows) c.in_ok-select.ensures.steps
     (omega (
       arith,
       ap length same,
       length-map rows
           (λ (r : Row). entry_of (entry_of_row p.lengths p.codes r)),
       ap length
-          c.new-entries.ensures,
+          c.clear.ensures,
     ))
