@@ -196,11 +196,11 @@ at_fault g start all before left number line old e new schema_is built_is before
 at_fault g start all before left number line old e new schema_is built_is before_is so (inr (command, means, placed, inl (unsaid, keeps))) =
     part_before g start all before number old e new stop.Fault so unsaid (λ other. absurd (other refl))
     (λ _. unsaid_keeps g so.now before left line command old e new schema_is built_is before_is so.at means keeps) fault_not_full
-at_fault g start all before left number line old e new schema_is built_is before_is so (inr (command, means, placed, inr (at, answer, answered, (n, said)))) =
-    part_within g start all before left number line command answer n old e new before_is so
+at_fault g start all before left number line old e new schema_is built_is before_is so (inr (command, means, placed, inr (at, cut))) =
+    part_within g start all before left number line command cut.0 cut.2.0 old e new before_is so
     (subst (λ s. IsLineOf s line command) schema_is means) placed
-    (subst (λ s. IsAnswered s so.now command answer) schema_is answered)
-    (subst (λ s. IsAt g (next_of s so.now command) new) schema_is at) said
+    (subst (λ s. IsAnswered s so.now command cut.0) schema_is cut.1)
+    (subst (λ s. IsAt g (next_of s so.now command) new) schema_is at) cut.2.1
 
 -- after another stop nothing of it was
 at_other : {S : Type 0} (g : Ghosts S) (start : Playing) (all before left : Lines) (number : ℕ) (line : List ℕ) (why : Stop) (old e new : Engine S) → schema_of e ≡ schema_of old → built_of e ≡ built_of old → g.limit (leaves_of e) ≡ g.limit (leaves_of old) → before ≡ with_line line left → (so : IsSoFar g start all before number old e) → IsReady g e → why ≢ stop.Fault → IsGivenUp g so.now line e new why → IsPlayedPart g start all old new why
