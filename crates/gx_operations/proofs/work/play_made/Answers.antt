@@ -65,12 +65,14 @@ returns-clause-worked g c = λ told reopens.
 
 pub returns-in-Ok-clause-count : goal.returns-in-Ok-clause-count
 returns-in-Ok-clause-count g c = λ told.
-    let sized = g.met.M.Device.sized in
     let store = c.in-Ok.store in
     let left = c.play_work-worked.result.1 in
+    let was = limits_of (ground_of (journal_of (pages_of store))) (places_in store) in
+    let is = limits_of (ground_of (journal_of (pages_of left))) (places_in left) in
     ap (λ m. length (g.M.Device.content m).now.blocks) c.close.ensures.machine
-    ∙ sym (sized (machine_of left) told) ∙ same_blocks _ _ c.play_work-worked.ensures.limit
-    ∙ sized (machine_of store) told ∙ (c.in-Ok.ensures.recovered told).count
+    ∙ sym (g.met.M.Device.sized (machine_of left) told)
+    ∙ same_blocks is was c.play_work-worked.ensures.limit
+    ∙ g.met.M.Device.sized (machine_of store) told ∙ (c.in-Ok.ensures.recovered told).count
 
 pub returns-clause-count : goal.returns-clause-count
 returns-clause-count g c = λ told. (c.in-Err.ensures.recovered told).count
