@@ -1,14 +1,12 @@
 -- Working pages of which none has changed.
-use Rattle.std.proofs.Common.{◌≡◌, ℕ, Bool, true, false, List, [], ◌∷◌, length, get_or, Option, Some, None, inl, inr, refl, ap, sym, subst, ◌∙◌, arith}
+use Rattle.std.proofs.Common.{◌≡◌, ℕ, false, List, [], length, get_or, Option, Some, inl, inr, sym, subst, ◌∙◌, arith}
 use Rattle.std.specs.Prelude.{◌==◌, IsSomeAnd, IsTrue}
-use Rattle.std.proofs.lemmas.Bool.{true≢false, cases_Bool}
+use Rattle.std.proofs.lemmas.Bool.{true≢false}
 use Rattle.std.proofs.lemmas.Bool.Decides.{eqb_tells}
-use Rattle.gx_frames.specs.Pool.{Resident, IsChanged, find_page, without}
+use Rattle.gx_frames.specs.Pool.{Resident, IsChanged, find_page}
 use Rattle.gx_journal.specs.declared.working.WorkingPages.{WorkingPages}
 use Rattle.gx_journal.specs.Working.{IsUnchangedIn}
-use Rattle.gx_frames.proofs.PoolLemmas.{find_here}
-use Rattle.gx_journal.proofs.CleanLemmas.{changed_at, unchanged_at}
-use Rattle.gx_journal.proofs.SourceLemmas.{find_past, find_without_same, find_without_other}
+use Rattle.gx_journal.proofs.CleanLemmas.{changed_at}
 
 -- where no page had changed, none has in the same working pages
 pub never_changed : (old new : WorkingPages) (p : ℕ) → ((q : ℕ) → IsChanged old.frames q → ⊥)
@@ -47,34 +45,3 @@ pub all_unchanged : (residents : List Resident) (p : ℕ)
 all_unchanged residents p plain is =
     let found = changed_at (find_page p residents) is in
     true≢false (sym found.2 ∙ plain found.0 found.1)
-
--- where none has changed, the page that is found hasn't
-pub found_unchanged : (old : WorkingPages) (p : ℕ) (r : Resident) → IsUnchangedIn old
-    → find_page p old.frames.resident ≡ Some r → r.changed ≡ false
-found_unchanged old p r is found = elim (cases_Bool r.changed) [
-  | inl on ↦ absurd (is.clean p (subst (λ (o : Option Resident). IsSomeAnd o (λ x. IsTrue x.changed))
-      (sym found) on))
-  | inr off ↦ off
-]
-
--- a page that left the frames hasn't changed
-pub evicted_unchanged : (residents : List Resident) (p q : ℕ)
-    → (IsSomeAnd (find_page q residents) (λ r. IsTrue r.changed) → ⊥)
-    → IsSomeAnd (find_page q (without p residents)) (λ r. IsTrue r.changed) → ⊥
-evicted_unchanged residents p q none is = elim (eqb_tells p q) [
-  | inl same ↦ subst (λ (o : Option Resident). IsSomeAnd o (λ r. IsTrue r.changed))
-      (ap (λ (k : ℕ). find_page k (without p residents)) (sym same.1)
-      ∙ find_without_same p residents) is
-  | inr other ↦ none (subst (λ (o : Option Resident). IsSomeAnd o (λ r. IsTrue r.changed))
-      (find_without_other p q residents other.1) is)
-]
-
--- nor has one that was read into a frame
-pub admitted_unchanged : (residents : List Resident) (r : Resident) (q : ℕ) → r.changed ≡ false
-    → (IsSomeAnd (find_page q residents) (λ x. IsTrue x.changed) → ⊥)
-    → IsSomeAnd (find_page q (r ∷ residents)) (λ x. IsTrue x.changed) → ⊥
-admitted_unchanged residents r q plain none is = elim (eqb_tells r.page q) [
-  | inl same ↦ unchanged_at (find_page q (r ∷ residents)) r (find_here q r residents same.1) plain is
-  | inr other ↦ none (subst (λ (o : Option Resident). IsSomeAnd o (λ x. IsTrue x.changed))
-      (find_past q r residents other.1) is)
-]

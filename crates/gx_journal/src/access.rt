@@ -5,7 +5,7 @@ ghost use Rattle.gx_device.specs.Faults.{IsCounted};
 ghost use Rattle.gx_frames.specs.Pool.{IsResident, HasFreeFrame, without, with_residents};
 ghost use Rattle.gx_layout.specs.Layout.{home};
 ghost use Rattle.gx_journal.specs.Sources.{SamePages, OnlySlots};
-ghost use Rattle.gx_journal.specs.Working.{size_in, page_in, IsCachedIn, IsUnchangedIn};
+ghost use Rattle.gx_journal.specs.Working.{size_in, page_in, IsCachedIn};
 
 use crate::room::{make_room, reserve};
 use crate::working::WorkingPages;
@@ -89,7 +89,6 @@ pub(crate) fn read<D: Device>(
     ensures same { IsTrue D.tells → SamePages (page_in (size_in working.old) (D.content device.old) working.old) (page_in (size_in working.old) (D.content device.new) working.new) }
     ensures long { size_in working.new ≡ size_in working.old }
     ensures cached { IsTrue D.tells → IsCachedIn (size_in working.old) (D.content device.new) working.new }
-    ensures unchanged { IsUnchangedIn working.old → IsUnchangedIn working.new }
     ensures slots { OnlySlots (size_in working.old) (D.content device.old) (D.content device.new) }
     ensures size { D.size device.new ≡ D.size device.old }
     ensures cause { IsCounted (D.faults device.old) (D.faults device.new) result }

@@ -205,7 +205,6 @@ impl<D: Device> Journal<D> {
         requires bytes { length into.old ≡ 4096 }
         ensures page { IsTrue D.tells → OnOk result (into.new ≡ slice_index_or (working_of self.old) p []) }
         ensures working { working_of self.new ≡ working_of self.old }
-        ensures unchanged { IsUnchanged self.old → IsUnchanged self.new }
         ensures keeps { Keeps self.old self.new }
         ensures silent { Silent (content_of self.old) (content_of self.new) }
         ensures faults { IsCounted (D.faults (device_of self.old)) (D.faults (device_of self.new)) result }

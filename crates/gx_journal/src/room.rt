@@ -1,10 +1,10 @@
 // Room in the frames.
-ghost use Rattle.std.specs.Prelude.{◌≡◌, ◌<◌, ◌≤◌, ◌+◌, ◌*◌, ◌⊎◌, ℕ, true, false, Some, None, length, slice_set, vec_capacity, IsTrue, OnOk};
+ghost use Rattle.std.specs.Prelude.{◌≡◌, ◌<◌, ◌≤◌, ◌+◌, ◌*◌, ◌⊎◌, ℕ, true, Some, None, length, slice_set, vec_capacity, IsTrue, OnOk};
 ghost use Rattle.gx_device.specs.Content.{Writes, Written};
 ghost use Rattle.gx_device.specs.Faults.{IsCounted};
 ghost use Rattle.gx_frames.specs.Pool.{Resident, IsResident, HasFreeFrame, find_page, to_front, with_residents};
 ghost use Rattle.gx_journal.specs.Sources.{stored, SamePages, IsListed, OnlySlots};
-ghost use Rattle.gx_journal.specs.Working.{size_in, page_in, IsCachedIn, IsUnchangedIn};
+ghost use Rattle.gx_journal.specs.Working.{size_in, page_in, IsCachedIn};
 
 use crate::working::WorkingPages;
 use gx_device::{Device, Failed};
@@ -87,7 +87,6 @@ fn settle<D: Device>(
     ensures stored { IsTrue D.tells → (r : Resident) → find_page p working.old.frames.resident ≡ Some r → OnOk result (stored (size_in working.old) (D.content device.new).now.blocks working.new.spilled.items p ≡ r.bytes) }
     ensures same { IsTrue D.tells → SamePages (page_in (size_in working.old) (D.content device.old) working.old) (page_in (size_in working.old) (D.content device.new) working.new) }
     ensures cached { IsTrue D.tells → IsCachedIn (size_in working.old) (D.content device.new) working.new }
-    ensures unchanged { changed ≡ false → working.new ≡ working.old }
     ensures slots { OnlySlots (size_in working.old) (D.content device.old) (D.content device.new) }
     ensures long { size_in working.new ≡ size_in working.old }
     ensures size { D.size device.new ≡ D.size device.old }
@@ -108,7 +107,6 @@ pub(crate) fn make_room<D: Device>(device: &mut D, working: &mut WorkingPages) -
     ensures absent { (p : ℕ) → find_page p working.old.frames.resident ≡ None → find_page p working.new.frames.resident ≡ None }
     ensures same { IsTrue D.tells → SamePages (page_in (size_in working.old) (D.content device.old) working.old) (page_in (size_in working.old) (D.content device.new) working.new) }
     ensures cached { IsTrue D.tells → IsCachedIn (size_in working.old) (D.content device.new) working.new }
-    ensures unchanged { IsUnchangedIn working.old → IsUnchangedIn working.new }
     ensures slots { OnlySlots (size_in working.old) (D.content device.old) (D.content device.new) }
     ensures long { size_in working.new ≡ size_in working.old }
     ensures size { D.size device.new ≡ D.size device.old }

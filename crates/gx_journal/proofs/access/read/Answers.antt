@@ -1,8 +1,7 @@
-use Rattle.std.proofs.Common.{◌≡◌, length, refl, ap, subst}
-use Rattle.gx_frames.specs.Pool.{Pool, IsChanged, to_front, with_residents}
+use Rattle.std.proofs.Common.{◌≡◌, length, refl, ap}
+use Rattle.gx_frames.specs.Pool.{Pool, to_front, with_residents}
 use Rattle.gx_journal.proofs.SourceLemmas.{page_apart, cached_order}
 use Rattle.gx_journal.proofs.SlotLemmas.{slots_twice, slots_read, front_found}
-use Rattle.gx_journal.proofs.UnchangedLemmas.{still_unchanged, admitted_unchanged}
 use Rattle.gx_journal.proofs.access.read.Goals as goal
 
 pub returns-in-Some-clause-same : goal.returns-in-Some-clause-same
@@ -26,55 +25,3 @@ returns-in_err-fetch-clause-slots g c =
 pub returns-clause-slots : goal.returns-clause-slots
 returns-clause-slots g c =
     slots_twice _ _ (g.D.Device.content c.make_room.new.device) _ (c.make_room.ensures.slots) (slots_read _ _ _ (c.fetch.ensures.rest))
-
--- ---- where no page has changed
-
-pub returns-in-Some-clause-unchanged : goal.returns-in-Some-clause-unchanged
-returns-in-Some-clause-unchanged g c is =
-    let rs = c.args.working.now.frames.resident in
-    let e : c.get.follows.lender-at-none ≡ with_residents c.args.working.now.frames
-    (to_front c.args.p rs) = c.get.follows.holds-at-none in
-    record {
-      clean = λ q. still_unchanged rs _ q
-          (front_found c.args.p rs _ (ap (λ (x : Pool). x.resident) e) q) (is.clean q);
-      unspilled = is.unspilled;
-    }
-
-pub returns-in_err-make_room-clause-unchanged : goal.returns-in_err-make_room-clause-unchanged
-returns-in_err-make_room-clause-unchanged g c is =
-    let rs = c.args.working.now.frames.resident in
-    let e : c.get.follows.lender-at-none ≡ with_residents c.args.working.now.frames
-    (to_front c.args.p rs) = c.get.follows.holds-at-none in
-    c.make_room.ensures.unchanged (record {
-      clean = λ q. still_unchanged rs _ q
-          (front_found c.args.p rs _ (ap (λ (x : Pool). x.resident) e) q) (is.clean q);
-      unspilled = is.unspilled;
-    })
-
-pub returns-in_err-fetch-clause-unchanged : goal.returns-in_err-fetch-clause-unchanged
-returns-in_err-fetch-clause-unchanged g c is =
-    let rs = c.args.working.now.frames.resident in
-    let e : c.get.follows.lender-at-none ≡ with_residents c.args.working.now.frames
-    (to_front c.args.p rs) = c.get.follows.holds-at-none in
-    c.make_room.ensures.unchanged (record {
-      clean = λ q. still_unchanged rs _ q
-          (front_found c.args.p rs _ (ap (λ (x : Pool). x.resident) e) q) (is.clean q);
-      unspilled = is.unspilled;
-    })
-
-pub returns-clause-unchanged : goal.returns-clause-unchanged
-returns-clause-unchanged g c is =
-    let rs = c.args.working.now.frames.resident in
-    let e : c.get.follows.lender-at-none ≡ with_residents c.args.working.now.frames
-    (to_front c.args.p rs) = c.get.follows.holds-at-none in
-    let mid = c.make_room.new.working in
-    let still = c.make_room.ensures.unchanged (record {
-      clean = λ q. still_unchanged rs _ q
-          (front_found c.args.p rs _ (ap (λ (x : Pool). x.resident) e) q) (is.clean q);
-      unspilled = is.unspilled;
-    }) in
-    record {
-      clean = λ q h. admitted_unchanged mid.frames.resident _ q refl (still.clean q)
-          (subst (λ (x : Pool). IsChanged x q) c.carry_out.ensures h);
-      unspilled = still.unspilled;
-    }

@@ -1,10 +1,8 @@
 use Rattle.std.proofs.Common.{length, ap, sym, subst, ◌∙◌, arith}
 use Rattle.std.proofs.lemmas.Option.{same_Some}
-use Rattle.gx_frames.specs.Pool.{Resident, Pool, IsChanged}
+use Rattle.gx_frames.specs.Pool.{Resident, Pool}
 use Rattle.gx_journal.specs.Sources.{page_of, IsCached}
 use Rattle.gx_journal.proofs.SourceLemmas.{last_found, found_below, some_found, still_none, fewer_without, evicted_pages, evicted_cached}
-use Rattle.gx_journal.specs.Working.{IsUnchangedIn}
-use Rattle.gx_journal.proofs.UnchangedLemmas.{found_unchanged, evicted_unchanged}
 use Rattle.gx_journal.proofs.room.make_room.Goals as goal
 
 pub settle-requires-clause-resident : goal.settle-requires-clause-resident
@@ -52,27 +50,3 @@ returns-clause-cached g c told =
     let P = length c.args.working.now.spilled.items in
     subst (λ (x : Pool). IsCached P blocks c.settle.new.working.spilled.items x.resident) (sym c.evict.ensures)
     (evicted_cached P blocks c.settle.new.working.spilled.items c.settle.new.working.frames.resident c.in-Some.page (c.settle.ensures.cached told))
-
--- ---- where no page has changed
-
-pub returns-in_err-settle-clause-unchanged : goal.returns-in_err-settle-clause-unchanged
-returns-in_err-settle-clause-unchanged g c is =
-    let old = c.args.working.now in
-    let at = last_found old.frames c.in-Some.page c.in-Some.changed c.victim.ensures.pool
-    c.in-Some.ensures.last in
-    subst IsUnchangedIn
-    (sym (c.settle.ensures.unchanged (found_unchanged old c.in-Some.page _ is at.1))) is
-
-pub returns-clause-unchanged : goal.returns-clause-unchanged
-returns-clause-unchanged g c is =
-    let old = c.args.working.now in
-    let at = last_found old.frames c.in-Some.page c.in-Some.changed c.victim.ensures.pool
-    c.in-Some.ensures.last in
-    let mid = c.settle.new.working in
-    let still = subst IsUnchangedIn
-    (sym (c.settle.ensures.unchanged (found_unchanged old c.in-Some.page _ is at.1))) is in
-    record {
-      clean = λ q h. evicted_unchanged mid.frames.resident c.in-Some.page q (still.clean q)
-          (subst (λ (x : Pool). IsChanged x q) c.evict.ensures h);
-      unspilled = still.unspilled;
-    }
