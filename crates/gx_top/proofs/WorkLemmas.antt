@@ -246,6 +246,7 @@ module _ (words : List (List ℕ)) (device digits number : List ℕ) (count reco
 
     -- played to its end
     text_of : (line : List ℕ) → (made : IsNewDevice x device count middle mid (λ after. IsPlayedOn x count records after (Ok line))) → IsWorkText Asked device count records new line
+    unfolding settled_on
     text_of line made =
         let out = made.left.2 in
         record {
@@ -259,6 +260,7 @@ module _ (words : List (List ℕ)) (device digits number : List ℕ) (count reco
 
     -- up to a full device
     full_of : (made : IsNewDevice x device count middle mid (λ after. IsPlayedOn x count records after (Err ending.Full))) → IsWorkFull Asked device count records new full_line
+    unfolding settled_on
     full_of made =
         let out = made.left.2 in
         record {
