@@ -37,6 +37,7 @@ pub(crate) fn are_few(places: &[Place]) -> bool {
 }
 
 /// What is used again where one key after another is looked up.
+#[derive(Drop)]
 pub(crate) struct KeyProbe {
     /// the span of the key
     span: Span,
