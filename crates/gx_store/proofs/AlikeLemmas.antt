@@ -52,11 +52,16 @@ recovered_alike tells P old new told count room head many gate kept = record {
   pages = sym (home_replayed new.now.blocks (omega (arith, count, room)) gate) ∙ sym (homes_are tells P new told many) ∙ kept;
 }
 
+-- no block is written where there is no journal, unless a call failed
+pub unwritten_by : (why : NoJournal) (old new : List (List ℕ)) → (why ≡ journal.NoDatabase → new ≡ old) → (why ≡ journal.NoMemory → new ≡ old)
+    → not (is_fault (no_journal why)) ≡ true → new ≡ old
+unwritten_by journal.Fault old new none memory goes = absurd (let f : false ≡ true = goes in cc)
+unwritten_by journal.NoMemory old new none memory goes = memory refl
+unwritten_by journal.NoDatabase old new none memory goes = none refl
+
 pub refused_alike : (why : NoJournal) (old new : List (List ℕ)) → (why ≡ journal.NoDatabase → new ≡ old) → (why ≡ journal.NoMemory → new ≡ old)
     → not (is_fault (no_journal why)) ≡ true → ReadAlike old new
-refused_alike journal.Fault old new none memory goes = absurd (let f : false ≡ true = goes in cc)
-refused_alike journal.NoMemory old new none memory goes = alike_same old new (memory refl)
-refused_alike journal.NoDatabase old new none memory goes = alike_same old new (none refl)
+refused_alike why old new none memory goes = alike_same old new (unwritten_by why old new none memory goes)
 
 pub headed : {T E : Type 0} (r : Result T E) (H : T → Head) (schema equation : List ℕ) (specs : List LeafSpec) (blocks : List (List ℕ))
     → OnOk r (AreOpened schema equation specs blocks) → IfOk r (λ s. (H s).blocks ≡ head_of blocks) → IfOk r (λ s. (H s).leaves ≡ specs)

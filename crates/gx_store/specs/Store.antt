@@ -24,6 +24,10 @@ pub record Attaches (name : List ℕ) (old new : Content) : Type 0 where
   pub aside : new.aside ≡ old.aside
   pub others : (other : List ℕ) → other ≢ name → device_at new.now other ≡ device_at old.now other
 
+-- a device of that name that was there reads as it did
+abbrev pub KeepsDevice : List ℕ → Content → Content → Type 0
+KeepsDevice name old new = (blocks : List (List ℕ)) → device_at old.now name ≡ Some blocks → device_at new.now name ≡ Some blocks
+
 -- the device of that name has these blocks, and P holds of them
 abbrev pub OfBlocks : List ℕ → Content → (List (List ℕ) → Type 0) → Type 0
 OfBlocks name c P = (blocks : List (List ℕ)) × (device_at c.now name ≡ Some blocks) × P blocks

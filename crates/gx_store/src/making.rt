@@ -12,7 +12,7 @@ ghost use Rattle.gx_pages.specs.Owners.{IsAllFree};
 ghost use Rattle.gx_pages.specs.Paged.{ground_of, working_sheets};
 ghost use Rattle.gx_pages.specs.View.{journal_of};
 ghost use Rattle.gx_store.specs.Device.{IsSize, AreMaps, IsSettled, IsMadeOn, IsNoneOrEmpty};
-ghost use Rattle.gx_store.specs.Store.{CanAttach, Attaches, OfBlocks};
+ghost use Rattle.gx_store.specs.Store.{CanAttach, Attaches, KeepsDevice, OfBlocks};
 ghost use Rattle.gx_store.specs.Opening.{is_untouched};
 ghost use Rattle.gx_store.specs.Making.{IsUnmade, IsUnmadeOn, IsUnlaid, Publishes, not_laid, has_no_fault, machine_below, is_laid};
 
@@ -26,12 +26,13 @@ use gx_ports::{LeafSpec, Stop};
 use std::alloc::Global;
 
 /// Makes a device of that name with so many blocks, and an empty database on it under these two
-/// canonical texts. The specs are those of the texts. The magic is written last, so that a crash
-/// before leaves no database. After Ok the device is attached.
+/// canonical texts. The specs are those of the texts. The magic is written last. After Ok the device
+/// is attached.
 ///
 /// Otherwise, in this order: `Size` of the number, `Exists`; then no device is made or changed.
 /// `Fault`: the count of faults rose; with every other answer it stays. `NoMemory`: there was none.
-/// After these two there may be a device: it has no database, or an empty one.
+/// After these two there may be a device that wasn't there before: it has no magic, or it is opened
+/// as an empty database. A device that was there before reads as it did, whatever the answer is.
 pub fn make<M: Machine + Drop>(
     alloc: Global,
     machine: M,
@@ -57,6 +58,8 @@ pub fn make<M: Machine + Drop>(
     ensures untouched { CanAttach M.tells (M.content machine) →
         IfErr result.0 (λ why. is_untouched why ≡ true →
         device_at (M.content result.1).now name.now ≡ device_at (M.content machine).now name.now) }
+    ensures there { CanAttach M.tells (M.content machine) →
+        KeepsDevice name.now (M.content machine) (M.content result.1) }
     ensures left { CanAttach M.tells (M.content machine) →
         device_at (M.content machine).now name.now ≡ None → (blocks : List (List ℕ)) →
         device_at (M.content result.1).now name.now ≡ Some blocks →

@@ -11,7 +11,7 @@ ghost use Rattle.gx_pages.specs.View.{journal_of};
 ghost use Rattle.gx_pages.specs.Paged.{ground_of, kept_sheets};
 ghost use Rattle.gx_store.specs.Device.{AreMaps, AreTexts, IsHeadOf, IsSettled, ReadAlike, Reopens, ground_on};
 ghost use Rattle.gx_store.specs.Store.{CanAttach, Attaches, OfBlocks, machine_of, HoldsMaps, IsJustOpened, machine_left, goes_on};
-ghost use Rattle.gx_store.specs.Opening.{AreOpened, AreUnopened, AreUnread, IsRecoveryOf, IsUnopened, is_untouched};
+ghost use Rattle.gx_store.specs.Opening.{AreOpened, AreUnopened, AreUnread, HaveDatabase, IsRecoveryOf, IsUnopened, is_untouched};
 
 use crate::store::{FRAMES, Store, is_size};
 use crate::unopened::Unopened;
@@ -29,8 +29,9 @@ use std::alloc::Global;
 /// Otherwise the machine is handed back, in this order: `Missing`, `Size`, `NoDatabase`,
 /// `OtherTexts`. After the first three no block was written. `Fault`: the count of faults rose;
 /// with every other answer it stays. `NoMemory`: there was none. With every answer but `Fault` the
-/// device still reads as it did, so that what opened it opens it again; whatever it answers, no
-/// block was written but by recovery, and no device was made.
+/// device still reads as it did, so that what opened it opens it again, and no block was written of
+/// one that has another size or no magic; whatever it answers, no block was written but by recovery,
+/// and no device was made.
 pub fn open<M: Machine + Drop>(
     alloc: Global,
     machine: M,
@@ -58,6 +59,10 @@ pub fn open<M: Machine + Drop>(
     ensures untouched { CanAttach M.tells (M.content machine) →
         IfErr result (λ e. is_untouched e.1 ≡ true →
         device_at (M.content e.0).now name.now ≡ device_at (M.content machine).now name.now) }
+    ensures no_database { CanAttach M.tells (M.content machine) → goes_on result ≡ true →
+        (blocks : List (List ℕ)) →
+        device_at (M.content machine).now name.now ≡ Some blocks → ¬ HaveDatabase specs.now blocks →
+        device_at (M.content (machine_left result)).now name.now ≡ Some blocks }
     ensures absent { CanAttach M.tells (M.content machine) →
         device_at (M.content machine).now name.now ≡ None →
         device_at (M.content (machine_left result)).now name.now ≡ None }
@@ -116,6 +121,9 @@ pub fn open_attached<M: Machine + Drop>(
         AreUnopened schema.now equation.now specs.now (M.content machine).now.blocks e.1) }
     ensures untouched { IsTrue M.tells → IfErr result (λ e. is_untouched e.1 ≡ true →
         (M.content e.0).now.blocks ≡ (M.content machine).now.blocks) }
+    ensures no_database { IsTrue M.tells → goes_on result ≡ true →
+        ¬ HaveDatabase specs.now (M.content machine).now.blocks →
+        (M.content (machine_left result)).now.blocks ≡ (M.content machine).now.blocks }
     ensures silent { Silent (M.content machine) (M.content (machine_left result)) }
     ensures head { IsTrue M.tells → IfOk result
         (λ s. IsHeadOf schema.now equation.now specs.now (head_of s)) }

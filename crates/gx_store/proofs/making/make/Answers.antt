@@ -21,6 +21,10 @@ returns-in-Err-clause-unmade g c = λ can.
 pub returns-in-Err-clause-untouched : goal.returns-in-Err-clause-untouched
 returns-in-Err-clause-untouched g c = λ can e. ap (λ (m : Moment). device_at m c.args.name.now) c.in-Err.ensures.refused.now
 
+pub returns-in-Err-clause-there : goal.returns-in-Err-clause-there
+returns-in-Err-clause-there g c = λ can blocks was.
+    ap (λ (m : Moment). device_at m c.args.name.now) c.in-Err.ensures.refused.now ∙ was
+
 pub returns-in-Err-clause-left : goal.returns-in-Err-clause-left
 returns-in-Err-clause-left g c = λ can none blocks is.
     absurd (let wrong : ◌≡◌ {A = _} (Some blocks) None = sym is ∙ ap (λ (m : Moment). device_at m c.args.name.now) c.in-Err.ensures.refused.now ∙ none in cc)
@@ -68,6 +72,11 @@ returns-clause-untouched g c = λ can.
     IfErr-weaker c.make_attached.result.0 _ _
     (λ why are so. absurd (unmade_touched c.args.specs.now c.args.blocks why (c.is_size.ensures.0 c.if-not-is_size.false) (subst (λ (n : ℕ). IsUnmadeOn c.args.specs.now n why) count are) so))
     c.make_attached.ensures.unmade
+
+pub returns-clause-there : goal.returns-clause-there
+returns-clause-there g c = λ can blocks was.
+    let m = c.in_default.ensures.made can.told can.free c.args.blocks refl in
+    absurd (let wrong : ◌≡◌ {A = _} None (Some blocks) = sym m.free ∙ was in cc)
 
 pub returns-clause-left : goal.returns-clause-left
 returns-clause-left g c = λ can none blocks is.

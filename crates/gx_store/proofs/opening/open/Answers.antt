@@ -3,7 +3,7 @@ use Rattle.std.specs.Prelude.{Err}
 use Rattle.std.proofs.lemmas.Result.{IfOk-weaker, IfErr-weaker, on_ok_weaker}
 use Rattle.gx_device.specs.Content.{Moment, Silent, device_at}
 use Rattle.gx_store.specs.Device.{ReadAlike, Reopens, ground_on}
-use Rattle.gx_store.specs.Opening.{AreOpened, AreUnopened, IsRecoveryOf, IsUnopened}
+use Rattle.gx_store.specs.Opening.{AreOpened, AreUnopened, HaveDatabase, IsRecoveryOf, IsUnopened}
 use Rattle.gx_store.specs.Store.{machine_left}
 use Rattle.gx_store.proofs.ShelfLemmas.{attached_named, attached_at, attached_rest, refused_rest}
 use Rattle.gx_store.proofs.AttachLemmas.{attached_blocks, left_alone, if_err_with, if_ok_with}
@@ -20,6 +20,10 @@ returns-in-Err-clause-unopened g c = λ can.
 
 pub returns-in-Err-clause-untouched : goal.returns-in-Err-clause-untouched
 returns-in-Err-clause-untouched g c = λ can e. ap (λ (m : Moment). device_at m c.args.name.now) c.in-Err.ensures.refused.now
+
+pub returns-in-Err-clause-no_database : goal.returns-in-Err-clause-no_database
+returns-in-Err-clause-no_database g c = λ can goes blocks was none.
+    ap (λ (m : Moment). device_at m c.args.name.now) c.in-Err.ensures.refused.now ∙ was
 
 pub returns-in-Err-clause-absent : goal.returns-in-Err-clause-absent
 returns-in-Err-clause-absent g c = λ can none. ap (λ (m : Moment). device_at m c.args.name.now) c.in-Err.ensures.refused.now ∙ none
@@ -56,6 +60,16 @@ returns-clause-untouched g c = λ can.
     (λ e is same none. left_alone c.args.name.now (g.M.Device.content c.args.machine) (g.M.Device.content c.attach.new.self) (g.M.Device.content e.0) can.free o
     (subst (λ r. Silent (g.M.Device.content c.attach.new.self) (g.M.Device.content (machine_left r))) is c.open_attached.ensures.silent) (same none))
     (c.open_attached.ensures.untouched can.told)
+
+pub returns-clause-no_database : goal.returns-clause-no_database
+returns-clause-no_database g c = λ can goes blocks was none.
+    let o = c.in_default.ensures.opened can.told can.free refl in
+    let mid = g.M.Device.content c.attach.new.self in
+    let last = g.M.Device.content (machine_left c.open_attached.result) in
+    let same = attached_blocks c.args.name.now blocks (g.M.Device.content c.args.machine) mid was o in
+    left_alone c.args.name.now (g.M.Device.content c.args.machine) mid last can.free o c.open_attached.ensures.silent
+    (c.open_attached.ensures.no_database can.told goes (subst (λ (bs : List (List ℕ)). ¬ HaveDatabase c.args.specs.now bs) same none))
+    ∙ was
 
 pub returns-clause-absent : goal.returns-clause-absent
 returns-clause-absent g c = λ can none.

@@ -14,7 +14,7 @@ use Rattle.gx_store.proofs.HeldLemmas.{maps_opened, ground_same, if_ok_both}
 use Rattle.gx_store.proofs.JournalLemmas.{journal_settled, maps_placed}
 use Rattle.gx_store.proofs.ShelfLemmas.{silent_after}
 use Rattle.gx_store.proofs.CauseLemmas.{counted_after, sized_by, unread_on, unread_touched}
-use Rattle.gx_store.proofs.AlikeLemmas.{alike_then, recovered_alike, refused_alike, recovery_of, recovery_then, headed}
+use Rattle.gx_store.proofs.AlikeLemmas.{alike_then, recovered_alike, unwritten_by, refused_alike, recovery_of, recovery_then, headed}
 use Rattle.gx_store.proofs.opening.open_attached.Goals as goal
 
 pub returns-in-Ok-clause-holds : goal.returns-in-Ok-clause-holds
@@ -68,6 +68,20 @@ returns-in-Ok-clause-kept g c = λ told goes.
 pub returns-in-Err-clause-kept : goal.returns-in-Err-clause-kept
 returns-in-Err-clause-kept g c = λ told goes.
     refused_alike c.in-Err.why _ _ c.in-Err.ensures.unwritten
+    (λ e. ap (λ d. (g.M.Device.content d).now.blocks) (c.in-Err.ensures.uncalled e))
+    (subst (λ w. not (is_fault w) ≡ true) c.into.ensures goes)
+
+pub returns-in-Ok-clause-no_database : goal.returns-in-Ok-clause-no_database
+returns-in-Ok-clause-no_database g c = λ told goes none.
+    absurd (none (record {
+      size = sized_by c.args.specs.now (length (g.M.Device.content c.args.machine).now.blocks) (g.M.Device.size c.args.machine)
+          c.blocks-2.result c.is_size.result (g.met.M.Device.sized c.args.machine told) c.blocks-2.ensures c.is_size.ensures c.if-not-is_size.false;
+      magic = c.in-Ok.ensures.magic told;
+    }))
+
+pub returns-in-Err-clause-no_database : goal.returns-in-Err-clause-no_database
+returns-in-Err-clause-no_database g c = λ told goes none.
+    unwritten_by c.in-Err.why _ _ c.in-Err.ensures.unwritten
     (λ e. ap (λ d. (g.M.Device.content d).now.blocks) (c.in-Err.ensures.uncalled e))
     (subst (λ w. not (is_fault w) ≡ true) c.into.ensures goes)
 
