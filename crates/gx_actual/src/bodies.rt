@@ -131,7 +131,12 @@ fn read_text(alloc: Global, most: u16, rest: &[u8]) -> Result<Option<Value>, NoM
 fn is_printable_text(text: &[u8]) -> bool
     ensures { result ≡ list_all is_printable text.now }
 {
-    text.iter().all(|byte| matches!(*byte, 0x20..=0x7E))
+    // No byte ends the loop early, so it is compiled to a few instructions for many bytes.
+    let mut printable = true;
+    for byte in text {
+        printable &= matches!(*byte, 0x20..=0x7E);
+    }
+    printable
 }
 
 fn read_bytes(alloc: Global, most: u16, rest: &[u8]) -> Result<Option<Value>, NoMemory>

@@ -10,7 +10,7 @@ ghost use Rattle.gx_actual.specs.Laws.{actual_laws};
 use crate::bodies::{body_bytes, read_body};
 use crate::layer::Actual;
 use gx_mapping::{Mapping, Part, Parts};
-use gx_values::{Form, Name, NoMemory, Rec, Span, Value, Values};
+use gx_values::{Form, Name, NoMemory, Octets, Rec, Span, Value, Values};
 use std::alloc::Global;
 
 impl Mapping for Actual {
@@ -42,6 +42,11 @@ impl Mapping for Actual {
     fn into_parts(&self, alloc: Global, rec: Rec) -> Result<Parts, NoMemory> {
         let Rec { key, fields } = rec;
         with_body(alloc, &self.form, key, &fields)
+    }
+
+    fn body(&self, alloc: Global, rec: &Rec) -> Result<Option<Octets>, NoMemory> {
+        let body = body_bytes(alloc, &self.form.fields.0, &rec.fields.0)?;
+        Ok(Some(body))
     }
 
     fn gather(&self, alloc: Global, key: &Values, parts: &Parts) -> Result<Option<Rec>, NoMemory> {

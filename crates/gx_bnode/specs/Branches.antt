@@ -20,7 +20,8 @@ pub record IsFit (branch : Branch) : Type 0 where
 
 -- a branch is written as the length of its separator, the separator, and the child
 unfoldable pub branch_bytes : Branch → List ℕ
-branch_bytes branch = to_be_bytes w16 (length branch.separator) ++ (branch.separator ++ to_be_bytes w32 branch.child)
+branch_bytes branch =
+    to_be_bytes w16 (length branch.separator) ++ (branch.separator ++ to_be_bytes w32 branch.child)
 
 -- how many bytes a branch takes
 abbrev pub branch_len : Branch → ℕ

@@ -8,7 +8,8 @@ use Rattle.gx_bnode.specs.Branches.{Branch, IsFit, AreAscending, branch_bytes, f
 abbrev pub separators_in : List Branch → List (List ℕ)
 separators_in = map (λ branch. branch.separator)
 
--- the bytes are an inner page with this first child and these branches, one at least, in their order
+-- the bytes are an inner page with this first child and these branches, one at least, in their
+-- order
 pub record IsPageOf (first : ℕ) (branches : List Branch) (bytes : List ℕ) : Type 0 where
   pub page : IsRecordPage branch_bytes IsFit 0x49 branches first bytes
   pub some : 0 < length branches

@@ -3,3 +3,5 @@ pub mod PageLemmas
 pub mod PairLemmas
 pub mod PartLemmas
 pub mod RecordLemmas
+pub mod ScanLemmas
+pub mod SearchLemmas

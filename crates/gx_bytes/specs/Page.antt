@@ -9,7 +9,8 @@ abbrev pub header : ℕ → ℕ → ℕ → List ℕ
 header kind count number = kind ∷ 0 ∷ (to_be_bytes w16 count ++ to_be_bytes w32 number)
 
 -- the bytes are a page of this kind with these records, in their order, and this page number
-pub record IsRecordPage {R : Type 0} (written : R → List ℕ) (Fits : R → Type 0) (kind : ℕ) (rs : List R) (number : ℕ) (bytes : List ℕ) : Type 0 where
+pub record IsRecordPage {R : Type 0} (written : R → List ℕ) (Fits : R → Type 0) (kind : ℕ)
+    (rs : List R) (number : ℕ) (bytes : List ℕ) : Type 0 where
   pub size : length bytes ≡ 4096
   pub number_fits : number < 2 ^ 32
   pub body : List ℕ
@@ -28,6 +29,7 @@ number_of bytes = from_be_bytes w32 (drop 4 bytes)
 abbrev pub records_of : {R : Type 0} → (R → List ℕ) → (List ℕ → R) → List ℕ → List R
 records_of written first bytes = records written first (count_of bytes) (drop 8 bytes)
 
--- how many bytes of a page are taken up to the end of these records, of which `size` gives the length
+-- how many bytes of a page are taken up to the end of these records, of which `size` gives the
+-- length
 abbrev pub used : {R : Type 0} → (R → ℕ) → List R → ℕ
 used size rs = 8 + sum_by size rs

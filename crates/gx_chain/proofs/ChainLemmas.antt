@@ -13,19 +13,28 @@ use Rattle.gx_chain.specs.Chain.{bytes_at, entries_at, next_at, AreLinked, IsOn,
 use Rattle.gx_chain.specs.Changes.{IsRewritten, StaysBeside}
 use Rattle.gx_chain.proofs.ListLemmas.{contains_here, contains_later, contains_cases, contains_none}
 
-pub at_other : (old new : Sheets) (q : ℕ) → slice_get new.bytes q ≡ slice_get old.bytes q → bytes_at new q ≡ bytes_at old q
-at_other old new q e = sym (unwrap_or-slice_get new.bytes q []) ∙ ap (λ o. unwrap_or o []) e ∙ unwrap_or-slice_get old.bytes q []
+pub at_other : (old new : Sheets) (q : ℕ) → slice_get new.bytes q ≡ slice_get old.bytes q
+    → bytes_at new q ≡ bytes_at old q
+at_other old new q e =
+    sym (unwrap_or-slice_get new.bytes q []) ∙ ap (λ o. unwrap_or o []) e
+    ∙ unwrap_or-slice_get old.bytes q []
 
 -- links stay where each page has the same page behind it
 pub relink : (s t : Sheets) (first : ℕ) (pages : List ℕ)
-    → ((q : ℕ) → Contains pages q → IsEntryPage (bytes_at s q) → IsEntryPage (bytes_at t q) × (next_at t q ≡ next_at s q))
+    → ((q : ℕ) → Contains pages q → IsEntryPage (bytes_at s q)
+    → IsEntryPage (bytes_at t q) × (next_at t q ≡ next_at s q))
     → AreLinked s first pages → AreLinked t first pages
 relink s t first [] each l = l
 relink s t first (q ∷ qs) each l =
-    let here = each q (contains_here q qs) l.1 in
-    (l.0, here.0, subst (λ n. AreLinked t n qs) (sym here.1) (relink s t (next_at s q) qs (λ r c. each r (contains_later q r qs c)) l.2))
+    let here = each q (contains_here q qs) l.1 in (
+      l.0,
+      here.0,
+      subst (λ n. AreLinked t n qs) (sym here.1)
+          (relink s t (next_at s q) qs (λ r c. each r (contains_later q r qs c)) l.2),
+    )
 
-pub linked_page : (s : Sheets) (first : ℕ) (pages : List ℕ) (q : ℕ) → AreLinked s first pages → Contains pages q → IsEntryPage (bytes_at s q)
+pub linked_page : (s : Sheets) (first : ℕ) (pages : List ℕ) (q : ℕ) → AreLinked s first pages
+    → Contains pages q → IsEntryPage (bytes_at s q)
 linked_page s first [] q l c = absurd (contains_none q c)
 linked_page s first (r ∷ rs) q l c = elim (contains_cases r q rs c) [
   | inl e ↦ subst (λ n. IsEntryPage (bytes_at s n)) e l.1
@@ -34,10 +43,14 @@ linked_page s first (r ∷ rs) q l c = elim (contains_cases r q rs c) [
 
 -- one page more at the end
 pub linked_push : (s t : Sheets) (first : ℕ) (front : List ℕ) (last fresh : ℕ)
-    → ((q : ℕ) → Contains front q → IsEntryPage (bytes_at s q) → IsEntryPage (bytes_at t q) × (next_at t q ≡ next_at s q))
-    → IsEntryPage (bytes_at t last) → next_at t last ≡ fresh → IsEntryPage (bytes_at t fresh) → next_at t fresh ≡ NONE
-    → AreLinked s first (front ++ last ∷ []) → AreLinked t first ((front ++ last ∷ []) ++ fresh ∷ [])
-linked_push s t first [] last fresh each page hung new_page none l = (l.0, page, (hung, new_page, none))
+    → ((q : ℕ) → Contains front q → IsEntryPage (bytes_at s q)
+    → IsEntryPage (bytes_at t q) × (next_at t q ≡ next_at s q))
+    → IsEntryPage (bytes_at t last) → next_at t last ≡ fresh → IsEntryPage (bytes_at t fresh)
+    → next_at t fresh ≡ NONE
+    → AreLinked s first (front ++ last ∷ [])
+    → AreLinked t first ((front ++ last ∷ []) ++ fresh ∷ [])
+linked_push s t first [] last fresh each page hung new_page none l =
+    (l.0, page, (hung, new_page, none))
 linked_push s t first (q ∷ qs) last fresh each page hung new_page none l =
     let here = each q (contains_here q (qs)) l.1 in (
       l.0,
@@ -47,31 +60,38 @@ linked_push s t first (q ∷ qs) last fresh each page hung new_page none l =
     )
 
 -- a chain stays where its pages do
-module _ (ground : Ground) (owner first : ℕ) (s t : Sheets) (pages : List ℕ) (same : (q : ℕ) → Contains pages q → bytes_at t q ≡ bytes_at s q) where
+module _ (ground : Ground) (owner first : ℕ) (s t : Sheets) (pages : List ℕ)
+    (same : (q : ℕ) → Contains pages q → bytes_at t q ≡ bytes_at s q) where
   pub same_on : (k b : List ℕ) → IsOn s pages k b → IsOn t pages k b
   same_on k b on = record { page = on.page; among = on.among; here = subst (λ (x : List ℕ). Contains (entries_of x) (record { key = k; body = b })) (sym (same on.page on.among)) on.here }
 
   pub same_on_back : (k b : List ℕ) → IsOn t pages k b → IsOn s pages k b
   same_on_back k b on = record { page = on.page; among = on.among; here = subst (λ (x : List ℕ). Contains (entries_of x) (record { key = k; body = b })) (same on.page on.among) on.here }
 
-  pub same_chain : ((q : ℕ) → Contains pages q → slice_get t.owners q ≡ Some owner) → IsChain ground owner s first pages → IsChain ground owner t first pages
+  pub same_chain : ((q : ℕ) → Contains pages q → slice_get t.owners q ≡ Some owner)
+      → IsChain ground owner s first pages → IsChain ground owner t first pages
   same_chain owned chain = record {
-    linked = relink s t first pages (λ q c page. (subst IsEntryPage (sym (same q c)) page, ap next_of (same q c))) chain.linked;
+    linked = relink s t first pages
+        (λ q c page. (subst IsEntryPage (sym (same q c)) page, ap next_of (same q c))) chain.linked;
     once = chain.once;
     past = chain.past;
     owned = owned;
     filled = λ q c d none. chain.filled q c d (sym (ap entries_of (same q c)) ∙ none);
     apart = λ q r k b c in_q in_r at_q at_r. chain.apart q r k b c in_q in_r
-        (subst (λ (x : List ℕ). Contains (entries_of x) (record { key = k; body = b })) (same q in_q) at_q)
+        (subst (λ (x : List ℕ). Contains (entries_of x) (record { key = k; body = b }))
+        (same q in_q) at_q)
         (subst (λ (x : List ℕ). Contains (entries_of x) (record { key = k; body = c })) (same r in_r) at_r);
   }
 
 -- ---- one page is written anew
-module _ (ground : Ground) (owner : ℕ) (s t : Sheets) (first : ℕ) (pages : List ℕ) (p : ℕ) (es : List Entry) (chain : IsChain ground owner s first pages) (among : Contains pages p) (w : IsRewritten p (next_at s p) es s t) where
+module _ (ground : Ground) (owner : ℕ) (s t : Sheets) (first : ℕ) (pages : List ℕ) (p : ℕ)
+    (es : List Entry) (chain : IsChain ground owner s first pages) (among : Contains pages p)
+    (w : IsRewritten p (next_at s p) es s t) where
   same_at : (q : ℕ) → q ≢ p → bytes_at t q ≡ bytes_at s q
   same_at q d = at_other s t q (w.others q d)
 
-  linked_anew : (q : ℕ) → IsEntryPage (bytes_at s q) → IsEntryPage (bytes_at t q) × (next_at t q ≡ next_at s q)
+  linked_anew : (q : ℕ) → IsEntryPage (bytes_at s q)
+      → IsEntryPage (bytes_at t q) × (next_at t q ≡ next_at s q)
   linked_anew q page = elim (cases_eq q p) [
     | inl e ↦ (subst (λ n. IsEntryPage (bytes_at t n)) (sym e) w.is_page, ap (next_at t) e ∙ w.next_is ∙ ap (next_at s) (sym e))
     | inr d ↦ (subst IsEntryPage (sym (same_at q d)) page, ap next_of (same_at q d))
@@ -84,18 +104,21 @@ module _ (ground : Ground) (owner : ℕ) (s t : Sheets) (first : ℕ) (pages : L
   to_new q e d c = subst (λ (x : List Entry). Contains x e) (sym (ap entries_of (same_at q d))) c
 
   to_these : (q : ℕ) (e : Entry) → q ≡ p → Contains (entries_at t q) e → Contains es e
-  to_these q e same c = subst (λ (x : List Entry). Contains x e) (ap (entries_at t) same ∙ w.entries_are) c
+  to_these q e same c =
+      subst (λ (x : List Entry). Contains x e) (ap (entries_at t) same ∙ w.entries_are) c
 
   -- Each key of the new entries stood on the page before, or on none: then it is a chain again.
   pub rewritten_chain : (p ≢ first → es ≢ [])
       → ((k b : List ℕ) → Contains es (record { key = k; body = b })
-      → ((c : List ℕ) × Contains (entries_at s p) (record { key = k; body = c })) ⊎ ((q : ℕ) (c : List ℕ) → Contains pages q → Contains (entries_at s q) (record { key = k; body = c }) → ⊥))
+      → ((c : List ℕ) × Contains (entries_at s p) (record { key = k; body = c }))
+      ⊎ ((q : ℕ) (c : List ℕ) → Contains pages q → Contains (entries_at s q) (record { key = k; body = c }) → ⊥))
       → IsChain ground owner t first pages
   rewritten_chain full keys = record {
     linked = relink s t first pages (λ q c. linked_anew q) chain.linked;
     once = chain.once;
     past = chain.past;
-    owned = λ q c. subst (λ (o : List ℕ). slice_get o q ≡ Some owner) (sym w.owners) (chain.owned q c);
+    owned =
+        λ q c. subst (λ (o : List ℕ). slice_get o q ≡ Some owner) (sym w.owners) (chain.owned q c);
     filled = λ q c d none. elim (cases_eq q p) [
       | inl e ↦ full (λ f. d (e ∙ f)) (sym w.entries_are ∙ ap (entries_at t) (sym e) ∙ none)
       | inr o ↦ chain.filled q c d (sym (ap entries_of (same_at q o)) ∙ none)
@@ -118,11 +141,16 @@ module _ (ground : Ground) (owner : ℕ) (s t : Sheets) (first : ℕ) (pages : L
     ];
   }
 
-  -- What stands on the chain: on this page what was put, else what there was but for one key, which stands on no other page.
+  -- What stands on the chain: on this page what was put, else what there was but for one key, which
+  -- stands on no other page.
   pub rewritten_on : (Put : List ℕ → List ℕ → Type 0) (key : List ℕ)
-      → ((k b : List ℕ) → Contains es (record { key = k; body = b }) → Put k b ⊎ ((k ≢ key) × Contains (entries_at s p) (record { key = k; body = b })))
-      → ((k b : List ℕ) → Put k b ⊎ ((k ≢ key) × Contains (entries_at s p) (record { key = k; body = b })) → Contains es (record { key = k; body = b }))
-      → ((q : ℕ) (b : List ℕ) → q ≢ p → Contains pages q → Contains (entries_at s q) (record { key = key; body = b }) → ⊥)
+      → ((k b : List ℕ) → Contains es (record { key = k; body = b })
+      → Put k b ⊎ ((k ≢ key) × Contains (entries_at s p) (record { key = k; body = b })))
+      → ((k b : List ℕ)
+      → Put k b ⊎ ((k ≢ key) × Contains (entries_at s p) (record { key = k; body = b }))
+      → Contains es (record { key = k; body = b }))
+      → ((q : ℕ) (b : List ℕ) → q ≢ p → Contains pages q
+      → Contains (entries_at s q) (record { key = key; body = b }) → ⊥)
       → (k b : List ℕ) → IsOn t pages k b ↔ (Put k b ⊎ ((k ≢ key) × IsOn s pages k b))
   rewritten_on Put key to from absent k b = (
     λ on. elim (cases_eq on.page p) [
@@ -131,7 +159,8 @@ module _ (ground : Ground) (owner : ℕ) (s t : Sheets) (first : ℕ) (pages : L
         | inr old ↦ inr (old.0, record { page = p; among = among; here = old.1 })
       ]
       | inr d ↦ (let here = to_old on.page _ d on.here in
-          inr (λ same. absent on.page b d on.among (subst (λ (x : List ℕ). Contains (entries_at s on.page) (record { key = x; body = b })) same here), record { page = on.page; among = on.among; here = here }))
+          inr
+          (λ same. absent on.page b d on.among (subst (λ (x : List ℕ). Contains (entries_at s on.page) (record { key = x; body = b })) same here), record { page = on.page; among = on.among; here = here }))
     ],
     λ put. elim put [
       | inl here ↦ record { page = p; among = among; here = subst (λ (x : List Entry). Contains x (record { key = k; body = b })) (sym w.entries_are) (from k b (inl here)) }

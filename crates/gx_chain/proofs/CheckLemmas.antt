@@ -50,7 +50,8 @@ pub not_false : (b : Bool) → false ≡ not b → b ≡ true
 not_false true e = refl
 not_false false e = absurd (false≢true e)
 
-has_inserted : (ks : List (Vec ℕ)) (v : Vec ℕ) (k : List ℕ) → has_key (insert_key vec_cmp ks v) k ≡ (eq_by_cmp key_cmp k v.items || has_key ks k)
+has_inserted : (ks : List (Vec ℕ)) (v : Vec ℕ) (k : List ℕ)
+    → has_key (insert_key vec_cmp ks v) k ≡ (eq_by_cmp key_cmp k v.items || has_key ks k)
 has_inserted [] v k = refl
 has_inserted (x ∷ xs) v k =
     elim (key_cmp v.items x.items) as (λ r. key_cmp v.items x.items ≡ r → has_key (match_ordering r (v ∷ x ∷ xs) (x ∷ xs) (x ∷ insert_key vec_cmp xs v)) k ≡ (eq_by_cmp key_cmp k v.items || has_key (x ∷ xs) k)) [
@@ -67,7 +68,8 @@ head_apart y e xs d c = let below = c.1 in λ same. d 0 (suc c.0) e (omega arith
 distinct_tail : (y : Entry) (xs : List Entry) → AreDistinct (y ∷ xs) → AreDistinct xs
 distinct_tail y xs d i j z less below = d (suc i) (suc j) z (omega arith) (omega arith)
 
-distinct_before : (done : List Entry) (e x : Entry) (rest : List Entry) → AreDistinct (done ++ e ∷ rest) → Contains done x → x.key ≢ e.key
+distinct_before : (done : List Entry) (e x : Entry) (rest : List Entry)
+    → AreDistinct (done ++ e ∷ rest) → Contains done x → x.key ≢ e.key
 distinct_before [] e x rest d c = absurd (contains_none x c)
 distinct_before (y ∷ ys) e x rest d c = elim (contains_cases y x ys c) [
   | inl same ↦ λ eq. head_apart y e (ys ++ e ∷ rest) d (contains_middle ys e rest) (ap (λ (z : Entry). z.key) same ∙ eq)
@@ -80,16 +82,20 @@ added_none old = record {
   those = λ key. (λ is. inr is, λ c. elim c [ inl is ↦ absurd (contains_none (record { key = key; body = is.0 }) is.1) | inr is ↦ is ]);
 }
 
-module _ (done : List Entry) (e : Entry) (old mid : List (Vec ℕ)) (h : HasAddedKeys done old mid) (v : Vec ℕ) (is : v.items ≡ e.key) where
+module _ (done : List Entry) (e : Entry) (old mid : List (Vec ℕ)) (h : HasAddedKeys done old mid)
+    (v : Vec ℕ) (is : v.items ≡ e.key) where
   key_cases : (key : List ℕ) → IsKeyOf (done ++ e ∷ []) key → IsKeyOf done key ⊎ (key ≡ e.key)
   key_cases key among = elim (Contains-push_cases done e (record { key = key; body = among.0 }) among.1) [
     | inl before ↦ inl (among.0, before)
     | inr same ↦ inr (sym (ap (λ (x : Entry). x.key) same))
   ]
 
-  added_more : (new : List (Vec ℕ)) → has_key mid v.items ≡ false → new ≡ insert_key vec_cmp mid v → HasAddedKeys (done ++ e ∷ []) old new
+  added_more : (new : List (Vec ℕ)) → has_key mid v.items ≡ false → new ≡ insert_key vec_cmp mid v
+      → HasAddedKeys (done ++ e ∷ []) old new
   added_more new absent inserted =
-      let has = λ (key : List ℕ). ap (λ (x : List (Vec ℕ)). has_key x key) inserted ∙ has_inserted mid v key in
+      let has =
+      λ (key : List ℕ). ap (λ (x : List (Vec ℕ)). has_key x key) inserted
+      ∙ has_inserted mid v key in
       record {
         fresh = λ key among was. elim (key_cases key among) [
           | inl before ↦ h.fresh key before was
@@ -113,9 +119,11 @@ module _ (done : List Entry) (e : Entry) (old mid : List (Vec ℕ)) (h : HasAdde
         );
       }
 
-  shares : (entries rest : List Entry) → entries ≡ done ++ e ∷ rest → AreDistinct entries → has_key mid v.items ≡ true → SharesKey entries old
+  shares : (entries rest : List Entry) → entries ≡ done ++ e ∷ rest → AreDistinct entries
+      → has_key mid v.items ≡ true → SharesKey entries old
   shares entries rest all distinct has =
-      let among : IsKeyOf entries e.key = (e.body, subst (λ (es : List Entry). Contains es e) (sym all) (contains_middle done e rest)) in
+      let among : IsKeyOf entries e.key =
+      (e.body, subst (λ (es : List Entry). Contains es e) (sym all) (contains_middle done e rest)) in
       elim ((h.those e.key).0 (ap (has_key mid) (sym is) ∙ has)) [
         | inl before ↦ absurd (distinct_before done e (record { key = e.key; body = before.0 }) rest (subst AreDistinct all distinct) before.1 refl)
         | inr first ↦ record { key = e.key; among = among; shared = first }
@@ -127,10 +135,13 @@ pub record IsAdding (entries left : List Entry) (old new : List (Vec ℕ)) : Typ
   pub is : entries ≡ done ++ left
   pub added : HasAddedKeys done old new
 
-pub adding_first : (entries left : List Entry) (old : List (Vec ℕ)) → left ≡ entries → IsAdding entries left old old
+pub adding_first : (entries left : List Entry) (old : List (Vec ℕ)) → left ≡ entries
+    → IsAdding entries left old old
 adding_first entries left old is = record { done = []; is = sym is; added = added_none old }
 
-pub adding_more : (entries left : List Entry) (e : Entry) (rest : List Entry) (old mid new : List (Vec ℕ)) (v : Vec ℕ) → IsAdding entries left old mid → left ≡ e ∷ rest → v.items ≡ e.key
+pub adding_more : (entries left : List Entry) (e : Entry) (rest : List Entry)
+    (old mid new : List (Vec ℕ)) (v : Vec ℕ) → IsAdding entries left old mid → left ≡ e ∷ rest
+    → v.items ≡ e.key
     → has_key mid v.items ≡ false → new ≡ insert_key vec_cmp mid v → IsAdding entries rest old new
 adding_more entries left e rest old mid new v i step is absent inserted = record {
   done = i.done ++ e ∷ [];
@@ -138,9 +149,16 @@ adding_more entries left e rest old mid new v i step is absent inserted = record
   added = added_more i.done e old mid i.added v is new absent inserted;
 }
 
-pub adding_shares : (entries left : List Entry) (e : Entry) (rest : List Entry) (old mid : List (Vec ℕ)) (v : Vec ℕ) → IsAdding entries left old mid → left ≡ e ∷ rest → v.items ≡ e.key → AreDistinct entries
+pub adding_shares : (entries left : List Entry) (e : Entry) (rest : List Entry)
+    (old mid : List (Vec ℕ)) (v : Vec ℕ) → IsAdding entries left old mid → left ≡ e ∷ rest
+    → v.items ≡ e.key → AreDistinct entries
     → has_key mid v.items ≡ true → SharesKey entries old
-adding_shares entries left e rest old mid v i step is distinct has = shares i.done e old mid i.added v is entries rest (i.is ∙ ap (λ (x : List Entry). i.done ++ x) step) distinct has
+adding_shares entries left e rest old mid v i step is distinct has =
+    shares i.done e old mid i.added v is entries rest
+    (i.is ∙ ap (λ (x : List Entry). i.done ++ x) step) distinct has
 
-pub adding_last : (entries left : List Entry) (old new : List (Vec ℕ)) → IsAdding entries left old new → left ≡ [] → HasAddedKeys entries old new
-adding_last entries left old new i none = subst (λ (es : List Entry). HasAddedKeys es old new) (sym (i.is ∙ ap (λ (x : List Entry). i.done ++ x) none ∙ append-nil i.done)) i.added
+pub adding_last : (entries left : List Entry) (old new : List (Vec ℕ))
+    → IsAdding entries left old new → left ≡ [] → HasAddedKeys entries old new
+adding_last entries left old new i none =
+    subst (λ (es : List Entry). HasAddedKeys es old new)
+    (sym (i.is ∙ ap (λ (x : List Entry). i.done ++ x) none ∙ append-nil i.done)) i.added

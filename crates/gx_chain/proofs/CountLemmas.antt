@@ -18,7 +18,9 @@ use Rattle.gx_chain.proofs.ListLemmas.{contains_here, contains_later, contains_c
 
 -- a list without one of its members
 abbrev HasTaken : ℕ → List ℕ → Type 0
-HasTaken x ys = (rest : List ℕ) × (length ys ≡ length rest + 1) × ((q : ℕ) → q ≢ x → Contains ys q → Contains rest q)
+HasTaken x ys =
+    (rest : List ℕ) × (length ys ≡ length rest + 1)
+    × ((q : ℕ) → q ≢ x → Contains ys q → Contains rest q)
 
 take_away : (x : ℕ) (ys : List ℕ) → Contains ys x → HasTaken x ys
 take_away x [] c = absurd (contains_none x c)
@@ -36,14 +38,17 @@ take_away x (y ∷ ys) c = elim (contains_cases y x ys c) [
 ]
 
 -- those of an owner are at most as many as a list that has them all
-pub count_listed : (owner : ℕ) (owners : List ℕ) (from : ℕ) (pages : List ℕ) → ((q : ℕ) → slice_get owners q ≡ Some owner → Contains pages (from + q)) → count_by (λ o. o == owner) owners ≤ length pages
+pub count_listed : (owner : ℕ) (owners : List ℕ) (from : ℕ) (pages : List ℕ)
+    → ((q : ℕ) → slice_get owners q ≡ Some owner → Contains pages (from + q))
+    → count_by (λ o. o == owner) owners ≤ length pages
 count_listed owner [] from pages all = omega arith
 count_listed owner (o ∷ os) from pages all =
     let parts = sum_by-cons (λ (x : ℕ). cond (x == owner) 1 0) o os in
     elim (cases_Bool (o == owner)) [
       | inl e ↦ (let at = all zero (ap Some (eqb-true o owner e)) in
           let t = take_away (from + zero) pages at in
-          let h = count_listed owner os (from + 1) t.0 (λ q is. t.2 (from + 1 + q) (λ f. omega (arith, f)) (subst (Contains pages) (omega arith) (all (suc q) is))) in
+          let h = count_listed owner os (from + 1) t.0
+          (λ q is. t.2 (from + 1 + q) (λ f. omega (arith, f)) (subst (Contains pages) (omega arith) (all (suc q) is))) in
           let l = t.1 in
           let one = ap {B = ℕ} (λ (b : Bool). cond b 1 0) e in
           omega (arith, h, l, parts, one))
@@ -60,8 +65,12 @@ some_entry m k b is = elim (cases_eq (fin.len m) 0) [
 
 -- pages with keys of their own are at most as many as the keys of a map
 pub keys_few : (sheets : Sheets) (pages : List ℕ) (m : LeafMap) → AllPairs (λ a b. a ≢ b) pages
-    → ((p : ℕ) → Contains pages p → (k b : List ℕ) × Contains (entries_at sheets p) (record { key = k; body = b }) × (fin.get m k ≡ Some b))
-    → ((p q : ℕ) (k b c : List ℕ) → Contains pages p → Contains pages q → Contains (entries_at sheets p) (record { key = k; body = b }) → Contains (entries_at sheets q) (record { key = k; body = c }) → p ≡ q)
+    → ((p : ℕ) → Contains pages p
+    → (k b : List ℕ) × Contains (entries_at sheets p) (record { key = k; body = b })
+    × (fin.get m k ≡ Some b))
+    → ((p q : ℕ) (k b c : List ℕ) → Contains pages p → Contains pages q
+    → Contains (entries_at sheets p) (record { key = k; body = b })
+    → Contains (entries_at sheets q) (record { key = k; body = c }) → p ≡ q)
     → length pages ≤ fin.len m
 keys_few sheets [] m once has apart = omega arith
 keys_few sheets (p ∷ ps) m once has apart =
@@ -80,15 +89,20 @@ keys_few sheets (p ∷ ps) m once has apart =
     )))
     (λ q r k b c in_q in_r. apart q r k b c (contains_later p q ps in_q) (contains_later p r ps in_r)) in
     let some = some_entry m w.0 w.1 w.3 in
-    let shorter : fin.len less ≡ fin.len m - 1 = fin.len-remove nat_list_cmp_total m w.0 ∙ ap (λ (b : Bool). cond b (fin.len m - 1) (fin.len m)) (ap is_some w.3) in
+    let shorter : fin.len less ≡ fin.len m - 1 =
+    fin.len-remove nat_list_cmp_total m w.0
+    ∙ ap (λ (b : Bool). cond b (fin.len m - 1) (fin.len m)) (ap is_some w.3) in
     omega (arith, ih, some, shorter)
 
-pub first_of : (es : List Entry) → es ≢ [] → (k b : List ℕ) × Contains es (record { key = k; body = b })
+pub first_of : (es : List Entry) → es ≢ []
+    → (k b : List ℕ) × Contains es (record { key = k; body = b })
 first_of [] some = absurd (some refl)
 first_of (e ∷ es) some = (e.key, e.body, contains_here e es)
 
 -- a chain has at most one page more than its map has entries
-pub chain_few : (ground : Ground) (owner : ℕ) (sheets : Sheets) (first : ℕ) (pages : List ℕ) (m : LeafMap) → IsChain ground owner sheets first pages → ((k b : List ℕ) → IsOn sheets pages k b → fin.get m k ≡ Some b) → length pages ≤ 1 + fin.len m
+pub chain_few : (ground : Ground) (owner : ℕ) (sheets : Sheets) (first : ℕ) (pages : List ℕ)
+    (m : LeafMap) → IsChain ground owner sheets first pages
+    → ((k b : List ℕ) → IsOn sheets pages k b → fin.get m k ≡ Some b) → length pages ≤ 1 + fin.len m
 chain_few ground owner sheets first [] m chain map_is = omega arith
 chain_few ground owner sheets first (p ∷ ps) m chain map_is =
     let h = keys_few sheets ps m (pairs_tail p ps chain.once)

@@ -10,8 +10,10 @@ use Rattle.gx_slots.specs.Entries.{Entry, AreDistinct}
 use Rattle.gx_chain.proofs.ListLemmas.{contains_here, contains_later, contains_cases}
 
 -- one entry less
-module _ (es : List Entry) (i : ℕ) (key : List ℕ) (distinct : AreDistinct es) (in_i : i < length es) (there : HoldsAt (λ entry. entry.key ≡ key) es i) where
-  less_at : (e : Entry) (k : ℕ) → k < length (remove es i) → get_or (remove es i) k e ≡ e → (e.key ≢ key) × Contains es e
+module _ (es : List Entry) (i : ℕ) (key : List ℕ) (distinct : AreDistinct es) (in_i : i < length es)
+    (there : HoldsAt (λ entry. entry.key ≡ key) es i) where
+  less_at : (e : Entry) (k : ℕ) → k < length (remove es i) → get_or (remove es i) k e ≡ e
+      → (e.key ≢ key) × Contains es e
   less_at e k below is =
       let short = length-remove es i in_i in
       elim (cases_lt k i) [
@@ -27,9 +29,12 @@ module _ (es : List Entry) (i : ℕ) (key : List ℕ) (distinct : AreDistinct es
 
   -- no other entry has the key
   pub less_other : All (λ e. e.key ≢ key) (remove es i)
-  less_other k d below = (less_at (get_or (remove es i) k d) k below (get_or_default (remove es i) k (get_or (remove es i) k d) d below)).0
+  less_other k d below =
+      (less_at (get_or (remove es i) k d) k below
+      (get_or_default (remove es i) k (get_or (remove es i) k d) d below)).0
 
-  kept_at : (e : Entry) (k : ℕ) → k < length es → get_or es k e ≡ e → e.key ≢ key → Contains (remove es i) e
+  kept_at : (e : Entry) (k : ℕ) → k < length es → get_or es k e ≡ e → e.key ≢ key
+      → Contains (remove es i) e
   kept_at e k below is other =
       let short = length-remove es i in_i in
       elim (cases_order k i) [
@@ -45,21 +50,30 @@ module _ (es : List Entry) (i : ℕ) (key : List ℕ) (distinct : AreDistinct es
   less_from e c = kept_at e c.1.0 c.1.1 c.1.2 c.0
 
 -- one entry more
-pub more_to : (es : List Entry) (i : ℕ) (x e : Entry) → Contains (insert es i x) e → (x ≡ e) ⊎ Contains es e
-more_to es i x e c = contains_cases x e es (Contains-permutation (insert es i x) (x ∷ es) e (IsPermutation-sym (x ∷ es) (insert es i x) (IsPermutation-insert es i x)) c)
+pub more_to : (es : List Entry) (i : ℕ) (x e : Entry) → Contains (insert es i x) e
+    → (x ≡ e) ⊎ Contains es e
+more_to es i x e c =
+    contains_cases x e es (Contains-permutation (insert es i x) (x ∷ es) e
+    (IsPermutation-sym (x ∷ es) (insert es i x) (IsPermutation-insert es i x)) c)
 
-pub more_from : (es : List Entry) (i : ℕ) (x e : Entry) → (x ≡ e) ⊎ Contains es e → Contains (insert es i x) e
-more_from es i x e c = Contains-permutation (x ∷ es) (insert es i x) e (IsPermutation-insert es i x) (elim c [
-  | inl same ↦ subst (Contains (x ∷ es)) same (contains_here x es)
-  | inr among ↦ contains_later x e es among
-])
+pub more_from : (es : List Entry) (i : ℕ) (x e : Entry) → (x ≡ e) ⊎ Contains es e
+    → Contains (insert es i x) e
+more_from es i x e c =
+    Contains-permutation (x ∷ es) (insert es i x) e (IsPermutation-insert es i x) (elim c [
+      | inl same ↦ subst (Contains (x ∷ es)) same (contains_here x es)
+      | inr among ↦ contains_later x e es among
+    ])
 
 -- the key of no entry
-pub no_entry : (es : List Entry) (key body : List ℕ) → All (λ entry. entry.key ≢ key) es → Contains es (record { key = key; body = body }) → ⊥
-no_entry es key body other c = All-contains (λ (e : Entry). e.key ≢ key) es (record { key = key; body = body }) other c refl
+pub no_entry : (es : List Entry) (key body : List ℕ) → All (λ entry. entry.key ≢ key) es
+    → Contains es (record { key = key; body = body }) → ⊥
+no_entry es key body other c =
+    All-contains (λ (e : Entry). e.key ≢ key) es (record { key = key; body = body }) other c refl
 
 -- an entry at a place
-pub entry_there : (es : List Entry) (i : ℕ) (key : List ℕ) → i < length es → HoldsAt (λ entry. entry.key ≡ key) es i → (body : List ℕ) × Contains es (record { key = key; body = body })
+pub entry_there : (es : List Entry) (i : ℕ) (key : List ℕ) → i < length es
+    → HoldsAt (λ entry. entry.key ≡ key) es i
+    → (body : List ℕ) × Contains es (record { key = key; body = body })
 entry_there es i key in_i there =
     let d : Entry = record { key = key; body = [] } in
     let e = get_or es i d in

@@ -1,8 +1,10 @@
 pub mod ListLemmas
+pub mod FoundLemmas
 pub mod EntryLemmas
 pub mod ChainLemmas
 pub mod WriteLemmas
 pub mod WalkLemmas
+pub mod WalkEndLemmas
 pub mod PutLemmas
 pub mod CountLemmas
 pub mod RemoveLemmas
@@ -13,3 +15,5 @@ pub mod CollectLemmas
 pub mod SelectLemmas
 pub mod MapLemmas
 pub mod OwnerLemmas
+pub mod ChainsLemmas
+pub mod PlacedLemmas

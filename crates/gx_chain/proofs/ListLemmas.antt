@@ -11,21 +11,25 @@ contains_here x xs = (0, omega arith, refl)
 pub contains_later : {X : Type 0} (y x : X) (xs : List X) → Contains xs x → Contains (y ∷ xs) x
 contains_later y x xs c = let below = c.1 in (suc c.0, omega arith, c.2)
 
-later_or_here : {X : Type 0} (y x : X) (xs : List X) (k : ℕ) → k < length (y ∷ xs) → get_or (y ∷ xs) k x ≡ x → (y ≡ x) ⊎ Contains xs x
+later_or_here : {X : Type 0} (y x : X) (xs : List X) (k : ℕ) → k < length (y ∷ xs)
+    → get_or (y ∷ xs) k x ≡ x → (y ≡ x) ⊎ Contains xs x
 later_or_here y x xs zero below is = inl is
 later_or_here y x xs (suc k) below is = inr (k, omega arith, is)
 
-pub contains_cases : {X : Type 0} (y x : X) (xs : List X) → Contains (y ∷ xs) x → (y ≡ x) ⊎ Contains xs x
+pub contains_cases : {X : Type 0} (y x : X) (xs : List X) → Contains (y ∷ xs) x
+    → (y ≡ x) ⊎ Contains xs x
 contains_cases y x xs c = later_or_here y x xs c.0 c.1 c.2
 
 pub contains_none : {X : Type 0} (x : X) → Contains [] x → ⊥
 contains_none x c = let below = c.1 in omega arith
 
-pub contains_middle : {X : Type 0} (front : List X) (x : X) (rest : List X) → Contains (front ++ x ∷ rest) x
+pub contains_middle : {X : Type 0} (front : List X) (x : X) (rest : List X)
+    → Contains (front ++ x ∷ rest) x
 contains_middle front x rest = Contains-append_right front (x ∷ rest) x (contains_here x rest)
 
 -- the three parts of a list
-pub middle_cases : {X : Type 0} (front : List X) (y : X) (rest : List X) (x : X) → Contains (front ++ y ∷ rest) x → Contains front x ⊎ ((y ≡ x) ⊎ Contains rest x)
+pub middle_cases : {X : Type 0} (front : List X) (y : X) (rest : List X) (x : X)
+    → Contains (front ++ y ∷ rest) x → Contains front x ⊎ ((y ≡ x) ⊎ Contains rest x)
 middle_cases front y rest x c = elim (Contains-append_cases front (y ∷ rest) x c) [
   | inl i ↦ inl i
   | inr i ↦ inr (contains_cases y x rest i)
@@ -47,17 +51,20 @@ contains_or_not (y ∷ xs) x = elim (cases_eq y x) [
 pub pairs_head : (x : ℕ) (xs : List ℕ) → AllPairs (λ a b. a ≢ b) (x ∷ xs) → Contains xs x → ⊥
 pairs_head x xs once c = let below = c.1 in once 0 (suc c.0) x (omega arith) (omega arith) (sym c.2)
 
-pub pairs_tail : (x : ℕ) (xs : List ℕ) → AllPairs (λ a b. a ≢ b) (x ∷ xs) → AllPairs (λ a b. a ≢ b) xs
+pub pairs_tail : (x : ℕ) (xs : List ℕ) → AllPairs (λ a b. a ≢ b) (x ∷ xs)
+    → AllPairs (λ a b. a ≢ b) xs
 pairs_tail x xs once i j d less below = once (suc i) (suc j) d (omega arith) (omega arith)
 
-pub pairs_cons : (x : ℕ) (xs : List ℕ) → (Contains xs x → ⊥) → AllPairs (λ a b. a ≢ b) xs → AllPairs (λ a b. a ≢ b) (x ∷ xs)
+pub pairs_cons : (x : ℕ) (xs : List ℕ) → (Contains xs x → ⊥) → AllPairs (λ a b. a ≢ b) xs
+    → AllPairs (λ a b. a ≢ b) (x ∷ xs)
 pairs_cons x xs off once zero zero d less below = absurd (omega arith)
 pairs_cons x xs off once zero (suc j) d less below = let lt : j < length xs = omega arith in λ e. off (j, lt, get_or_default xs j x d lt ∙ sym e)
 pairs_cons x xs off once (suc i) zero d less below = absurd (omega arith)
 pairs_cons x xs off once (suc i) (suc j) d less below = once i j d (omega arith) (omega arith)
 
 -- the last one is none of those before it
-pub pairs_last : (front : List ℕ) (x : ℕ) → AllPairs (λ a b. a ≢ b) (front ++ x ∷ []) → Contains front x → ⊥
+pub pairs_last : (front : List ℕ) (x : ℕ) → AllPairs (λ a b. a ≢ b) (front ++ x ∷ [])
+    → Contains front x → ⊥
 pairs_last [] x once c = contains_none x c
 pairs_last (y ∷ ys) x once c = elim (contains_cases y x ys c) [
   | inl e ↦ pairs_head y (ys ++ x ∷ []) once (subst (Contains (ys ++ x ∷ [])) (sym e) (contains_middle ys x []))
@@ -65,24 +72,31 @@ pairs_last (y ∷ ys) x once c = elim (contains_cases y x ys c) [
 ]
 
 -- those of a front are different
-pub pairs_front : (front rest : List ℕ) → AllPairs (λ a b. a ≢ b) (front ++ rest) → AllPairs (λ a b. a ≢ b) front
+pub pairs_front : (front rest : List ℕ) → AllPairs (λ a b. a ≢ b) (front ++ rest)
+    → AllPairs (λ a b. a ≢ b) front
 pairs_front [] rest once = λ i j d less below. absurd (omega arith)
-pairs_front (y ∷ ys) rest once = pairs_cons y ys (λ c. pairs_head y (ys ++ rest) once (Contains-append_left ys rest y c)) (pairs_front ys rest (pairs_tail y (ys ++ rest) once))
+pairs_front (y ∷ ys) rest once =
+    pairs_cons y ys (λ c. pairs_head y (ys ++ rest) once (Contains-append_left ys rest y c))
+    (pairs_front ys rest (pairs_tail y (ys ++ rest) once))
 
 -- and none of them stands behind
-pub pairs_across : (others : List ℕ) (q : ℕ) (rest : List ℕ) → AllPairs (λ a b. a ≢ b) ((others ++ q ∷ []) ++ rest) → Contains rest q → ⊥
+pub pairs_across : (others : List ℕ) (q : ℕ) (rest : List ℕ)
+    → AllPairs (λ a b. a ≢ b) ((others ++ q ∷ []) ++ rest) → Contains rest q → ⊥
 pairs_across [] q rest once c = pairs_head q rest once c
-pairs_across (y ∷ ys) q rest once c = pairs_across ys q rest (pairs_tail y ((ys ++ q ∷ []) ++ rest) once) c
+pairs_across (y ∷ ys) q rest once c =
+    pairs_across ys q rest (pairs_tail y ((ys ++ q ∷ []) ++ rest) once) c
 
 -- ---- one of different numbers is left out
 
-pub without_to : (front : List ℕ) (x : ℕ) (rest : List ℕ) (y : ℕ) → Contains (front ++ rest) y → Contains (front ++ x ∷ rest) y
+pub without_to : (front : List ℕ) (x : ℕ) (rest : List ℕ) (y : ℕ) → Contains (front ++ rest) y
+    → Contains (front ++ x ∷ rest) y
 without_to front x rest y c = elim (Contains-append_cases front rest y c) [
   | inl i ↦ Contains-append_left front (x ∷ rest) y i
   | inr i ↦ Contains-append_right front (x ∷ rest) y (contains_later x y rest i)
 ]
 
-pub without_from : (front : List ℕ) (x : ℕ) (rest : List ℕ) (y : ℕ) → y ≢ x → Contains (front ++ x ∷ rest) y → Contains (front ++ rest) y
+pub without_from : (front : List ℕ) (x : ℕ) (rest : List ℕ) (y : ℕ) → y ≢ x
+    → Contains (front ++ x ∷ rest) y → Contains (front ++ rest) y
 without_from front x rest y d c = elim (middle_cases front x rest y c) [
   | inl i ↦ Contains-append_left front rest y i
   | inr i ↦ elim i [
@@ -91,11 +105,15 @@ without_from front x rest y d c = elim (middle_cases front x rest y c) [
   ]
 ]
 
-pub without_once : (front : List ℕ) (x : ℕ) (rest : List ℕ) → AllPairs (λ a b. a ≢ b) (front ++ x ∷ rest) → AllPairs (λ a b. a ≢ b) (front ++ rest)
+pub without_once : (front : List ℕ) (x : ℕ) (rest : List ℕ)
+    → AllPairs (λ a b. a ≢ b) (front ++ x ∷ rest) → AllPairs (λ a b. a ≢ b) (front ++ rest)
 without_once [] x rest once = pairs_tail x rest once
-without_once (y ∷ ys) x rest once = pairs_cons y (ys ++ rest) (λ c. pairs_head y (ys ++ x ∷ rest) once (without_to ys x rest y c)) (without_once ys x rest (pairs_tail y (ys ++ x ∷ rest) once))
+without_once (y ∷ ys) x rest once =
+    pairs_cons y (ys ++ rest) (λ c. pairs_head y (ys ++ x ∷ rest) once (without_to ys x rest y c))
+    (without_once ys x rest (pairs_tail y (ys ++ x ∷ rest) once))
 
-pub without_off : (front : List ℕ) (x : ℕ) (rest : List ℕ) → AllPairs (λ a b. a ≢ b) (front ++ x ∷ rest) → Contains (front ++ rest) x → ⊥
+pub without_off : (front : List ℕ) (x : ℕ) (rest : List ℕ)
+    → AllPairs (λ a b. a ≢ b) (front ++ x ∷ rest) → Contains (front ++ rest) x → ⊥
 without_off [] x rest once c = pairs_head x rest once c
 without_off (y ∷ ys) x rest once c = elim (contains_cases y x (ys ++ rest) c) [
   | inl e ↦ pairs_head y (ys ++ x ∷ rest) once (subst (Contains (ys ++ x ∷ rest)) (sym e) (contains_middle ys x rest))
@@ -128,7 +146,8 @@ take_out x (z ∷ xs) u = elim (cases_eq z x) [
 less_of : (x n : ℕ) → x < suc n → x ≢ n → x < n
 less_of x n b d = omega (arith, b, d)
 
-pub few : (n : ℕ) (xs : List ℕ) → AllPairs (λ a b. a ≢ b) xs → ((x : ℕ) → Contains xs x → x < n) → length xs ≤ n
+pub few : (n : ℕ) (xs : List ℕ) → AllPairs (λ a b. a ≢ b) xs → ((x : ℕ) → Contains xs x → x < n)
+    → length xs ≤ n
 few zero [] u below = omega arith
 few zero (x ∷ xs) u below = let h = below x (contains_here x xs) in omega (arith, h)
 few (suc n) xs u below =

@@ -14,20 +14,26 @@ use Rattle.gx_chain.proofs.ListLemmas.{contains_or_not}
 
 -- ---- the pages of other owners
 
-module _ (ground : Ground) (owner first : ℕ) (s t : Sheets) (before now : List ℕ) (some : 1 ≤ owner) (was : IsChain ground owner s first before) (is : IsChain ground owner t first now) (b : StaysBeside ground s t before now) where
-  off_before : (other q : ℕ) → other ≢ owner → slice_get s.owners q ≡ Some other → Contains before q → ⊥
+module _ (ground : Ground) (owner first : ℕ) (s t : Sheets) (before now : List ℕ) (some : 1 ≤ owner)
+    (was : IsChain ground owner s first before) (is : IsChain ground owner t first now)
+    (b : StaysBeside ground s t before now) where
+  off_before : (other q : ℕ) → other ≢ owner → slice_get s.owners q ≡ Some other → Contains before q
+      → ⊥
   off_before other q d o c = d (sym (same_Some owner other (sym (was.owned q c) ∙ o)))
 
-  off_now : (other q : ℕ) → other ≢ owner → other ≢ 0 → slice_get s.owners q ≡ Some other → Contains now q → ⊥
+  off_now : (other q : ℕ) → other ≢ owner → other ≢ 0 → slice_get s.owners q ≡ Some other
+      → Contains now q → ⊥
   off_now other q d z o c = elim (b.came q c) [
     | inl old ↦ off_before other q d o old
     | inr free ↦ z (sym (same_Some 0 other (sym free ∙ o)))
   ]
 
-  new_off_now : (other q : ℕ) → other ≢ owner → slice_get t.owners q ≡ Some other → Contains now q → ⊥
+  new_off_now : (other q : ℕ) → other ≢ owner → slice_get t.owners q ≡ Some other → Contains now q
+      → ⊥
   new_off_now other q d o c = d (sym (same_Some owner other (sym (is.owned q c) ∙ o)))
 
-  new_off_before : (other q : ℕ) → other ≢ owner → other ≢ 0 → slice_get t.owners q ≡ Some other → Contains before q → ⊥
+  new_off_before : (other q : ℕ) → other ≢ owner → other ≢ 0 → slice_get t.owners q ≡ Some other
+      → Contains before q → ⊥
   new_off_before other q d z o c = elim (b.left q c) [
     | inl here ↦ new_off_now other q d o here
     | inr free ↦ z (sym (same_Some 0 other (sym free ∙ o)))
@@ -43,7 +49,8 @@ module _ (ground : Ground) (owner first : ℕ) (s t : Sheets) (before now : List
   }
 
   -- the pages of the owner are those of the chain
-  pub owned_beside : ((q : ℕ) → slice_get s.owners q ≡ Some owner → Contains before q) → (q : ℕ) → slice_get t.owners q ≡ Some owner → Contains now q
+  pub owned_beside : ((q : ℕ) → slice_get s.owners q ≡ Some owner → Contains before q) → (q : ℕ)
+      → slice_get t.owners q ≡ Some owner → Contains now q
   owned_beside all q o = elim (contains_or_not now q) [
     | inl here ↦ here
     | inr off ↦ elim (contains_or_not before q) [
@@ -62,11 +69,18 @@ others_same ground owner s t same other d z = record {
 }
 
 -- a change that didn't fail spares others: it is done, or found no page
-pub spared : {S : Type 0} (g : Ghosts S) (sound : Type 0) (ground : Ground) (owner : ℕ) (old new : S) (result : Result (Unit {0}) Stop) → sound → EndsFile g sound old new result
-    → OnOk result (OthersStay ground owner (g.working old) (g.working new)) → (IsErrOf result stop.Full → g.working new ≡ g.working old) → ¬ IsErrOf result stop.NoMemory → ¬ IsErrOf result stop.Fault
+pub spared : {S : Type 0} (g : Ghosts S) (sound : Type 0) (ground : Ground) (owner : ℕ)
+    (old new : S) (result : Result (Unit {0}) Stop) → sound → EndsFile g sound old new result
+    → OnOk result (OthersStay ground owner (g.working old) (g.working new))
+    → (IsErrOf result stop.Full → g.working new ≡ g.working old) → ¬ IsErrOf result stop.NoMemory
+    → ¬ IsErrOf result stop.Fault
     → OthersStay ground owner (g.working old) (g.working new)
 spared g sound ground owner old new (Ok u) whole ends ok full frugal fault = ok
-spared g sound ground owner old new (Err stop.Fault) whole ends ok full frugal fault = absurd (fault refl)
-spared g sound ground owner old new (Err stop.Full) whole ends ok full frugal fault = others_same ground owner (g.working old) (g.working new) (full refl)
-spared g sound ground owner old new (Err (stop.Damaged n)) whole ends ok full frugal fault = absurd (ends.cause.damaged n refl whole)
-spared g sound ground owner old new (Err stop.NoMemory) whole ends ok full frugal fault = absurd (frugal refl)
+spared g sound ground owner old new (Err stop.Fault) whole ends ok full frugal fault =
+    absurd (fault refl)
+spared g sound ground owner old new (Err stop.Full) whole ends ok full frugal fault =
+    others_same ground owner (g.working old) (g.working new) (full refl)
+spared g sound ground owner old new (Err (stop.Damaged n)) whole ends ok full frugal fault =
+    absurd (ends.cause.damaged n refl whole)
+spared g sound ground owner old new (Err stop.NoMemory) whole ends ok full frugal fault =
+    absurd (frugal refl)

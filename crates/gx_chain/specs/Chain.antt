@@ -22,7 +22,9 @@ next_at sheets page = next_of (bytes_at sheets page)
 -- these are entry pages, of which each has the number of the one behind it, and the last has none
 abbrev pub AreLinked : Sheets → ℕ → List ℕ → Type 0
 AreLinked sheets first [] = first ≡ NONE
-AreLinked sheets first (page ∷ pages) = (first ≡ page) × IsEntryPage (bytes_at sheets page) × AreLinked sheets (next_at sheets page) pages
+AreLinked sheets first (page ∷ pages) =
+    (first ≡ page) × IsEntryPage (bytes_at sheets page)
+    × AreLinked sheets (next_at sheets page) pages
 
 -- an entry stands on one of the pages
 pub record IsOn (sheets : Sheets) (pages : List ℕ) (key body : List ℕ) : Type 0 where
@@ -30,16 +32,20 @@ pub record IsOn (sheets : Sheets) (pages : List ℕ) (key body : List ℕ) : Typ
   pub among : Contains pages page
   pub here : Contains (entries_at sheets page) (record { key = key; body = body })
 
--- These are the pages of a chain that begins at the first one, each once. All belong to the owner, no key stands twice, and each
+-- These are the pages of a chain that begins at the first one, each once. All belong to the owner,
+-- no key stands twice, and each
 -- page but the first has an entry.
-pub record IsChain (ground : Ground) (owner : ℕ) (sheets : Sheets) (first : ℕ) (pages : List ℕ) : Type 0 where
+pub record IsChain (ground : Ground) (owner : ℕ) (sheets : Sheets) (first : ℕ) (pages : List ℕ) :
+    Type 0 where
   pub linked : AreLinked sheets first pages
   pub once : AllPairs (λ a b. a ≢ b) pages
   pub past : (page : ℕ) → Contains pages page → IsPast ground page
   pub owned : (page : ℕ) → Contains pages page → slice_get sheets.owners page ≡ Some owner
   pub filled : (page : ℕ) → Contains pages page → page ≢ first → entries_at sheets page ≢ []
-  pub apart : (page other : ℕ) (key body again : List ℕ) → Contains pages page → Contains pages other
-      → Contains (entries_at sheets page) (record { key = key; body = body }) → Contains (entries_at sheets other) (record { key = key; body = again })
+  pub apart : (page other : ℕ) (key body again : List ℕ) → Contains pages page
+      → Contains pages other
+      → Contains (entries_at sheets page) (record { key = key; body = body })
+      → Contains (entries_at sheets other) (record { key = key; body = again })
       → page ≡ other
 
 -- the pages tell what the device holds, and an entry page stands there
@@ -52,11 +58,14 @@ LeadsOn ground next = (next ≡ NONE) ⊎ IsPast ground next
 
 -- the page that a number leads to
 abbrev pub IsBehind : Ground → ℕ → Option ℕ → Type 0
-IsBehind ground next found = MatchOption found (next ≡ NONE) (λ page. (next ≡ page) × IsPast ground page)
+IsBehind ground next found =
+    MatchOption found (next ≡ NONE) (λ page. (next ≡ page) × IsPast ground page)
 
 -- the pages tell what the device holds, and a chain begins there
 abbrev pub HasChain : {S : Type 0} → Ghosts S → S → ℕ → Type 0
-HasChain g p first = IsTrue g.tells × (owner : ℕ) × (pages : List ℕ) × IsChain (g.ground p) owner (g.working p) first pages
+HasChain g p first =
+    IsTrue g.tells × (owner : ℕ) × (pages : List ℕ)
+    × IsChain (g.ground p) owner (g.working p) first pages
 
 -- the same of a chain of this owner
 pub record HasChainOf {S : Type 0} (g : Ghosts S) (p : S) (owner first : ℕ) : Type 0 where

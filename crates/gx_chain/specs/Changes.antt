@@ -42,14 +42,17 @@ pub record IsTaken (page : ℕ) (key : List ℕ) (old new : Sheets) : Type 0 whe
 -- an entry was added behind those of a page
 abbrev pub IsAdded : ℕ → List ℕ → List ℕ → Sheets → Sheets → Type 0
 IsAdded page key body old new =
-    IsRewritten page (next_at old page) (insert (entries_at old page) (length (entries_at old page)) (record { key = key; body = body })) old new
+    IsRewritten page (next_at old page) (insert (entries_at old page) (length (entries_at old page))
+    (record { key = key; body = body })) old new
 
 -- the body of a key was exchanged on a page
 pub record IsReplaced (page : ℕ) (key body : List ℕ) (old new : Sheets) : Type 0 where
   pub place : ℕ
   pub within : place < length (entries_at old page)
   pub there : HoldsAt (λ entry. entry.key ≡ key) (entries_at old page) place
-  pub rewritten : IsRewritten page (next_at old page) (insert (remove (entries_at old page) place) place (record { key = key; body = body })) old new
+  pub rewritten : IsRewritten page (next_at old page)
+      (insert (remove (entries_at old page) place) place (record { key = key; body = body })) old
+      new
 
 -- a page with one entry was hung behind the last one
 pub record IsAppended (last fresh : ℕ) (key body : List ℕ) (old new : Sheets) : Type 0 where
@@ -63,22 +66,30 @@ pub record IsUnlinked (ground : Ground) (previous next page : ℕ) (old new : Sh
   pub hung : IsRewritten previous next (entries_at old previous) old between
   pub freed : IsOwnedAnew page 0 ground between new
 
--- Only pages of two lists have changed. Those that came had no owner, and those that left have none.
+-- Only pages of two lists have changed. Those that came had no owner, and those that left have
+-- none.
 pub record StaysBeside (ground : Ground) (old new : Sheets) (before now : List ℕ) : Type 0 where
-  pub owners : (page : ℕ) → ¬ Contains before page → ¬ Contains now page → slice_get new.owners page ≡ slice_get old.owners page
-  pub bytes : (page : ℕ) → ground.tables ≤ page → ¬ Contains before page → ¬ Contains now page → slice_get new.bytes page ≡ slice_get old.bytes page
-  pub came : (page : ℕ) → Contains now page → Contains before page ⊎ (slice_get old.owners page ≡ Some 0)
-  pub left : (page : ℕ) → Contains before page → Contains now page ⊎ (slice_get new.owners page ≡ Some 0)
+  pub owners : (page : ℕ) → ¬ Contains before page → ¬ Contains now page
+      → slice_get new.owners page ≡ slice_get old.owners page
+  pub bytes : (page : ℕ) → ground.tables ≤ page → ¬ Contains before page → ¬ Contains now page
+      → slice_get new.bytes page ≡ slice_get old.bytes page
+  pub came : (page : ℕ) → Contains now page
+      → Contains before page ⊎ (slice_get old.owners page ≡ Some 0)
+  pub left : (page : ℕ) → Contains before page
+      → Contains now page ⊎ (slice_get new.owners page ≡ Some 0)
 
 -- the chain has this body at the key, and else what it had
-pub record IsPutIn (ground : Ground) (owner first : ℕ) (key body : List ℕ) (old new : Sheets) (before : List ℕ) : Type 0 where
+pub record IsPutIn (ground : Ground) (owner first : ℕ) (key body : List ℕ) (old new : Sheets)
+    (before : List ℕ) : Type 0 where
   pub pages : List ℕ
   pub chain : IsChain ground owner new first pages
-  pub entries : (k b : List ℕ) → IsOn new pages k b ↔ (((k ≡ key) × (b ≡ body)) ⊎ ((k ≢ key) × IsOn old before k b))
+  pub entries : (k b : List ℕ)
+      → IsOn new pages k b ↔ (((k ≡ key) × (b ≡ body)) ⊎ ((k ≢ key) × IsOn old before k b))
   pub beside : StaysBeside ground old new before pages
 
 -- the chain has no entry with the key, and else what it had
-pub record IsRemovedFrom (ground : Ground) (owner first : ℕ) (key : List ℕ) (old new : Sheets) (before : List ℕ) : Type 0 where
+pub record IsRemovedFrom (ground : Ground) (owner first : ℕ) (key : List ℕ) (old new : Sheets)
+    (before : List ℕ) : Type 0 where
   pub pages : List ℕ
   pub chain : IsChain ground owner new first pages
   pub entries : (k b : List ℕ) → IsOn new pages k b ↔ ((k ≢ key) × IsOn old before k b)

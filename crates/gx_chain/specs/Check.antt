@@ -32,7 +32,8 @@ IsKeyOf entries key = (body : List ℕ) × Contains entries (record { key = key;
 -- the keys of the entries, which were not among the old ones, are among the new ones
 pub record HasAddedKeys (entries : List Entry) (old new : List (Vec ℕ)) : Type 0 where
   pub fresh : (key : List ℕ) → IsKeyOf entries key → has_key old key ≢ true
-  pub those : (key : List ℕ) → (has_key new key ≡ true) ↔ (IsKeyOf entries key ⊎ (has_key old key ≡ true))
+  pub those : (key : List ℕ)
+      → (has_key new key ≡ true) ↔ (IsKeyOf entries key ⊎ (has_key old key ≡ true))
 
 -- one of the entries has a key that is among these
 pub record SharesKey (entries : List Entry) (keys : List (Vec ℕ)) : Type 0 where
@@ -42,20 +43,27 @@ pub record SharesKey (entries : List Entry) (keys : List (Vec ℕ)) : Type 0 whe
 
 -- marked are those that were marked before, and these pages
 abbrev pub AreSeen : List Bool → List ℕ → List Bool → Type 0
-AreSeen before pages seen = (page : ℕ) → (slice_get seen page ≡ Some true) ↔ ((slice_get before page ≡ Some true) ⊎ Contains pages page)
+AreSeen before pages seen =
+    (page : ℕ)
+    → (slice_get seen page ≡ Some true) ↔
+    ((slice_get before page ≡ Some true) ⊎ Contains pages page)
 
 -- these are the keys of the entries on the pages
 abbrev pub AreKeysOn : Sheets → List ℕ → List (Vec ℕ) → Type 0
-AreKeysOn sheets pages keys = (key : List ℕ) → (has_key keys key ≡ true) ↔ ((body : List ℕ) × IsOn sheets pages key body)
+AreKeysOn sheets pages keys =
+    (key : List ℕ) → (has_key keys key ≡ true) ↔ ((body : List ℕ) × IsOn sheets pages key body)
 
 -- These pages could begin a chain, and they and their keys are noted.
-pub record AreVisited (ground : Ground) (owner : ℕ) (sheets : Sheets) (first : ℕ) (before : List Bool) (pages : List ℕ) (visits : Visits) : Type 0 where
+pub record AreVisited (ground : Ground) (owner : ℕ) (sheets : Sheets) (first : ℕ)
+    (before : List Bool) (pages : List ℕ) (visits : Visits) : Type 0 where
   pub once : AllPairs (λ a b. a ≢ b) pages
   pub past : (page : ℕ) → Contains pages page → IsPast ground page
   pub owned : (page : ℕ) → Contains pages page → slice_get sheets.owners page ≡ Some owner
   pub filled : (page : ℕ) → Contains pages page → page ≢ first → entries_at sheets page ≢ []
-  pub apart : (page other : ℕ) (key body again : List ℕ) → Contains pages page → Contains pages other
-      → Contains (entries_at sheets page) (record { key = key; body = body }) → Contains (entries_at sheets other) (record { key = key; body = again })
+  pub apart : (page other : ℕ) (key body again : List ℕ) → Contains pages page
+      → Contains pages other
+      → Contains (entries_at sheets page) (record { key = key; body = body })
+      → Contains (entries_at sheets other) (record { key = key; body = again })
       → page ≡ other
   pub seen : AreSeen before pages visits.seen.items
   pub keys : AreKeysOn sheets pages visits.keys.keys
@@ -64,9 +72,11 @@ pub record AreVisited (ground : Ground) (owner : ℕ) (sheets : Sheets) (first :
 abbrev pub AreUnseen : List Bool → List ℕ → Type 0
 AreUnseen seen pages = (page : ℕ) → Contains pages page → slice_get seen page ≢ Some true
 
--- The pages tell what the device holds, these pages are visited, and a chain of the owner, of which none was marked before, has them
+-- The pages tell what the device holds, these pages are visited, and a chain of the owner, of which
+-- none was marked before, has them
 -- and then this one.
-pub record IsNext {S : Type 0} (g : Ghosts S) (p : S) (owner first : ℕ) (visits : Visits) (page : ℕ) : Type 0 where
+pub record IsNext {S : Type 0} (g : Ghosts S) (p : S) (owner first : ℕ) (visits : Visits)
+    (page : ℕ) : Type 0 where
   pub told : IsTrue g.tells
   pub before : List Bool
   pub front : List ℕ
@@ -77,16 +87,20 @@ pub record IsNext {S : Type 0} (g : Ghosts S) (p : S) (owner first : ℕ) (visit
   pub rest : List ℕ
   pub is : all ≡ front ++ page ∷ rest
 
--- One chain stands there. Its pages are marked beside those that were marked before, and its keys are noted.
-pub record IsVisitedChain (ground : Ground) (owner : ℕ) (sheets : Sheets) (first : ℕ) (before : List Bool) (visits : Visits) : Type 0 where
+-- One chain stands there. Its pages are marked beside those that were marked before, and its keys
+-- are noted.
+pub record IsVisitedChain (ground : Ground) (owner : ℕ) (sheets : Sheets) (first : ℕ)
+    (before : List Bool) (visits : Visits) : Type 0 where
   pub pages : List ℕ
   pub chain : IsChain ground owner sheets first pages
   pub only : (other : List ℕ) → IsChain ground owner sheets first other → other ≡ pages
   pub seen : AreSeen before pages visits.seen.items
   pub keys : AreKeysOn sheets pages visits.keys.keys
 
--- the pages tell what the device holds, and a chain of the owner stands there of which no page is marked
-pub record HasUnseenChain {S : Type 0} (g : Ghosts S) (p : S) (owner first : ℕ) (seen : List Bool) : Type 0 where
+-- the pages tell what the device holds, and a chain of the owner stands there of which no page is
+-- marked
+pub record HasUnseenChain {S : Type 0} (g : Ghosts S) (p : S) (owner first : ℕ) (seen : List Bool) :
+    Type 0 where
   pub told : IsTrue g.tells
   pub pages : List ℕ
   pub chain : IsChain (g.ground p) owner (g.working p) first pages

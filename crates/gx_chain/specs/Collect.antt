@@ -32,8 +32,10 @@ entry_cmp a b = key_cmp a.key b.key
 pub record ArePagesApart (sheets : Sheets) (pages : List ℕ) : Type 0 where
   pub once : AllPairs (λ a b. a ≢ b) pages
   pub each : (page : ℕ) → Contains pages page → IsEntryPage (bytes_at sheets page)
-  pub apart : (page other : ℕ) (key body again : List ℕ) → Contains pages page → Contains pages other
-      → Contains (entries_at sheets page) (record { key = key; body = body }) → Contains (entries_at sheets other) (record { key = key; body = again })
+  pub apart : (page other : ℕ) (key body again : List ℕ) → Contains pages page
+      → Contains pages other
+      → Contains (entries_at sheets page) (record { key = key; body = body })
+      → Contains (entries_at sheets other) (record { key = key; body = again })
       → page ≡ other
 
 -- the entries that were found were appended, in ascending order of their keys
@@ -44,10 +46,15 @@ pub record HasAppended (found old new : List LeafEntry) : Type 0 where
   pub in_order : IsSortedBy (λ a b. is_lt (entry_cmp a b)) more
 
 -- These are the entries on the pages inside the span, each once, and their keys ascend.
-pub record AreCollected (sheets : Sheets) (lo hi : List ℕ) (pages : List ℕ) (entries : List LeafEntry) : Type 0 where
+pub record AreCollected (sheets : Sheets) (lo hi : List ℕ) (pages : List ℕ)
+    (entries : List LeafEntry) : Type 0 where
   pub ascending : IsStrictlySortedBy key_cmp (map (λ e. e.key) entries)
-  pub those : (key body : List ℕ) → Contains entries (record { key = key; body = body }) ↔ ((is_inside lo hi key ≡ true) × IsOn sheets pages key body)
+  pub those : (key body : List ℕ)
+      → Contains entries (record { key = key; body = body }) ↔
+      ((is_inside lo hi key ≡ true) × IsOn sheets pages key body)
 
 -- they were appended
-abbrev pub HasCollected : Sheets → List ℕ → List ℕ → List ℕ → List LeafEntry → List LeafEntry → Type 0
-HasCollected sheets lo hi pages old new = (more : List LeafEntry) × (new ≡ old ++ more) × AreCollected sheets lo hi pages more
+abbrev pub HasCollected : Sheets → List ℕ → List ℕ → List ℕ → List LeafEntry → List LeafEntry
+    → Type 0
+HasCollected sheets lo hi pages old new =
+    (more : List LeafEntry) × (new ≡ old ++ more) × AreCollected sheets lo hi pages more

@@ -5,3 +5,4 @@ pub mod Seek
 pub mod Check
 pub mod Collect
 pub mod Map
+pub mod Chains

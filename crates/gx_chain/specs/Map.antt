@@ -11,7 +11,8 @@ has_owner owner sheets page = slice_index_or sheets.owners page 0 == owner
 
 -- the entries on a page, where the owner has it
 abbrev pub entries_if_owned : ℕ → Sheets → ℕ → List Entry
-entries_if_owned owner sheets page = if has_owner owner sheets page then entries_at sheets page else []
+entries_if_owned owner sheets page =
+    if has_owner owner sheets page then entries_at sheets page else []
 
 -- the entries on those of the first pages that the owner has
 abbrev pub owned_entries : ℕ → Sheets → ℕ → List Entry
@@ -20,4 +21,5 @@ owned_entries owner sheets (suc n) = entries_if_owned owner sheets n ++ owned_en
 
 -- the entries on all pages of the owner
 abbrev pub owned_map : ℕ → Sheets → LeafMap
-owned_map owner sheets = from_entries (map (λ e. (e.key, e.body)) (owned_entries owner sheets (length sheets.owners)))
+owned_map owner sheets =
+    from_entries (map (λ e. (e.key, e.body)) (owned_entries owner sheets (length sheets.owners)))

@@ -9,10 +9,12 @@ use Rattle.gx_chain.specs.Walk.{LackKey}
 
 -- the last of the pages before one, if there are any
 abbrev pub IsPrevious : List ℕ → Option ℕ → Type 0
-IsPrevious front previous = MatchOption previous (front ≡ []) (λ page. (others : List ℕ) × (front ≡ others ++ page ∷ []))
+IsPrevious front previous =
+    MatchOption previous (front ≡ []) (λ page. (others : List ℕ) × (front ≡ others ++ page ∷ []))
 
 -- an entry with the key stands there on these pages, and these are the bytes of its page
-pub record IsFoundAt (sheets : Sheets) (key : List ℕ) (pages bytes : List ℕ) (found : Found) : Type 0 where
+pub record IsFoundAt (sheets : Sheets) (key : List ℕ) (pages bytes : List ℕ) (found : Found) : Type
+    0 where
   pub front : List ℕ
   pub rest : List ℕ
   pub is : pages ≡ front ++ found.number ∷ rest
@@ -22,7 +24,8 @@ pub record IsFoundAt (sheets : Sheets) (key : List ℕ) (pages bytes : List ℕ)
   pub there : HoldsAt (λ entry. entry.key ≡ key) (entries_at sheets found.number) found.place
 
 abbrev pub IsSought : Sheets → List ℕ → List ℕ → List ℕ → Option Found → Type 0
-IsSought sheets key pages bytes found = MatchOption found (LackKey sheets pages key) (IsFoundAt sheets key pages bytes)
+IsSought sheets key pages bytes found =
+    MatchOption found (LackKey sheets pages key) (IsFoundAt sheets key pages bytes)
 
 -- what was found lies past the table, on an entry page
 pub record IsFoundWithin (ground : Ground) (bytes : List ℕ) (found : Found) : Type 0 where

@@ -1,13 +1,13 @@
 // The layer's mapping.
 ghost use Rattle.std.specs.Prelude.{◌≡◌, ◌∷◌, [], IfOk};
 ghost use Rattle.gx_mapping.specs.Rule.{IsOf, AreOfKey, IsGathered};
-ghost use Rattle.gx_encode.specs.Rules.{form_of, only_part, rule_of};
+ghost use Rattle.gx_encode.specs.Rules.{field_of, form_of, only_part, rule_of, used_code_of};
 ghost use Rattle.gx_encode.specs.Laws.{encode_laws};
 
 use crate::codes::{bytes_at, coded, decoded, kind_at, value_at, with_value};
 use crate::layer::Encode;
 use gx_mapping::{Mapping, Part, Parts, field_number};
-use gx_values::{Form, Name, NoMemory, Rec, Span, Value, Values};
+use gx_values::{Code, Form, Name, NoMemory, Rec, Span, Value, Values};
 use std::alloc::Global;
 
 impl Mapping for Encode {
@@ -71,6 +71,20 @@ impl Mapping for Encode {
 }
 
 impl Encode {
+    /// The number of the data field that stands by its code, from 0.
+    pub fn field(&self) -> u16
+        ensures { result ≡ field_of self.now }
+    {
+        self.field
+    }
+
+    /// The code of that field.
+    pub fn code(&self) -> Code
+        ensures { result ≡ used_code_of self.now }
+    {
+        self.code
+    }
+
     // The one part of a record.
     fn part_of(&self, alloc: Global, rec: Rec) -> Result<Parts, NoMemory>
         requires { IsOf (form_of self.now) rec }

@@ -14,7 +14,7 @@ use gx_edits::{edit, edit_answer};
 use gx_finds::found_text;
 use gx_ports::{Leaves, Stop};
 use gx_rows::{commit_line, record_line};
-use gx_scan::find_record;
+use gx_scan::find_values;
 use gx_schema::Schema;
 use gx_states::{file_def, file_node};
 use gx_types::Built;
@@ -272,11 +272,11 @@ impl<B: Leaves + Drop> Engine<B> {
     {
         let def = file_def(&self.schema, file);
         let node = file_node(&self.built, file);
-        let Some(found) = find_record(alloc, def, node, key, &mut self.leaves)? else {
+        let Some(found) = find_values(alloc, def, node, key, &mut self.leaves)? else {
             append(out, b"none\n")?;
             return Ok(());
         };
-        let line = record_line(alloc, def, key, &found.fields.0)?;
+        let line = record_line(alloc, def, key, &found.0)?;
         append(out, line.as_slice())?;
         Ok(())
     }

@@ -1,20 +1,20 @@
 -- The first fault of a text.
-use Rattle.std.proofs.Common.{◌≡◌, ℕ, zero, suc, List, [], ◌∷◌, ◌++◌, length, Option, Some, None, Result, Ok, Err, refl, sym, ap, subst, ◌∙◌, inl, inr, arith}
+use Rattle.std.proofs.Common.{◌≡◌, ℕ, zero, suc, List, [], ◌∷◌, ◌++◌, length, Option, Some, None, Result, Ok, Err, refl, sym, ap, subst, ◌∙◌, inr, arith}
 use Rattle.gx_tokens.specs.declared.fault.Fault.{Fault}
 use Rattle.gx_tokens.specs.declared.why.Why.{Why}
 use Rattle.gx_tokens.specs.declared.why.Why.TheVariants as why
+use Rattle.gx_tokens.specs.Faults.{IsRule}
 use Rattle.gx_tokens.specs.Grammar.{◌⨾◌, the, AWord}
-use Rattle.gx_tokens.specs.Lexemes.{Lexeme, Word, Number, Quoted, Open, Close, Comma, Equals, End, next_token}
+use Rattle.gx_tokens.specs.Lexemes.{Lexeme, Word, Number, Quoted, Open, Close, Comma, Equals, End}
 use Rattle.gx_tokens.specs.Lines.{line_of}
-use Rattle.gx_tokens.specs.Locality.{IsFront, IsReasonAt, HasReason, FaultAtToken, FaultBehind, Takes, Outcome}
-use Rattle.gx_tokens.specs.Reading.{◌>>=◌, map_ok, fault_at, want}
-use Rattle.gx_tokens.specs.Spelling.{FirstToken, Lexes}
+use Rattle.gx_tokens.specs.Locality.{IsFront, HasReason, FaultBehind, Takes, Outcome}
+use Rattle.gx_tokens.specs.Reading.{◌>>=◌, map_ok, want}
+use Rattle.gx_tokens.specs.Spelling.{Lexes}
+use Rattle.gx_tokens.proofs.CauseLaws.{first_fault_of}
 use Rattle.gx_tokens.proofs.LocalLaws.{proper_token, takes_token, want_fault, text_behind, later_fault, first_fault}
 use Rattle.gx_tokens.proofs.ReadingLaws.{want_ok}
-use Rattle.gx_tokens.proofs.TokenAgain.{first_again}
-use Rattle.gx_tokens.proofs.TokenFound.{no_token}
 use Rattle.gx_equation.specs.Definitions.{a_start, equation_at}
-use Rattle.gx_equation.specs.Faults.{NoTextGoesOn, NoShapeGoesOn, IsCause, IsFirstFault}
+use Rattle.gx_equation.specs.Faults.{IsFirstFault, IsRule as IsEquationRule}
 use Rattle.gx_equation.specs.Grammar.{Means}
 use Rattle.gx_equation.specs.Shape.{SideShape, DefinitionShape, DefinitionsShape, IsShaped}
 use Rattle.gx_equation.specs.Trees.{DefinitionTree}
@@ -23,7 +23,7 @@ use Rattle.gx_equation.proofs.Fuel.{definitions_settle, fault_fuel}
 use Rattle.gx_equation.proofs.LocalTerms.{local_named, local_first}
 use Rattle.gx_equation.proofs.Passing.{pass_named, All, pass_definitions, pass_first, pass_equation, equation_passes}
 use Rattle.gx_equation.proofs.Reasons.{IsSaid, Says, says_definitions, says_equation}
-use Rattle.gx_equation.proofs.ShapeRules.{IsRule, shaped}
+use Rattle.gx_equation.proofs.ShapeRules.{shaped}
 use Rattle.gx_equation.proofs.TermsFound.{StartMark, start_mark}
 
 -- ---- definitions behind the first
@@ -170,52 +170,23 @@ whole_fault bytes f e = first_by bytes (pass_first bytes) f (local_first bytes) 
 
 -- ---- the cause
 
-passed_or_not : (r : All) (f : Fault) → r ≡ Err f → r ≡ Ok tt → ⊥
-passed_or_not r f e g = cc
-
-found_or_not : (r : Result (Lexeme × List ℕ) Fault) (f : Fault) (x : Lexeme × List ℕ) → r ≡ Err f → r ≡ Ok x → ⊥
-found_or_not r f x e g = cc
-
 meant_passes : (bytes : List ℕ) (meaning : List DefinitionTree × List ℕ) → Means bytes meaning → pass_equation bytes ≡ Ok tt
 meant_passes bytes meaning m = sym (equation_passes bytes) ∙ ap (map_ok (λ _. tt)) (equation_again meaning.0 m.places bytes m.text)
 
-no_text : (bytes : List ℕ) (f : Fault) (before : List Lexeme) → (s : FaultAtToken pass_equation bytes f before) → NoTextGoesOn before s.token
-no_text bytes f before s other there after meaning l first m = passed_or_not (pass_equation other) (fault_at there f.why) (s.others other there after l first) (meant_passes other meaning m)
+read_or_not : (bytes : List ℕ) (meaning : List DefinitionTree × List ℕ) (f : Fault)
+    → Means bytes meaning → pass_equation bytes ≡ Err f → ⊥
+read_or_not bytes meaning f m e = let passed = meant_passes bytes meaning m in cc
 
-no_shape : (bytes : List ℕ) (f : Fault) (before : List Lexeme) → (s : FaultAtToken pass_equation bytes f before) → (IsRule f.why → ⊥) → NoShapeGoesOn before s.token
-no_shape bytes f before s bare other there after l first text = bare (shaped other (fault_at there f.why) text (s.others other there after l first))
-
-cause_at : (bytes : List ℕ) (f : Fault) (before : List Lexeme) (reason : Why) → f.why ≡ reason → IsSaid reason → (s : FaultAtToken pass_equation bytes f before) → IsCause reason before s.here
-cause_at bytes f before why.Token e said s = let named = subst (IsReasonAt s.token) e s.reason in absurd named
-cause_at bytes f before why.Unexpected e said s = (s.token, s.rest, s.first, subst (IsReasonAt s.token) e s.reason, no_shape bytes f before s (λ rule. subst IsRule e rule))
-cause_at bytes f before why.End e said s =
-    let named : s.token ≡ End = subst (IsReasonAt s.token) e s.reason in
-    subst (λ (t : Lexeme). (rest : List ℕ) × FirstToken s.here t rest × NoShapeGoesOn before t) named (s.rest, s.first, no_shape bytes f before s (λ rule. subst IsRule e rule))
-cause_at bytes f before why.Number e said s = (s.token, s.rest, s.first, no_text bytes f before s)
-cause_at bytes f before why.Depth e said s = (s.token, s.rest, s.first, no_text bytes f before s)
-cause_at bytes f before why.NameUse e said s = said
-cause_at bytes f before why.KeyField e said s = said
-cause_at bytes f before why.Count e said s = said
-
-is_fault : (bytes : List ℕ) (f : Fault) (before : List Lexeme) → IsSaid f.why → FaultBehind pass_equation bytes f before → IsWholeFront before → IsFirstFault bytes (line_of bytes f.left) f.why
-is_fault bytes f before said (inl s) front = record {
-  before = before;
-  here = s.here;
-  lexed = s.lexed;
-  in_line = ap (λ (z : Fault). line_of bytes z.left) s.is;
-  front = (32 ∷ front.0, front.1, front.2, front.3);
-  cause = cause_at bytes f before f.why refl said s;
-}
-is_fault bytes f before said (inr s) front =
-    let n = no_token s.here f s.none in
-    record {
-      before = before;
-      here = s.here;
-      lexed = s.lexed;
-      in_line = ap (line_of bytes) n.0;
-      front = (32 ∷ front.0, front.1, front.2, front.3);
-      cause = subst (λ (reason : Why). IsCause reason before s.here) (sym n.1) (λ token rest first. found_or_not (next_token s.here) f (token, rest) s.none (first_again s.here token rest first));
-    }
+-- the rules that are said to be broken are those of equations
+rule_said : (reason : Why) → IsSaid reason → IsRule reason → IsEquationRule reason
+rule_said why.Token said rule = rule
+rule_said why.Unexpected said rule = rule
+rule_said why.End said rule = rule
+rule_said why.Number said rule = tt
+rule_said why.Depth said rule = tt
+rule_said why.NameUse said rule = said
+rule_said why.KeyField said rule = said
+rule_said why.Count said rule = said
 
 passes_err : {X : Type 0} (bytes : List ℕ) (r : Result X Fault) (f : Fault) → map_ok (λ _. tt) r ≡ pass_equation bytes → r ≡ Err f → pass_equation bytes ≡ Err f
 passes_err bytes r f same e = sym same ∙ ap (map_ok (λ _. tt)) e
@@ -224,4 +195,7 @@ pub first_fault_is : (bytes : List ℕ) (f : Fault) → equation_at bytes ≡ Er
 first_fault_is bytes f e =
     let p = passes_err bytes (equation_at bytes) f (equation_passes bytes) e in
     let g = whole_fault bytes f p in
-    is_fault bytes f g.0 (said_of (pass_equation bytes) f (says_equation bytes) p) g.1 g.2
+    let front = g.2 in
+    first_fault_of pass_equation Means IsShaped IsEquationRule read_or_not shaped bytes f g.0
+    (rule_said f.why (said_of (pass_equation bytes) f (says_equation bytes) p)) g.1
+    (32 ∷ front.0, front.1, front.2, front.3)

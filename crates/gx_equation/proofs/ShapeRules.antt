@@ -4,11 +4,13 @@ use Rattle.std.specs.Prelude.{ℤ, codes}
 use Rattle.gx_tokens.specs.declared.fault.Fault.{Fault}
 use Rattle.gx_tokens.specs.declared.why.Why.{Why}
 use Rattle.gx_tokens.specs.declared.why.Why.TheVariants as why
+use Rattle.gx_tokens.specs.Faults.{IsRule}
 use Rattle.gx_tokens.specs.Grammar.{◌⨾◌, the, AWord, ANumber}
 use Rattle.gx_tokens.specs.Lexemes.{Lexeme, Word, Number, Quoted, Open, Close, Comma, Equals, End}
 use Rattle.gx_tokens.specs.Numbers.{number_value, natural_up_to, signed_number}
 use Rattle.gx_tokens.specs.Reading.{◌>>=◌, map_ok, met, want, an_open, a_close, a_comma, an_equals, a_word, comma_or_close}
 use Rattle.gx_tokens.specs.Spelling.{FirstToken}
+use Rattle.gx_tokens.proofs.RuleLaws.{Goes, MeansOr, goes_want, goes_bind}
 use Rattle.gx_tokens.proofs.TokenAgain.{first_again}
 use Rattle.gx_values.specs.declared.values.Value.{Value}
 use Rattle.gx_ports.specs.declared.kinds.LeafKind.TheVariants as leaf
@@ -24,38 +26,6 @@ use Rattle.gx_equation.specs.Shape.{ACode, ABound, MoreShape, SomeMore, Argument
 use Rattle.gx_equation.specs.Trees.{Arity, No_kids, One_kid, Two_kids, Some_kids, linkset_arity}
 use Rattle.gx_equation.proofs.Again.{word_again, linkset_again}
 use Rattle.gx_equation.proofs.Passing.{Pass, pass_kids, pass_behind, pass_from, pass_term, link_word, head_word, side_word, a_side_word, pass_side_from, pass_side, pass_named, All, pass_definitions, pass_first, pass_equation}
-
--- a reason other than those of the bare grammar
-abbrev pub IsRule : Why → Type 0
-IsRule why.Token = ⊥
-IsRule why.Unexpected = ⊥
-IsRule why.End = ⊥
-IsRule why.Number = Unit {0}
-IsRule why.Depth = Unit {0}
-IsRule why.NameUse = Unit {0}
-IsRule why.KeyField = Unit {0}
-IsRule why.Count = Unit {0}
-
--- a value with this rest, or a broken rule
-abbrev Goes : {A : Type 0} → Result (A × List ℕ) Fault → List ℕ → Type 0
-Goes (Ok y) rest = y.1 ≡ rest
-Goes (Err f) rest = IsRule f.why
-
--- a meaning, or a broken rule
-abbrev MeansOr : {A : Type 0} → Result A Why → Type 0
-MeansOr (Ok x) = Unit {0}
-MeansOr (Err reason) = IsRule reason
-
-goes_met : {A : Type 0} (bytes rest : List ℕ) (m : Result A Why) → MeansOr m → Goes (met bytes m rest) rest
-goes_met bytes rest (Ok x) h = refl
-goes_met bytes rest (Err reason) h = h
-
-goes_want : {A : Type 0} (meaning : Lexeme → Result A Why) (bytes rest : List ℕ) (t : Lexeme) → FirstToken bytes t rest → MeansOr (meaning t) → Goes (want meaning bytes) rest
-goes_want meaning bytes rest t h m = rw (first_again bytes t rest h) (goes_met bytes rest (meaning t) m)
-
-goes_bind : {A B : Type 0} (r : Result (A × List ℕ) Fault) (k : A → List ℕ → Result (B × List ℕ) Fault) (mid rest : List ℕ) → Goes r mid → ((x : A) → Goes (k x mid) rest) → Goes (r >>= λ z. k z.0 z.1) rest
-goes_bind (Ok y) k mid rest h more = subst (λ (b : List ℕ). Goes (k y.0 b) rest) (sym h) (more y.0)
-goes_bind (Err f) k mid rest h more = h
 
 -- ---- tokens
 

@@ -38,10 +38,15 @@ le_not_gt Less h = refl
 le_not_gt Equal h = refl
 le_not_gt Greater h = cc
 
-not_gt_le : (o : Ordering) → is_gt o ≡ false → is_le o ≡ true
+pub not_gt_le : (o : Ordering) → is_gt o ≡ false → is_le o ≡ true
 not_gt_le Less h = refl
 not_gt_le Equal h = refl
 not_gt_le Greater h = cc
+
+pub gt_not_le : (o : Ordering) → is_gt o ≡ true → is_le o ≡ false
+gt_not_le Less h = cc
+gt_not_le Equal h = cc
+gt_not_le Greater h = refl
 
 gt_back : (o : Ordering) → is_le o ≡ false → is_le (ordering_reverse o) ≡ true
 gt_back Less h = cc

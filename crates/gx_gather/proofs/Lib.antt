@@ -1,4 +1,5 @@
 pub mod Lists
 pub mod Orders
 pub mod Made
+pub mod Each
 mod KeyOrder

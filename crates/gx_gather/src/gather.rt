@@ -5,8 +5,8 @@ ghost use Rattle.std.specs.Ordering.{is_lt};
 ghost use Rattle.gx_values.specs.Values.{AreSized};
 ghost use Rattle.gx_values.specs.declared.records.Rec.{Rec as Record};
 ghost use Rattle.gx_ports.specs.LeafMaps.{Extends};
-ghost use Rattle.gx_mapping.specs.Rule.{AreOfKey, IsGathered, part_cmp};
-ghost use Rattle.gx_gather.specs.Gather.{gather_cmp, part_for, first_front, is_next, AreAlike, AreDataParts, AreMade, AreMadeOf, IsUnmade};
+ghost use Rattle.gx_mapping.specs.Rule.{In, AreOfKey, IsGathered, part_cmp};
+ghost use Rattle.gx_gather.specs.Gather.{gather_cmp, part_for, first_front, is_next, AreAlike, AreDataParts, AreEach, AreMade, AreMadeOf, IsUnmade};
 
 use crate::order::{front, is_same_front, sort_parts};
 use crate::recs::Recs;
@@ -14,6 +14,7 @@ use gx_mapping::{Mapping, Part, Parts};
 use gx_ports::Stop;
 use gx_values::{NoMemory, Rec, Value, Values};
 use std::alloc::{AllocError, Global};
+use std::mem;
 
 /// The block that is reported where records show damage: no record knows from which block it was read.
 pub const NO_BLOCK: u32 = 0;
@@ -56,7 +57,68 @@ pub fn gather_parts<M: Mapping>(
     gather_sorted(alloc, mapping, width, parts, out)
 }
 
-// The parts of one record stand together.
+/// Replaces each of these records of one child by the record that has it as its only data part, under
+/// the same key. What is its own part already stays.
+///
+/// `Damaged`: one of them is the only data part of no record; the block is `NO_BLOCK`. `Memory`: an
+/// allocation failure. After either, nothing is said of the records.
+pub fn gather_each<M: Mapping>(
+    alloc: Global,
+    mapping: &M,
+    child: u16,
+    recs: &mut [Rec],
+) -> Result<(), Stop>
+    requires { (q : Record) → In q recs.old →
+        AreOfKey (M.rule mapping.now) q.key (part_for child q ∷ []) }
+    ensures made { OnOk result (AreEach (M.rule mapping.now) child recs.old recs.new) }
+    ensures damaged { (block : ℕ) → IsErrOf result (Stop.Damaged block) →
+        (q : Record) × In q recs.old
+        × IsGathered (M.rule mapping.now) q.key (part_for child q ∷ []) None }
+    ensures block { (n : ℕ) → IsErrOf result (Stop.Damaged n) → n ≡ 0 }
+    ensures not_full { ¬ IsErrOf result Stop.Full }
+    ensures not_fault { ¬ IsErrOf result Stop.Fault }
+{
+    for rec in recs.iter_mut() {
+        if !mapping.is_own_part(child, rec) {
+            gather_in_place(alloc, mapping, child, rec)?;
+        }
+    }
+    Ok(())
+}
+
+// The same of one record.
+fn gather_in_place<M: Mapping>(
+    alloc: Global,
+    mapping: &M,
+    child: u16,
+    rec: &mut Rec,
+) -> Result<(), Stop>
+    requires { AreOfKey (M.rule mapping.now) rec.old.key (part_for child rec.old ∷ []) }
+    ensures made { OnOk result
+        (IsGathered (M.rule mapping.now) rec.old.key (part_for child rec.old ∷ []) (Some rec.new)) }
+    ensures damaged { (block : ℕ) → IsErrOf result (Stop.Damaged block) →
+        IsGathered (M.rule mapping.now) rec.old.key (part_for child rec.old ∷ []) None }
+    ensures block { (n : ℕ) → IsErrOf result (Stop.Damaged n) → n ≡ 0 }
+    ensures not_full { ¬ IsErrOf result Stop.Full }
+    ensures not_fault { ¬ IsErrOf result Stop.Fault }
+{
+    let nothing = Rec {
+        key: Values(Vec::new(alloc)),
+        fields: Values(Vec::new(alloc)),
+    };
+    let part = Part {
+        child,
+        rec: mem::replace(rec, nothing),
+    };
+    match mapping.gather_one(alloc, part)? {
+        Some(made) => *rec = made,
+        None => return Err(Stop::Damaged(NO_BLOCK)),
+    }
+    Ok(())
+}
+
+// The parts of one record stand together. They are put into a group of their own, where there are
+// parts of other records too.
 fn gather_sorted<M: Mapping>(
     alloc: Global,
     mapping: &M,
@@ -81,30 +143,6 @@ fn gather_sorted<M: Mapping>(
         let mut parts = parts;
         return gather_group(alloc, mapping, width, &mut parts, out);
     }
-    gather_groups(alloc, mapping, width, parts, out)
-}
-
-// The parts of each record are put into a group of their own.
-fn gather_groups<M: Mapping>(
-    alloc: Global,
-    mapping: &M,
-    width: usize,
-    parts: Parts,
-    out: &mut Recs,
-) -> Result<(), Stop>
-    requires parts { AreDataParts (M.rule mapping.now) parts }
-    requires width { width ≡ length (M.rule mapping.now).form.keys }
-    requires in_order { IsSortedBy (λ a b. is_lt (gather_cmp width a b)) parts }
-    ensures made { OnOk result
-        ((found : List Record) × (out.new ≡ out.old ++ found)
-        × AreMadeOf (M.rule mapping.now) parts found) }
-    ensures front { Extends out.old out.new }
-    ensures damaged { (block : ℕ) → IsErrOf result (Stop.Damaged block) →
-        IsUnmade (M.rule mapping.now) width (IsStrictlySortedBy (gather_cmp width) parts) parts }
-    ensures block { (n : ℕ) → IsErrOf result (Stop.Damaged n) → n ≡ 0 }
-    ensures not_full { ¬ IsErrOf result Stop.Full }
-    ensures not_fault { ¬ IsErrOf result Stop.Fault }
-{
     let mut group = Parts(Vec::new(alloc));
     for part in parts.0 {
         if begins_next(width, &group.0, &part) {

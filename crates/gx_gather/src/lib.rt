@@ -5,6 +5,6 @@ mod gather;
 mod order;
 mod recs;
 
-pub use gather::{NO_BLOCK, add_parts, gather_parts};
+pub use gather::{NO_BLOCK, add_parts, gather_each, gather_parts};
 pub use order::{is_same_values, sort_parts};
 pub use recs::Recs;

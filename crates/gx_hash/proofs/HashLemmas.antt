@@ -5,8 +5,7 @@ use Rattle.std.specs.List.{Contains}
 use Rattle.std.specs.Ordering.{eq_by_cmp}
 use Rattle.std.specs.Cmp.Lexicographic.{nat_list_cmp_total}
 use Rattle.std.specs.FinMap as fin
-use Rattle.std.proofs.lemmas.Bool.{cases_Bool, cases_eq, eqb-true, true≢false}
-use Rattle.std.proofs.lemmas.Bool.Decides.{nat_tests}
+use Rattle.std.proofs.lemmas.Bool.{cases_eq, true≢false}
 use Rattle.std.proofs.lemmas.Option.{same_Some, none-some}
 use Rattle.gx_ports.specs.declared.pages.Place.{Place}
 use Rattle.gx_ports.specs.declared.page_view.PageView.{Ghosts}
@@ -19,30 +18,14 @@ use Rattle.gx_ports.proofs.KeyLemmas.{same_key, tied}
 use Rattle.gx_chain.specs.Chain.{bytes_at, entries_at, IsChain, IsOn, HasChainOf}
 use Rattle.gx_chain.specs.Changes.{IsPutIn, IsRemovedFrom, StaysBeside}
 use Rattle.gx_chain.proofs.ChainLemmas.{at_other, same_on, same_on_back, same_chain}
+use Rattle.gx_chain.proofs.ChainsLemmas.{changed, changed_here, changed_other}
 use Rattle.gx_chain.proofs.CountLemmas.{first_of}
 use Rattle.gx_chain.proofs.ListLemmas.{contains_or_not}
 use Rattle.gx_chain.proofs.OwnerLemmas.{others_beside}
 use Rattle.gx_hash.specs.Buckets.{bucket_of}
-use Rattle.gx_hash.specs.Hash.{IsHash, IsOfChain}
+use Rattle.gx_chain.specs.Chains.{IsOfChain}
+use Rattle.gx_hash.specs.Hash.{IsHash}
 use Rattle.gx_hash.proofs.BucketLemmas.{bucket_below}
-
-equal_itself : (n : ℕ) → (n == n) ≡ true
-equal_itself n = grind (arith, nat_tests)
-
--- ---- a chain by its number
-
--- one of the chains has other pages
-abbrev pub changed : (ℕ → List ℕ) → ℕ → List ℕ → ℕ → List ℕ
-changed pages j now i = cond (i == j) now (pages i)
-
-pub changed_here : (pages : ℕ → List ℕ) (j : ℕ) (now : List ℕ) (i : ℕ) → i ≡ j → changed pages j now i ≡ now
-changed_here pages j now i e = ap (λ (b : Bool). cond b now (pages i)) (ap (λ n. n == j) e ∙ equal_itself j)
-
-pub changed_other : (pages : ℕ → List ℕ) (j : ℕ) (now : List ℕ) (i : ℕ) → i ≢ j → changed pages j now i ≡ pages i
-changed_other pages j now i d = elim (cases_Bool (i == j)) [
-  | inl e ↦ absurd (d (eqb-true i j e))
-  | inr e ↦ ap (λ (b : Bool). cond b now (pages i)) e
-]
 
 -- ---- chains of different buckets have no page in common
 

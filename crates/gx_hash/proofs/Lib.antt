@@ -4,4 +4,3 @@ pub mod PagesLemmas
 pub mod SpanLemmas
 pub mod MakeLemmas
 pub mod VisitedLemmas
-pub mod PlacedLemmas

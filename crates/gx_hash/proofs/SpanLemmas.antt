@@ -17,7 +17,7 @@ use Rattle.gx_chain.specs.Collect.{inside_of, inside_on, HasAppended}
 use Rattle.gx_chain.proofs.CollectLemmas.{chain_apart, collected}
 use Rattle.gx_chain.proofs.SelectLemmas.{pages_selected}
 use Rattle.gx_hash.specs.Buckets.{bucket_of}
-use Rattle.gx_hash.specs.Gathered.{pages_below, AreGathered}
+use Rattle.gx_chain.specs.Chains.{pages_below, AreGathered}
 use Rattle.gx_hash.specs.Hash.{IsHash}
 use Rattle.gx_hash.proofs.HashLemmas.{hash_at}
 use Rattle.gx_hash.proofs.PagesLemmas.{hash_apart, hash_map_is}

@@ -17,9 +17,10 @@ use Rattle.gx_seen.specs.Seen.{AreAllSeen}
 use Rattle.gx_chain.specs.Map.{owned_map}
 use Rattle.gx_chain.proofs.VisitLemmas.{unmarked}
 use Rattle.gx_hash.specs.Buckets.{bucket_of}
-use Rattle.gx_hash.specs.Hash.{IsHash, IsOfChain}
+use Rattle.gx_chain.specs.Chains.{IsOfChain}
+use Rattle.gx_hash.specs.Hash.{IsHash}
 use Rattle.gx_hash.specs.Visited.{ArePlaced, IsVisitedBucket, HasUnseenBucket, AreVisitedBuckets}
-use Rattle.gx_hash.proofs.HashLemmas.{changed, changed_here, changed_other}
+use Rattle.gx_chain.proofs.ChainsLemmas.{changed, changed_here, changed_other}
 use Rattle.gx_hash.proofs.PagesLemmas.{hash_read}
 
 -- ---- chains visited one after the other

@@ -1,26 +1,8 @@
 -- The entries of a hashed file inside a span.
-use Rattle.std.specs.Prelude.{◌≡◌, ◌↔◌, ℕ, zero, suc, true, List, [], ◌++◌, Some, Option, MatchOption}
-use Rattle.std.specs.FinMap.{get}
+use Rattle.std.specs.Prelude.{◌≡◌, ℕ, true, List, Option, MatchOption}
 use Rattle.gx_values.specs.Keys.{is_inside}
-use Rattle.gx_ports.specs.declared.leaves.Entry.{Entry as LeafEntry}
 use Rattle.gx_ports.specs.declared.kinds.LeafSpec.{LeafSpec}
-use Rattle.gx_ports.specs.LeafMaps.{LeafMap}
-use Rattle.gx_ports.specs.Sheets.{Sheets}
-use Rattle.gx_chain.specs.Chain.{IsOn}
-use Rattle.gx_chain.specs.Collect.{inside_on, ArePagesApart}
 use Rattle.gx_hash.specs.Buckets.{bucket_of}
-
--- the pages of so many chains, one chain after the other
-abbrev pub pages_below : (ℕ → List ℕ) → ℕ → List ℕ
-pages_below pages zero = []
-pages_below pages (suc count) = pages_below pages count ++ pages count
-
--- These are the entries inside the span on pages on which all entries of the map inside it stand.
-pub record AreGathered (sheets : Sheets) (lo hi : List ℕ) (map : LeafMap) (found : List LeafEntry) : Type 0 where
-  pub pages : List ℕ
-  pub apart : ArePagesApart sheets pages
-  pub found_is : found ≡ inside_on sheets lo hi pages
-  pub map_is : (key body : List ℕ) → is_inside lo hi key ≡ true → (get map key ≡ Some body) ↔ IsOn sheets pages key body
 
 -- each key inside the span has this bucket, where there is one
 abbrev pub IsOnlyBucket : LeafSpec → List ℕ → List ℕ → Option ℕ → Type 0

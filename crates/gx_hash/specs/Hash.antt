@@ -7,19 +7,8 @@ use Rattle.gx_ports.specs.LeafMaps.{LeafMap}
 use Rattle.gx_ports.specs.Roots.{roots_of}
 use Rattle.gx_ports.specs.Sheets.{Sheets, Ground}
 use Rattle.gx_chain.specs.Chain.{IsChain, IsOn}
+use Rattle.gx_chain.specs.Chains.{IsOfChain, IsOnChain}
 use Rattle.gx_hash.specs.Buckets.{bucket_of}
-
--- a page is one of the first chains
-pub record IsOfChain (pages : ℕ → List ℕ) (count page : ℕ) : Type 0 where
-  pub bucket : ℕ
-  pub below : bucket < count
-  pub among : Contains (pages bucket) page
-
--- an entry stands on one of the first chains
-pub record IsOnChain (sheets : Sheets) (pages : ℕ → List ℕ) (count : ℕ) (key body : List ℕ) : Type 0 where
-  pub bucket : ℕ
-  pub below : bucket < count
-  pub on : IsOn sheets (pages bucket) key body
 
 -- The pages of the owner are those of one chain from each root on, each once. An entry stands in the chain of its bucket, and the map
 -- is the union of the entries.

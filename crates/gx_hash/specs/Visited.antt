@@ -6,7 +6,7 @@ use Rattle.gx_ports.specs.Sheets.{Sheets, Ground}
 use Rattle.gx_chain.specs.Chain.{IsChain, IsOn}
 use Rattle.gx_chain.specs.Check.{AreSeen, AreUnseen}
 use Rattle.gx_hash.specs.Buckets.{bucket_of}
-use Rattle.gx_hash.specs.Hash.{IsOfChain}
+use Rattle.gx_chain.specs.Chains.{IsOfChain}
 
 -- the keys of these pages are those of a bucket
 abbrev pub ArePlaced : Place → Sheets → ℕ → List ℕ → Type 0

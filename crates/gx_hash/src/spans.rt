@@ -5,7 +5,8 @@ ghost use Rattle.gx_ports.specs.LeafMaps.{LeafMap};
 ghost use Rattle.gx_ports.specs.PageCalls.{ReadsPages};
 ghost use Rattle.gx_ports.specs.Roots.{roots_of};
 ghost use Rattle.gx_hash.specs.Buckets.{IsHashed};
-ghost use Rattle.gx_hash.specs.Gathered.{AreGathered, IsOnlyBucket};
+ghost use Rattle.gx_chain.specs.Chains.{AreGathered};
+ghost use Rattle.gx_hash.specs.Gathered.{IsOnlyBucket};
 ghost use Rattle.gx_hash.specs.Hash.{IsHash};
 
 use crate::buckets::{bucket, root, whole_front};

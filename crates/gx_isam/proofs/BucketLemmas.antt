@@ -5,8 +5,7 @@ use Rattle.std.specs.List.{Contains}
 use Rattle.std.specs.Ordering.{is_le, eq_by_cmp}
 use Rattle.std.specs.Cmp.Lexicographic.{nat_list_cmp_total}
 use Rattle.std.specs.FinMap as fin
-use Rattle.std.proofs.lemmas.Bool.{cases_Bool, cases_eq, eqb-true, true≢false}
-use Rattle.std.proofs.lemmas.Bool.Decides.{nat_tests}
+use Rattle.std.proofs.lemmas.Bool.{cases_eq, true≢false}
 use Rattle.std.proofs.lemmas.List.Sums.{count_by-le-length}
 use Rattle.std.proofs.lemmas.Option.{same_Some}
 use Rattle.gx_ports.specs.declared.pages.Place.{Place}
@@ -19,28 +18,12 @@ use Rattle.gx_slots.specs.Page.{IsEntryPage, entries_of}
 use Rattle.gx_chain.specs.Chain.{bytes_at, entries_at, IsChain, IsOn}
 use Rattle.gx_chain.specs.Changes.{StaysBeside}
 use Rattle.gx_chain.proofs.ChainLemmas.{at_other, linked_page, same_on, same_on_back, same_chain}
+use Rattle.gx_chain.proofs.ChainsLemmas.{changed, changed_here, changed_other}
 use Rattle.gx_chain.proofs.CountLemmas.{first_of as entry_of}
 use Rattle.gx_chain.proofs.ListLemmas.{contains_here, contains_later, contains_cases, contains_or_not}
 use Rattle.gx_isam_index.specs.Index.{IsIndexPage, bucket_among, bucket_count, bucket_of, first_of, separators_in, separators_of, behind_firsts}
-use Rattle.gx_isam.specs.Isam.{AreBuckets, IsIsam, IsOfChain}
-
-equal_itself : (n : ℕ) → (n == n) ≡ true
-equal_itself n = grind (arith, nat_tests)
-
--- ---- a chain by its number
-
--- one of the chains has other pages
-abbrev pub changed : (ℕ → List ℕ) → ℕ → List ℕ → ℕ → List ℕ
-changed pages j now i = cond (i == j) now (pages i)
-
-pub changed_here : (pages : ℕ → List ℕ) (j : ℕ) (now : List ℕ) (i : ℕ) → i ≡ j → changed pages j now i ≡ now
-changed_here pages j now i e = ap (λ (b : Bool). cond b now (pages i)) (ap (λ n. n == j) e ∙ equal_itself j)
-
-pub changed_other : (pages : ℕ → List ℕ) (j : ℕ) (now : List ℕ) (i : ℕ) → i ≢ j → changed pages j now i ≡ pages i
-changed_other pages j now i d = elim (cases_Bool (i == j)) [
-  | inl e ↦ absurd (d (eqb-true i j e))
-  | inr e ↦ ap (λ (b : Bool). cond b now (pages i)) e
-]
+use Rattle.gx_chain.specs.Chains.{IsOfChain}
+use Rattle.gx_isam.specs.Isam.{AreBuckets, IsIsam}
 
 -- ---- the bucket of a key
 

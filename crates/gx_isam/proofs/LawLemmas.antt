@@ -17,12 +17,14 @@ use Rattle.gx_chain.proofs.MapLemmas.{owned_map_is, one_map}
 use Rattle.gx_chain.proofs.WriteLemmas.{slice_get_set, slice_get_set_same}
 use Rattle.gx_slots.specs.Page.{entries_of}
 use Rattle.gx_isam_index.specs.Index.{IsIndexPage, bucket_count, bucket_of, first_of}
-use Rattle.gx_isam.specs.Gathered.{pages_below}
-use Rattle.gx_isam.specs.Isam.{AreBuckets, IsIsam, IsOfChain, IsOnChain}
+use Rattle.gx_chain.specs.Chains.{pages_below}
+use Rattle.gx_chain.specs.Chains.{IsOfChain, IsOnChain}
+use Rattle.gx_isam.specs.Isam.{AreBuckets, IsIsam}
 use Rattle.gx_isam.specs.Map.{isam_map}
 use Rattle.gx_isam.proofs.BucketLemmas.{as_isam, bucket_below, isam_at, root_off}
 use Rattle.gx_isam.proofs.MakeLemmas.{one_root}
-use Rattle.gx_isam.proofs.PagesLemmas.{below_to, below_from, on_below, below_apart, isam_few, isam_map_is}
+use Rattle.gx_chain.proofs.ChainsLemmas.{below_to, below_from, on_below}
+use Rattle.gx_isam.proofs.PagesLemmas.{below_apart, isam_few, isam_map_is}
 
 module _ (ground : Ground) (place : Place) (s : Sheets) (pages : ℕ → List ℕ) (some : 1 ≤ place.owner) (index : IsIndexPage (bytes_at s place.root)) (root_owned : slice_get s.owners place.root ≡ Some place.owner)
     (b : AreBuckets ground place.owner s (bytes_at s place.root) pages)

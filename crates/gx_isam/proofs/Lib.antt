@@ -7,7 +7,6 @@ pub mod MakeLemmas
 pub mod PagesLemmas
 pub mod SpanLemmas
 pub mod LawLemmas
-pub mod PlacedLemmas
 pub mod VisitedLemmas
 pub mod SelectedLemmas
 pub mod RebuildLemmas

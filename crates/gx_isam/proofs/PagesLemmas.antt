@@ -1,10 +1,8 @@
 -- The pages of all chains of an indexed sequential file, as one list.
-use Rattle.std.proofs.Common.{◌≡◌, ◌≢◌, ◌↔◌, inl, inr, ℕ, zero, suc, ◌+◌, ◌<◌, ◌≤◌, List, [], ◌∷◌, ◌++◌, length, Some, refl, sym, subst, ◌∙◌, arith}
+use Rattle.std.proofs.Common.{◌≡◌, ◌≢◌, ◌↔◌, inl, inr, ℕ, ◌+◌, ◌<◌, ◌≤◌, List, [], ◌∷◌, ◌++◌, length, Some, sym, subst, ◌∙◌, arith}
 use Rattle.std.specs.Prelude.{slice_get}
-use Rattle.std.specs.List.{AllPairs, Contains}
+use Rattle.std.specs.List.{Contains}
 use Rattle.std.specs.FinMap as fin
-use Rattle.std.proofs.lemmas.Bool.{cases_eq}
-use Rattle.std.proofs.lemmas.List.Elements.{Contains-append_cases, Contains-append_left, Contains-append_right}
 use Rattle.gx_ports.specs.declared.pages.Place.{Place}
 use Rattle.gx_ports.specs.Files.{page_count}
 use Rattle.gx_ports.specs.LeafMaps.{LeafMap}
@@ -12,49 +10,13 @@ use Rattle.gx_ports.specs.Sheets.{Sheets, Ground}
 use Rattle.gx_chain.specs.Chain.{bytes_at, entries_at, IsOn}
 use Rattle.gx_chain.specs.Collect.{ArePagesApart}
 use Rattle.gx_chain.proofs.ChainLemmas.{linked_page}
+use Rattle.gx_chain.proofs.ChainsLemmas.{below_to, below_from, on_below, once_below}
 use Rattle.gx_chain.proofs.CountLemmas.{count_listed, keys_few, first_of as entry_of}
-use Rattle.gx_chain.proofs.ListLemmas.{contains_here, contains_later, contains_none, pairs_head, pairs_tail, pairs_cons}
+use Rattle.gx_chain.proofs.ListLemmas.{contains_here, contains_later}
 use Rattle.gx_isam_index.specs.Index.{bucket_count, first_of}
-use Rattle.gx_isam.specs.Isam.{AreBuckets, IsIsam, IsOfChain, IsOnChain}
-use Rattle.gx_isam.specs.Gathered.{pages_below}
+use Rattle.gx_isam.specs.Isam.{AreBuckets, IsIsam}
+use Rattle.gx_chain.specs.Chains.{pages_below}
 use Rattle.gx_isam.proofs.BucketLemmas.{once}
-
--- ---- members of the list
-
-pub below_to : (pages : ℕ → List ℕ) (n q : ℕ) → Contains (pages_below pages n) q → IsOfChain pages n q
-below_to pages zero q c = absurd (contains_none q c)
-below_to pages (suc n) q c = elim (Contains-append_cases (pages_below pages n) (pages n) q c) [
-  | inl before ↦ (let r = below_to pages n q before in let less = r.below in record { bucket = r.bucket; below = omega (arith, less); among = r.among })
-  | inr here ↦ record { bucket = n; below = omega arith; among = here }
-]
-
-pub below_from : (pages : ℕ → List ℕ) (n i q : ℕ) → i < n → Contains (pages i) q → Contains (pages_below pages n) q
-below_from pages zero i q less c = absurd (omega (arith, less))
-below_from pages (suc n) i q less c = elim (cases_eq i n) [
-  | inl e ↦ Contains-append_right (pages_below pages n) (pages n) q (subst (λ m. Contains (pages m) q) e c)
-  | inr d ↦ Contains-append_left (pages_below pages n) (pages n) q (below_from pages n i q (omega (arith, less, d)) c)
-]
-
-pub on_below : (s : Sheets) (pages : ℕ → List ℕ) (n : ℕ) (k b : List ℕ) → IsOn s (pages_below pages n) k b ↔ IsOnChain s pages n k b
-on_below s pages n k b = (
-  λ on. (let r = below_to pages n on.page on.among in record { bucket = r.bucket; below = r.below; on = record { page = on.page; among = r.among; here = on.here } }),
-  λ on. record { page = on.on.page; among = below_from pages n on.bucket on.on.page on.below on.on.among; here = on.on.here },
-)
-
--- ---- each once
-
-pairs_joined : (xs ys : List ℕ) → AllPairs (λ a b. a ≢ b) xs → AllPairs (λ a b. a ≢ b) ys → ((q : ℕ) → Contains xs q → Contains ys q → ⊥) → AllPairs (λ a b. a ≢ b) (xs ++ ys)
-pairs_joined [] ys one two off = two
-pairs_joined (x ∷ xs) ys one two off = pairs_cons x (xs ++ ys)
-    (λ c. elim (Contains-append_cases xs ys x c) [ inl here ↦ pairs_head x xs one here | inr there ↦ off x (0, omega arith, refl) there ])
-    (pairs_joined xs ys (pairs_tail x xs one) two (λ q in_x in_y. off q (contains_later x q xs in_x) in_y))
-
-pub once_below : (pages : ℕ → List ℕ) (n : ℕ) → ((i : ℕ) → i < n → AllPairs (λ a b. a ≢ b) (pages i)) → ((i j q : ℕ) → i < n → j < n → Contains (pages i) q → Contains (pages j) q → i ≡ j) → AllPairs (λ a b. a ≢ b) (pages_below pages n)
-once_below pages zero each apart = λ i j d less below. absurd (omega (arith, below))
-once_below pages (suc n) each apart = pairs_joined (pages_below pages n) (pages n)
-    (once_below pages n (λ i less. each i (omega (arith, less))) (λ i j q in_i in_j. apart i j q (omega (arith, in_i)) (omega (arith, in_j))))
-    (each n (omega arith))
-    (λ q before here. (let r = below_to pages n q before in let less = r.below in let same = apart r.bucket n q (omega (arith, less)) (omega arith) r.among here in omega (arith, same, less)))
 
 module _ (ground : Ground) (owner root : ℕ) (s : Sheets) (pages : ℕ → List ℕ) (b : AreBuckets ground owner s (bytes_at s root) pages) where
   abbrev count : ℕ

@@ -21,6 +21,7 @@ use Rattle.gx_slots.specs.Entries.{Entry}
 use Rattle.gx_slots.specs.Page.{IsEntryPage, entries_of}
 use Rattle.gx_chain.specs.Chain.{bytes_at, entries_at, next_at, IsChain, IsOn}
 use Rattle.gx_chain.specs.Changes.{StaysBeside}
+use Rattle.gx_chain.proofs.MapLemmas.{equal_itself}
 use Rattle.gx_chain.proofs.CountLemmas.{count_listed}
 use Rattle.gx_chain.proofs.EntryLemmas.{more_from, more_to}
 use Rattle.gx_chain.proofs.ListLemmas.{contains_here, contains_later, contains_none}
@@ -28,15 +29,17 @@ use Rattle.gx_chain.proofs.WriteLemmas.{slice_get_set}
 use Rattle.gx_isam_index.specs.Index.{IsIndexPage, bucket_count, bucket_of, first_of, separators_of}
 use Rattle.gx_isam.specs.Isam.{AreBuckets, IsIsam}
 use Rattle.gx_isam.specs.Change.{IsHungBefore, IsLeftOut}
-use Rattle.gx_isam.specs.Gathered.{pages_below}
+use Rattle.gx_chain.specs.Chains.{pages_below}
 use Rattle.gx_isam_index.specs.Layout.{AreOrdered}
 use Rattle.gx_isam.specs.Rebuild.{AreEntriesOf, HasIndex, IsBlankFor, IsEmptied, IsFilled, IsFreed, IsPartlyFilled, IsRun, IsWithin}
 use Rattle.gx_isam.specs.Map.{isam_map}
-use Rattle.gx_isam.proofs.BucketLemmas.{IsBucketChanged, as_isam, bucket_below, bucket_isam, bucket_others, buckets_now, changed, isam_at, on_bucket, owned_now}
+use Rattle.gx_chain.proofs.ChainsLemmas.{changed}
+use Rattle.gx_isam.proofs.BucketLemmas.{IsBucketChanged, as_isam, bucket_below, bucket_isam, bucket_others, buckets_now, isam_at, on_bucket, owned_now}
 use Rattle.gx_isam.proofs.HangLemmas.{no_pages, hung_bucket, hung_on}
 use Rattle.gx_isam.proofs.LawLemmas.{isam_map_on}
 use Rattle.gx_isam_index.proofs.LayoutLemmas.{apart_keys, same_entry}
-use Rattle.gx_isam.proofs.PagesLemmas.{below_few, below_from, isam_map_is}
+use Rattle.gx_chain.proofs.ChainsLemmas.{below_from}
+use Rattle.gx_isam.proofs.PagesLemmas.{below_few, isam_map_is}
 use Rattle.gx_isam.proofs.SelectedLemmas.{selected_those}
 use Rattle.gx_isam.proofs.SettleLemmas.{headed, left_out, on_rest}
 
@@ -55,9 +58,6 @@ pub others_itself : (ground : Ground) (owner : ℕ) (s : Sheets) → OthersStay 
 others_itself ground owner s other d z = record { owned = λ q. (λ o. o, λ o. o); bytes = λ q past o. refl }
 
 -- ---- the pages of an owner are counted
-
-equal_itself : (n : ℕ) → (n == n) ≡ true
-equal_itself n = grind (arith, nat_tests)
 
 zero_other : (n : ℕ) → 1 ≤ n → (0 == n) ≡ false
 zero_other n some = grind (arith, nat_tests)

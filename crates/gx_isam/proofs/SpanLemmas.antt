@@ -24,10 +24,12 @@ use Rattle.gx_chain.proofs.ChainLemmas.{linked_page}
 use Rattle.gx_chain.proofs.CollectLemmas.{collected}
 use Rattle.gx_chain.proofs.SelectLemmas.{pages_selected}
 use Rattle.gx_isam_index.specs.Index.{bucket_among, bucket_count, bucket_of, first_of, last_among, last_bucket, separators_of}
-use Rattle.gx_isam.specs.Gathered.{pages_below, AreGathered}
-use Rattle.gx_isam.specs.Isam.{IsIsam, IsOfChain}
+use Rattle.gx_chain.specs.Chains.{pages_below, AreGathered}
+use Rattle.gx_chain.specs.Chains.{IsOfChain}
+use Rattle.gx_isam.specs.Isam.{IsIsam}
 use Rattle.gx_isam.proofs.BucketLemmas.{once}
-use Rattle.gx_isam.proofs.PagesLemmas.{below_from, below_to, isam_apart, once_below}
+use Rattle.gx_chain.proofs.ChainsLemmas.{below_from, below_to, once_below}
+use Rattle.gx_isam.proofs.PagesLemmas.{isam_apart}
 
 inside_joined : (s : Sheets) (lo hi : List ℕ) (pages : ℕ → List ℕ) (n : ℕ) (found : List LeafEntry) → found ≡ inside_on s lo hi (pages_below pages n) → found ++ inside_on s lo hi (pages n) ≡ inside_on s lo hi (pages_below pages (suc n))
 inside_joined s lo hi pages n found is = ap (λ (x : List LeafEntry). x ++ inside_on s lo hi (pages n)) is ∙ sym (flat_map-append (λ (page : ℕ). inside_of lo hi (entries_at s page)) (pages_below pages n) (pages n))

@@ -16,10 +16,12 @@ use Rattle.gx_chain.specs.Check.{has_key, IsVisitedChain, HasUnseenChain, AreUns
 use Rattle.gx_chain.proofs.ListLemmas.{contains_here, contains_none}
 use Rattle.gx_chain.proofs.VisitLemmas.{unmarked}
 use Rattle.gx_isam_index.specs.Index.{IsIndexPage, bucket_count, bucket_of, first_of}
-use Rattle.gx_isam.specs.Isam.{IsIsam, IsOfChain}
+use Rattle.gx_chain.specs.Chains.{IsOfChain}
+use Rattle.gx_isam.specs.Isam.{IsIsam}
 use Rattle.gx_isam.specs.Map.{isam_map}
 use Rattle.gx_isam.specs.Visited.{ArePlaced, IsVisitedBucket, HasUnseenBucket, AreVisitedBuckets, IsRootAndSeen, HasEntryAt}
-use Rattle.gx_isam.proofs.BucketLemmas.{changed, changed_here, changed_other, once}
+use Rattle.gx_chain.proofs.ChainsLemmas.{changed, changed_here, changed_other}
+use Rattle.gx_isam.proofs.BucketLemmas.{once}
 use Rattle.gx_isam.proofs.HangLemmas.{no_pages}
 use Rattle.gx_isam.proofs.ChangeLemmas.{entry_first}
 use Rattle.gx_isam.proofs.LawLemmas.{isam_of}

@@ -7,19 +7,8 @@ use Rattle.gx_ports.specs.declared.pages.Place.{Place}
 use Rattle.gx_ports.specs.LeafMaps.{LeafMap}
 use Rattle.gx_ports.specs.Sheets.{Sheets, Ground}
 use Rattle.gx_chain.specs.Chain.{bytes_at, entries_at, IsChain, IsOn}
+use Rattle.gx_chain.specs.Chains.{IsOfChain, IsOnChain}
 use Rattle.gx_isam_index.specs.Index.{IsIndexPage, bucket_count, bucket_of, first_of}
-
--- a page is one of the first chains
-pub record IsOfChain (pages : ℕ → List ℕ) (count page : ℕ) : Type 0 where
-  pub bucket : ℕ
-  pub below : bucket < count
-  pub among : Contains (pages bucket) page
-
--- an entry stands on one of the first chains
-pub record IsOnChain (sheets : Sheets) (pages : ℕ → List ℕ) (count : ℕ) (key body : List ℕ) : Type 0 where
-  pub bucket : ℕ
-  pub below : bucket < count
-  pub on : IsOn sheets (pages bucket) key body
 
 -- The chain of each bucket of an index begins at its first page, and has no page where there is none. Each page has an entry, each entry
 -- the bucket of its chain.

@@ -1,6 +1,5 @@
 pub mod Isam
 pub mod Change
-pub mod Gathered
 pub mod Visited
 pub mod Map
 pub mod Fresh

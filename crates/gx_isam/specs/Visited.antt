@@ -7,7 +7,7 @@ use Rattle.gx_slots.specs.Page.{IsEntryPage}
 use Rattle.gx_chain.specs.Chain.{bytes_at, entries_at, IsChain, IsOn}
 use Rattle.gx_chain.specs.Check.{AreSeen, AreUnseen}
 use Rattle.gx_isam_index.specs.Index.{bucket_of, first_of}
-use Rattle.gx_isam.specs.Isam.{IsOfChain}
+use Rattle.gx_chain.specs.Chains.{IsOfChain}
 
 -- the keys of these pages are those of a bucket of the index, and each of the pages has one
 pub record ArePlaced (sheets : Sheets) (index : List ℕ) (bucket : ℕ) (pages : List ℕ) : Type 0 where

@@ -7,7 +7,7 @@ ghost use Rattle.gx_ports.specs.PageCalls.{ReadsPages};
 ghost use Rattle.gx_ports.specs.Sheets.{IsPast};
 ghost use Rattle.gx_chain.specs.Chain.{IsChain, HasChain};
 ghost use Rattle.gx_chain.specs.Collect.{inside_on};
-ghost use Rattle.gx_isam.specs.Gathered.{AreGathered};
+ghost use Rattle.gx_chain.specs.Chains.{AreGathered};
 ghost use Rattle.gx_isam_index.specs.Index.{IsIndexPage, bucket_count, first_of};
 ghost use Rattle.gx_isam.specs.Isam.{IsIsam};
 

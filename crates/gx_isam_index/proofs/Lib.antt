@@ -1,4 +1,3 @@
 pub mod SeparatorLemmas
-pub mod ScanLemmas
 pub mod IndexLemmas
 pub mod LayoutLemmas

@@ -1,4 +1,5 @@
--- Index pages: byte 0 is 0x58, byte 1 is 0, the number of buckets, 1 to 64, in two bytes, for each bucket its first page in four, and then
+-- Index pages: byte 0 is 0x58, byte 1 is 0, the number of buckets, 1 to 64, in two bytes, for each
+-- bucket its first page in four, and then
 -- for each bucket but the first a separator.
 use Rattle.std.specs.Prelude.{◌≡◌, ℕ, ◌+◌, ◌-◌, ◌*◌, ◌^◌, ◌<◌, ◌≤◌, List, ◌++◌, length, take, drop, slice_index}
 use Rattle.std.specs.Borrow.{Bor}
@@ -7,7 +8,7 @@ use Rattle.std.specs.List.{AllPairs, count_by}
 use Rattle.std.specs.Ordering.{is_le}
 use Rattle.std.specs.declared.cmp.Ordering.TheVariants.{Less}
 use Rattle.gx_bytes.specs.Page.{count_of}
-use Rattle.gx_bytes.specs.Records.{records, HoldsRecords, HoldsRecordCount}
+use Rattle.gx_bytes.specs.Records.{records, HoldsRecordCount, HoldsAscendingRecords}
 use Rattle.gx_ports.specs.Keyed.{key_cmp}
 
 -- a separator is written as its length, in two bytes, and its bytes
@@ -39,11 +40,8 @@ abbrev pub AreAscending : List (List ℕ) → Type 0
 AreAscending = AllPairs (λ a b. key_cmp a b ≡ Less)
 
 -- the bytes begin with n separators, which ascend
-pub record HoldsAscending (n : ℕ) (bytes : List ℕ) : Type 0 where
-  pub separators : List (List ℕ)
-  pub count : length separators ≡ n
-  pub holds : HoldsRecords separator_bytes IsFit separators bytes
-  pub ascending : AreAscending separators
+abbrev pub HoldsAscending : ℕ → List ℕ → Type 0
+HoldsAscending = HoldsAscendingRecords separator_bytes IsFit (λ separator. separator)
 
 -- the number of buckets
 abbrev pub bucket_count : List ℕ → ℕ
@@ -74,9 +72,11 @@ pub record IsIndexPage (bytes : List ℕ) : Type 0 where
 abbrev pub bucket_among : List (List ℕ) → List ℕ → ℕ
 bucket_among separators key = count_by (λ separator. is_le (key_cmp separator key)) separators
 
--- the last bucket that has keys whose front is at or below this one: how many separators have such a front
+-- the last bucket that has keys whose front is at or below this one: how many separators have such
+-- a front
 abbrev pub last_among : List (List ℕ) → List ℕ → ℕ
-last_among separators hi = count_by (λ separator. is_le (key_cmp (take (length hi) separator) hi)) separators
+last_among separators hi =
+    count_by (λ separator. is_le (key_cmp (take (length hi) separator) hi)) separators
 
 -- the same by an index page
 abbrev pub last_bucket : List ℕ → List ℕ → ℕ

@@ -18,7 +18,8 @@ FitsPage entry = IsFit (record { key = entry.key; body = entry.body })
 -- each entry fits a page, and its key stands before the next one in the order of bytes
 pub record AreOrdered (entries : List LeafEntry) : Type 0 where
   pub fit : (i : ℕ) (entry : LeafEntry) → slice_get entries i ≡ Some entry → FitsPage entry
-  pub ascending : (i : ℕ) (entry next : LeafEntry) → slice_get entries i ≡ Some entry → slice_get entries (i + 1) ≡ Some next → key_cmp entry.key next.key ≡ Less
+  pub ascending : (i : ℕ) (entry next : LeafEntry) → slice_get entries i ≡ Some entry
+      → slice_get entries (i + 1) ≡ Some next → key_cmp entry.key next.key ≡ Less
 
 -- the bytes begin as an index page of so many buckets
 pub record HasFront (bytes : List ℕ) (count : ℕ) : Type 0 where
@@ -27,11 +28,13 @@ pub record HasFront (bytes : List ℕ) (count : ℕ) : Type 0 where
   pub blank : slice_index bytes 1 ≡ 0
   pub count_is : bucket_count bytes ≡ count
 
--- behind the first pages of so many buckets stand the first keys of the buckets, and the first four bytes are as they were
+-- behind the first pages of so many buckets stand the first keys of the buckets, and the first four
+-- bytes are as they were
 pub record HasSeparators (old new : List ℕ) (keys : List (List ℕ)) (count : ℕ) : Type 0 where
   pub size : length new ≡ 4096
   pub front : (i : ℕ) → i < 4 → slice_index_or new i 0 ≡ slice_index_or old i 0
   pub separators : List (List ℕ)
   pub number : length separators + 1 ≡ count
   pub holds : HoldsRecords separator_bytes IsSeparator separators (drop (4 + 4 * count) new)
-  pub each : (bucket : ℕ) → 1 ≤ bucket → bucket < count → slice_get separators (bucket - 1) ≡ slice_get keys (begin_of bucket count (length keys))
+  pub each : (bucket : ℕ) → 1 ≤ bucket → bucket < count
+      → slice_get separators (bucket - 1) ≡ slice_get keys (begin_of bucket count (length keys))

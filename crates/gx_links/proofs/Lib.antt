@@ -5,3 +5,4 @@ pub mod OwnerLemmas
 pub mod PairLemmas
 pub mod JoinLemmas
 pub mod SpanLemmas
+pub mod ReplaceLemmas

@@ -32,7 +32,7 @@ use Rattle.gx_links.specs.declared.pairs.Owned.{Owned}
 use Rattle.gx_links.specs.Links.{Link, members_of, most_members, IsLink}
 use Rattle.gx_links.specs.Rows.{two_forms, link_parts, node_rows, link_rule, IsHeldLink, RowLaws, RowsApart}
 use Rattle.gx_links.specs.Owners.{member_cmp, AreOwners}
-use Rattle.gx_links.specs.Pairs.{rows_of, two_parts, ArePairs, AreRows, IsTold}
+use Rattle.gx_links.specs.Pairs.{rows_of, two_parts, ArePairs, AreRows, IsTold, ArePairsOfRows}
 use Rattle.gx_links.proofs.MemberLemmas.{from_members, in_pair, pair_in, members_ascend, less_equal, greater_equal}
 use Rattle.gx_links.proofs.OwnerLemmas.{member_total, pairs_ascend, pairs_sorted}
 use Rattle.gx_links.proofs.RowLemmas.{in_link_parts, from_link_parts, node_set}
@@ -290,7 +290,8 @@ same_pairs link pairs up to from = ascends_unique member_total pairs (fin.entrie
 
 module _ {owner member : Kind} {forms : ℕ → Form} {nodes : ℕ} {rows : Value → List Value → List Part} (laws : RowLaws owner member forms nodes rows) (apart : RowsApart rows) (parts : List Part) (pairs : List (Value × Value)) (read : AreRead owner member rows parts pairs) (gs : List Owned) (are : (link : Link) → fin.entries link ≡ pairs → AreOwners link gs) where
   -- an owner has too many members
-  pub told_many : (g : Owned) → In g gs → most_members < length g.members → IsTold owner member rows parts None
+  told_many : (g : Owned) → In g gs → most_members < length g.members
+      → IsTold owner member rows parts None
   told_many g h many = λ order link of_link.
       let own = are link (sym (read.those (ascends part_cmp parts order) link of_link)) in
       let few = of_link.is_link.few g.owner in
@@ -298,7 +299,10 @@ module _ {owner member : Kind} {forms : ℕ → Form} {nodes : ℕ} {rows : Valu
       omega (arith, many, few, same)
 
   -- the rows of the pairs aren't what was found
-  pub told_other : (IsStrictlySortedBy part_cmp parts → IsDistinct (eq_by_cmp part_cmp) (rows_of rows gs) → ((p : Part) → (In p parts → In p (rows_of rows gs)) × (In p (rows_of rows gs) → In p parts)) → ⊥) → IsTold owner member rows parts None
+  told_other : (IsStrictlySortedBy part_cmp parts
+      → IsDistinct (eq_by_cmp part_cmp) (rows_of rows gs)
+      → ((p : Part) → (In p parts → In p (rows_of rows gs)) × (In p (rows_of rows gs) → In p parts))
+      → ⊥) → IsTold owner member rows parts None
   told_other differ = λ order link of_link.
       let own = are link (sym (read.those (ascends part_cmp parts order) link of_link)) in
       differ order (rows_distinct laws link gs own apart of_link.is_link) (λ p. (λ h. in_rows laws link gs own p (of_link.to p h), λ h. of_link.from p (from_rows laws link gs own p h)))
@@ -317,3 +321,18 @@ module _ {owner member : Kind} {forms : ℕ → Form} {nodes : ℕ} {rows : Valu
         },
         sym is,
       )
+
+  -- what the comparison of the rows of the pairs says
+  pub told_of : (made : List Part) → made ≡ rows_of rows gs → (told : Option (List (Value × Value)))
+      → ArePairsOfRows pairs gs made parts told → IsTold owner member rows parts told
+  told_of made is None (inl many) = told_many many.0 many.1 many.2
+  told_of made is None (inr differ) = told_other (λ order distinct same. differ order
+      (subst (IsDistinct (eq_by_cmp part_cmp)) (sym is) distinct)
+      (λ p. (λ h. subst (In p) (sym is) ((same p).0 h), λ h. (same p).1 (subst (In p) is h))))
+  told_of made is (Some told) (those, few, same) = subst
+      (λ (ps : List (Value × Value)). IsTold owner member rows parts (Some ps)) (sym those)
+      (told_pairs few (λ p. (
+        λ h. subst (In p) is ((same p).0 h),
+        λ h. (same p).1
+            (subst (In p) (sym is) h),
+      )))

@@ -5,3 +5,4 @@ pub mod Rows
 pub mod Owners
 pub mod Pairs
 pub mod Spans
+pub mod Changes

@@ -1,8 +1,9 @@
 -- The pairs of a link, read from the rows that nodes hold.
-use Rattle.std.specs.Prelude.{◌≡◌, ◌++◌, List, map, Option, Some, None}
-use Rattle.std.specs.List.{flat_map}
+use Rattle.std.specs.Prelude.{◌≡◌, ℕ, ◌<◌, ◌≤◌, ◌++◌, ◌⊎◌, ◌↔◌, List, length, map, get_or, Option, Some, None}
+use Rattle.std.specs.List.{flat_map, IsDistinct}
 use Rattle.std.specs.List.Sorted.{IsStrictlySortedBy}
 use Rattle.std.specs.FinMap as fin
+use Rattle.std.specs.Ordering.{eq_by_cmp}
 use Rattle.gx_values.specs.declared.values.Kind.{Kind}
 use Rattle.gx_values.specs.declared.values.Value.{Value}
 use Rattle.gx_values.specs.declared.records.Rec.{Rec}
@@ -11,7 +12,8 @@ use Rattle.gx_mapping.specs.declared.parts.Part.{Part}
 use Rattle.gx_mapping.specs.Rule.{In, part_cmp}
 use Rattle.gx_gather.specs.Gather.{part_for}
 use Rattle.gx_links.specs.declared.pairs.Owned.{Owned}
-use Rattle.gx_links.specs.Links.{Link, IsLink}
+use Rattle.gx_links.specs.Kinds.{no_value}
+use Rattle.gx_links.specs.Links.{Link, IsLink, most_members}
 use Rattle.gx_links.specs.Linksets.{LinkRule, HasLink}
 use Rattle.gx_links.specs.Rows.{link_parts}
 
@@ -45,3 +47,19 @@ rows_of rows = flat_map (λ g. rows g.owner g.members)
 -- the records of two nodes, as parts
 abbrev pub two_parts : List Rec → List Rec → List Part
 two_parts A B = map (part_for 0) A ++ map (part_for 1) B
+
+-- the pair in the record of a member, with its owner in the field at an index
+abbrev pub pair_at : ℕ → Rec → Value × Value
+pair_at owner r = (get_or r.key 0 no_value, get_or r.fields owner no_value)
+
+-- The pairs, where no owner has too many members, and the rows are just the parts. None: an owner
+-- has too many, or the rows are others, where they are distinct and the parts stand by node and key.
+abbrev pub ArePairsOfRows : List (Value × Value) → List Owned → List Part → List Part
+    → Option (List (Value × Value)) → Type 0
+ArePairsOfRows pairs owners rows parts None =
+    ((g : Owned) × In g owners × (most_members < length g.members))
+    ⊎ (IsStrictlySortedBy part_cmp parts → IsDistinct (eq_by_cmp part_cmp) rows
+    → ¬ ((p : Part) → In p parts ↔ In p rows))
+ArePairsOfRows pairs owners rows parts (Some told) =
+    (told ≡ pairs) × ((g : Owned) → In g owners → length g.members ≤ most_members)
+    × ((p : Part) → In p parts ↔ In p rows)

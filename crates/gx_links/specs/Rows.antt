@@ -13,8 +13,9 @@ use Rattle.gx_ports.specs.LeafMaps.{LeafMap}
 use Rattle.gx_mapping.specs.declared.parts.Part.{Part}
 use Rattle.gx_mapping.specs.Rule.{Rule, In, IsOf, part_cmp}
 use Rattle.gx_stack.specs.declared.entries.LeafEntry.{LeafEntry}
-use Rattle.gx_stack.specs.Tree.{Tree, Kids, no_kids, kid, kids_leaves, kid_entries}
+use Rattle.gx_stack.specs.Tree.{Tree, Kids, no_kids, kid, kids_leaves, kid_entries, tree_form}
 use Rattle.gx_stack.specs.Internal.{parts_for, AreInternal}
+use Rattle.gx_links.specs.Kinds.{first_kind}
 use Rattle.gx_links.specs.Links.{Link, members_of, owners_of, most_members, IsLink}
 use Rattle.gx_links.specs.Linksets.{LinkRule}
 
@@ -33,6 +34,14 @@ IsHeldLink rule ks rows link maps = AreInternal rule ks (node_rows rows link) ma
 -- two nodes
 abbrev pub two_nodes : {M : Type 0} → Tree M → Tree M → Kids M
 two_nodes first second = kid first (kid second no_kids)
+
+-- the kind of the keys of owners, as the form of the node has it where an owner's key stands first
+abbrev pub owner_kind : {M : Type 0} (rule : M → Rule) → Tree M → Kind
+owner_kind rule node = first_kind (tree_form rule node).keys
+
+-- the same of members
+abbrev pub member_kind : {M : Type 0} (rule : M → Rule) → Tree M → Kind
+member_kind rule node = first_kind (tree_form rule node).keys
 
 -- the leaf entries that come from one owner with its members
 abbrev pub owner_entries : {M : Type 0} (rule : M → Rule) → Kids M → (Value → List Value → List Part) → Value → List Value → List LeafEntry

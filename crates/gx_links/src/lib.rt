@@ -1,14 +1,17 @@
 //! Linksets: each keeps a link, from members to their owners, in nodes.
 #![tactic(auto)]
 
+mod changes;
 mod linkset;
 mod owners;
 mod pairs;
 mod rows;
 mod spans;
+mod told;
 
+pub use changes::{Change, replace_both};
 pub use linkset::{Joining, Linkset, MOST_MEMBERS};
-pub use owners::{are_few, owners_of};
+pub use owners::owners_of;
 pub use pairs::{Owned, Owners, Pairs};
-pub use rows::are_rows;
 pub use spans::value_span;
+pub use told::{pairs_at, pairs_of_rows};

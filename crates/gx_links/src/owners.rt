@@ -75,7 +75,7 @@ fn is_last_owner(owners: &[Owned], owner: &Value) -> bool
     }
 }
 
-/// Whether no owner has too many members.
+// Whether no owner has too many members.
 pub fn are_few(owners: &Owners) -> bool
     ensures yes { result ≡ true → (g : Group) → In g owners.now →
         length g.members ≤ most_members }

@@ -16,11 +16,10 @@ use Rattle.gx_mapping.specs.Rule.{Rule, In, IsOf}
 use Rattle.gx_stack.specs.Tree.{Tree, tree_form, leaf_body, entries_of}
 use Rattle.gx_stack.specs.Internal.{IsInternal, IsChange, changed}
 use Rattle.gx_links.specs.Links.{Link, members_of, most_members, with_member, without_member}
-use Rattle.gx_links.specs.Rows.{node_rows, owner_entries, IsHeldLink}
+use Rattle.gx_links.specs.Rows.{node_rows, owner_entries, IsHeldLink, owner_kind}
 use Rattle.gx_links.proofs.JoinLemmas.{crowded_more}
 use Rattle.gx_links.proofs.MemberLemmas.{in_members, from_members, new_here, members_with, members_gone, others_stay, from_with, from_without, with_length}
 use Rattle.gx_links.specs.Kinds.{no_value}
-use Rattle.gx_lists.specs.Inverted.{owner_kind}
 use Rattle.gx_lists.specs.Arrays.{array_rec, array_rows, one_node, IsArray, AreOfKind, AreCut, HasMembers}
 use Rattle.gx_lists.proofs.ArrayLemmas.{of_form, none_there, one_there, first_held, more_held, last_held, others_gone, rec_crowded}
 

@@ -25,13 +25,12 @@ use Rattle.gx_stack.proofs.Same.{internal_of_members}
 use Rattle.gx_links.specs.Kinds.{AreOfKinds, no_value}
 use Rattle.gx_links.specs.Links.{Link, members_of, most_members, IsLink}
 use Rattle.gx_links.specs.Linksets.{HasLink}
-use Rattle.gx_links.specs.Rows.{link_parts, node_rows, owner_entries, IsHeldLink, RowLaws}
+use Rattle.gx_links.specs.Rows.{link_parts, node_rows, owner_entries, IsHeldLink, RowLaws, owner_kind}
 use Rattle.gx_links.proofs.KindLemmas.{fit_kinds}
 use Rattle.gx_links.proofs.JoinLemmas.{crowded_more}
 use Rattle.gx_links.proofs.MemberLemmas.{same_value, value_itself, value_cases, in_members, from_members, others_stay, gone_free, gone_comes}
 use Rattle.gx_links.proofs.RowLemmas.{node_set}
 use Rattle.gx_links.specs.Spans.{begins_with}
-use Rattle.gx_lists.specs.Inverted.{owner_kind}
 use Rattle.gx_lists.specs.Arrays.{array_rec, array_rows, one_node, array_rule, IsArray, AreOfKind, first_body, AreCut, AreOfNone, HasMembers, IsOwnerAmong}
 use Rattle.gx_lists.specs.Joined.{same_joined}
 use Rattle.gx_lists.specs.ArrayLaws.{key_kind, members_fit, array_row_of, of_array_row, array_row_laws, array_fits}

@@ -32,7 +32,7 @@ use Rattle.gx_stack.proofs.Same.{internal_of_members}
 use Rattle.gx_links.specs.declared.pairs.Owned.{Owned}
 use Rattle.gx_links.specs.Kinds.{AreOfKinds, no_value}
 use Rattle.gx_links.specs.Links.{Link, members_of, IsLink}
-use Rattle.gx_links.specs.Rows.{RowsApart, RowLaws, IsHeldLink}
+use Rattle.gx_links.specs.Rows.{RowsApart, RowLaws, IsHeldLink, owner_kind}
 use Rattle.gx_links.specs.Owners.{member_cmp, pair_with, pairs_under, pairs_of, AreOwners}
 use Rattle.gx_links.specs.Pairs.{AreRows, IsTold, ArePairs, rows_of, two_parts}
 use Rattle.gx_links.proofs.KindLemmas.{fit_kinds, one_kind}
@@ -40,7 +40,6 @@ use Rattle.gx_links.proofs.MemberLemmas.{pair_in, in_pair, in_members, from_memb
 use Rattle.gx_links.proofs.OwnerLemmas.{member_total, one_group}
 use Rattle.gx_links.proofs.PairLemmas.{AreRead, first_ascends, one_value, same_pairs, two_first, in_two_first, part_cases, two_ascend, pairs_held, told_pairs}
 use Rattle.gx_stack.proofs.WholeLayer.{distinct_append}
-use Rattle.gx_lists.specs.Inverted.{owner_kind}
 use Rattle.gx_lists.specs.Arrays.{array_rec, array_rows, one_node, array_rule, IsArray, AreCut, AreOfOneOwner, IsCutOf, IsOfNoOwner, AreCutOf}
 use Rattle.gx_lists.specs.ArrayLaws.{key_kind, members_fit, array_row_laws, IsArrayRow, array_row_of, of_array_row}
 use Rattle.gx_lists.specs.Joined.{same_joined}

@@ -1,6 +1,6 @@
 -- The records of an inverted list: what selections of them find, and what changes of two of them make of the link.
 use Rattle.std.proofs.Common.{◌≡◌, ◌≢◌, ◌<◌, ◌≤◌, ◌+◌, ◌*◌, ℕ, true, List, [], ◌∷◌, ◌++◌, inl, inr, length, map, Option, Some, None, refl, sym, ap, subst, ◌∙◌, get_or, arith, length-append}
-use Rattle.std.specs.Prelude.{IfSome, OnOk, Result, Ok, Err}
+use Rattle.std.specs.Prelude.{IfSome, Ok}
 use Rattle.std.specs.List.{AllByRecursion}
 use Rattle.std.specs.Ordering.{ordering_then}
 use Rattle.std.specs.declared.cmp.Ordering.TheVariants.{Less, Equal}
@@ -15,29 +15,29 @@ use Rattle.gx_values.specs.Values.{value_cmp, Fits, AreFit}
 use Rattle.gx_values.specs.Keys.{key_of, is_inside}
 use Rattle.gx_values.proofs.OrderLemmas.{value_cmp_total}
 use Rattle.gx_ports.specs.LeafMaps.{LeafMap, Limits, map_at, IsCrowdedBy}
-use Rattle.gx_ports.specs.declared.stop.Stop.{Stop}
-use Rattle.gx_ports.specs.declared.stop.Stop.TheVariants as stop
 use Rattle.gx_mapping.specs.declared.parts.Part.{Part}
 use Rattle.gx_mapping.specs.Rule.{Rule, In, IsOf}
 use Rattle.gx_gather.specs.Gather.{rec_cmp, part_for}
 use Rattle.gx_gather.proofs.Lists.{in_map, from_map, in_left, in_right, some_same, none_some}
 use Rattle.gx_gather.proofs.Orders.{Ascends, ascends, ascends_unique, rec_total}
 use Rattle.gx_stack.specs.Tree.{Tree, leaves_of, kids_leaves, tree_form, entries_of, entry_total}
-use Rattle.gx_stack.specs.Internal.{IsSet, HasSet, IsInternal, IsChange, changed}
+use Rattle.gx_stack.specs.Internal.{IsSet, HasSet, IsInternal, IsChange, changed, entries_if as change_entries}
 use Rattle.gx_stack.specs.Selected.{IsSelection}
 use Rattle.gx_stack.proofs.Children.{in_parts_for, from_parts_for}
 use Rattle.gx_stack.proofs.Without.{from_without, to_without}
 use Rattle.gx_stack.proofs.Same.{internal_of_members, internal_elsewhere}
+use Rattle.gx_links.specs.declared.changes.Change.{Change}
+use Rattle.gx_links.specs.Changes.{AreReplaced, coming, reversed}
 use Rattle.gx_links.specs.Kinds.{AreOfKinds, no_value}
 use Rattle.gx_links.specs.Links.{Link, members_of, IsLink}
 use Rattle.gx_links.specs.Linksets.{HasLink, entries_if}
-use Rattle.gx_links.specs.Rows.{two_forms, link_parts, node_rows, owner_entries, IsHeldLink, RowLaws, two_nodes}
+use Rattle.gx_links.specs.Rows.{two_forms, link_parts, node_rows, owner_entries, IsHeldLink, RowLaws, two_nodes, owner_kind, member_kind}
 use Rattle.gx_links.proofs.KindLemmas.{fit_kinds}
 use Rattle.gx_links.proofs.JoinLemmas.{crowded_more}
 use Rattle.gx_links.proofs.MemberLemmas.{same_value, value_itself, in_members, from_members, members_ascend, new_here, from_insert, still_there, from_remove, kept_there}
 use Rattle.gx_links.proofs.RowLemmas.{node_set}
 use Rattle.gx_links.specs.Spans.{begins_with}
-use Rattle.gx_lists.specs.Inverted.{pair_rec, owned_rec, inverted_rows, owner_kind, member_kind, IsInverted, inverted_rule, member_in, owner_in}
+use Rattle.gx_lists.specs.Inverted.{pair_rec, owned_rec, inverted_rows, IsInverted, inverted_rule, member_in, owner_in}
 use Rattle.gx_lists.specs.InvertedLaws.{row_of, of_row, inverted_row_laws, pair_fits, owned_fits}
 
 -- ---- the records of each node
@@ -122,10 +122,6 @@ owner_again m None = refl
 owner_again m (Some o) = refl
 
 -- what follows where a call answered Ok
-pub on_ok_kept : {T P Q : Type 0} (r : Result T Stop) → ((r ≡ Err stop.Fault → ⊥) → P → Q) → OnOk r P → OnOk r Q
-on_ok_kept (Ok x) f h = f (λ e. cc) h
-on_ok_kept (Err y) f h = tt
-
 module _ {M : Type 0} (rule : M → Rule) (down up : Tree M) (valid : IsInverted rule down up) where
   abbrev owner_key : Kind
   owner_key = owner_kind rule down
@@ -257,19 +253,20 @@ module _ {M : Type 0} (rule : M → Rule) (down up : Tree M) (valid : IsInverted
 
   -- ---- where the pages may not be enough
 
-  pub first_crowded : (link : Link) (o m : Value) (pair : Rec) (limit : Option Limits) (before : ℕ) → pair ≡ pair_rec o m → IsCrowdedBy limit (before + length (entries_of rule down pair)) → IsCrowdedBy limit (before + length (owner_entries rule (two_nodes down up) inverted_rows o (members_of (fin.insert link m o) o)))
-  first_crowded link o m pair limit before is crowded =
-      let both = pair_entries o m (members_of (fin.insert link m o) o) (in_members (fin.insert link m o) o m (new_here link o m)) in
-      let same : length (entries_of rule down pair) ≡ length (entries_of rule down (pair_rec o m)) = ap (λ r. length (entries_of rule down r)) is in
-      crowded_more limit (before + length (entries_of rule down pair)) (before + length (owner_entries rule (two_nodes down up) inverted_rows o (members_of (fin.insert link m o) o))) (omega (arith, both, same)) crowded
-
-  pub second_crowded : (link : Link) (o m : Value) (pair owned : Rec) (limit limit' : Option Limits) (before between : ℕ) → pair ≡ pair_rec o m → owned ≡ owned_rec o m → limit' ≡ limit → between ≤ before + length (entries_of rule down pair) → IsCrowdedBy limit' (between + length (entries_of rule up owned))
+  pub crowded_by : (link : Link) (o m : Value) (pair owned : Change) (limit : Option Limits)
+      (before : ℕ) → pair ≡ coming (pair_rec o m) → owned ≡ coming (owned_rec o m)
+      → IsCrowdedBy limit (before + (length (change_entries rule down pair.new) + length
+      (change_entries rule up owned.new)))
       → IsCrowdedBy limit (before + length (owner_entries rule (two_nodes down up) inverted_rows o (members_of (fin.insert link m o) o)))
-  second_crowded link o m pair owned limit limit' before between is is' limits count crowded =
+  crowded_by link o m pair owned limit before pair_is owned_is crowded =
       let both = pair_entries o m (members_of (fin.insert link m o) o) (in_members (fin.insert link m o) o m (new_here link o m)) in
-      let same : length (entries_of rule down pair) ≡ length (entries_of rule down (pair_rec o m)) = ap (λ r. length (entries_of rule down r)) is in
-      let same' : length (entries_of rule up owned) ≡ length (entries_of rule up (owned_rec o m)) = ap (λ r. length (entries_of rule up r)) is' in
-      crowded_more limit (between + length (entries_of rule up owned)) (before + length (owner_entries rule (two_nodes down up) inverted_rows o (members_of (fin.insert link m o) o))) (omega (arith, both, same, same', count)) (subst (λ x. IsCrowdedBy x (between + length (entries_of rule up owned))) limits crowded)
+      let one : length (change_entries rule down pair.new) ≡ length
+      (entries_of rule down (pair_rec o m)) = ap (λ (c : Change). length
+      (change_entries rule down c.new)) pair_is in
+      let two : length (change_entries rule up owned.new) ≡ length
+      (entries_of rule up (owned_rec o m)) = ap (λ (c : Change). length
+      (change_entries rule up c.new)) owned_is in
+      crowded_more limit _ _ (omega (arith, both, one, two)) crowded
 
   -- ---- leaves
 
@@ -286,26 +283,33 @@ module _ {M : Type 0} (rule : M → Rule) (down up : Tree M) (valid : IsInverted
 
   module _ (link : Link) (o m : Value) (is : IsLink owner_key member_key link) (maps between new : List LeafMap) where
     -- the second node's leaves stay while the first one's change, and the other way round
-    pub up_stays : (R : List Rec) → IsInternal rule up R maps → ((n : ℕ) → ¬ In n (leaves_of down) → map_at between n ≡ map_at maps n) → IsInternal rule up R between
+    up_stays : (R : List Rec) → IsInternal rule up R maps
+        → ((n : ℕ) → ¬ In n (leaves_of down) → map_at between n ≡ map_at maps n)
+        → IsInternal rule up R between
     up_stays R held others = internal_elsewhere rule up R maps between valid.nodes.3.1 (λ n h. others n (λ k. apart n k h)) held
 
-    pub down_stays : (R : List Rec) → IsInternal rule down R between → ((n : ℕ) → ¬ In n (leaves_of up) → map_at new n ≡ map_at between n) → IsInternal rule down R new
+    down_stays : (R : List Rec) → IsInternal rule down R between
+        → ((n : ℕ) → ¬ In n (leaves_of up) → map_at new n ≡ map_at between n)
+        → IsInternal rule down R new
     down_stays R held others = internal_elsewhere rule down R between new valid.nodes.1 (λ n h. others n (λ k. apart n h k)) held
 
     module _ (free : fin.get link m ≡ None) where
-      pub down_free : IsChange (node_rows inverted_rows link 0) None (Some (pair_rec o m))
+      down_free : IsChange (node_rows inverted_rows link 0) None (Some (pair_rec o m))
       down_free r h e =
           let pair = from_down link r h in
           let keys : pair.owner ∷ pair.member ∷ [] ≡ o ∷ m ∷ [] = ap (λ (x : Rec). x.key) (sym pair.is) ∙ e in
           none_some pair.owner (sym free ∙ ap (fin.get link) (sym (ap second_of keys)) ∙ pair.owned)
 
-      pub up_free : IsChange (node_rows inverted_rows link 1) None (Some (owned_rec o m))
+      up_free : IsChange (node_rows inverted_rows link 1) None (Some (owned_rec o m))
       up_free r h e =
           let pair = from_up link r h in
           let keys : pair.member ∷ [] ≡ m ∷ [] = ap (λ (x : Rec). x.key) (sym pair.is) ∙ e in
           none_some pair.owner (sym free ∙ ap (fin.get link) (sym (ap first_of keys)) ∙ pair.owned)
 
-      pub connected : IsInternal rule down (changed (node_rows inverted_rows link 0) None (Some (pair_rec o m))) new → IsInternal rule up (changed (node_rows inverted_rows link 1) None (Some (owned_rec o m))) new → IsHeldLink rule (two_nodes down up) inverted_rows (fin.insert link m o) new
+      connected : IsInternal rule down (changed (node_rows inverted_rows link 0) None
+          (Some (pair_rec o m))) new → IsInternal rule up
+          (changed (node_rows inverted_rows link 1) None (Some (owned_rec o m))) new
+          → IsHeldLink rule (two_nodes down up) inverted_rows (fin.insert link m o) new
       connected in_first in_second = (
         internal_of_members rule down (changed (node_rows inverted_rows link 0) None (Some (pair_rec o m))) (node_rows inverted_rows (fin.insert link m o) 0) new valid.nodes.1
             (λ r h. elim h [
@@ -339,7 +343,10 @@ module _ {M : Type 0} (rule : M → Rule) (down up : Tree M) (valid : IsInverted
     -- ---- a pair less
 
     module _ (owned : fin.get link m ≡ Some o) where
-      pub disconnected : IsInternal rule down (changed (node_rows inverted_rows link 0) (Some (pair_rec o m)) None) new → IsInternal rule up (changed (node_rows inverted_rows link 1) (Some (owned_rec o m)) None) new → IsHeldLink rule (two_nodes down up) inverted_rows (fin.remove link m) new
+      disconnected : IsInternal rule down (changed (node_rows inverted_rows link 0)
+          (Some (pair_rec o m)) None) new → IsInternal rule up
+          (changed (node_rows inverted_rows link 1) (Some (owned_rec o m)) None) new
+          → IsHeldLink rule (two_nodes down up) inverted_rows (fin.remove link m) new
       disconnected in_first in_second = (
         internal_of_members rule down (changed (node_rows inverted_rows link 0) (Some (pair_rec o m)) None) (node_rows inverted_rows (fin.remove link m) 0) new valid.nodes.1
             (λ r h.
@@ -369,3 +376,42 @@ module _ {M : Type 0} (rule : M → Rule) (down up : Tree M) (valid : IsInverted
           tt,
         ),
       )
+
+  -- ---- what two changes make of the link
+
+  pub pair_comes : (link : Link) (o m : Value) → IsLink owner_key member_key link
+      → (maps new : List LeafMap) → fin.get link m ≡ None
+      → IsHeldLink rule (two_nodes down up) inverted_rows link maps
+      → (pair owned : Change) → pair ≡ coming (pair_rec o m) → owned ≡ coming (owned_rec o m)
+      → AreReplaced rule down up pair owned maps new
+      → IsHeldLink rule (two_nodes down up) inverted_rows (fin.insert link m o) new
+  pair_comes link o m is maps new free held pair owned pair_is owned_is are =
+      let a = subst (λ (c : Change). AreReplaced rule down up c (coming (owned_rec o m)) maps new)
+      pair_is (subst (λ (c : Change). AreReplaced rule down up pair c maps new) owned_is are) in
+      let first = a.one.internal (node_rows inverted_rows link 0) (down_set link is)
+      (down_free link o m is maps a.half new free) held.0 in
+      let second = a.two.internal (node_rows inverted_rows link 1) (up_set link is)
+      (up_free link o m is maps a.half new free) (up_stays link o m is maps a.half new
+      (node_rows inverted_rows link 1) held.1.0 a.one.others) in
+      connected link o m is maps a.half new free (down_stays link o m is maps a.half new
+      (changed (node_rows inverted_rows link 0) None (Some (pair_rec o m))) first a.two.others)
+      second
+
+  pub pair_goes : (link : Link) (o m : Value) → IsLink owner_key member_key link
+      → (maps new : List LeafMap) → fin.get link m ≡ Some o
+      → IsHeldLink rule (two_nodes down up) inverted_rows link maps
+      → (pair owned : Change) → pair ≡ reversed (coming (pair_rec o m))
+      → owned ≡ reversed (coming (owned_rec o m)) → AreReplaced rule down up pair owned maps new
+      → IsHeldLink rule (two_nodes down up) inverted_rows (fin.remove link m) new
+  pair_goes link o m is maps new there held pair owned pair_is owned_is are =
+      let a = subst (λ (c : Change). AreReplaced rule down up c (reversed (coming (owned_rec o m)))
+      maps new) pair_is (subst (λ (c : Change). AreReplaced rule down up pair c maps new)
+      owned_is are) in
+      let first = a.one.internal (node_rows inverted_rows link 0) (down_set link is)
+      (in_down link o m there) held.0 in
+      let second = a.two.internal (node_rows inverted_rows link 1) (up_set link is)
+      (in_up link o m there) (up_stays link o m is maps a.half new
+      (node_rows inverted_rows link 1) held.1.0 a.one.others) in
+      disconnected link o m is maps a.half new there (down_stays link o m is maps a.half new
+      (changed (node_rows inverted_rows link 0) (Some (pair_rec o m)) None) first a.two.others)
+      second

@@ -22,11 +22,11 @@ use Rattle.gx_ports.specs.LeafMaps.{LeafMap}
 use Rattle.gx_mapping.specs.Laws.{MappingLaws}
 use Rattle.gx_links.specs.Kinds.{no_value}
 use Rattle.gx_links.specs.Links.{Link}
-use Rattle.gx_links.specs.Rows.{RowsApart, IsHeldLink, two_nodes}
+use Rattle.gx_links.specs.Rows.{RowsApart, IsHeldLink, two_nodes, owner_kind, member_kind}
 use Rattle.gx_links.specs.Pairs.{IsTold, ArePairs, two_parts}
 use Rattle.gx_links.proofs.KindLemmas.{fit_kinds, one_kind}
 use Rattle.gx_links.proofs.PairLemmas.{AreRead, pairs_held, two_fit, two_ascend, two_internal, not_tied, second_ascends, values_ascend, same_pairs, two_second, in_two_second}
-use Rattle.gx_lists.specs.Inverted.{pair_rec, owned_rec, owned_pair, pair_rows, inverted_rows, owner_kind, member_kind, IsInverted, inverted_rule}
+use Rattle.gx_lists.specs.Inverted.{pair_rec, owned_rec, owned_pair, pair_rows, inverted_rows, IsInverted, inverted_rule}
 use Rattle.gx_lists.specs.InvertedLaws.{inverted_row_laws, IsRow, row_of, of_row, zero_one}
 
 -- ---- rows are apart

@@ -19,11 +19,10 @@ use Rattle.gx_stack.specs.Tree.{Tree, tree_form, leaf_body}
 use Rattle.gx_links.specs.Kinds.{kinds_of, no_value}
 use Rattle.gx_links.specs.Links.{Link, members_of, owners_of, most_members, IsLink}
 use Rattle.gx_links.specs.Linksets.{LinksetLaws}
-use Rattle.gx_links.specs.Rows.{link_parts, RowLaws, IsHeldLink}
+use Rattle.gx_links.specs.Rows.{link_parts, RowLaws, IsHeldLink, owner_kind}
 use Rattle.gx_links.proofs.KindLemmas.{fit_fields}
 use Rattle.gx_links.proofs.MemberLemmas.{in_members, from_members, owner_there, same_link}
 use Rattle.gx_links.proofs.RowLemmas.{linkset_laws}
-use Rattle.gx_lists.specs.Inverted.{owner_kind}
 use Rattle.gx_lists.specs.Arrays.{array_rec, array_rows, one_node, IsArray, array_rule, AreOfKind}
 use Rattle.gx_lists.specs.Joined.{joined_small, same_joined}
 

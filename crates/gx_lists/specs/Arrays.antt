@@ -18,8 +18,7 @@ use Rattle.gx_links.specs.Kinds.{kinds_of, no_value}
 use Rattle.gx_links.specs.declared.pairs.Owned.{Owned}
 use Rattle.gx_links.specs.Links.{most_members}
 use Rattle.gx_links.specs.Linksets.{LinkRule}
-use Rattle.gx_links.specs.Rows.{link_rule}
-use Rattle.gx_lists.specs.Inverted.{owner_kind}
+use Rattle.gx_links.specs.Rows.{link_rule, owner_kind}
 
 -- the record of an owner with these members
 abbrev pub array_rec : Value → List Value → Rec

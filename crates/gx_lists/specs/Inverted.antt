@@ -1,7 +1,6 @@
 -- Inverted lists: a record of each pair under its owner, and one under its member.
 use Rattle.std.specs.Prelude.{◌≡◌, true, List, [], ◌∷◌, Option, Some, None, get_or}
 use Rattle.std.specs.List.{flat_map}
-use Rattle.gx_values.specs.declared.values.Kind.{Kind}
 use Rattle.gx_values.specs.declared.values.Value.{Value}
 use Rattle.gx_values.specs.declared.records.Rec.{Rec}
 use Rattle.gx_values.specs.Spans.{IsSpanKind}
@@ -9,9 +8,10 @@ use Rattle.gx_mapping.specs.declared.parts.Part.{Part}
 use Rattle.gx_mapping.specs.Rule.{Rule}
 use Rattle.gx_gather.specs.Gather.{part_for}
 use Rattle.gx_stack.specs.Tree.{Tree, tree_form, AreValid}
-use Rattle.gx_links.specs.Kinds.{kinds_of, first_kind, no_value}
+use Rattle.gx_links.specs.Kinds.{kinds_of, no_value}
 use Rattle.gx_links.specs.Linksets.{LinkRule}
-use Rattle.gx_links.specs.Rows.{two_forms, link_rule, two_nodes}
+use Rattle.gx_links.specs.Pairs.{pair_at}
+use Rattle.gx_links.specs.Rows.{two_forms, link_rule, two_nodes, owner_kind, member_kind}
 
 -- the record of a pair under its owner and then its member, without data
 abbrev pub pair_rec : Value → Value → Rec
@@ -29,13 +29,6 @@ abbrev pub inverted_rows : Value → List Value → List Part
 inverted_rows owner = flat_map (pair_rows owner)
 
 -- ---- the two nodes
-
--- the kinds of the keys of owners and of members, as the forms of the nodes have them
-abbrev pub owner_kind : {M : Type 0} (rule : M → Rule) → Tree M → Kind
-owner_kind rule down = first_kind (tree_form rule down).keys
-
-abbrev pub member_kind : {M : Type 0} (rule : M → Rule) → Tree M → Kind
-member_kind rule up = first_kind (tree_form rule up).keys
 
 -- the nodes have the forms of an inverted list and are valid, and no leaf is in both
 pub record IsInverted {M : Type 0} (rule : M → Rule) (down up : Tree M) : Type 0 where
@@ -61,4 +54,4 @@ owner_in (r ∷ rs) = Some (get_or r.fields 0 no_value)
 
 -- the pair in the record of a member
 abbrev pub owned_pair : Rec → Value × Value
-owned_pair r = (get_or r.key 0 no_value, get_or r.fields 0 no_value)
+owned_pair = pair_at 0

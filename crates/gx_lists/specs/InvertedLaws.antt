@@ -15,11 +15,11 @@ use Rattle.gx_stack.specs.Tree.{Tree, tree_form}
 use Rattle.gx_links.specs.Kinds.{kinds_of, no_value}
 use Rattle.gx_links.specs.Links.{Link, members_of, owners_of}
 use Rattle.gx_links.specs.Linksets.{LinksetLaws}
-use Rattle.gx_links.specs.Rows.{link_parts, two_forms, RowLaws, IsHeldLink, two_nodes}
+use Rattle.gx_links.specs.Rows.{link_parts, two_forms, RowLaws, IsHeldLink, two_nodes, owner_kind, member_kind}
 use Rattle.gx_links.proofs.KindLemmas.{fit_fields}
 use Rattle.gx_links.proofs.MemberLemmas.{in_members, from_members, owner_there, same_link}
 use Rattle.gx_links.proofs.RowLemmas.{linkset_laws}
-use Rattle.gx_lists.specs.Inverted.{pair_rec, owned_rec, pair_rows, inverted_rows, owner_kind, member_kind, IsInverted, inverted_rule}
+use Rattle.gx_lists.specs.Inverted.{pair_rec, owned_rec, pair_rows, inverted_rows, IsInverted, inverted_rule}
 
 -- a pair of a link, and which of its two rows a part is
 pub record IsRow (link : Link) (p : Part) : Type 0 where

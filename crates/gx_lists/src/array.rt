@@ -12,8 +12,7 @@ ghost use Rattle.gx_stack.specs.Seen.{tree_of};
 ghost use Rattle.gx_links.specs.Links.{Link, members_of};
 ghost use Rattle.gx_links.specs.Linksets.{CanConnect};
 ghost use Rattle.gx_links.specs.Pairs.{IsTold, two_parts};
-ghost use Rattle.gx_links.specs.Rows.{owner_entries, IsHeldLink};
-ghost use Rattle.gx_lists.specs.Inverted.{owner_kind};
+ghost use Rattle.gx_links.specs.Rows.{owner_entries, IsHeldLink, owner_kind};
 ghost use Rattle.gx_lists.specs.Arrays.{one_node, array_rows, array_rule, IsArray};
 
 use crate::array_pairs::{cut_owners, is_each_once, pairs_by_member};

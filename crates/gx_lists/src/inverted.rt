@@ -11,15 +11,18 @@ ghost use Rattle.gx_stack.specs.Seen.{tree_of};
 ghost use Rattle.gx_links.specs.Links.{Link, members_of};
 ghost use Rattle.gx_links.specs.Linksets.{HasLink, CanConnect};
 ghost use Rattle.gx_links.specs.Pairs.{IsTold, two_parts};
-ghost use Rattle.gx_links.specs.Rows.{owner_entries, IsHeldLink, two_nodes};
+ghost use Rattle.gx_links.specs.Rows.{owner_entries, IsHeldLink, two_nodes, owner_kind, member_kind};
 ghost use Rattle.gx_lists.specs.Counts.{IsMemberCount};
-ghost use Rattle.gx_lists.specs.Inverted.{inverted_rows, owner_kind, member_kind, IsInverted, inverted_rule};
+ghost use Rattle.gx_lists.specs.Inverted.{inverted_rows, IsInverted, inverted_rule};
 
 use crate::counts::count_within;
-use crate::records::{add_members, inverted_rows, owned_pairs, owned_rec, owner_of, pair_rec};
-use gx_gather::{Recs, add_parts};
-use gx_links::{Joining, Linkset, MOST_MEMBERS, Pairs, are_few, are_rows, owners_of, value_span};
-use gx_mapping::{Mapping, Parts};
+use crate::records::{add_members, inverted_rows, owned_rec, owner_of, pair_rec};
+use gx_gather::Recs;
+use gx_links::{
+    Change, Joining, Linkset, MOST_MEMBERS, Pairs, owners_of, pairs_at, pairs_of_rows,
+    replace_both, value_span,
+};
+use gx_mapping::Mapping;
 use gx_ports::{Leaves, Stop};
 use gx_stack::Node;
 use gx_values::{NoMemory, Value, Values};
@@ -101,10 +104,9 @@ impl<'a, M: Mapping> Linkset for Inverted<'a, M> {
         owner: &Value,
         member: &Value,
     ) -> Result<(), Stop> {
-        let pair = pair_rec(alloc, owner, member)?;
-        let owned = owned_rec(alloc, owner, member)?;
-        self.down.replace(alloc, leaves, Some(&pair), None)?;
-        self.up.replace(alloc, leaves, Some(&owned), None)
+        let pair = Change::coming(pair_rec(alloc, owner, member)?).reversed();
+        let owned = Change::coming(owned_rec(alloc, owner, member)?).reversed();
+        replace_both(alloc, leaves, self.down, &pair, self.up, &owned)
     }
 
     fn pairs<B: Leaves>(
@@ -193,10 +195,9 @@ impl<'a, M: Mapping> Inverted<'a, M> {
             (two_nodes (tree_of self.now.down.now) (tree_of self.now.up.now)) inverted_rows owner.now
             (members_of (insert link member.now owner.now) owner.now))) }
     {
-        let pair = pair_rec(alloc, owner, member)?;
-        let owned = owned_rec(alloc, owner, member)?;
-        self.down.replace(alloc, leaves, None, Some(&pair))?;
-        self.up.replace(alloc, leaves, None, Some(&owned))
+        let pair = Change::coming(pair_rec(alloc, owner, member)?);
+        let owned = Change::coming(owned_rec(alloc, owner, member)?);
+        replace_both(alloc, leaves, self.down, &pair, self.up, &owned)
     }
 
     // The pairs of the link whose rows these records of the two nodes are. `None`: they are those of no
@@ -208,19 +209,9 @@ impl<'a, M: Mapping> Inverted<'a, M> {
             (IsTold (owner_kind M.rule (tree_of self.now.down.now))
             (member_kind M.rule (tree_of self.now.up.now)) inverted_rows (two_parts down up)) }
     {
-        let pairs = owned_pairs(alloc, &up)?;
+        let pairs = pairs_at(alloc, &up, 0)?;
         let owners = owners_of(alloc, &pairs)?;
-        if !are_few(&owners) {
-            return Ok(None);
-        }
         let rows = inverted_rows(alloc, &owners)?;
-        let mut found = Parts(Vec::new(alloc));
-        add_parts(0, down, &mut found)?;
-        add_parts(1, up, &mut found)?;
-        if are_rows(rows, &found)? {
-            Ok(Some(pairs))
-        } else {
-            Ok(None)
-        }
+        pairs_of_rows(alloc, pairs, &owners, rows, down, up)
     }
 }

@@ -1,5 +1,5 @@
 // The records of inverted lists.
-ghost use Rattle.std.specs.Prelude.{◌≡◌, ◌<◌, ◌++◌, length, map, get_or, IfOk, OnOk};
+ghost use Rattle.std.specs.Prelude.{◌≡◌, ◌<◌, ◌++◌, length, map, IfOk, OnOk};
 ghost use Rattle.gx_values.specs.declared.records.Rec.{Rec as Record};
 ghost use Rattle.gx_values.specs.declared.values.Value.{Value as FieldValue};
 ghost use Rattle.gx_values.specs.Values.{IsSized};
@@ -7,8 +7,7 @@ ghost use Rattle.gx_ports.specs.LeafMaps.{Extends};
 ghost use Rattle.gx_mapping.specs.Rule.{In};
 ghost use Rattle.gx_links.specs.declared.pairs.Owned.{Owned as Group};
 ghost use Rattle.gx_links.specs.Pairs.{rows_of};
-ghost use Rattle.gx_links.specs.Kinds.{no_value};
-ghost use Rattle.gx_lists.specs.Inverted.{pair_rec, owned_rec, member_in, owner_in, inverted_rows, owned_pair};
+ghost use Rattle.gx_lists.specs.Inverted.{pair_rec, owned_rec, member_in, owner_in, inverted_rows};
 
 use gx_gather::Recs;
 use gx_links::{Owners, Pairs};
@@ -71,29 +70,6 @@ pub fn owner_of(found: Recs) -> Option<Value>
     }
     let mut rec = found.remove(0);
     Some(rec.fields.0.remove(0))
-}
-
-// The pairs in the records of members.
-pub fn owned_pairs(alloc: Global, up: &Recs) -> Result<Pairs, NoMemory>
-    requires keys { (r : Record) → In r up.now → (0 < length r.key) × IsSized (owned_pair r).0 }
-    requires fields { (r : Record) → In r up.now →
-        (0 < length r.fields) × IsSized (owned_pair r).1 }
-    ensures { IfOk result (λ pairs. pairs ≡ map owned_pair up.now) }
-{
-    let mut pairs = Vec::with_capacity(alloc, up.0.len())?;
-    for rec in &up.0 {
-        let member = first_value(&rec.key).copy(alloc)?;
-        let owner = first_value(&rec.fields).copy(alloc)?;
-        pairs.push((member, owner))?;
-    }
-    Ok(Pairs(pairs))
-}
-
-fn first_value(values: &Values) -> &Value
-    requires { 0 < length values.now }
-    ensures { result.now ≡ get_or values.now 0 no_value }
-{
-    &values.0[0]
 }
 
 // The rows of owners with their members.

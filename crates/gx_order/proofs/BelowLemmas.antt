@@ -15,12 +15,15 @@ less_from_lt Equal h = absurd cc
 less_from_lt Greater h = absurd cc
 
 -- some bytes stand before others, or the others are them or stand before them
-pub below_is_less : (a b : List ℕ) (answer : Bool) → answer ≡ is_lt (cmp a b) → answer ≡ true → cmp a b ≡ Less
+pub below_is_less : (a b : List ℕ) (answer : Bool) → answer ≡ is_lt (cmp a b) → answer ≡ true
+    → cmp a b ≡ Less
 below_is_less a b answer is holds = less_from_lt (cmp a b) (sym is ∙ holds)
 
-pub not_below_is_le : (a b : List ℕ) (answer : Bool) → answer ≡ is_lt (cmp a b) → answer ≡ false → is_le (cmp b a) ≡ true
-not_below_is_le a b answer is fails = go (cmp a b) (sym is ∙ fails) (nat_list_cmp_total.antisymm b a) where
-  go : (o : Ordering) → is_lt o ≡ false → cmp b a ≡ ordering_reverse o → is_le (cmp b a) ≡ true
-  go Less bad turned = absurd cc
-  go Equal fails turned = ap is_le turned
-  go Greater fails turned = ap is_le turned
+pub not_below_is_le : (a b : List ℕ) (answer : Bool) → answer ≡ is_lt (cmp a b) → answer ≡ false
+    → is_le (cmp b a) ≡ true
+not_below_is_le a b answer is fails =
+    go (cmp a b) (sym is ∙ fails) (nat_list_cmp_total.antisymm b a) where
+      go : (o : Ordering) → is_lt o ≡ false → cmp b a ≡ ordering_reverse o → is_le (cmp b a) ≡ true
+      go Less bad turned = absurd cc
+      go Equal fails turned = ap is_le turned
+      go Greater fails turned = ap is_le turned

@@ -14,7 +14,8 @@ use Rattle.gx_model.specs.States.{File, pairs_of, most_members}
 use Rattle.gx_model.specs.Commands.{Refusal, no_record, has_owner, too_many_members, first_refusal}
 use Rattle.gx_scan.specs.Files.{HasFile}
 use Rattle.gx_links.specs.Links.{Link, members_of}
-use Rattle.gx_links.specs.Linksets.{LinkRule, HasLink, HasRoom}
+use Rattle.gx_links.specs.Linksets.{LinkRule, HasLink, HasRoom, CanConnect}
+use Rattle.gx_links.proofs.JoinLemmas.{connect_still}
 use Rattle.gx_pairs.specs.declared.stored.StoredLink.{StoredLink}
 use Rattle.gx_pairs.specs.Stored.{file_of, node_tree, AreLinked, HaveLink}
 use Rattle.gx_pairs.specs.Changes.{connect_refusal}
@@ -43,6 +44,15 @@ looked_up f (Some x) found is none there = none_some (f x) (sym none ∙ is)
 
 -- ---- why a pair isn't connected
 
+-- a member without an owner can be connected, where the owner has room
+pub record MayJoin {L : Type 0} (rule : L → LinkRule) (held : L → Link → List LeafMap → Type 0)
+    (s : StoredLink L) (maps : List LeafMap) (owners members : File) (link : Link)
+    (owner member : Value) : Type 0 where
+  pub can : CanConnect (rule s.linkset) (held s.linkset) maps link member
+  pub room : HasRoom link owner → connect_refusal owners members link owner member ≡ None
+  pub no_room : ¬ HasRoom link owner → connect_refusal owners members link owner member ≡ Some
+      too_many_members
+
 below_most : (n : ℕ) → n < most_members → nat_le most_members n ≡ false
 below_most n few = grind (arith, nat_tests)
 
@@ -66,15 +76,27 @@ module _ (owners members : File) (link : Link) (owner member : Value) where
         let owned : is_some (fin.get link member) ≡ false = sym has_is ∙ no in
         λ i. first_refusal ((not (records i), no_record) ∷ (owned i, has_owner) ∷ (nat_le most_members (length (pairs_of link owner)), too_many_members) ∷ [])
 
-    pub is_free : fin.get link member ≡ None
+    is_free : fin.get link member ≡ None
     is_free = go (fin.get link member) (sym has_is ∙ no)
       where
         go : (o : Option Value) → is_some o ≡ false → o ≡ None
         go None e = refl
         go (Some o) e = absurd (true≢false e)
 
-    pub may_connect : HasRoom link owner → connect_refusal owners members link owner member ≡ None
+    may_connect : HasRoom link owner → connect_refusal owners members link owner member ≡ None
     may_connect room = for_room_alone ∙ ap for_room (ap (nat_le most_members) (sym as_many) ∙ below_most (length (members_of link owner)) room)
 
-    pub has_no_room : ¬ HasRoom link owner → connect_refusal owners members link owner member ≡ Some too_many_members
+    has_no_room : ¬ HasRoom link owner → connect_refusal owners members link owner member ≡ Some
+        too_many_members
     has_no_room full = for_room_alone ∙ ap for_room (ap (nat_le most_members) (sym as_many) ∙ not_below_most (length (members_of link owner)) full)
+
+    pub may_join : {L : Type 0} (rule : L → LinkRule) (held : L → Link → List LeafMap → Type 0)
+        (s : StoredLink L) (old new : List LeafMap) → new ≡ old
+        → AreLinked rule held s old owners members link
+        → MayJoin rule held s new owners members link owner member
+    may_join rule held s old new same are = record {
+      can = connect_still (rule s.linkset) (held s.linkset) old new link member same
+          (record { is_link = are.is_link; is_held = are.link; free = is_free });
+      room = may_connect;
+      no_room = has_no_room;
+    }

@@ -11,7 +11,7 @@ ghost use Rattle.gx_scan.specs.Steps.{HaveAtMost};
 ghost use Rattle.gx_pairs.specs.Stored.{file_of, node_tree, IsStoredFile};
 
 use gx_ports::{Leaves, Stop};
-use gx_scan::find_record;
+use gx_scan::find_values;
 use gx_schema::FileDef;
 use gx_stack::Node;
 use gx_types::AnyMapping;
@@ -60,5 +60,5 @@ pub(crate) fn has_record<B: Leaves>(
         × HasFile (file_of stored.now) (node_tree stored.now) (B.working leaves.old))
         leaves.old leaves.new result }
 {
-    Ok(find_record(alloc, stored.file, stored.node, key, leaves)?.is_some())
+    Ok(find_values(alloc, stored.file, stored.node, key, leaves)?.is_some())
 }

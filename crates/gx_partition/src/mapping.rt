@@ -63,6 +63,10 @@ impl Mapping for Partition {
         Ok(self.whole(part))
     }
 
+    fn is_own_part(&self, child: u16, rec: &Rec) -> bool {
+        self.child_for(rec) == child
+    }
+
     fn skips(&self, child: u16, span: &Span) -> bool {
         match self.at {
             Where::Key(0) => {

@@ -5,7 +5,8 @@ ghost use Rattle.std.specs.List.Sorted.{IsStrictlySortedBy};
 ghost use Rattle.gx_values.specs.Values.{value_cmp};
 ghost use Rattle.gx_partition.specs.Bounds.{child_of, lower_of, upper_of, ends_before, begins_after, IsNarrow};
 
-use gx_values::{KeyBuf, Value, Values, compare, value_key};
+use arrayvec::ArrayVec;
+use gx_values::{KeyBuf, Value, Values, compare};
 
 /// The child of the records with this value: how many bounds are at or below it.
 pub(crate) fn child_of(bounds: &Values, value: &Value) -> u16
@@ -43,7 +44,9 @@ pub(crate) fn ends_before(bound: Option<&Value>, lo: &KeyBuf) -> bool
     let Some(bound) = bound else {
         return false;
     };
-    value_key(bound).as_slice().cmp(lo.as_slice()).is_le()
+    let mut key = KeyBuf(ArrayVec::new());
+    key.set_value(bound);
+    key.as_slice().cmp(lo.as_slice()).is_le()
 }
 
 /// Whether keys that begin with a value from the bound on all stand behind those that begin with `hi`.
@@ -54,7 +57,8 @@ pub(crate) fn begins_after(bound: Option<&Value>, hi: &KeyBuf) -> bool
     let Some(bound) = bound else {
         return false;
     };
-    let key = value_key(bound);
+    let mut key = KeyBuf(ArrayVec::new());
+    key.set_value(bound);
     let hi = hi.as_slice();
     let front = &key.as_slice()[..key.as_slice().len().min(hi.len())];
     front.cmp(hi).is_gt()

@@ -1,25 +1,26 @@
 -- A link with one pair more or less, as it was asked for.
 use Rattle.std.proofs.Common.{◌≡◌, ◌<◌, ◌+◌, ℕ, List, [], ◌++◌, length, Option, sym, ap, subst, ◌∙◌, arith}
 use Rattle.std.specs.FinMap as fin
+use Rattle.gx_values.specs.declared.values.Kind.{Kind}
 use Rattle.gx_values.specs.declared.values.Value.{Value}
 use Rattle.gx_values.specs.Values.{Fits}
 use Rattle.gx_ports.specs.LeafMaps.{LeafMap, IsCrowdedBy, Limits, entry_count}
 use Rattle.gx_mapping.specs.Rule.{Rule, In}
 use Rattle.gx_stack.specs.Tree.{Tree}
-use Rattle.gx_stack.specs.Internal.{entries_if}
+use Rattle.gx_stack.specs.Internal.{IfThere, entries_if}
 use Rattle.gx_links.specs.Links.{Link, members_of, most_members, IsLink, without_member}
 use Rattle.gx_links.specs.Linksets.{LinkRule, AreMembers, CanConnect, CanDisconnect}
-use Rattle.gx_links.specs.Rows.{IsHeldLink, two_nodes}
+use Rattle.gx_links.specs.Rows.{IsHeldLink, two_nodes, owner_kind, member_kind}
 use Rattle.gx_links.proofs.JoinLemmas.{crowded_more}
 use Rattle.gx_links.proofs.MemberLemmas.{insert_link, remove_link, gone_free, gone_comes, members_gone, from_without}
-use Rattle.gx_ring.specs.declared.changes.Change.{Change}
-use Rattle.gx_ring.specs.Ring.{ring_rows, owner_kind, member_kind, IsRing, ring_rule}
+use Rattle.gx_links.specs.declared.changes.Change.{Change}
+use Rattle.gx_ring.specs.Ring.{ring_rows, IsRing, ring_rule}
 use Rattle.gx_ring.specs.Places.{before_in, next_in}
-use Rattle.gx_ring.specs.Steps.{leading, lead_change, own_change, reversed}
-use Rattle.gx_ring.specs.Changes.{AreReplaced}
+use Rattle.gx_ring.specs.Steps.{leading, lead_change, own_change}
+use Rattle.gx_links.specs.Changes.{AreReplaced, reversed}
 use Rattle.gx_ring.proofs.ChainLemmas.{members_between}
 use Rattle.gx_ring.proofs.HeldLemmas.{comes, goes, came_entries, went_entries}
-use Rattle.gx_ring.proofs.ComeLemmas.{place_among}
+use Rattle.gx_ring.proofs.ComeLemmas.{place_among, before_fits, next_fits}
 
 -- the members but one, of those that were found
 module _ (rule : LinkRule) (held : Link → List LeafMap → Type 0) (whole : Type 0) (maps : List LeafMap) (owner m : Value) (steps_before steps : ℕ) (before now others : List Value) (found : AreMembers rule held whole maps owner steps_before steps before now) (none : before ≡ []) (is : others ≡ without_member m now) where
@@ -31,6 +32,18 @@ module _ (rule : LinkRule) (held : Link → List LeafMap → Type 0) (whole : Ty
 
   pub others_are : whole → (link : Link) → IsLink rule.owner rule.member link → held link maps → others ≡ without_member m (members_of link owner)
   others_are w link is_link is_held = is ∙ ap (without_member m) (now_is ∙ found.those w link is_link is_held)
+
+-- the members beside the place of one are of the kind of all
+pub beside_fit : (kind : Kind) (members : List Value) (m : Value) (before next : Option Value)
+    → before ≡ before_in members m → next ≡ next_in members m
+    → ((x : Value) → In x members → Fits kind x)
+    → IfThere before (Fits kind) × IfThere next (Fits kind)
+beside_fit kind members m before next before_is next_is fit = (
+  subst (λ (x : Option Value). IfThere x (Fits kind)) (sym before_is)
+      (before_fits (Fits kind) members m fit),
+  subst (λ (x : Option Value). IfThere x (Fits kind)) (sym next_is)
+      (next_fits (Fits kind) members m fit),
+)
 
 module _ {M : Type 0} (rule : M → Rule) (heads nexts : Tree M) (valid : IsRing rule heads nexts) (o m : Value) (fit_o : Fits (owner_kind rule heads) o) (fit_m : Fits (member_kind rule nexts) m) (members : List Value) (before next : Option Value) (before_is : before ≡ before_in members m) (next_is : next ≡ next_in members m) (leader : Tree M) (leader_is : leader ≡ leading heads nexts before) (lead own : Change) where
   -- it comes

@@ -11,11 +11,11 @@ use Rattle.gx_stack.specs.Tree.{Tree, tree_form}
 use Rattle.gx_stack.specs.Internal.{IsSet, IsChange, changed}
 use Rattle.gx_stack.proofs.Without.{from_without, to_without}
 use Rattle.gx_links.specs.Links.{Link, members_of, IsLink}
-use Rattle.gx_links.specs.Rows.{node_rows, two_forms, RowLaws}
+use Rattle.gx_links.specs.Rows.{node_rows, two_forms, RowLaws, owner_kind, member_kind}
 use Rattle.gx_links.proofs.MemberLemmas.{value_cases, others_stay}
 use Rattle.gx_links.proofs.RowLemmas.{in_node_rows, from_node_rows, node_set}
 use Rattle.gx_links.specs.Kinds.{no_value}
-use Rattle.gx_ring.specs.Ring.{first, head_rec, chain_rec, head_if, chain, ring_rows, owner_kind, member_kind, IsRing, key_value}
+use Rattle.gx_ring.specs.Ring.{first, head_rec, chain_rec, head_if, chain, ring_rows, IsRing, key_value}
 use Rattle.gx_ring.specs.RingLaws.{IsHead, head_row, chain_row, row_cases, tells_key, key_in_chain, owned_in_chain, ring_row_laws}
 use Rattle.gx_ring.proofs.ChainLemmas.{IsChained, there_behind, chain_behind, behind_chain, heads_behind, chain_front, front_chain}
 

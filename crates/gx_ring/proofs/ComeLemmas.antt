@@ -14,12 +14,13 @@ use Rattle.gx_gather.proofs.Lists.{take_in, in_at, in_right}
 use Rattle.gx_stack.specs.Tree.{Tree, leaves_of, tree_form, IsValid}
 use Rattle.gx_stack.specs.Internal.{IfThere}
 use Rattle.gx_links.specs.Links.{Link, members_of}
-use Rattle.gx_ring.specs.Ring.{head_rec, chain_rec, head_if, owner_kind, member_kind, IsRing, ring_rule}
+use Rattle.gx_links.specs.Rows.{owner_kind, member_kind}
+use Rattle.gx_ring.specs.Ring.{head_rec, chain_rec, head_if, IsRing, ring_rule}
 use Rattle.gx_ring.specs.RingLaws.{head_fits, chain_fits}
 use Rattle.gx_ring.specs.Records.{IsKeyValue}
 use Rattle.gx_ring.specs.Places.{place_of, before_in, next_in}
 use Rattle.gx_ring.specs.Steps.{leading, lead_change, own_change}
-use Rattle.gx_ring.specs.Changes.{FitsChange}
+use Rattle.gx_links.specs.Changes.{FitsChange}
 use Rattle.gx_ring.proofs.PlaceLemmas.{IsPlace, place_there, cut}
 use Rattle.gx_ring.proofs.HeldLemmas.{heads_valid, nexts_valid}
 use Rattle.gx_ring.proofs.FoundLemmas.{heads_below, nexts_below}

@@ -17,10 +17,10 @@ use Rattle.gx_stack.specs.Internal.{HasSet}
 use Rattle.gx_links.specs.Kinds.{AreOfKinds, no_value}
 use Rattle.gx_links.specs.Links.{Link, members_of, IsLink}
 use Rattle.gx_links.specs.Linksets.{HasLink, AreMembers, IsOwner}
-use Rattle.gx_links.specs.Rows.{IsHeldLink, owner_entries, two_nodes}
+use Rattle.gx_links.specs.Rows.{IsHeldLink, owner_entries, two_nodes, owner_kind, member_kind}
 use Rattle.gx_links.proofs.KindLemmas.{fit_kinds}
 use Rattle.gx_links.proofs.MemberLemmas.{in_members}
-use Rattle.gx_ring.specs.Ring.{head_rec, chain, ring_rows, owner_kind, member_kind, next_kind, IsRing, ring_rule}
+use Rattle.gx_ring.specs.Ring.{head_rec, chain, ring_rows, next_kind, IsRing, ring_rule}
 use Rattle.gx_ring.specs.RingLaws.{owner_in_chain, owned_in_chain, chain_of}
 use Rattle.gx_ring.specs.Reads.{IsFoundAt, IsRecordAt}
 use Rattle.gx_ring.specs.Walks.{HasChain, AreWalked}

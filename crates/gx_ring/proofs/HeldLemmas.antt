@@ -18,10 +18,10 @@ use Rattle.gx_stack.specs.Tree.{Tree, leaves_of, entries_of, kid_entries, IsVali
 use Rattle.gx_stack.specs.Internal.{changed, entries_if}
 use Rattle.gx_stack.proofs.Same.{internal_of_members, internal_elsewhere}
 use Rattle.gx_links.specs.Links.{Link, members_of, IsLink}
-use Rattle.gx_links.specs.Rows.{IsHeldLink, owner_entries, two_nodes}
-use Rattle.gx_ring.specs.Ring.{first, head_rec, chain_rec, head_if, chain, ring_rows, owner_kind, member_kind, IsRing}
-use Rattle.gx_ring.specs.Steps.{leading, lead_change, own_change, reversed}
-use Rattle.gx_ring.specs.Changes.{AreReplaced}
+use Rattle.gx_links.specs.Rows.{IsHeldLink, owner_entries, two_nodes, owner_kind, member_kind}
+use Rattle.gx_ring.specs.Ring.{first, head_rec, chain_rec, head_if, chain, ring_rows, IsRing}
+use Rattle.gx_ring.specs.Steps.{leading, lead_change, own_change}
+use Rattle.gx_links.specs.Changes.{AreReplaced, reversed}
 use Rattle.gx_ring.proofs.PlaceLemmas.{IsPlace, last_none, last_some}
 use Rattle.gx_ring.proofs.ChainLemmas.{members_between, chain_rest}
 use Rattle.gx_ring.proofs.ChangeLemmas as sets

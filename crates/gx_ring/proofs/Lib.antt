@@ -1,6 +1,5 @@
 pub mod PlaceLemmas
 pub mod ReadLemmas
-pub mod ReplaceLemmas
 pub mod ChainLemmas
 pub mod ChangeLemmas
 pub mod HeldLemmas

@@ -22,12 +22,12 @@ use Rattle.gx_stack.specs.Internal.{IsInternal}
 use Rattle.gx_stack.specs.Held.{AreHeld}
 use Rattle.gx_links.specs.Kinds.{no_value}
 use Rattle.gx_links.specs.Links.{Link, members_of}
-use Rattle.gx_links.specs.Rows.{RowsApart, RowLaws, IsHeldLink, two_forms, two_nodes}
+use Rattle.gx_links.specs.Rows.{RowsApart, RowLaws, IsHeldLink, two_forms, two_nodes, owner_kind, member_kind}
 use Rattle.gx_links.specs.Pairs.{AreRows, ArePairs, IsTold, two_parts}
 use Rattle.gx_links.proofs.KindLemmas.{fit_kinds, one_kind}
 use Rattle.gx_links.proofs.MemberLemmas.{in_members}
 use Rattle.gx_links.proofs.PairLemmas.{AreRead, not_tied, second_ascends, values_ascend, same_pairs, two_second, in_two_second, two_fit, two_ascend, two_internal, pairs_held}
-use Rattle.gx_ring.specs.Ring.{first, head_rec, chain_rec, chain, ring_rows, owner_kind, member_kind, IsRing, ring_rule, key_value, chain_pair}
+use Rattle.gx_ring.specs.Ring.{first, head_rec, chain_rec, chain, ring_rows, IsRing, ring_rule, key_value, chain_pair}
 use Rattle.gx_ring.specs.RingLaws.{IsHead, in_chain, tells, owner_in_chain, owned_in_chain, chain_of, chain_row, row_cases, row_of, of_row, zero_one, ring_row_laws}
 use Rattle.gx_ring.proofs.FoundLemmas.{owner_field}
 use Rattle.gx_ring.proofs.HeldLemmas.{heads_valid, nexts_valid}

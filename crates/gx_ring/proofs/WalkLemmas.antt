@@ -14,7 +14,8 @@ use Rattle.gx_links.specs.Links.{members_of, most_members}
 use Rattle.gx_links.proofs.MemberLemmas.{from_members}
 use Rattle.gx_ring.specs.declared.records.Behind.{Behind}
 use Rattle.gx_ring.specs.declared.records.Behind.TheVariants as found
-use Rattle.gx_ring.specs.Ring.{first, chain_rec, chain, member_kind, IsRing}
+use Rattle.gx_links.specs.Rows.{member_kind}
+use Rattle.gx_ring.specs.Ring.{first, chain_rec, chain, IsRing}
 use Rattle.gx_ring.specs.RingLaws.{tells_key}
 use Rattle.gx_ring.specs.Records.{behind_of, FitsBehind, IsBehind}
 use Rattle.gx_ring.specs.Reads.{IsFoundAt, IsRecordAt}

@@ -2,7 +2,6 @@ pub mod Ring
 pub mod RingLaws
 pub mod Records
 pub mod Places
-pub mod Changes
 pub mod Steps
 pub mod Reads
 pub mod Walks

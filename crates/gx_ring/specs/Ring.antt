@@ -11,9 +11,10 @@ use Rattle.gx_mapping.specs.declared.parts.Part.{Part}
 use Rattle.gx_mapping.specs.Rule.{Rule}
 use Rattle.gx_gather.specs.Gather.{part_for}
 use Rattle.gx_stack.specs.Tree.{Tree, tree_form, AreValid}
-use Rattle.gx_links.specs.Kinds.{kinds_of, first_kind, no_value}
+use Rattle.gx_links.specs.Kinds.{kinds_of, no_value}
 use Rattle.gx_links.specs.Linksets.{LinkRule}
-use Rattle.gx_links.specs.Rows.{two_forms, link_rule, two_nodes}
+use Rattle.gx_links.specs.Pairs.{pair_at}
+use Rattle.gx_links.specs.Rows.{two_forms, link_rule, two_nodes, owner_kind, member_kind}
 
 abbrev pub first : List Value → Option Value
 first [] = None
@@ -45,13 +46,6 @@ ring_rows owner (m ∷ ms) = part_for 0 (head_rec owner m) ∷ map (part_for 1) 
 
 -- ---- the two nodes
 
--- the kinds of the keys of owners and of members, as the forms of the nodes have them
-abbrev pub owner_kind : {M : Type 0} (rule : M → Rule) → Tree M → Kind
-owner_kind rule heads = first_kind (tree_form rule heads).keys
-
-abbrev pub member_kind : {M : Type 0} (rule : M → Rule) → Tree M → Kind
-member_kind rule nexts = first_kind (tree_form rule nexts).keys
-
 -- the bytes of a key of either kind
 abbrev pub next_kind : Kind → Kind → Kind
 next_kind owner member = kind.Bytes (max (width_of owner) (width_of member))
@@ -74,4 +68,4 @@ key_value r = get_or r.key 0 no_value
 
 -- the pair in the record of a member
 abbrev pub chain_pair : Rec → Value × Value
-chain_pair r = (key_value r, get_or r.fields 2 no_value)
+chain_pair = pair_at 2

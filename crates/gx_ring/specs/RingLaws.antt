@@ -22,11 +22,11 @@ use Rattle.gx_stack.specs.Tree.{Tree, tree_form}
 use Rattle.gx_links.specs.Kinds.{kinds_of, no_value}
 use Rattle.gx_links.specs.Links.{Link, members_of, owners_of}
 use Rattle.gx_links.specs.Linksets.{LinksetLaws}
-use Rattle.gx_links.specs.Rows.{link_parts, two_forms, RowLaws, IsHeldLink, two_nodes}
+use Rattle.gx_links.specs.Rows.{link_parts, two_forms, RowLaws, IsHeldLink, two_nodes, owner_kind, member_kind}
 use Rattle.gx_links.proofs.KindLemmas.{fit_fields}
 use Rattle.gx_links.proofs.MemberLemmas.{in_members, from_members, members_ascend, owner_there, same_link}
 use Rattle.gx_links.proofs.RowLemmas.{linkset_laws}
-use Rattle.gx_ring.specs.Ring.{first, head_rec, chain_rec, chain, ring_rows, owner_kind, member_kind, next_kind, IsRing, ring_rule, key_value}
+use Rattle.gx_ring.specs.Ring.{first, head_rec, chain_rec, chain, ring_rows, next_kind, IsRing, ring_rule, key_value}
 
 -- ---- the chain of one owner
 

@@ -2,7 +2,8 @@
 use Rattle.std.specs.Prelude.{Option, Some, None}
 use Rattle.gx_values.specs.declared.values.Value.{Value}
 use Rattle.gx_stack.specs.Tree.{Tree}
-use Rattle.gx_ring.specs.declared.changes.Change.{Change}
+use Rattle.gx_links.specs.declared.changes.Change.{Change}
+use Rattle.gx_links.specs.Changes.{coming}
 use Rattle.gx_ring.specs.Ring.{head_rec, chain_rec, head_if}
 
 -- the node with the record that leads to a member: of its owner, or of the member before it
@@ -15,8 +16,4 @@ lead_change owner member None next = record { old = head_if owner next; new = So
 lead_change owner member (Some before) next = record { old = Some (chain_rec owner before next); new = Some (chain_rec owner before (Some member)) }
 
 abbrev pub own_change : Value → Value → Option Value → Change
-own_change owner member next = record { old = None; new = Some (chain_rec owner member next) }
-
--- a change undone
-abbrev pub reversed : Change → Change
-reversed c = record { old = c.new; new = c.old }
+own_change owner member next = coming (chain_rec owner member next)

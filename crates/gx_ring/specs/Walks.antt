@@ -7,8 +7,8 @@ use Rattle.gx_mapping.specs.Rule.{Rule, In}
 use Rattle.gx_stack.specs.Tree.{Tree, leaves_of, entries_of, entry_total}
 use Rattle.gx_stack.specs.Internal.{IfThere}
 use Rattle.gx_links.specs.Links.{Link, members_of, IsLink}
-use Rattle.gx_links.specs.Rows.{IsHeldLink, two_nodes}
-use Rattle.gx_ring.specs.Ring.{first, chain_rec, chain, ring_rows, owner_kind, member_kind}
+use Rattle.gx_links.specs.Rows.{IsHeldLink, two_nodes, owner_kind, member_kind}
+use Rattle.gx_ring.specs.Ring.{first, chain_rec, chain, ring_rows}
 
 -- the maps hold a link in which this is a member of an owner, after some and before others
 pub record HasMember {M : Type 0} (rule : M → Rule) (heads nexts : Tree M) (maps : List LeafMap) (member : Value) : Type 0 where

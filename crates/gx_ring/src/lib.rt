@@ -1,7 +1,6 @@
 //! The ring: a linkset in which each owner leads to its first member, and each member to the next.
 #![tactic(auto)]
 
-mod changes;
 mod places;
 mod reads;
 mod records;

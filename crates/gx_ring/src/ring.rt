@@ -14,20 +14,21 @@ ghost use Rattle.gx_stack.specs.Internal.{IfThere};
 ghost use Rattle.gx_links.specs.Links.{Link, members_of};
 ghost use Rattle.gx_links.specs.Linksets.{CanConnect};
 ghost use Rattle.gx_links.specs.Pairs.{IsTold, two_parts};
-ghost use Rattle.gx_links.specs.Rows.{IsHeldLink, two_nodes};
-ghost use Rattle.gx_ring.specs.Ring.{ring_rows, ring_rule, IsRing, owner_kind, member_kind};
+ghost use Rattle.gx_links.specs.Rows.{IsHeldLink, two_nodes, owner_kind, member_kind};
+ghost use Rattle.gx_ring.specs.Ring.{ring_rows, ring_rule, IsRing};
 ghost use Rattle.gx_ring.specs.Records.{IsKeyValue};
 ghost use Rattle.gx_ring.specs.Steps.{leading, lead_change, own_change};
 ghost use Rattle.gx_ring.specs.Walks.{HasMember, HasChain, IsNext, AreWalked};
 
-use crate::changes::{Change, replace_both};
 use crate::places::{Neighbours, neighbours_of, without};
 use crate::reads::record_at;
 use crate::records::{Behind, chain_rec, head_if, head_rec, read_behind, take_field};
-use crate::rows::{chain_pairs, ring_rows};
-use gx_gather::{NO_BLOCK, Recs, add_parts};
-use gx_links::{Joining, Linkset, MOST_MEMBERS, Pairs, are_few, are_rows, owners_of};
-use gx_mapping::{Mapping, Parts};
+use crate::rows::ring_rows;
+use gx_gather::{NO_BLOCK, Recs};
+use gx_links::{
+    Change, Joining, Linkset, MOST_MEMBERS, Pairs, owners_of, pairs_at, pairs_of_rows, replace_both,
+};
+use gx_mapping::Mapping;
 use gx_ports::{Leaves, Stop};
 use gx_stack::Node;
 use gx_values::{Kind, NoMemory, Value, Values};
@@ -261,20 +262,10 @@ impl<'a, M: Mapping> Ring<'a, M> {
             (IsTold (owner_kind M.rule (tree_of self.now.heads.now))
             (member_kind M.rule (tree_of self.now.chain.now)) ring_rows (two_parts heads chain)) }
     {
-        let pairs = chain_pairs(alloc, &chain)?;
+        let pairs = pairs_at(alloc, &chain, 2)?;
         let owners = owners_of(alloc, &pairs)?;
-        if !are_few(&owners) {
-            return Ok(None);
-        }
         let rows = ring_rows(alloc, &owners)?;
-        let mut found = Parts(Vec::new(alloc));
-        add_parts(0, heads, &mut found)?;
-        add_parts(1, chain, &mut found)?;
-        if are_rows(rows, &found)? {
-            Ok(Some(pairs))
-        } else {
-            Ok(None)
-        }
+        pairs_of_rows(alloc, pairs, &owners, rows, heads, chain)
     }
 
     // The kind of the members' keys.
@@ -338,8 +329,5 @@ fn own_change(
     ensures { IfOk result (λ change. change
         ≡ own_change owner.now member.now (option_map (λ v. v.now) at.entry.next)) }
 {
-    Ok(Change {
-        old: None,
-        new: Some(chain_rec(alloc, owner, member, at.next)?),
-    })
+    Ok(Change::coming(chain_rec(alloc, owner, member, at.next)?))
 }

@@ -1,14 +1,11 @@
-// The rows of rings, and the pairs in them.
-ghost use Rattle.std.specs.Prelude.{◌≡◌, ◌<◌, ◌++◌, length, map, get_or, IfOk, OnOk};
-ghost use Rattle.gx_values.specs.declared.records.Rec.{Rec as Record};
+// The rows of rings.
+ghost use Rattle.std.specs.Prelude.{◌≡◌, ◌<◌, ◌++◌, map, IfOk, OnOk};
 ghost use Rattle.gx_values.specs.declared.values.Value.{Value as FieldValue};
-ghost use Rattle.gx_values.specs.Values.{IsSized};
 ghost use Rattle.gx_mapping.specs.Rule.{In};
 ghost use Rattle.gx_gather.specs.Gather.{part_for};
 ghost use Rattle.gx_links.specs.declared.pairs.Owned.{Owned as Group};
 ghost use Rattle.gx_links.specs.Pairs.{rows_of};
-ghost use Rattle.gx_links.specs.Kinds.{no_value};
-ghost use Rattle.gx_ring.specs.Ring.{chain, ring_rows, chain_pair};
+ghost use Rattle.gx_ring.specs.Ring.{chain, ring_rows};
 ghost use Rattle.gx_ring.specs.Records.{IsKeyValue};
 
 use crate::records::{chain_rec, head_rec};
@@ -17,30 +14,6 @@ use gx_links::{Owners, Pairs};
 use gx_mapping::{Part, Parts};
 use gx_values::{NoMemory, Value, Values};
 use std::alloc::Global;
-
-// The pairs in the records of a chain.
-pub fn chain_pairs(alloc: Global, chain: &Recs) -> Result<Pairs, NoMemory>
-    requires keys { (r : Record) → In r chain.now →
-        (0 < length r.key) × IsSized (chain_pair r).0 }
-    requires fields { (r : Record) → In r chain.now →
-        (2 < length r.fields) × IsSized (chain_pair r).1 }
-    ensures { IfOk result (λ pairs. pairs ≡ map chain_pair chain.now) }
-{
-    let mut pairs = Vec::with_capacity(alloc, chain.0.len())?;
-    for rec in &chain.0 {
-        let member = value_at(&rec.key, 0).copy(alloc)?;
-        let owner = value_at(&rec.fields, 2).copy(alloc)?;
-        pairs.push((member, owner))?;
-    }
-    Ok(Pairs(pairs))
-}
-
-fn value_at(values: &Values, index: usize) -> &Value
-    requires { index < length values.now }
-    ensures { result.now ≡ get_or values.now index no_value }
-{
-    &values.0[index]
-}
 
 // The rows of owners with their members.
 pub fn ring_rows(alloc: Global, owners: &Owners) -> Result<Parts, NoMemory>

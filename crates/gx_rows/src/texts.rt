@@ -13,6 +13,9 @@ use gx_values::{NoMemory, Octets, Value};
 use itoa::Buffer;
 use std::alloc::{AllocError, Global};
 
+// How many bytes the text of an int has at most.
+const LONGEST_INT: usize = 20;
+
 /// The line of a record. `NoMemory`: there was none for it.
 pub fn record_line(
     alloc: Global,
@@ -50,10 +53,31 @@ fn push_record(
     ensures { OnOk result
         (text.new.items ≡ text.old.items ++ row_text file.now (key.now, values.now)) }
 {
+    text.reserve(record_room(file, key, values))?;
     text.extend_from_slice(file.name.as_slice())?;
     push_value(text, key)?;
     push_values(text, values)?;
     text.extend_from_slice(b"\n")
+}
+
+// How many bytes the line of a record has, or some more, where no text has a quote inside. So the line is
+// seldom moved while it grows.
+fn record_room(file: &FileDef, key: &Value, values: &[Value]) -> usize {
+    let mut room = file.name.as_slice().len() + 1;
+    room = room.saturating_add(value_room(key));
+    for value in values {
+        room = room.saturating_add(value_room(value));
+    }
+    room
+}
+
+// The same of a value behind a space.
+fn value_room(value: &Value) -> usize {
+    match value {
+        Value::Int(_) => 1 + LONGEST_INT,
+        Value::Text(content) => content.as_slice().len().saturating_add(3),
+        Value::Bytes(_) => 1,
+    }
 }
 
 fn push_values(text: &mut Vec<u8>, values: &[Value]) -> Result<(), AllocError>

@@ -6,6 +6,7 @@ use Rattle.std.specs.Prelude.{filter}
 use Rattle.std.specs.List.{AllByRecursion}
 use Rattle.std.specs.FinMap as fin
 use Rattle.std.specs.Int.{w16, to_be_bytes}
+use Rattle.gx_values.specs.declared.values.Code.{Code}
 use Rattle.gx_values.specs.declared.values.Kind.{Kind}
 use Rattle.gx_values.specs.declared.values.Value.{Value}
 use Rattle.gx_values.specs.declared.values.Value.TheVariants as value
@@ -24,7 +25,7 @@ use Rattle.gx_actual.specs.BodyLaws.{same_body}
 use Rattle.gx_stack.specs.Tree.{leaf_body}
 use Rattle.gx_model.specs.States.{Row, IsRowOf}
 use Rattle.gx_scan.specs.Files.{IsStorable}
-use Rattle.gx_scan.specs.Entries.{wrapped, entry_of_row}
+use Rattle.gx_scan.specs.Entries.{wrapped, entry_of_row, IsStoredRow}
 
 -- ---- one record
 
@@ -49,20 +50,34 @@ row_read file k key_bytes body_bytes fields key vs r is kind_same same ke be rea
     let others : vs ≡ r.1 = same_body (data_fields file) vs r.1 is.short (subst (λ (fs : List Field). AreFit fs vs) same reads.0) fit.1 (reads.1 ∙ be) in
     λ i. Some (first i, others i)
 
-pub record RowAt (file : FileDef) (n : ℕ) (rs : List Row) (i : ℕ) (e : Entry) : Type 0 where
+pub rows_fit : (file : FileDef) (cs : List (Option Code)) (rs : List Row)
+    → AllByRecursion (IsStoredRow file cs) rs → AllByRecursion (IsRowOf file) rs
+rows_fit file cs [] all = tt
+rows_fit file cs (r ∷ rs) all = (all.0.0, rows_fit file cs rs all.1)
+
+-- the record of an entry, of which it is made so
+pub record RowAt (P : Row → Type 0) (made : Row → List ℕ × List ℕ) (rs : List Row) (i : ℕ)
+    (e : Entry) : Type 0 where
   pub row : Row
-  pub fits : IsRowOf file row
-  pub is : e ≡ entry_of (entry_of_row n row)
+  pub fits : P row
+  pub is : e ≡ entry_of (made row)
   pub more : take (i + 1) rs ≡ take i rs ++ row ∷ []
 
-row_at : (file : FileDef) (n : ℕ) (rs : List Row) (i : ℕ) (d : Entry) → AllByRecursion (IsRowOf file) rs → i < length rs → (r : Row) × IsRowOf file r × (get_or (map (λ (r : Row). entry_of (entry_of_row n r)) rs) i d ≡ entry_of (entry_of_row n r)) × (take (suc i) rs ≡ take i rs ++ r ∷ [])
-row_at file n [] i d all lt = absurd (omega arith)
-row_at file n (r ∷ rs) zero d all lt = (r, all.0, refl, refl)
-row_at file n (r ∷ rs) (suc i) d all lt = let x = row_at file n rs i d all.1 (omega arith) in (x.0, x.1, x.2, ap (λ (l : List Row). r ∷ l) x.3)
+row_at : (P : Row → Type 0) (made : Row → List ℕ × List ℕ) (rs : List Row) (i : ℕ) (d : Entry)
+    → AllByRecursion P rs → i < length rs
+    → (r : Row) × P r × (get_or (map (λ (r : Row). entry_of (made r)) rs) i d ≡ entry_of (made r))
+    × (take (suc i) rs ≡ take i rs ++ r ∷ [])
+row_at P made [] i d all lt = absurd (omega arith)
+row_at P made (r ∷ rs) zero d all lt = (r, all.0, refl, refl)
+row_at P made (r ∷ rs) (suc i) d all lt = let x = row_at P made rs i d all.1 (omega arith) in
+    (x.0, x.1, x.2, ap (λ (l : List Row). r ∷ l) x.3)
 
-pub entry_at : (file : FileDef) (n : ℕ) (rs : List Row) (es : List Entry) (i : ℕ) (e : Entry) → AllByRecursion (IsRowOf file) rs → es ≡ map (λ (r : Row). entry_of (entry_of_row n r)) rs → i < length es → e ≡ get_or es i e → RowAt file n rs i e
-entry_at file n rs es i e all same lt item =
-    let x = row_at file n rs i e all (omega (arith, ap length same, length-map rs (λ (r : Row). entry_of (entry_of_row n r)))) in
+pub entry_at : (P : Row → Type 0) (made : Row → List ℕ × List ℕ) (rs : List Row) (es : List Entry)
+    (i : ℕ) (e : Entry) → AllByRecursion P rs → es ≡ map (λ (r : Row). entry_of (made r)) rs
+    → i < length es → e ≡ get_or es i e → RowAt P made rs i e
+entry_at P made rs es i e all same lt item =
+    let x = row_at P made rs i e all
+    (omega (arith, ap length same, length-map rs (λ (r : Row). entry_of (made r)))) in
     record { row = x.0; fits = x.1; is = item ∙ ap (λ (l : List Entry). get_or l i e) same ∙ x.2; more = ap (λ n. take n rs) (let y : i + 1 ≡ suc i = omega arith in y) ∙ x.3 }
 
 -- ---- the values behind the lengths of a body
@@ -102,8 +117,14 @@ map_joined g f [] = refl
 map_joined {A} {B} {C} g f (x ∷ xs) = ap (λ (l : List C). g (f x) ∷ l) (map_joined g f xs)
 
 -- the span selects the entries of the records within it
-pub span_entries : (m : LeafMap) (n : ℕ) (rs : List Row) (lo hi : List ℕ) (before out entries : List Entry) → fin.entries m ≡ map (entry_of_row n) rs → before ≡ [] → out ≡ before ++ selected lo hi m → entries ≡ out
-    → entries ≡ map (λ (r : Row). entry_of (entry_of_row n r)) (filter (λ (r : Row). is_inside lo hi (bytes_of r.0)) rs)
-span_entries m n rs lo hi before out entries same b o e =
+pub span_entries : (m : LeafMap) (n : ℕ) (cs : List (Option Code)) (rs : List Row) (lo hi : List ℕ)
+    (before out entries : List Entry) → fin.entries m ≡ map (entry_of_row n cs) rs → before ≡ []
+    → out ≡ before ++ selected lo hi m → entries ≡ out
+    → entries ≡ map (λ (r : Row). entry_of (entry_of_row n cs r))
+    (filter (λ (r : Row). is_inside lo hi (bytes_of r.0)) rs)
+span_entries m n cs rs lo hi before out entries same b o e =
     e ∙ o ∙ ap (λ (l : List Entry). l ++ selected lo hi m) b ∙ ap (λ (es : List (List ℕ × List ℕ)). map entry_of (filter (λ x. is_inside lo hi x.0) es)) same
-    ∙ ap (map entry_of) (filter_map (λ (x : List ℕ × List ℕ). is_inside lo hi x.0) (entry_of_row n) rs) ∙ map_joined entry_of (entry_of_row n) (filter (λ (r : Row). is_inside lo hi (bytes_of r.0)) rs)
+    ∙ ap (map entry_of)
+    (filter_map (λ (x : List ℕ × List ℕ). is_inside lo hi x.0) (entry_of_row n cs) rs)
+    ∙ map_joined entry_of (entry_of_row n cs)
+    (filter (λ (r : Row). is_inside lo hi (bytes_of r.0)) rs)

@@ -3,6 +3,7 @@ use Rattle.std.proofs.Common.{[], ◌≡◌, ℕ, ◌+◌, ◌*◌, ◌≤◌, L
 use Rattle.std.specs.Prelude.{filter}
 use Rattle.std.specs.Ordering.{is_eq, eq_by_cmp}
 use Rattle.std.specs.FinMap as fin
+use Rattle.std.specs.Option.{option_map}
 use Rattle.std.specs.List.Sorted.{IsPermutation}
 use Rattle.std.proofs.Math.Nat.{mul-le-mul_right}
 use Rattle.std.proofs.lemmas.Cmp.{on_total}
@@ -99,3 +100,18 @@ module _ (file : FileDef) (f : File) (k : Value) (span : Span) (kind : IsKeyKind
       let few : length (rows_inside span f) ≤ 1 = subst (λ (l : List Row). length l ≤ 1) (sym rows_at_one) (one_few (record_at f k)) in
       let product : length (rows_inside span f) * most ≤ 1 * most = mul-le-mul_right most few in
       omega (arith, steps, product)
+
+-- ---- the values of the record at a key
+
+-- the record at a key that has these values, found without conditions
+pub one_unfiltered : (k : Value) (o : Option (List Value)) → filter (meets_conds []) (map row_of (list_of_one (option_map (λ values. rec_of (k, values)) o))) ≡ list_of_one (option_map (λ (values : List Value). (k, values)) o)
+one_unfiltered k None = refl
+one_unfiltered k (Some values) = refl
+
+pub row_values : (k : Value) (o : Option (List Value)) → option_map (λ (r : Row). r.1) (option_map (λ (values : List Value). (k, values)) o) ≡ o
+row_values k None = refl
+row_values k (Some values) = refl
+
+pub rec_values : (k : Value) (o : Option (List Value)) (r : Option Rec) → r ≡ option_map (λ values. rec_of (k, values)) o → option_map (λ (r : Rec). r.fields) r ≡ o
+rec_values k None r is = ap (option_map (λ (r : Rec). r.fields)) is
+rec_values k (Some values) r is = ap (option_map (λ (r : Rec). r.fields)) is

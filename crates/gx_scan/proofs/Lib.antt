@@ -1,6 +1,7 @@
 pub mod CallLemmas
 pub mod FileLemmas
 pub mod RecordLemmas
+mod CodeLemmas
 mod EntryLemmas
 mod PlaceLemmas
 pub mod ListingLemmas

@@ -8,12 +8,10 @@ use Rattle.gx_values.specs.declared.values.Value.{Value}
 use Rattle.gx_values.specs.declared.values.Value.TheVariants as value
 use Rattle.gx_values.specs.declared.records.Field.{Field}
 use Rattle.gx_values.specs.Values.{Fits, AreFit}
-use Rattle.gx_schema.specs.declared.schema.FileDef.{FileDef}
 use Rattle.gx_ports.specs.declared.leaves.Entry.{Entry}
 use Rattle.gx_ports.specs.LeafMaps.{entry_of}
 use Rattle.gx_actual.specs.Bodies.{field_bytes, body_of}
-use Rattle.gx_model.specs.States.{Row, IsRowOf}
-use Rattle.gx_scan.specs.Entries.{entry_of_row}
+use Rattle.gx_model.specs.States.{Row}
 use Rattle.gx_scan.proofs.EntryLemmas.{RowAt, entry_at}
 
 abbrev none : Value
@@ -57,18 +55,29 @@ none_past (f ∷ fs) (v ∷ vs) (suc i) fit le = none_past fs vs i fit.1 (omega 
 -- ---- records chosen
 
 -- the record of an entry
-pub row_of : (file : FileDef) (n : ℕ) (rs : List Row) (es : List Entry) (i : ℕ) (e : Entry) → AllByRecursion (IsRowOf file) rs → es ≡ map (λ (r : Row). entry_of (entry_of_row n r)) rs → slice_get es i ≡ Some e → RowAt file n rs i e
-row_of file n rs es i e all same h = entry_at file n rs es i e all same (slice_get_within es i e h) (sym (get_or_from_slice_get es i e e h))
+pub row_of : (P : Row → Type 0) (made : Row → List ℕ × List ℕ) (rs : List Row) (es : List Entry)
+    (i : ℕ) (e : Entry) → AllByRecursion P rs → es ≡ map (λ (r : Row). entry_of (made r)) rs
+    → slice_get es i ≡ Some e → RowAt P made rs i e
+row_of P made rs es i e all same h =
+    entry_at P made rs es i e all same (slice_get_within es i e h)
+    (sym (get_or_from_slice_get es i e e h))
 
--- one more record was tested
-pub row_kept : (file : FileDef) (n : ℕ) (test : Row → Bool) (rs before rows after : List Row) (row : Row) (i : ℕ) (e : Entry) (at : RowAt file n rs i e) → rows ≡ before ++ filter test (take i rs) → test at.row ≡ true → row ≡ at.row → after ≡ rows ++ row ∷ [] → after ≡ before ++ filter test (take (i + 1) rs)
-row_kept file n test rs before rows after row i e at so_far met same pushed =
-    pushed ∙ (λ k. so_far k ++ same k ∷ []) ∙ append_assoc before (filter test (take i rs)) (at.row ∷ [])
-    ∙ ap (λ b. before ++ (filter test (take i rs) ++ cond b (at.row ∷ []) [])) (sym met)
-    ∙ sym (ap (λ l. before ++ filter test l) at.more ∙ ap (λ l. before ++ l) (filter-append test (take i rs) (at.row ∷ [])))
+module _ (P : Row → Type 0) (made : Row → List ℕ × List ℕ) (test : Row → Bool)
+    (rs before rows : List Row) (i : ℕ) (e : Entry) (at : RowAt P made rs i e)
+    (so_far : rows ≡ before ++ filter test (take i rs)) where
+  -- one more record was tested
+  pub row_kept : (after : List Row) (row : Row) → test at.row ≡ true → row ≡ at.row
+      → after ≡ rows ++ row ∷ [] → after ≡ before ++ filter test (take (i + 1) rs)
+  row_kept after row met same pushed =
+      pushed ∙ (λ k. so_far k ++ same k ∷ []) ∙ append_assoc before (filter test (take i rs))
+      (at.row ∷ [])
+      ∙ ap (λ b. before ++ (filter test (take i rs) ++ cond b (at.row ∷ []) [])) (sym met)
+      ∙ sym (ap (λ l. before ++ filter test l) at.more ∙ ap (λ l. before ++ l)
+      (filter-append test (take i rs) (at.row ∷ [])))
 
-pub row_left : (file : FileDef) (n : ℕ) (test : Row → Bool) (rs before rows : List Row) (i : ℕ) (e : Entry) (at : RowAt file n rs i e) → rows ≡ before ++ filter test (take i rs) → test at.row ≡ false → rows ≡ before ++ filter test (take (i + 1) rs)
-row_left file n test rs before rows i e at so_far unmet =
-    so_far ∙ ap (λ l. before ++ l) (sym (append-nil (filter test (take i rs))))
-    ∙ ap (λ b. before ++ (filter test (take i rs) ++ cond b (at.row ∷ []) [])) (sym unmet)
-    ∙ sym (ap (λ l. before ++ filter test l) at.more ∙ ap (λ l. before ++ l) (filter-append test (take i rs) (at.row ∷ [])))
+  pub row_left : test at.row ≡ false → rows ≡ before ++ filter test (take (i + 1) rs)
+  row_left unmet =
+      so_far ∙ ap (λ l. before ++ l) (sym (append-nil (filter test (take i rs))))
+      ∙ ap (λ b. before ++ (filter test (take i rs) ++ cond b (at.row ∷ []) [])) (sym unmet)
+      ∙ sym (ap (λ l. before ++ filter test l) at.more ∙ ap (λ l. before ++ l)
+      (filter-append test (take i rs) (at.row ∷ [])))

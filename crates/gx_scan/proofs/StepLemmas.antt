@@ -73,8 +73,8 @@ whole_most file t f most places [] are form keyed fit few there = omega arith
 whole_most file t f most places (r ∷ rs) are form keyed fit few there =
     let here = there r (inl refl) in
     let fits : IsOf (tree_form any_rule t) (rec_of r) = subst (λ (x : Form). IsOf x (rec_of r)) (sym form) (row_fits file r keyed (all_at (IsRowOf file) (fin.entries f) r fit here)) in
-    let stands = are.stand (rec_of r) fits in
-    let one : 1 ≤ most = omega (arith, few r here, ap length stands.2.first) in
+    let stands = are.stand (rec_of r) fits tt in
+    let one : 1 ≤ most = omega (arith, few r here, ap length stands.3.first) in
     omega (arith, one, whole_most file t f most places rs are form keyed fit few (λ q h. there q (inr h)))
 
 -- ---- the records that an index finds

@@ -1,5 +1,6 @@
 pub mod Files
 pub mod Records
+pub mod Stored
 pub mod Entries
 pub mod Scan
 pub mod Within

@@ -14,9 +14,10 @@ ghost use Rattle.gx_scan.specs.Within.{is_within, AreAdded};
 ghost use Rattle.gx_scan.specs.Where.{rows_at_key};
 ghost use Rattle.gx_scan.specs.Steps.{HaveAtMost, is_key_inside, rows_inside};
 
+use crate::coded::add_rows_at;
 use crate::places::Place;
-use crate::records::{NO_BLOCK, key_span};
-use crate::scan::add_chosen_rows;
+use crate::records::{NO_BLOCK, set_key};
+use crate::within::whole_span;
 use gx_commands::Cond;
 use gx_ports::{Entries, Leaves, Stop};
 use gx_rows::Row;
@@ -26,8 +27,36 @@ use gx_types::AnyMapping;
 use gx_values::{Span, Value};
 use std::alloc::Global;
 
+// In so many leaves an entry is looked for as fast as the node puts a record together.
+const FEW_PLACES: usize = 3;
+
+/// Whether one key is looked for at each of these places. Of more leaves, the node asks those alone that
+/// may have the key.
+pub(crate) fn are_few(places: &[Place]) -> bool {
+    places.len() <= FEW_PLACES
+}
+
+/// What is used again where one key after another is looked up.
+pub(crate) struct KeyProbe {
+    /// the span of the key
+    span: Span,
+    /// the entries there
+    entries: Entries,
+}
+
+impl KeyProbe {
+    /// One that has no key yet.
+    pub(crate) fn new(alloc: Global) -> KeyProbe {
+        KeyProbe {
+            span: whole_span(),
+            entries: Entries::new(alloc),
+        }
+    }
+}
+
 /// Appends the records of the file within the span that meet the conditions, in the order of the places,
-/// which are those of the node.
+/// which are those of the node. The entries are a buffer: what stood there is gone, and nothing is said of
+/// what is left.
 pub(crate) fn add_by_entries<B: Leaves>(
     alloc: Global,
     file: &FileDef,
@@ -36,6 +65,7 @@ pub(crate) fn add_by_entries<B: Leaves>(
     span: &Span,
     conds: &[Cond],
     leaves: &mut B,
+    entries: &mut Entries,
     rows: &mut Vec<Row>,
 ) -> Result<(), Stop>
     requires places { ArePlaces 0 (tree_of node.now) places.now }
@@ -55,7 +85,7 @@ pub(crate) fn add_by_entries<B: Leaves>(
         leaves.old leaves.new result }
 {
     for place in places {
-        add_at(alloc, file, node, *place, span, conds, leaves, rows)?;
+        add_at(alloc, file, node, place, span, conds, leaves, entries, rows)?;
     }
     Ok(())
 }
@@ -67,6 +97,7 @@ pub(crate) fn add_at_key<B: Leaves>(
     node: &Node<AnyMapping>,
     places: &[Place],
     key: &Value,
+    probe: &mut KeyProbe,
     conds: &[Cond],
     leaves: &mut B,
     rows: &mut Vec<Row>,
@@ -88,8 +119,18 @@ pub(crate) fn add_at_key<B: Leaves>(
         (B.whole leaves.old × HasFile file.now (tree_of node.now) (B.working leaves.old))
         leaves.old leaves.new result }
 {
-    let span = key_span(key);
-    add_by_entries(alloc, file, node, places, &span, conds, leaves, rows)
+    set_key(&mut probe.span, key);
+    add_by_entries(
+        alloc,
+        file,
+        node,
+        places,
+        &probe.span,
+        conds,
+        leaves,
+        &mut probe.entries,
+        rows,
+    )
 }
 
 // Appends those in one leaf, in the order of their keys.
@@ -97,34 +138,35 @@ fn add_at<B: Leaves>(
     alloc: Global,
     file: &FileDef,
     node: &Node<AnyMapping>,
-    place: Place,
+    place: &Place,
     span: &Span,
     conds: &[Cond],
     leaves: &mut B,
+    entries: &mut Entries,
     rows: &mut Vec<Row>,
 ) -> Result<(), Stop>
-    requires place { IsPlaceOf (tree_of node.now) place }
+    requires place { IsPlaceOf (tree_of node.now) place.now }
     requires tree { IsTreeFor file.now (tree_of node.now) (length (B.working leaves.old)) }
     requires storable { IsStorable file.now }
     ensures rows { (f : FileMap) → B.whole leaves.old →
         IsInternal file.now (tree_of node.now) (B.working leaves.old) f → OnOk result
         (rows.new.items
         ≡ rows.old.items ++ filter (is_within span.now conds.now)
-        (rows_at (tree_of node.now) place.leaf f)) }
+        (rows_at (tree_of node.now) place.now.leaf f)) }
     ensures steps { (f : FileMap) → B.whole leaves.old →
         IsInternal file.now (tree_of node.now) (B.working leaves.old) f → OnOk result
         (B.work leaves.new
         ≤ B.work leaves.old
-        + (1 + length (filter (is_key_inside span.now) (rows_at (tree_of node.now) place.leaf f)))) }
+        + (1 + length (filter (is_key_inside span.now) (rows_at (tree_of node.now) place.now.leaf f)))) }
     ensures front { Extends rows.old.items rows.new.items }
     ensures reads { ReadsMaps B.View
         (B.whole leaves.old × HasFile file.now (tree_of node.now) (B.working leaves.old))
         leaves.old leaves.new result }
 {
     node.internal_is_union();
-    let mut entries = Entries::new(alloc);
-    leaves.select(alloc, place.leaf, span, &mut entries)?;
-    if add_chosen_rows(alloc, file, place.lengths, conds, &entries, rows)? {
+    entries.clear();
+    leaves.select(alloc, place.leaf, span, entries)?;
+    if add_rows_at(alloc, file, place, conds, entries, rows)? {
         Ok(())
     } else {
         Err(Stop::Damaged(NO_BLOCK))

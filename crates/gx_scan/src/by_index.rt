@@ -18,7 +18,7 @@ ghost use Rattle.gx_scan.specs.Entries.{ArePlaces};
 ghost use Rattle.gx_scan.specs.Where.{AreNamed, AreAddedWhere, rows_at_key};
 ghost use Rattle.gx_scan.specs.Steps.{HaveAtMost, rows_with};
 
-use crate::by_entries::add_at_key;
+use crate::by_entries::{KeyProbe, add_at_key, are_few};
 use crate::by_records::{into_row, meets_all};
 use crate::places::{Place, places_of};
 use crate::records::find_record;
@@ -122,20 +122,24 @@ fn add_by_keys<B: Leaves>(
         (B.whole leaves.old × HasFile file.now (tree_of node.now) (B.working leaves.old))
         leaves.old leaves.new result }
 {
+    let mut probe = KeyProbe::new(alloc);
     for key in keys {
-        add_by_key(alloc, file, node, places, key, conds, leaves, rows)?;
+        add_by_key(
+            alloc, file, node, places, key, &mut probe, conds, leaves, rows,
+        )?;
     }
     Ok(())
 }
 
 // Appends the record at a key, where there is one and it meets the conditions. Where records stand whole
-// in leaves, the conditions are tested on the bytes of its entry.
+// in few leaves, the conditions are tested on the bytes of its entry.
 fn add_by_key<B: Leaves>(
     alloc: Global,
     file: &FileDef,
     node: &Node<AnyMapping>,
     places: Option<&[Place]>,
     key: &Values,
+    probe: &mut KeyProbe,
     conds: &[Cond],
     leaves: &mut B,
     rows: &mut Vec<Row>,
@@ -160,8 +164,10 @@ fn add_by_key<B: Leaves>(
     let Some(key) = key.0.first() else {
         unreachable!()
     };
-    if let Some(places) = places {
-        return add_at_key(alloc, file, node, places, key, conds, leaves, rows);
+    if let Some(places) = places
+        && are_few(places)
+    {
+        return add_at_key(alloc, file, node, places, key, probe, conds, leaves, rows);
     }
     let Some(rec) = find_record(alloc, file, node, key, leaves)? else {
         return Ok(());

@@ -4,13 +4,18 @@
 
 mod by_entries;
 mod by_index;
+mod by_key;
 mod by_records;
+mod coded;
+mod codes;
+mod conditions;
 mod places;
 mod records;
 mod scan;
 mod within;
 
 pub use by_index::rows_where;
+pub use by_key::find_values;
 pub use by_records::{into_row, meets_all};
 pub use records::find_record;
 pub use within::{rows_within, whole_span};

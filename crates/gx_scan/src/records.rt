@@ -16,12 +16,13 @@ ghost use Rattle.gx_scan.specs.Files.{IsInternal, HasFile, IsStorable, IsTreeFor
 ghost use Rattle.gx_scan.specs.Records.{record_at, list_of_one};
 ghost use Rattle.gx_scan.specs.Steps.{HaveAtMost};
 
+use crate::within::whole_span;
 use gx_gather::Recs;
 use gx_ports::{Leaves, Stop};
 use gx_schema::FileDef;
 use gx_stack::Node;
 use gx_types::AnyMapping;
-use gx_values::{Field, Rec, Span, Value, value_key};
+use gx_values::{Field, Rec, Span, Value};
 use std::alloc::Global;
 
 // Records see no blocks: damage that they show is said of block 0.
@@ -35,16 +36,14 @@ pub(crate) fn data_fields(file: &FileDef) -> &[Field]
     &file.fields.0[1..]
 }
 
-/// The span of one key.
-pub(crate) fn key_span(key: &Value) -> Span
+/// Makes this the span of one key. It is written where it stands: to move a span is to copy two buffers.
+pub(crate) fn set_key(span: &mut Span, key: &Value)
     requires { length (bytes_of key.now) ≤ MAX_KEY_LEN }
-    ensures lo { result.lo ≡ bytes_of key.now }
-    ensures hi { result.hi ≡ bytes_of key.now }
+    ensures lo { span.new.lo ≡ bytes_of key.now }
+    ensures hi { span.new.hi ≡ bytes_of key.now }
 {
-    Span {
-        lo: value_key(key),
-        hi: value_key(key),
-    }
+    span.lo.set_value(key);
+    span.hi.set_value(key);
 }
 
 /// The record with this key, where there is one. It takes a step for each leaf, and one for each leaf entry
@@ -73,8 +72,10 @@ pub fn find_record<B: Leaves>(
         leaves.old leaves.new result }
 {
     let _file = file;
+    let mut span = whole_span();
+    set_key(&mut span, key);
     let mut found = Recs::new(alloc);
-    node.select(alloc, leaves, &key_span(key), &mut found)?;
+    node.select(alloc, leaves, &span, &mut found)?;
     Ok(last_record(found))
 }
 

@@ -1,6 +1,6 @@
 // The records of a file among the entries of its leaf that meet conditions: the conditions are tested on
 // the bytes of an entry, and only a record that meets them all is made.
-ghost use Rattle.std.specs.Prelude.{◌≡◌, ◌<◌, ◌++◌, List, ℕ, ℤ, pos, suc, length, map, filter, slice_index_or, true, Some, IfOk, IsSomeAnd};
+ghost use Rattle.std.specs.Prelude.{◌≡◌, ◌<◌, ◌≤◌, ◌++◌, [], List, ℕ, ℤ, pos, suc, length, map, filter, slice_index_or, true, Some, IfOk, IsSomeAnd};
 ghost use Rattle.std.specs.Int.{w64};
 ghost use Rattle.std.specs.Int.RustNames.{FitsSigned};
 ghost use Rattle.std.specs.List.{AllByRecursion};
@@ -42,7 +42,7 @@ pub(crate) fn add_chosen_rows(
 ) -> Result<bool, NoMemory>
     requires { IsStorable file.now }
     ensures chosen { (rs : List TheRow) → AllByRecursion (IsRowOf file.now) rs →
-        entries.now ≡ map (λ r. entry_of (entry_of_row lengths r)) rs → IfOk result
+        entries.now ≡ map (λ r. entry_of (entry_of_row lengths [] r)) rs → IfOk result
         (λ all. (all ≡ true)
         × (rows.new.items ≡ rows.old.items ++ filter (meets_conds conds.now) rs)) }
     ensures front { Extends rows.old.items rows.new.items }
@@ -67,7 +67,7 @@ pub(crate) fn add_chosen_rows(
 }
 
 // The bytes of the values in a body. `None`: the body is too short for the lengths before them.
-fn behind_lengths(body: &[u8], lengths: u32) -> Option<&[u8]>
+pub(crate) fn behind_lengths(body: &[u8], lengths: u32) -> Option<&[u8]>
     ensures { (r : Record) → body.now ≡ leaf_body (wrapped (suc lengths) r).fields →
         IsSomeAnd result (λ values. values.now ≡ body_of r.fields) }
 {
@@ -76,7 +76,12 @@ fn behind_lengths(body: &[u8], lengths: u32) -> Option<&[u8]>
 }
 
 // The record of an entry, if it is one.
-fn read_row(alloc: Global, file: &FileDef, key: &[u8], body: &[u8]) -> Result<Option<Row>, NoMemory>
+pub(crate) fn read_row(
+    alloc: Global,
+    file: &FileDef,
+    key: &[u8],
+    body: &[u8],
+) -> Result<Option<Row>, NoMemory>
     requires { IsStorable file.now }
     ensures { (r : TheRow) → IsRowOf file.now r → key.now ≡ bytes_of r.0 → body.now ≡ body_of r.1 →
         IfOk result (λ found. found ≡ Some r) }
@@ -108,13 +113,13 @@ fn meets_all(file: &FileDef, conds: &[Cond], key: &[u8], body: &[u8]) -> Option<
 
 // A value in the bytes of an entry.
 #[derive(Clone, Copy)]
-enum ValueRef<'a> {
+pub(crate) enum ValueRef<'a> {
     Int(i64),
     Text(&'a [u8]),
     Bytes(&'a [u8]),
 }
 
-fn holds(op: Op, order: Ordering) -> bool
+pub(crate) fn holds(op: Op, order: Ordering) -> bool
     ensures { result ≡ is_met op order }
 {
     match op {
@@ -127,7 +132,7 @@ fn holds(op: Op, order: Ordering) -> bool
     }
 }
 
-fn compare(value: ValueRef<'_>, bound: &Value) -> Ordering
+pub(crate) fn compare(value: ValueRef<'_>, bound: &Value) -> Ordering
     ensures { result ≡ value_cmp (value_of value.entry) bound.now }
 {
     match (value, bound) {
@@ -160,7 +165,7 @@ fn field_value<'a>(
 }
 
 // The value that has these key bytes.
-fn key_value(kind: Kind, key: &[u8]) -> Option<ValueRef<'_>>
+pub(crate) fn key_value(kind: Kind, key: &[u8]) -> Option<ValueRef<'_>>
     requires { IsKeyKind kind }
     ensures { (v : FieldValue) → Fits kind v → key.now ≡ bytes_of v →
         IsSomeAnd result (λ r. value_of r ≡ v) }
@@ -216,7 +221,7 @@ fn data_value<'a>(fields: &[Field], index: usize, body: &'a [u8]) -> Option<Valu
 }
 
 // The value of this kind that stands at the front of a body, and what follows.
-fn split_value(kind: Kind, rest: &[u8]) -> Option<(ValueRef<'_>, &[u8])>
+pub(crate) fn split_value(kind: Kind, rest: &[u8]) -> Option<(ValueRef<'_>, &[u8])>
     requires { IsShort kind }
     ensures { (v : FieldValue) (more : List ℕ) → Fits kind v → rest.now ≡ field_bytes v ++ more →
         IsSomeAnd result (λ s. (value_of s.0 ≡ v) × (s.1.now ≡ more)) }
@@ -233,10 +238,19 @@ fn split_value(kind: Kind, rest: &[u8]) -> Option<(ValueRef<'_>, &[u8])>
             Some((ValueRef::Text(text), more))
         }
         Kind::Bytes(_) => {
-            let (length, more) = rest.split_first_chunk::<2>()?;
-            let length = u16::from_be_bytes(*length);
-            let (bytes, more) = more.split_at_checked(usize::from(length))?;
+            let (bytes, more) = split_bytes(rest)?;
             Some((ValueRef::Bytes(bytes), more))
         }
     }
+}
+
+// The same of bytes.
+pub(crate) fn split_bytes(rest: &[u8]) -> Option<(&[u8], &[u8])>
+    ensures { (bytes more : List ℕ) → length bytes ≤ 65535 →
+        rest.now ≡ field_bytes (value.Bytes bytes) ++ more →
+        IsSomeAnd result (λ s. (s.0.now ≡ bytes) × (s.1.now ≡ more)) }
+{
+    let (length, more) = rest.split_first_chunk::<2>()?;
+    let length = u16::from_be_bytes(*length);
+    more.split_at_checked(usize::from(length))
 }

@@ -13,11 +13,11 @@ ghost use Rattle.gx_scan.specs.Files.{IsInternal, HasFile, IsStorable, IsTreeFor
 ghost use Rattle.gx_scan.specs.Within.{AreAdded};
 ghost use Rattle.gx_scan.specs.Steps.{HaveAtMost, rows_inside};
 
-use crate::by_entries::add_by_entries;
+use crate::by_entries::{add_by_entries, are_few};
 use crate::by_records::add_by_records;
 use crate::places::places_of;
 use gx_commands::Cond;
-use gx_ports::{Leaves, Stop};
+use gx_ports::{Entries, Leaves, Stop};
 use gx_rows::Row;
 use gx_schema::FileDef;
 use gx_stack::Node;
@@ -26,9 +26,9 @@ use gx_values::{KeyBuf, Span};
 use std::alloc::Global;
 
 /// Appends the records of the file within the span that meet the conditions, in any order. Where each
-/// layer of the node passes its records whole, the conditions are tested on the bytes of leaf entries,
-/// and no other record is made. It takes a step for each leaf, and one for each leaf entry of a record
-/// within the span.
+/// record stands whole in one leaf, the conditions are tested on the bytes of leaf entries, and no other
+/// record is made, but for a single key that may stand in one of many leaves. It takes a step for each
+/// leaf, and one for each leaf entry of a record within the span.
 ///
 /// After an error `rows` may have more at its end. `Damaged`: some leaf's stored form isn't whole, or the
 /// leaves hold no file, which is said of block 0. `Fault`: the count of faults rose; with any other answer
@@ -59,9 +59,27 @@ pub fn rows_within<B: Leaves>(
         leaves.old leaves.new result }
 {
     match places_of(alloc, node)? {
-        Some(places) => add_by_entries(alloc, file, node, &places, span, conds, leaves, rows),
-        None => add_by_records(alloc, file, node, span, conds, leaves, rows),
+        Some(places) if are_few(&places) || !is_one_key(span) => {
+            let mut entries = Entries::new(alloc);
+            add_by_entries(
+                alloc,
+                file,
+                node,
+                &places,
+                span,
+                conds,
+                leaves,
+                &mut entries,
+                rows,
+            )
+        }
+        _ => add_by_records(alloc, file, node, span, conds, leaves, rows),
     }
+}
+
+// Whether the span is that of one key.
+fn is_one_key(span: &Span) -> bool {
+    !span.lo.as_slice().is_empty() && span.lo.as_slice() == span.hi.as_slice()
 }
 
 /// The span of all keys.

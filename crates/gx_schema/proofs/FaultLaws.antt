@@ -1,30 +1,31 @@
 -- The first fault of a text.
-use Rattle.std.proofs.Common.{◌≡◌, ℕ, zero, suc, cond, eqb, leb, List, [], ◌∷◌, ◌++◌, length, Option, Some, None, Result, Ok, Err, refl, sym, ap, subst, inl, inr, arith}
+use Rattle.std.proofs.Common.{◌≡◌, ℕ, zero, suc, cond, eqb, leb, List, [], ◌∷◌, ◌++◌, length, Option, Some, None, Result, Ok, Err, refl, subst, inl, inr, arith}
 use Rattle.std.specs.Prelude.{nat_eq, codes}
 use Rattle.std.specs.Cmp.Lexicographic.{pointwise}
 use Rattle.std.proofs.lemmas.Bool.{cond_both}
 use Rattle.gx_tokens.specs.declared.fault.Fault.{Fault}
 use Rattle.gx_tokens.specs.declared.why.Why.{Why}
 use Rattle.gx_tokens.specs.declared.why.Why.TheVariants as why
+use Rattle.gx_tokens.specs.Faults.{IsRule}
 use Rattle.gx_tokens.specs.Grammar.{the}
-use Rattle.gx_tokens.specs.Lexemes.{Lexeme, Word, Number, Quoted, Open, Close, Comma, Equals, End, next_token}
+use Rattle.gx_tokens.specs.Lexemes.{Lexeme, Word, Number, Quoted, Open, Close, Comma, Equals, End}
 use Rattle.gx_tokens.specs.Lines.{line_of}
-use Rattle.gx_tokens.specs.Locality.{IsProper, IsInhabited, IsFront, IsReasonAt, HasReason, FaultAtToken, FaultBehind, Takes, Outcome}
-use Rattle.gx_tokens.specs.Reading.{◌>>=◌, map_ok, fault_at, want}
-use Rattle.gx_tokens.specs.Spelling.{FirstToken, Lexes}
+use Rattle.gx_tokens.specs.Locality.{IsProper, IsInhabited, IsFront, HasReason, FaultBehind, Takes, Outcome}
+use Rattle.gx_tokens.specs.Reading.{◌>>=◌, map_ok, want}
+use Rattle.gx_tokens.specs.Spelling.{Lexes}
+use Rattle.gx_tokens.proofs.CauseLaws.{first_fault_of}
 use Rattle.gx_tokens.proofs.LocalLaws.{some_token, proper_token, takes_token, want_fault, front_none, text_behind, later_fault, first_fault, both_take, local_map, some_both}
 use Rattle.gx_tokens.proofs.ReadingLaws.{want_ok}
-use Rattle.gx_tokens.proofs.TokenAgain.{first_again}
-use Rattle.gx_tokens.proofs.TokenFound.{no_token}
 use Rattle.gx_schema.specs.declared.schema.Schema.{Schema}
 use Rattle.gx_schema.specs.declared.item.Item.{Item}
 use Rattle.gx_schema.specs.declared.item.Item.TheVariants as items
-use Rattle.gx_schema.specs.Faults.{NoTextGoesOn, NoShapeGoesOn, IsCause, IsFirstFault}
+use Rattle.gx_schema.specs.Faults.{IsFirstFault}
+use Rattle.gx_schema.specs.Grammar.{IsSchemaText}
 use Rattle.gx_schema.specs.Items.{with_item, no_schema}
 use Rattle.gx_schema.specs.Reading.{Start, Starts_file, Starts_link, Ends, a_start, as_file, as_link, file_at, link_at, item_from, item_at, no_more_items, items_at, all_items}
 use Rattle.gx_schema.specs.Shape.{FileShape, LinkShape, ItemShape, IsShaped}
 use Rattle.gx_schema.proofs.LocalReaders.{some_file_shape, local_file, local_link}
-use Rattle.gx_schema.proofs.ShapeRules.{IsRule, shaped}
+use Rattle.gx_schema.proofs.ShapeRules.{shaped}
 use Rattle.gx_schema.proofs.TextAgain.{items_read}
 use Rattle.gx_schema.proofs.TextFound.{StartIs, start_case}
 
@@ -185,49 +186,14 @@ items_fault (suc room) s bytes f e = items_by room s bytes (item_at s bytes) f (
 
 -- ---- the cause
 
-read_or_not : (r : Result Schema Fault) (f : Fault) (s : Schema) → r ≡ Err f → r ≡ Ok s → ⊥
-read_or_not r f s e g = cc
-
-found_or_not : (r : Result (Lexeme × List ℕ) Fault) (f : Fault) (x : Lexeme × List ℕ) → r ≡ Err f → r ≡ Ok x → ⊥
-found_or_not r f x e g = cc
-
-no_text : (bytes : List ℕ) (f : Fault) (before : List Lexeme) → (s : FaultAtToken all_items bytes f before) → NoTextGoesOn before s.token
-no_text bytes f before s other there after schema l first text = read_or_not (all_items other) (fault_at there f.why) schema (s.others other there after l first) (items_read other schema text)
-
-no_shape : (bytes : List ℕ) (f : Fault) (before : List Lexeme) → (s : FaultAtToken all_items bytes f before) → (IsRule f.why → ⊥) → NoShapeGoesOn before s.token
-no_shape bytes f before s bare other there after l first text = bare (shaped other (fault_at there f.why) text (s.others other there after l first))
-
-cause_at : (bytes : List ℕ) (f : Fault) (before : List Lexeme) (reason : Why) → f.why ≡ reason → (s : FaultAtToken all_items bytes f before) → IsCause reason before s.here
-cause_at bytes f before why.Token e s = let named = subst (IsReasonAt s.token) e s.reason in absurd named
-cause_at bytes f before why.Unexpected e s = (s.token, s.rest, s.first, subst (IsReasonAt s.token) e s.reason, no_shape bytes f before s (λ rule. subst IsRule e rule))
-cause_at bytes f before why.End e s =
-    let named : s.token ≡ End = subst (IsReasonAt s.token) e s.reason in
-    subst (λ (t : Lexeme). (rest : List ℕ) × FirstToken s.here t rest × NoShapeGoesOn before t) named (s.rest, s.first, no_shape bytes f before s (λ rule. subst IsRule e rule))
-cause_at bytes f before why.Number e s = (s.token, s.rest, s.first, no_text bytes f before s)
-cause_at bytes f before why.Depth e s = (s.token, s.rest, s.first, no_text bytes f before s)
-cause_at bytes f before why.NameUse e s = (s.token, s.rest, s.first, no_text bytes f before s)
-cause_at bytes f before why.KeyField e s = (s.token, s.rest, s.first, no_text bytes f before s)
-cause_at bytes f before why.Count e s = (s.token, s.rest, s.first, no_text bytes f before s)
-
-is_fault : (bytes : List ℕ) (f : Fault) (before : List Lexeme) → FaultBehind all_items bytes f before → IsItemsFront before → IsFirstFault bytes (line_of bytes f.left) f.why
-is_fault bytes f before (inl s) front = record {
-  before = before;
-  here = s.here;
-  lexed = s.lexed;
-  in_line = ap (λ (z : Fault). line_of bytes z.left) s.is;
-  front = (32 ∷ front.0, front.1, front.2, front.3);
-  cause = cause_at bytes f before f.why refl s;
-}
-is_fault bytes f before (inr s) front =
-    let n = no_token s.here f s.none in
-    record {
-      before = before;
-      here = s.here;
-      lexed = s.lexed;
-      in_line = ap (line_of bytes) n.0;
-      front = (32 ∷ front.0, front.1, front.2, front.3);
-      cause = subst (λ (reason : Why). IsCause reason before s.here) (sym n.1) (λ token rest first. found_or_not (next_token s.here) f (token, rest) s.none (first_again s.here token rest first));
-    }
+read_or_not : (bytes : List ℕ) (schema : Schema) (f : Fault) → IsSchemaText bytes schema
+    → all_items bytes ≡ Err f → ⊥
+read_or_not bytes schema f text e = let read : all_items bytes ≡ Ok schema = items_read bytes schema
+    text in cc
 
 pub first_fault_is : (bytes : List ℕ) (f : Fault) → all_items bytes ≡ Err f → IsFirstFault bytes (line_of bytes f.left) f.why
-first_fault_is bytes f e = let g = items_fault 65 no_schema bytes f e in is_fault bytes f g.0 g.1 g.2
+first_fault_is bytes f e =
+    let g = items_fault 65 no_schema bytes f e in
+    let front = g.2 in
+    first_fault_of all_items IsSchemaText IsShaped IsRule read_or_not shaped bytes f g.0
+    (λ rule. rule) g.1 (32 ∷ front.0, front.1, front.2, front.3)

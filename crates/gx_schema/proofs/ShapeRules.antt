@@ -4,12 +4,11 @@ use Rattle.std.specs.Prelude.{codes}
 use Rattle.std.proofs.Common.{◌<◌, arith, length-append}
 use Rattle.std.proofs.lemmas.Bool.{cond_both, ne_eqb}
 use Rattle.gx_tokens.specs.declared.fault.Fault.{Fault}
-use Rattle.gx_tokens.specs.declared.why.Why.{Why}
 use Rattle.gx_tokens.specs.declared.why.Why.TheVariants as why
-use Rattle.gx_tokens.specs.Lexemes.{Lexeme, Word, Number, Open, Close, Comma, End}
-use Rattle.gx_tokens.specs.Spelling.{FirstToken}
+use Rattle.gx_tokens.specs.Lexemes.{Word, Number, Open, Close, Comma, End}
 use Rattle.gx_tokens.specs.Numbers.{number_value, natural_up_to}
 use Rattle.gx_tokens.specs.Reading.{◌>>=◌, map_ok, met, want, an_open, a_close, a_comma, comma_or_close}
+use Rattle.gx_tokens.specs.Faults.{IsRule}
 use Rattle.gx_tokens.specs.Grammar.{◌⨾◌, the, ANumber}
 use Rattle.gx_values.specs.declared.records.Field.{Field}
 use Rattle.gx_values.specs.declared.values.Kind.TheVariants as kinds
@@ -20,66 +19,40 @@ use Rattle.gx_schema.specs.Items.{with_item, no_schema}
 use Rattle.gx_schema.specs.Names.{starts_with_letter, has_field, has_file, has_link, file_position}
 use Rattle.gx_schema.specs.Reading.{size_from, a_size, size_at, kind_at, a_field_name, field_at, fields_at, a_new_name, file_at, number_from, a_file_name, link_at, Starts_file, Starts_link, a_start, item_from, item_at, no_more_items, items_at, all_items}
 use Rattle.gx_schema.specs.Grammar.{IsItem}
+use Rattle.gx_tokens.proofs.RuleLaws.{Goes, MeansOr, goes_want, goes_bind}
 use Rattle.gx_tokens.proofs.TokenAgain.{first_again}
 use Rattle.gx_schema.specs.Shape.{KindShape, FieldShape, FieldsShape, FileShape, LinkShape, ItemShape, ItemsShape, IsShaped}
 use Rattle.gx_schema.proofs.TextFound.{item_found}
 
--- a reason other than that of the grammar
-abbrev pub IsRule : Why → Type 0
-IsRule why.Token = ⊥
-IsRule why.Unexpected = ⊥
-IsRule why.End = ⊥
-IsRule why.Number = Unit {0}
-IsRule why.Depth = Unit {0}
-IsRule why.NameUse = Unit {0}
-IsRule why.KeyField = Unit {0}
-IsRule why.Count = Unit {0}
-
--- a value with this rest, or a broken rule
-abbrev Goes : {A : Type 0} → Result (A × List ℕ) Fault → List ℕ → Type 0
-Goes (Ok y) rest = y.1 ≡ rest
-Goes (Err f) rest = IsRule f.why
-
--- a meaning, or a broken rule
-abbrev Means : {A : Type 0} → Result A Why → Type 0
-Means (Ok x) = Unit {0}
-Means (Err reason) = IsRule reason
-
-goes_met : {A : Type 0} (bytes rest : List ℕ) (m : Result A Why) → Means m → Goes (met bytes m rest) rest
-goes_met bytes rest (Ok x) h = refl
-goes_met bytes rest (Err reason) h = h
-
-goes_want : {A : Type 0} (meaning : Lexeme → Result A Why) (bytes rest : List ℕ) (t : Lexeme) → FirstToken bytes t rest → Means (meaning t) → Goes (want meaning bytes) rest
-goes_want meaning bytes rest t h m = rw (first_again bytes t rest h) (goes_met bytes rest (meaning t) m)
-
-goes_bind : {A B : Type 0} (r : Result (A × List ℕ) Fault) (k : A → List ℕ → Result (B × List ℕ) Fault) (mid rest : List ℕ) → Goes r mid → ((x : A) → Goes (k x mid) rest) → Goes (r >>= λ z. k z.0 z.1) rest
-goes_bind (Ok y) k mid rest h more = subst (λ (b : List ℕ). Goes (k y.0 b) rest) (sym h) (more y.0)
-goes_bind (Err f) k mid rest h more = h
-
 -- ---- meanings
 
-means_size : (first : Bool) (o : Option ℕ) → Means (size_from first o)
+means_size : (first : Bool) (o : Option ℕ) → MeansOr (size_from first o)
 means_size first None = tt
 means_size first (Some zero) = tt
-means_size first (Some (suc n)) = cond_both (first && ltb 100 (suc n)) (Err why.KeyField) (Ok (kinds.Text (suc n))) Means (λ _. tt) (λ _. tt)
+means_size first (Some (suc n)) = cond_both (first && ltb 100 (suc n)) (Err why.KeyField)
+    (Ok (kinds.Text (suc n))) MeansOr (λ _. tt) (λ _. tt)
 
-means_field_name : (before : List Field) (w : List ℕ) → Means (a_field_name before (Word w))
+means_field_name : (before : List Field) (w : List ℕ) → MeansOr (a_field_name before (Word w))
 means_field_name before w =
-    cond_both (not (starts_with_letter w) || has_field before w) (Err why.NameUse) (cond (leb 32 (length before)) (Err why.Count) (Ok w)) Means (λ _. tt)
-    (λ _. cond_both (leb 32 (length before)) (Err why.Count) (Ok w) Means (λ _. tt) (λ _. tt))
+    cond_both (not (starts_with_letter w) || has_field before w) (Err why.NameUse)
+    (cond (leb 32 (length before)) (Err why.Count) (Ok w)) MeansOr (λ _. tt)
+    (λ _. cond_both (leb 32 (length before)) (Err why.Count) (Ok w) MeansOr (λ _. tt) (λ _. tt))
 
-means_new_name : (s : Schema) (w : List ℕ) → Means (a_new_name s (Word w))
-means_new_name s w = cond_both (not (starts_with_letter w) || (has_file s.files w || has_link s.links w)) (Err why.NameUse) (Ok w) Means (λ _. tt) (λ _. tt)
+means_new_name : (s : Schema) (w : List ℕ) → MeansOr (a_new_name s (Word w))
+means_new_name s w = cond_both (not (starts_with_letter w) ||
+    (has_file s.files w || has_link s.links w)) (Err why.NameUse) (Ok w) MeansOr (λ _. tt) (λ _. tt)
 
-means_place : (o : Option ℕ) → Means (number_from o)
+means_place : (o : Option ℕ) → MeansOr (number_from o)
 means_place None = tt
 means_place (Some n) = tt
 
-means_file : (s : Schema) → Means (a_start s (Word (codes "file")))
-means_file s = cond_both (leb 32 (length s.files)) (Err why.Count) (Ok Starts_file) Means (λ _. tt) (λ _. tt)
+means_file : (s : Schema) → MeansOr (a_start s (Word (codes "file")))
+means_file s = cond_both (leb 32 (length s.files)) (Err why.Count) (Ok Starts_file) MeansOr
+    (λ _. tt) (λ _. tt)
 
-means_link : (s : Schema) → Means (a_start s (Word (codes "link")))
-means_link s = cond_both (leb 32 (length s.links)) (Err why.Count) (Ok Starts_link) Means (λ _. tt) (λ _. tt)
+means_link : (s : Schema) → MeansOr (a_start s (Word (codes "link")))
+means_link s = cond_both (leb 32 (length s.links)) (Err why.Count) (Ok Starts_link) MeansOr
+    (λ _. tt) (λ _. tt)
 
 -- ---- readers
 

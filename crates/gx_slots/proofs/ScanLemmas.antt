@@ -25,7 +25,8 @@ pub record Scanned (bytes : List ℕ) (place : ℕ) (rest : List ℕ) (seen : Li
   pub noted : HasSeen seen entries
   pub size : length seen ≡ 4096
 
-pub scanned_none : (bytes : List ℕ) (seen : List Bool) → length seen ≡ 4096 → Scanned bytes 0 bytes seen
+pub scanned_none : (bytes : List ℕ) (seen : List Bool) → length seen ≡ 4096
+    → Scanned bytes 0 bytes seen
 scanned_none bytes seen size = record {
   entries = [];
   count = refl;
@@ -36,77 +37,115 @@ scanned_none bytes seen size = record {
   size = size;
 }
 
-pub scanned_holds : (bytes : List ℕ) (place : ℕ) (rest : List ℕ) (seen : List Bool) (scan : Scanned bytes place rest seen) → HoldsRecords entry_bytes IsFit scan.entries bytes
+pub scanned_holds : (bytes : List ℕ) (place : ℕ) (rest : List ℕ) (seen : List Bool)
+    (scan : Scanned bytes place rest seen) → HoldsRecords entry_bytes IsFit scan.entries bytes
 scanned_holds bytes place rest seen scan = record { fit = scan.fit; rest = rest; is = scan.is }
 
-pub scanned_count : (bytes : List ℕ) (place : ℕ) (rest : List ℕ) (seen : List Bool) → Scanned bytes place rest seen → HoldsCount place bytes
+pub scanned_count : (bytes : List ℕ) (place : ℕ) (rest : List ℕ) (seen : List Bool)
+    → Scanned bytes place rest seen → HoldsCount place bytes
 scanned_count bytes place rest seen scan = record { held = scan.entries; count = scan.count; holds = scanned_holds bytes place rest seen scan }
 
-pub scanned_entries : (bytes : List ℕ) (place : ℕ) (rest : List ℕ) (seen : List Bool) (scan : Scanned bytes place rest seen) → scan.entries ≡ entries_in place bytes
-scanned_entries bytes place rest seen scan = sym (records-held entry_format scan.entries bytes (scanned_holds bytes place rest seen scan)) ∙ ap (λ (n : ℕ). entries_in n bytes) scan.count
+pub scanned_entries : (bytes : List ℕ) (place : ℕ) (rest : List ℕ) (seen : List Bool)
+    (scan : Scanned bytes place rest seen) → scan.entries ≡ entries_in place bytes
+scanned_entries bytes place rest seen scan =
+    sym (records-held entry_format scan.entries bytes (scanned_holds bytes place rest seen scan))
+    ∙ ap (λ (n : ℕ). entries_in n bytes) scan.count
 
-pub scanned_seen : (bytes : List ℕ) (place : ℕ) (rest : List ℕ) (seen : List Bool) → Scanned bytes place rest seen → HasSeen seen (entries_in place bytes)
-scanned_seen bytes place rest seen scan = subst (HasSeen seen) (scanned_entries bytes place rest seen scan) scan.noted
+pub scanned_seen : (bytes : List ℕ) (place : ℕ) (rest : List ℕ) (seen : List Bool)
+    → Scanned bytes place rest seen → HasSeen seen (entries_in place bytes)
+scanned_seen bytes place rest seen scan =
+    subst (HasSeen seen) (scanned_entries bytes place rest seen scan) scan.noted
 
-pub scanned_all : (bytes : List ℕ) (place : ℕ) (rest : List ℕ) (seen : List Bool) → Scanned bytes place rest seen → HoldsDistinct place bytes
+pub scanned_all : (bytes : List ℕ) (place : ℕ) (rest : List ℕ) (seen : List Bool)
+    → Scanned bytes place rest seen → HoldsDistinct place bytes
 scanned_all bytes place rest seen scan = record { entries = scan.entries; count = scan.count; holds = scanned_holds bytes place rest seen scan; distinct = scan.distinct }
 
 -- one entry more
-pub scanned_more : (bytes : List ℕ) (place : ℕ) (rest : List ℕ) (seen : List Bool) (entry : Entry) (behind : List ℕ) (marked : List Bool) → Scanned bytes place rest seen → IsFit entry → rest ≡ entry_bytes entry ++ behind
-    → All (λ other. other.key ≢ entry.key) (entries_in place bytes) → HasSeen marked (entries_in place bytes) → get_or marked (hash_of entry.key) false ≡ true → length marked ≡ length seen
+pub scanned_more : (bytes : List ℕ) (place : ℕ) (rest : List ℕ) (seen : List Bool) (entry : Entry)
+    (behind : List ℕ) (marked : List Bool) → Scanned bytes place rest seen → IsFit entry
+    → rest ≡ entry_bytes entry ++ behind
+    → All (λ other. other.key ≢ entry.key) (entries_in place bytes)
+    → HasSeen marked (entries_in place bytes) → get_or marked (hash_of entry.key) false ≡ true
+    → length marked ≡ length seen
     → Scanned bytes (place + 1) behind marked
 scanned_more bytes place rest seen entry behind marked scan fit is other kept added size =
     let before = scan.entries in
     let same = sym (scanned_entries bytes place rest seen scan) in
     let pieces : flat_map entry_bytes (before ++ entry ∷ []) ≡ flat_map entry_bytes before ++ entry_bytes entry =
-    flat_map-append entry_bytes before (entry ∷ []) ∙ ap (λ (b : List ℕ). flat_map entry_bytes before ++ b) (append-nil (entry_bytes entry)) in
+    flat_map-append entry_bytes before (entry ∷ [])
+    ∙ ap (λ (b : List ℕ). flat_map entry_bytes before ++ b) (append-nil (entry_bytes entry)) in
     record {
       entries = before ++ entry ∷ [];
       count = omega (arith, length_push before entry, scan.count);
       fit = All-push IsFit before entry scan.fit fit;
-      distinct = all_pairs_push (λ (a b : Entry). a.key ≢ b.key) before entry scan.distinct (subst (All (λ (e : Entry). e.key ≢ entry.key)) same other);
-      is = scan.is ∙ ap (λ (b : List ℕ). flat_map entry_bytes before ++ b) is ∙ sym (append_assoc (flat_map entry_bytes before) (entry_bytes entry) behind) ∙ ap (λ (b : List ℕ). b ++ behind) (sym pieces);
-      noted = All-push (λ (e : Entry). get_or marked (hash_of e.key) false ≡ true) before entry (subst (HasSeen marked) same kept) added;
+      distinct = all_pairs_push (λ (a b : Entry). a.key ≢ b.key) before entry scan.distinct
+          (subst (All (λ (e : Entry). e.key ≢ entry.key)) same other);
+      is = scan.is ∙ ap (λ (b : List ℕ). flat_map entry_bytes before ++ b) is
+          ∙ sym (append_assoc (flat_map entry_bytes before) (entry_bytes entry) behind)
+          ∙ ap (λ (b : List ℕ). b ++ behind) (sym pieces);
+      noted = All-push (λ (e : Entry). get_or marked (hash_of e.key) false ≡ true) before entry
+          (subst (HasSeen marked) same kept) added;
       size = size ∙ scan.size;
     }
 
 -- entries that the bytes hold begin with those that were found, and the rest hold the others
-pub held_same : (bytes : List ℕ) (place : ℕ) (rest : List ℕ) (seen : List Bool) (scan : Scanned bytes place rest seen) (entries : List Entry) → HoldsRecords entry_bytes IsFit entries bytes → place ≤ length entries
+pub held_same : (bytes : List ℕ) (place : ℕ) (rest : List ℕ) (seen : List Bool)
+    (scan : Scanned bytes place rest seen) (entries : List Entry)
+    → HoldsRecords entry_bytes IsFit entries bytes → place ≤ length entries
     → (scan.entries ≡ take place entries) × HoldsRecords entry_bytes IsFit (drop place entries) rest
 held_same bytes place rest seen scan entries holds within =
     let front = take place entries in
     let back = drop place entries in
     let joined : flat_map entry_bytes scan.entries ++ rest ≡ flat_map entry_bytes front ++ (flat_map entry_bytes back ++ holds.rest) =
     sym scan.is ∙ holds_parts entry_format place entries bytes holds in
-    let counts : length scan.entries ≡ length front = scan.count ∙ sym (length-take-le place entries within) in
+    let counts : length scan.entries ≡ length front =
+    scan.count ∙ sym (length-take-le place entries within) in
     let fits = All-take IsFit place entries holds.fit in (
-      same_records entry_format scan.entries front rest (flat_map entry_bytes back ++ holds.rest) scan.fit fits counts joined,
-      record { fit = All-drop IsFit place entries holds.fit; rest = holds.rest; is = same_tails entry_format scan.entries front rest (flat_map entry_bytes back ++ holds.rest) scan.fit fits counts joined },
+      same_records entry_format scan.entries front rest (flat_map entry_bytes back ++ holds.rest)
+          scan.fit fits counts joined,
+      record
+          { fit = All-drop IsFit place entries holds.fit; rest = holds.rest; is = same_tails entry_format scan.entries front rest (flat_map entry_bytes back ++ holds.rest) scan.fit fits counts joined },
     )
 
 -- where no entry is ahead, there are no more entries
-pub no_more : (bytes : List ℕ) (place : ℕ) (rest : List ℕ) (seen : List Bool) (count : ℕ) → Scanned bytes place rest seen → place < count → ((entry : Entry) (tail : List ℕ) → IsFit entry → rest ≢ entry_bytes entry ++ tail) → HoldsDistinct count bytes → ⊥
+pub no_more : (bytes : List ℕ) (place : ℕ) (rest : List ℕ) (seen : List Bool) (count : ℕ)
+    → Scanned bytes place rest seen → place < count
+    → ((entry : Entry) (tail : List ℕ) → IsFit entry → rest ≢ entry_bytes entry ++ tail)
+    → HoldsDistinct count bytes → ⊥
 no_more bytes place rest seen count scan below none held =
-    let same = held_same bytes place rest seen scan held.entries held.holds (omega (arith, held.count)) in
-    holds_first entry_format (drop place held.entries) rest same.1 (omega (arith, length-drop place held.entries, held.count)) none
+    let same =
+    held_same bytes place rest seen scan held.entries held.holds (omega (arith, held.count)) in
+    holds_first entry_format (drop place held.entries) rest same.1
+    (omega (arith, length-drop place held.entries, held.count)) none
 
 -- where an entry found before has the key of the next one, the keys aren't different
-pub twice : (bytes : List ℕ) (place : ℕ) (rest : List ℕ) (seen : List Bool) (count : ℕ) (entry : Entry) (behind : List ℕ) → Scanned bytes place rest seen → place < count → IsFit entry → rest ≡ entry_bytes entry ++ behind
-    → (All (λ other. other.key ≢ entry.key) (entries_in place bytes) → ⊥) → HoldsDistinct count bytes → ⊥
+pub twice : (bytes : List ℕ) (place : ℕ) (rest : List ℕ) (seen : List Bool) (count : ℕ)
+    (entry : Entry) (behind : List ℕ) → Scanned bytes place rest seen → place < count → IsFit entry
+    → rest ≡ entry_bytes entry ++ behind
+    → (All (λ other. other.key ≢ entry.key) (entries_in place bytes) → ⊥)
+    → HoldsDistinct count bytes → ⊥
 twice bytes place rest seen count entry behind scan below fit is double held =
     let entries = held.entries in
-    let same = held_same bytes place rest seen scan entries held.holds (omega (arith, held.count)) in
+    let same =
+    held_same bytes place rest seen scan entries held.holds (omega (arith, held.count)) in
     let inside : place < length entries = omega (arith, held.count) in
     let next = get_or entries place entry in
-    let here : entry ≡ next = first_same entry_format next entry (drop (place + 1) entries) rest behind (subst (λ (es : List Entry). HoldsRecords entry_bytes IsFit es rest) (drop_more entries place entry inside) same.1) fit is in
+    let here : entry ≡ next = first_same entry_format next entry (drop (place + 1) entries) rest
+    behind (subst (λ (es : List Entry). HoldsRecords entry_bytes IsFit es rest)
+    (drop_more entries place entry inside) same.1) fit is in
     let key = ap (λ (e : Entry). e.key) here in
-    double (subst (All (λ (e : Entry). e.key ≢ entry.key)) (sym same.0 ∙ scanned_entries bytes place rest seen scan) (λ k d below_k.
+    double
+    (subst (All (λ (e : Entry). e.key ≢ entry.key)) (sym same.0 ∙ scanned_entries bytes place rest seen scan) (λ k d below_k.
     let k_in : k < place = omega (arith, length-take-le place entries (omega arith)) in
-    let read = get_or-take place entries k d k_in ∙ get_or_default entries k d entry (omega arith) in
-    λ equal. held.distinct k place entry k_in inside (sym (ap (λ (e : Entry). e.key) read) ∙ equal ∙ key)))
+    let read =
+    get_or-take place entries k d k_in ∙ get_or_default entries k d entry (omega arith) in
+    λ equal. held.distinct k place entry k_in inside
+    (sym (ap (λ (e : Entry). e.key) read) ∙ equal ∙ key)))
 
 -- bytes with the header of an entry page and so many entries behind it are one
-pub scanned_page : (bytes body : List ℕ) (count : ℕ) → length bytes ≡ 4096 → get_or bytes 0 0 ≡ 0x44 → get_or bytes 1 0 ≡ 0 → ((i : ℕ) → get_or bytes i 0 < 256) → body ≡ drop 8 bytes → count ≡ count_of bytes
+pub scanned_page : (bytes body : List ℕ) (count : ℕ) → length bytes ≡ 4096 → get_or bytes 0 0 ≡ 0x44
+    → get_or bytes 1 0 ≡ 0 → ((i : ℕ) → get_or bytes i 0 < 256) → body ≡ drop 8 bytes
+    → count ≡ count_of bytes
     → HoldsDistinct count body → IsEntryPage bytes
 scanned_page bytes body count size kind blank small behind counted held = record {
   entries = held.entries;
@@ -115,10 +154,16 @@ scanned_page bytes body count size kind blank small behind counted held = record
 }
 
 -- an entry page begins with its kind and a 0
-pub page_kind : (bytes : List ℕ) → IsEntryPage bytes → (get_or bytes 0 0 ≡ 0x44) × (get_or bytes 1 0 ≡ 0)
-page_kind bytes page = (ap (λ (b : List ℕ). get_or b 0 0) page.is.page.is, ap (λ (b : List ℕ). get_or b 1 0) page.is.page.is)
+pub page_kind : (bytes : List ℕ) → IsEntryPage bytes
+    → (get_or bytes 0 0 ≡ 0x44) × (get_or bytes 1 0 ≡ 0)
+page_kind bytes page = (
+  ap (λ (b : List ℕ). get_or b 0 0) page.is.page.is,
+  ap (λ (b : List ℕ). get_or b 1 0) page.is.page.is,
+)
 
 -- and has entries of different keys behind its header, as many as it counts
-pub page_scanned : (bytes body : List ℕ) (count : ℕ) → body ≡ drop 8 bytes → count ≡ count_of bytes → IsEntryPage bytes → HoldsDistinct count body
+pub page_scanned : (bytes body : List ℕ) (count : ℕ) → body ≡ drop 8 bytes → count ≡ count_of bytes
+    → IsEntryPage bytes → HoldsDistinct count body
 page_scanned bytes body count behind counted page =
-    record { entries = entries_of bytes; count = sym (counted ∙ count_is bytes page); holds = body_holds bytes body page behind; distinct = (page_of bytes page).distinct }
+    record
+    { entries = entries_of bytes; count = sym (counted ∙ count_is bytes page); holds = body_holds bytes body page behind; distinct = (page_of bytes page).distinct }

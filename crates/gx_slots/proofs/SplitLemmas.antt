@@ -1,69 +1,46 @@
 -- The split of a page.
-use Rattle.std.proofs.Common.{◌≡◌, ◌≢◌, ℕ, ◌+◌, ◌^◌, ◌-◌, ◌<◌, ◌≤◌, List, [], ◌∷◌, length, take, drop, get_or, refl, sym, ap, ◌∙◌, subst, arith}
+use Rattle.std.proofs.Common.{◌≡◌, ◌≢◌, ℕ, ◌^◌, ◌-◌, ◌<◌, ◌≤◌, List, length, take, drop, sym, ap, ◌∙◌, arith}
 use Rattle.std.specs.Int.{w16, to_be_bytes}
-use Rattle.std.specs.List.{flat_map, All, sum_by}
-use Rattle.std.proofs.lemmas.List.{length-drop, take_all, take_at}
+use Rattle.std.specs.List.{flat_map, sum_by}
+use Rattle.std.proofs.lemmas.List.{length-drop, take_at}
 use Rattle.std.proofs.lemmas.List.Elements.{All-drop}
-use Rattle.std.proofs.lemmas.List.Sums.{sum_by-take-drop, sum_by_more}
+use Rattle.std.proofs.lemmas.List.Sums.{sum_by-take-drop}
 use Rattle.gx_bytes.specs.Page.{header}
 use Rattle.gx_bytes.specs.Parts.{overwritten}
 use Rattle.gx_bytes.specs.Records.{HoldsRecords}
 use Rattle.gx_bytes.proofs.PageLemmas as pages
 use Rattle.gx_bytes.proofs.PairLemmas.{all_pairs_take, all_pairs_drop}
-use Rattle.gx_bytes.proofs.RecordLemmas.{drop-is_cons, length-flat_map}
+use Rattle.gx_bytes.proofs.RecordLemmas.{length-flat_map}
 use Rattle.gx_slots.specs.Entries.{Entry, IsFit, entry_bytes, entry_len}
 use Rattle.gx_slots.specs.Page.{IsPageOf, IsEntryPage, entries_of, next_of, used_by}
 use Rattle.gx_slots.proofs.EntryLemmas.{entry_format}
 use Rattle.gx_slots.proofs.PageLemmas.{page_of}
 
--- a search for the middle has come to a place: the entries before it take at most half, and these are left
-pub record IsAt (entries : List Entry) (place taken : ℕ) (left : List Entry) : Type 0 where
-  pub left_is : left ≡ drop place entries
-  pub within : place ≤ length entries
-  pub taken_is : taken ≡ sum_by entry_len (take place entries)
-  pub half : taken ≤ 2044
-
-pub at_start : (entries left : List Entry) → left ≡ entries → IsAt entries 0 0 left
-at_start entries left is = record { left_is = is; within = omega arith; taken_is = refl; half = omega arith }
-
-pub at_next : (entries : List Entry) (place taken : ℕ) (left : List Entry) (entry : Entry) (rest : List Entry) → IsAt entries place taken left → left ≡ entry ∷ rest
-    → (place < length entries) × ((d : Entry) → get_or entries place d ≡ entry) × (drop (place + 1) entries ≡ rest)
-at_next entries place taken left entry rest at is = drop-is_cons entries place entry rest (sym at.left_is ∙ is)
-
-pub at_fit : (entries : List Entry) (place taken : ℕ) (left : List Entry) (entry : Entry) (rest : List Entry) → All IsFit entries → IsAt entries place taken left → left ≡ entry ∷ rest → IsFit entry
-at_fit entries place taken left entry rest fit at is =
-    let next = at_next entries place taken left entry rest at is in
-    subst IsFit (next.1 entry) (fit place entry next.0)
-
-pub at_taken : (entries : List Entry) (place taken : ℕ) (left : List Entry) (entry : Entry) (rest : List Entry) → IsAt entries place taken left → left ≡ entry ∷ rest → taken + entry_len entry ≡ sum_by entry_len (take (place + 1) entries)
-at_taken entries place taken left entry rest at is =
-    let next = at_next entries place taken left entry rest at is in
-    let more = sum_by_more entry_len entries place entry next.0 ∙ ap (λ (e : Entry). sum_by entry_len (take place entries) + entry_len e) (next.1 entry) in
-    omega (arith, more, at.taken_is)
-
-pub at_more : (entries : List Entry) (place taken : ℕ) (left : List Entry) (entry : Entry) (rest : List Entry) → IsAt entries place taken left → left ≡ entry ∷ rest → taken + entry_len entry ≤ 2044 → IsAt entries (place + 1) (taken + entry_len entry) rest
-at_more entries place taken left entry rest at is half =
-    let next = at_next entries place taken left entry rest at is in
-    record { left_is = sym next.2; within = omega (arith, next.0); taken_is = at_taken entries place taken left entry rest at is; half = half }
-
-pub at_end : (entries : List Entry) (place taken : ℕ) (left : List Entry) → IsAt entries place taken left → left ≡ [] → 2044 < sum_by entry_len entries → ⊥
-at_end entries place taken left at none full =
-    let whole = ap (sum_by entry_len) (take_all place entries (omega (arith, ap length (sym at.left_is ∙ none), length-drop place entries))) in
-    omega (arith, whole, at.taken_is, at.half)
-
 -- the entries of a page from a place on
-pub back_holds : (page rest : List ℕ) (place at : ℕ) → IsEntryPage page → at ≡ used_by (take place (entries_of page)) → rest ≡ drop at page → HoldsRecords entry_bytes IsFit (drop place (entries_of page)) rest
-back_holds page rest place at is = pages.place_holds entry_format 0x44 (entries_of page) (next_of page) page rest place at (page_of page is).page
+pub back_holds : (page rest : List ℕ) (place at : ℕ) → IsEntryPage page
+    → at ≡ used_by (take place (entries_of page)) → rest ≡ drop at page
+    → HoldsRecords entry_bytes IsFit (drop place (entries_of page)) rest
+back_holds page rest place at is =
+    pages.place_holds entry_format 0x44 (entries_of page) (next_of page) page rest place at
+    (page_of page is).page
 
-pub back_len : (entries : List Entry) (place at end : ℕ) → at ≡ used_by (take place entries) → end ≡ used_by entries → (at ≤ end) × (end - at ≡ sum_by entry_len (drop place entries))
+pub back_len : (entries : List Entry) (place at end : ℕ) → at ≡ used_by (take place entries)
+    → end ≡ used_by entries → (at ≤ end) × (end - at ≡ sum_by entry_len (drop place entries))
 back_len entries place at end at_is end_is = let all = sum_by-take-drop entry_len entries place in (omega (arith, all), omega (arith, all))
 
 -- their bytes
-pub back_bytes : (es : List Entry) (rest others : List ℕ) (len : ℕ) → HoldsRecords entry_bytes IsFit es rest → len ≡ sum_by entry_len es → others ≡ take len rest → others ≡ flat_map entry_bytes es
-back_bytes es rest others len holds len_is others_is = others_is ∙ ap (take len) holds.is ∙ take_at (flat_map entry_bytes es) holds.rest len (length-flat_map entry_format es ∙ sym len_is)
+pub back_bytes : (es : List Entry) (rest others : List ℕ) (len : ℕ)
+    → HoldsRecords entry_bytes IsFit es rest → len ≡ sum_by entry_len es → others ≡ take len rest
+    → others ≡ flat_map entry_bytes es
+back_bytes es rest others len holds len_is others_is =
+    others_is ∙ ap (take len) holds.is
+    ∙ take_at (flat_map entry_bytes es) holds.rest len
+    (length-flat_map entry_format es ∙ sym len_is)
 
 -- a page that counts fewer of its entries
-pub left_page : (entries : List Entry) (next : ℕ) (bytes : List ℕ) → IsPageOf entries next bytes → (place : ℕ) (new : List ℕ) → place ≤ length entries → new ≡ overwritten bytes 2 (to_be_bytes w16 place) → length new ≡ 4096
+pub left_page : (entries : List Entry) (next : ℕ) (bytes : List ℕ) → IsPageOf entries next bytes
+    → (place : ℕ) (new : List ℕ) → place ≤ length entries
+    → new ≡ overwritten bytes 2 (to_be_bytes w16 place) → length new ≡ 4096
     → IsPageOf (take place entries) next new
 left_page entries next bytes is place new within new_is size = record {
   page = pages.page_cut entry_format 0x44 entries next bytes is.page place new within new_is size;
@@ -71,15 +48,23 @@ left_page entries next bytes is place new within new_is size = record {
 }
 
 -- a page of the others
-pub right_page : (entries : List Entry) (place next number : ℕ) (page bytes top new others : List ℕ) → IsPageOf entries next page → number < 2 ^ 32 → length bytes ≡ 4096
-    → top ≡ overwritten bytes 0 (header 0x44 (length entries - place) number) → others ≡ flat_map entry_bytes (drop place entries) → new ≡ overwritten top 8 others → length new ≡ 4096
+pub right_page : (entries : List Entry) (place next number : ℕ) (page bytes top new others : List ℕ)
+    → IsPageOf entries next page → number < 2 ^ 32 → length bytes ≡ 4096
+    → top ≡ overwritten bytes 0 (header 0x44 (length entries - place) number)
+    → others ≡ flat_map entry_bytes (drop place entries) → new ≡ overwritten top 8 others
+    → length new ≡ 4096
     → IsPageOf (drop place entries) number new
-right_page entries place next number page bytes top new others is fits size top_is others_is new_is size_is =
+right_page entries place next number page bytes top new others is fits size top_is others_is new_is
+    size_is =
     let rest = drop place entries in
     let count : length entries - place ≡ length rest = omega (arith, length-drop place entries) in
     let most = pages.used_most entry_format 0x44 entries next page is.page in
     record {
-      page = pages.page_filled entry_format 0x44 rest number bytes top new size fits (All-drop IsFit place entries is.page.holds.fit) (omega (arith, most, sum_by-take-drop entry_len entries place))
-          (top_is ∙ ap (λ (n : ℕ). overwritten bytes 0 (header 0x44 n number)) count) (new_is ∙ ap (overwritten top 8) others_is) size_is;
+      page =
+          pages.page_filled entry_format 0x44 rest number bytes top new size fits
+          (All-drop IsFit place entries is.page.holds.fit)
+          (omega (arith, most, sum_by-take-drop entry_len entries place))
+          (top_is ∙ ap (λ (n : ℕ). overwritten bytes 0 (header 0x44 n number)) count)
+          (new_is ∙ ap (overwritten top 8) others_is) size_is;
       distinct = all_pairs_drop (λ (a b : Entry). a.key ≢ b.key) entries place is.distinct;
     }

@@ -20,7 +20,9 @@ pub record IsFit (entry : Entry) : Type 0 where
 
 -- an entry is written as the lengths of its key and of its body, the key, and the body
 unfoldable pub entry_bytes : Entry → List ℕ
-entry_bytes entry = to_be_bytes w16 (length entry.key) ++ (to_be_bytes w16 (length entry.body) ++ (entry.key ++ entry.body))
+entry_bytes entry =
+    to_be_bytes w16 (length entry.key)
+    ++ (to_be_bytes w16 (length entry.body) ++ (entry.key ++ entry.body))
 
 -- how many bytes an entry takes
 abbrev pub entry_len : Entry → ℕ

@@ -1,8 +1,8 @@
 -- A scan for entries of different keys.
 use Rattle.std.specs.Prelude.{◌≡◌, ℕ, ◌+◌, ◌*◌, ◌%◌, List, length, Bool, false, true, slice_index_or}
 use Rattle.std.specs.List.{All, fold}
-use Rattle.gx_bytes.specs.Records.{HoldsRecords}
-use Rattle.gx_slots.specs.Entries.{Entry, IsFit, AreDistinct, AreAscending, entry_bytes}
+use Rattle.gx_bytes.specs.Records.{HoldsRecords, HoldsAscendingRecords}
+use Rattle.gx_slots.specs.Entries.{Entry, IsFit, AreDistinct, entry_bytes}
 
 -- the bytes begin with n entries, and no key stands twice among them
 pub record HoldsDistinct (n : ℕ) (bytes : List ℕ) : Type 0 where
@@ -12,11 +12,8 @@ pub record HoldsDistinct (n : ℕ) (bytes : List ℕ) : Type 0 where
   pub distinct : AreDistinct entries
 
 -- the bytes begin with n entries whose keys ascend
-pub record HoldsAscending (n : ℕ) (bytes : List ℕ) : Type 0 where
-  pub entries : List Entry
-  pub count : length entries ≡ n
-  pub holds : HoldsRecords entry_bytes IsFit entries bytes
-  pub ascending : AreAscending entries
+abbrev pub HoldsAscending : ℕ → List ℕ → Type 0
+HoldsAscending = HoldsAscendingRecords entry_bytes IsFit (λ entry. entry.key)
 
 -- a hash of a key, below 4096
 abbrev pub hash_of : List ℕ → ℕ

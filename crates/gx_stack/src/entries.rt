@@ -3,11 +3,14 @@ ghost use Rattle.std.specs.Prelude.{◌≡◌, ◌<◌, ◌≤◌, ◌+◌, leng
 ghost use Rattle.gx_ports.specs.LeafMaps.{entry_count, IsCrowdedBy};
 ghost use Rattle.gx_ports.specs.Calls.{Keeps, Ends};
 ghost use Rattle.gx_mapping.specs.Rule.{In, IsOf};
-ghost use Rattle.gx_stack.specs.Tree.{IsLeafForm, entry_in, leaf_body};
+ghost use Rattle.gx_values.specs.Values.{AreFit};
+ghost use Rattle.gx_values.specs.Keys.{key_of};
+ghost use Rattle.gx_stack.specs.Tree.{IsLeafForm, entry_in, leaf_body, body_rec};
 ghost use Rattle.gx_stack.specs.Internal.{IsPlace, IsAt, SomeAt, NoneAt, AreSmall, IsRemoved, IsPut, SameBut};
 
+use arrayvec::ArrayVec;
 use gx_ports::{Leaves, Stop};
-use gx_values::{Form, NoMemory, Octets, Rec, Value, Values, key_bytes};
+use gx_values::{Form, KeyBuf, NoMemory, Octets, Rec, Value, Values, key_bytes};
 use std::alloc::Global;
 
 /// One entry of one leaf.
@@ -25,8 +28,7 @@ pub fn leaf_entry(alloc: Global, leaf: u32, form: &Form, rec: &Rec) -> Result<Le
     requires of_form { IsOf form.now rec.now }
     ensures { IfOk result (λ e. e ≡ entry_in leaf rec.now) }
 {
-    let key = key_bytes(&form.keys, &rec.key);
-    let key = Octets::from_slice(alloc, key.as_slice())?;
+    let key = entry_key(alloc, form, &rec.key)?;
     let body = Octets::from_slice(alloc, body_of(rec))?;
     Ok(LeafEntry { leaf, key, body })
 }
@@ -37,10 +39,51 @@ pub fn into_entry(alloc: Global, leaf: u32, form: &Form, rec: Rec) -> Result<Lea
     requires of_form { IsOf form.now rec }
     ensures { IfOk result (λ e. e ≡ entry_in leaf rec) }
 {
-    let key = key_bytes(&form.keys, &rec.key);
-    let key = Octets::from_slice(alloc, key.as_slice())?;
+    let key = entry_key(alloc, form, &rec.key)?;
     let body = into_body(alloc, rec.fields);
     Ok(LeafEntry { leaf, key, body })
+}
+
+// The same of the record with this key and these bytes as its data, which needn't be made.
+pub fn body_entry(
+    alloc: Global,
+    leaf: u32,
+    form: &Form,
+    key: &Values,
+    body: Octets,
+) -> Result<LeafEntry, NoMemory>
+    requires form { IsLeafForm form.now }
+    requires of_form { IsOf form.now (body_rec key.now body) }
+    ensures { IfOk result (λ e. e ≡ entry_in leaf (body_rec key.now body)) }
+{
+    let key = entry_key(alloc, form, key)?;
+    Ok(LeafEntry { leaf, key, body })
+}
+
+// The bytes of a record's key. Those of one value are written in place: to return a `KeyBuf` copies it.
+fn entry_key(alloc: Global, form: &Form, key: &Values) -> Result<Octets, NoMemory>
+    requires form { IsLeafForm form.now }
+    requires of_form { AreFit form.now.keys key.now }
+    ensures { IfOk result (λ bytes. bytes ≡ key_of key.now) }
+{
+    let [value] = key.0.as_slice() else {
+        return Octets::from_slice(alloc, key_bytes(&form.keys, key).as_slice());
+    };
+    let mut bytes = KeyBuf(ArrayVec::new());
+    bytes.set_value(value);
+    Octets::from_slice(alloc, bytes.as_slice())
+}
+
+// The record with this key and these bytes as its data.
+pub fn body_record(alloc: Global, key: Values, body: Octets) -> Result<Rec, NoMemory>
+    ensures { IfOk result (λ rec. rec ≡ body_rec key body) }
+{
+    let mut fields = Vec::with_capacity(alloc, 1)?;
+    fields.push(Value::Bytes(body))?;
+    Ok(Rec {
+        key,
+        fields: Values(fields),
+    })
 }
 
 // The bytes of the first value; none where there is none.

@@ -1,18 +1,22 @@
 // Nodes: trees of mappings, with leaves below.
-ghost use Rattle.std.specs.Prelude.{◌≡◌, ◌<◌, ◌≤◌, ◌+◌, ◌++◌, ◌↔◌, List, ℕ, length, not, ◌&&◌, OnOk, IsErrOf, IfOk};
+ghost use Rattle.std.specs.Prelude.{◌≡◌, ◌<◌, ◌≤◌, ◌+◌, ◌++◌, ◌∷◌, [], ◌↔◌, List, ℕ, None, length, take, drop, OnOk, IsErrOf, IfOk};
 ghost use Rattle.std.specs.Option.{option_map};
 ghost use Rattle.gx_ports.specs.LeafMaps.{LeafMap, map_at, entry_count, Extends, IsCrowdedBy};
 ghost use Rattle.gx_ports.specs.Calls.{Keeps, ReadsMaps, Ends};
 ghost use Rattle.gx_values.specs.declared.records.Rec.{Rec as Record};
-ghost use Rattle.gx_mapping.specs.Rule.{In, IsOf};
+ghost use Rattle.gx_mapping.specs.Rule.{In, IsOf, AreOfKey, IsGathered};
+ghost use Rattle.gx_gather.specs.Gather.{part_for, AreEach};
 ghost use Rattle.gx_stack.specs.Tree.{leaves_of, tree_form, entries_of, IsValid};
 ghost use Rattle.gx_stack.specs.Seen.{tree_of};
 ghost use Rattle.gx_stack.specs.Internal.{IsSet, IsInternal, IsUnion, IsChange, IfThere, HasSet, changed, entries_if};
 ghost use Rattle.gx_stack.specs.Selected.{IsKeySpan, IsFound};
 
-use crate::entries::{LeafEntry, into_entry, leaf_entry, put_new, remove_others};
+use crate::entries::{
+    LeafEntry, body_entry, body_record, into_entry, leaf_entry, put_new, remove_others,
+};
 use crate::read::select_leaf;
-use gx_gather::{Recs, add_parts, gather_parts};
+use crate::searched::{is_searched, only_searched};
+use gx_gather::{Recs, add_parts, gather_each, gather_parts};
 use gx_mapping::{Mapping, Parts};
 use gx_ports::{Leaves, Stop};
 use gx_values::{Form, NoMemory, Rec, Span};
@@ -88,6 +92,15 @@ impl<M: Mapping> Node<M> {
                 Ok(())
             }
             Node::Layer(layer) => {
+                if let Some(body) = layer.mapping.body(alloc, rec)? {
+                    let first = &layer.kids[0];
+                    if let Node::Leaf(node) = first {
+                        out.push(body_entry(alloc, node.leaf, &node.form, &rec.key, body)?)?;
+                        return Ok(());
+                    }
+                    let key = rec.key.copy(alloc)?;
+                    return first.into_entries(alloc, body_record(alloc, key, body)?, out);
+                }
                 let parts = match layer.mapping.as_whole(alloc, rec)? {
                     Some(whole) => {
                         let first = &layer.kids[whole.child as usize];
@@ -123,6 +136,14 @@ impl<M: Mapping> Node<M> {
                 Ok(())
             }
             Node::Layer(layer) => {
+                if let Some(body) = layer.mapping.body(alloc, &rec)? {
+                    let first = &layer.kids[0];
+                    if let Node::Leaf(node) = first {
+                        out.push(body_entry(alloc, node.leaf, &node.form, &rec.key, body)?)?;
+                        return Ok(());
+                    }
+                    return first.into_entries(alloc, body_record(alloc, rec.key, body)?, out);
+                }
                 let parts = match layer.mapping.as_whole(alloc, &rec)? {
                     Some(whole) => {
                         let first = &layer.kids[whole.child as usize];
@@ -240,6 +261,12 @@ impl<M: Mapping> Node<M> {
                     let first = &layer.kids[0];
                     return first.select(alloc, leaves, span, out);
                 }
+                if let Some(child) = only_searched(&layer.mapping, span) {
+                    let from = out.0.len();
+                    let only = &layer.kids[child as usize];
+                    only.select(alloc, leaves, span, out)?;
+                    return gather_from(alloc, &layer.mapping, child, from, out);
+                }
                 let mut parts = Parts(Vec::new(alloc));
                 for child in 0..layer.mapping.kids() {
                     if is_searched(&layer.mapping, child, span) {
@@ -255,11 +282,27 @@ impl<M: Mapping> Node<M> {
     }
 }
 
-// Whether a child may have parts that records inside the span are gathered from.
-fn is_searched<M: Mapping>(mapping: &M, child: u16, span: &Span) -> bool
-    requires { child < (M.rule mapping.now).kids }
-    ensures { result
-        ≡ ((M.rule mapping.now).holds_rest child && not ((M.rule mapping.now).skips child span.now)) }
+// Replaces each record from this place on, all of one child, by the one that has it as its only data
+// part.
+fn gather_from<M: Mapping>(
+    alloc: Global,
+    mapping: &M,
+    child: u16,
+    from: usize,
+    out: &mut Recs,
+) -> Result<(), Stop>
+    requires from { from ≤ length out.old }
+    requires parts { (q : Record) → In q (drop from out.old) →
+        AreOfKey (M.rule mapping.now) q.key (part_for child q ∷ []) }
+    ensures made { OnOk result ((made : List Record) × (out.new ≡ take from out.old ++ made)
+        × AreEach (M.rule mapping.now) child (drop from out.old) made) }
+    ensures front { Extends (take from out.old) out.new }
+    ensures damaged { (block : ℕ) → IsErrOf result (Stop.Damaged block) →
+        (q : Record) × In q (drop from out.old)
+        × IsGathered (M.rule mapping.now) q.key (part_for child q ∷ []) None }
+    ensures block { (n : ℕ) → IsErrOf result (Stop.Damaged n) → n ≡ 0 }
+    ensures not_full { ¬ IsErrOf result Stop.Full }
+    ensures not_fault { ¬ IsErrOf result Stop.Fault }
 {
-    mapping.holds_rest(child) && !mapping.skips(child, span)
+    gather_each(alloc, mapping, child, &mut out.0[from..])
 }

@@ -6,3 +6,5 @@ pub mod PrintLaws
 pub mod ReadingLaws
 pub mod LocalLaws
 pub mod LocalTokens
+pub mod RuleLaws
+pub mod CauseLaws

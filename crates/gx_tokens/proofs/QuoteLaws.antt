@@ -38,6 +38,18 @@ pub unquoted_without : (text : List ℕ) (found : Option ℕ) → IsFirstByte (i
 unquoted_without text None none _ = unquoted_plain text (λ k lt. none k (omega arith) lt)
 unquoted_without text (Some at) _ e = cc
 
+-- nor is any byte of them written twice
+pub doubled_plain : (text : List ℕ) → ((k : ℕ) → k < length text → (slice_index text k == 34) ≡ true → ⊥) → doubled text ≡ text
+doubled_plain [] none = refl
+doubled_plain (b ∷ bs) none = elim (b == 34) as (λ t. (b == 34) ≡ t → cond t (34 ∷ 34 ∷ doubled bs) (b ∷ doubled bs) ≡ b ∷ bs) [
+  | true ↦ λ is. absurd (none 0 (omega arith) is)
+  | false ↦ λ _. ap (λ (ys : List ℕ). b ∷ ys) (doubled_plain bs (λ k lt. none (suc k) (omega arith)))
+] refl
+
+pub doubled_without : (text : List ℕ) (found : Option ℕ) → IsFirstByte (is_byte 34) text found → found ≡ None → doubled text ≡ text
+doubled_without text None none _ = doubled_plain text (λ k lt. none k (omega arith) lt)
+doubled_without text (Some at) _ e = cc
+
 pub in_ok : {A E : Type 0} {P Q : A → Type 0} (r : Result A E) → ((x : A) → P x → Q x) → IfOk r P → IfOk r Q
 in_ok (Ok x) f p = f x p
 in_ok (Err e) f p = tt

@@ -7,3 +7,4 @@ pub mod Quotes
 pub mod Reading
 pub mod Grammar
 pub mod Locality
+pub mod Faults

@@ -40,12 +40,34 @@ pub fn push_quoted(out: &mut Vec<u8>, text: &[u8]) -> Result<(), AllocError>
     ensures { OnOk result (out.new.items ≡ out.old.items ++ quoted_text text.now) }
 {
     out.push(b'"')?;
+    push_doubled(out, text)?;
+    out.push(b'"')?;
+    Ok(())
+}
+
+// Appends the text with each quote in it twice.
+fn push_doubled(out: &mut Vec<u8>, text: &[u8]) -> Result<(), AllocError>
+    ensures { OnOk result (out.new.items ≡ out.old.items ++ doubled text.now) }
+{
+    let quote = memchr(b'"', text);
+    match quote {
+        None => {
+            out.extend_from_slice(text)?;
+            Ok(())
+        }
+        Some(_) => push_pairs(out, text),
+    }
+}
+
+// The same, byte by byte.
+fn push_pairs(out: &mut Vec<u8>, text: &[u8]) -> Result<(), AllocError>
+    ensures { OnOk result (out.new.items ≡ out.old.items ++ doubled text.now) }
+{
     for byte in text {
         if *byte == b'"' {
             out.push(b'"')?;
         }
         out.push(*byte)?;
     }
-    out.push(b'"')?;
     Ok(())
 }

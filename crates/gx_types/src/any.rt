@@ -8,7 +8,7 @@ use gx_index::Index;
 use gx_mapping::{Mapping, Part, Parts, Whole};
 use gx_partition::Partition;
 use gx_split::{Segment, Transpose};
-use gx_values::{Form, Name, NoMemory, Rec, Span, Values};
+use gx_values::{Form, Name, NoMemory, Octets, Rec, Span, Values};
 use std::alloc::Global;
 
 /// The mapping of one of the layers.
@@ -121,6 +121,18 @@ impl Mapping for AnyMapping {
         }
     }
 
+    fn body(&self, alloc: Global, rec: &Rec) -> Result<Option<Octets>, NoMemory> {
+        match self {
+            AnyMapping::Actual(mapping) => mapping.body(alloc, rec),
+            AnyMapping::Encode(mapping) => mapping.body(alloc, rec),
+            AnyMapping::Segment(mapping) => mapping.body(alloc, rec),
+            AnyMapping::Transpose(mapping) => mapping.body(alloc, rec),
+            AnyMapping::Partition(mapping) => mapping.body(alloc, rec),
+            AnyMapping::Divide(mapping) => mapping.body(alloc, rec),
+            AnyMapping::Index(mapping) => mapping.body(alloc, rec),
+        }
+    }
+
     fn keeps(&self) -> bool {
         match self {
             AnyMapping::Actual(mapping) => mapping.keeps(),
@@ -154,6 +166,18 @@ impl Mapping for AnyMapping {
             AnyMapping::Partition(mapping) => mapping.gather_one(alloc, part),
             AnyMapping::Divide(mapping) => mapping.gather_one(alloc, part),
             AnyMapping::Index(mapping) => mapping.gather_one(alloc, part),
+        }
+    }
+
+    fn is_own_part(&self, child: u16, rec: &Rec) -> bool {
+        match self {
+            AnyMapping::Actual(mapping) => mapping.is_own_part(child, rec),
+            AnyMapping::Encode(mapping) => mapping.is_own_part(child, rec),
+            AnyMapping::Segment(mapping) => mapping.is_own_part(child, rec),
+            AnyMapping::Transpose(mapping) => mapping.is_own_part(child, rec),
+            AnyMapping::Partition(mapping) => mapping.is_own_part(child, rec),
+            AnyMapping::Divide(mapping) => mapping.is_own_part(child, rec),
+            AnyMapping::Index(mapping) => mapping.is_own_part(child, rec),
         }
     }
 

@@ -7,7 +7,10 @@ pub returns : goal.returns
 returns c =
     let bytes = c.args.bytes.now in
     let at = c.args.at in
-    branch_written bytes at (record { separator = c.args.separator.now; child = c.args.child }) c.overwrite.new.bytes c.overwrite-2.new.bytes c.overwrite-3.new.bytes c.requires.room
+    branch_written bytes at (record { separator = c.args.separator.now; child = c.args.child })
+    c.overwrite.new.bytes c.overwrite-2.new.bytes c.overwrite-3.new.bytes c.requires.room
     (c.overwrite.ensures ∙ ap (overwritten bytes at) c.to_be_bytes.ensures)
     c.overwrite-2.ensures
-    (c.overwrite-3.ensures ∙ ap (overwritten c.overwrite-2.new.bytes (at + 2 + length c.args.separator.now)) c.to_be_bytes-2.ensures)
+    (c.overwrite-3.ensures
+    ∙ ap (overwritten c.overwrite-2.new.bytes (at + 2 + length c.args.separator.now))
+    c.to_be_bytes-2.ensures)

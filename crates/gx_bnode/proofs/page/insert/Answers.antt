@@ -10,7 +10,13 @@ use Rattle.gx_bnode.proofs.page.insert.Goals as goal
 pub overflow_add-count : goal.overflow_add-count
 overflow_add-count c =
     let page = c.args.page.now in
-    omega (arith, c.separators-count.ensures, separators_count (branches_of page), six_each (branches_of page), used_most page c.requires.page)
+    omega (
+      arith,
+      c.separators-count.ensures,
+      separators_count (branches_of page),
+      six_each (branches_of page),
+      used_most page c.requires.page,
+    )
 
 pub returns : goal.returns
 returns c =
@@ -22,11 +28,17 @@ returns c =
     let old = page_of page c.requires.page in
     let at = c.offsets-at.result.0 in
     let end = c.offsets-at.result.1 in
-    let room : branch_len branch ≤ 4096 - end = omega (arith, c.offsets-at.ensures.end, separators_len branches, c.requires.room, c.requires.short) in
+    let room : branch_len branch ≤ 4096 - end = omega
+    (arith, c.offsets-at.ensures.end, separators_len branches, c.requires.room, c.requires.short) in
     let is = page_added first branches page old c.args.i branch at end c.copy_within.new.self c.write_branch.new.bytes new
-    (omega (arith, c.requires.place, separators_count branches)) (record { separator = c.requires.short; child = search rules }) c.requires.ascending c.offsets-at.ensures.start c.offsets-at.ensures.end room
-    (c.copy_within.ensures.after ∙ ap (λ n. copy_within page at end (at + n)) c.branch_len.ensures) c.write_branch.ensures
-    (c.set_record_count.ensures ∙ ap (λ n. overwritten c.write_branch.new.bytes 2 (to_be_bytes w16 (n + 1))) (c.separators-count.ensures ∙ separators_count branches))
+    (omega (arith, c.requires.place, separators_count branches))
+    (record { separator = c.requires.short; child = search rules }) c.requires.ascending
+    c.offsets-at.ensures.start c.offsets-at.ensures.end room
+    (c.copy_within.ensures.after ∙ ap (λ n. copy_within page at end (at + n)) c.branch_len.ensures)
+    c.write_branch.ensures
+    (c.set_record_count.ensures
+    ∙ ap (λ n. overwritten c.write_branch.new.bytes 2 (to_be_bytes w16 (n + 1)))
+    (c.separators-count.ensures ∙ separators_count branches))
     (c.set_record_count.auto.page ∙ c.write_branch.auto.bytes ∙ c.copy_within.ensures.len ∙ old.page.size) in
     let said = says first (insert branches c.args.i branch) new is in
     record {

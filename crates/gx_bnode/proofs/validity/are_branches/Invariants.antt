@@ -1,5 +1,7 @@
-use Rattle.gx_bnode.proofs.ScanLemmas.{Scanned}
+use Rattle.gx_bytes.proofs.ScanLemmas.{Scanned}
+use Rattle.gx_bnode.specs.Branches.{IsFit, branch_bytes}
 use Rattle.gx_bnode.proofs.validity.are_branches.Given as goal
 
 abbrev pub invariant-loop : goal.invariant-loop
-invariant-loop l = Scanned l.bytes l.counter l.rest l.last
+invariant-loop l =
+    Scanned branch_bytes IsFit (λ branch. branch.separator) l.bytes l.counter l.rest l.last

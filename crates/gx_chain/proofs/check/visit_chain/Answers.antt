@@ -24,18 +24,24 @@ loop-init g c =
         front = [];
         steps = refl;
         led = refl;
-        visited = visited_none ground c.args.owner s c.args.first c.args.visits.now.seen.items (record { seen = c.args.visits.now.seen; keys = c.new.result }) refl c.new.ensures.empty;
+        visited = visited_none ground c.args.owner s c.args.first c.args.visits.now.seen.items
+            (record { seen = c.args.visits.now.seen; keys = c.new.result }) refl
+            c.new.ensures.empty;
       };
     }
 
 pub visit-requires-clause-number : goal.visit-requires-clause-number
-visit-requires-clause-number g c = subst (λ (x : Ground). IsPast x c.loop.number) (sym c.loop.invariant.reads.keeps.ground) c.loop.invariant.past
+visit-requires-clause-number g c =
+    subst (λ (x : Ground). IsPast x c.loop.number) (sym c.loop.invariant.reads.keeps.ground)
+    c.loop.invariant.past
 
 pub visit-requires-clause-seen : goal.visit-requires-clause-seen
-visit-requires-clause-seen g c = c.loop.invariant.len ∙ sym (ap (λ (x : Ground). x.size) c.loop.invariant.reads.keeps.ground)
+visit-requires-clause-seen g c =
+    c.loop.invariant.len ∙ sym (ap (λ (x : Ground). x.size) c.loop.invariant.reads.keeps.ground)
 
 pub returns-in_err-visit-clause-reads : goal.returns-in_err-visit-clause-reads
-returns-in_err-visit-clause-reads g c = read_pages_joined g.P.PageView c.loop.invariant.reads c.visit.ensures.reads
+returns-in_err-visit-clause-reads g c =
+    read_pages_joined g.P.PageView c.loop.invariant.reads c.visit.ensures.reads
 
 pub returns-in_err-visit-clause-ends : goal.returns-in_err-visit-clause-ends
 returns-in_err-visit-clause-ends g c =
@@ -43,9 +49,13 @@ returns-in_err-visit-clause-ends g c =
     let p = c.args.pages.now in
     let now = c.loop.pages in
     let few_pages : (g.P.PageView.ground p).size ≤ NONE = omega (arith, c.pages-end.ensures) in
-    ends_handed_on {T = Unit {0}} g.P.PageView (HasUnseenChain g.P.PageView p c.args.owner c.args.first c.args.visits.now.seen.items) (IsNext g.P.PageView now c.args.owner c.args.first c.loop.visits c.loop.number) p now c.visit.new.pages _
+    ends_handed_on {T = Unit {0}} g.P.PageView
+    (HasUnseenChain g.P.PageView p c.args.owner c.args.first c.args.visits.now.seen.items)
+    (IsNext g.P.PageView now c.args.owner c.args.first c.loop.visits c.loop.number) p now
+    c.visit.new.pages _
     c.from_residual.result i.faults i.reads.keeps.ground
-    (next_there g.P.PageView c.args.owner c.args.first c.args.visits.now.seen.items p now i.reads few_pages c.loop.counter c.loop.number c.loop.visits i.past i.so_far)
+    (next_there g.P.PageView c.args.owner c.args.first c.args.visits.now.seen.items p now i.reads
+    few_pages c.loop.counter c.loop.number c.loop.visits i.past i.so_far)
     c.in_err-visit.ensures.ends c.from_residual.ensures.1
 
 pub behind-requires-clause-number : goal.behind-requires-clause-number
@@ -54,7 +64,8 @@ behind-requires-clause-number g c =
     subst (λ (x : Ground). IsPast x c.loop.number) (sym reads.keeps.ground) c.loop.invariant.past
 
 pub returns-in_err-behind-clause-reads : goal.returns-in_err-behind-clause-reads
-returns-in_err-behind-clause-reads g c = read_pages_joined g.P.PageView c.loop.invariant.reads c.visit.ensures.reads
+returns-in_err-behind-clause-reads g c =
+    read_pages_joined g.P.PageView c.loop.invariant.reads c.visit.ensures.reads
 
 pub returns-in_err-behind-clause-ends : goal.returns-in_err-behind-clause-ends
 returns-in_err-behind-clause-ends g c =
@@ -66,10 +77,14 @@ returns-in_err-behind-clause-ends g c =
     let ground = g.P.PageView.ground p in
     let few_pages : ground.size ≤ NONE = omega (arith, c.pages-end.ensures) in
     let reads = read_pages_joined g.P.PageView i.reads c.visit.ensures.reads in
-    ends_handed_on g.P.PageView (HasUnseenChain g.P.PageView p c.args.owner c.args.first c.args.visits.now.seen.items) (LeadsOn (g.P.PageView.ground now) (next_of page)) p now now _ c.from_residual-in_err-behind.result
+    ends_handed_on g.P.PageView
+    (HasUnseenChain g.P.PageView p c.args.owner c.args.first c.args.visits.now.seen.items)
+    (LeadsOn (g.P.PageView.ground now) (next_of page)) p now now _
+    c.from_residual-in_err-behind.result
     (c.in_ok-visit.ensures.ends.cause.counted refl ∙ i.faults) reads.keeps.ground
     (λ has. (let read = c.in_ok-visit.ensures.bytes has.told ∙ ap (λ (x : Sheets). bytes_at x c.loop.number) i.reads.working in
-    let hand = whole_hand ground c.args.owner s c.args.first c.args.visits.now.seen.items few_pages c.loop.counter c.loop.number c.loop.visits i.past (i.so_far has.told) has.pages has.chain in
+    let hand = whole_hand ground c.args.owner s c.args.first c.args.visits.now.seen.items few_pages
+    c.loop.counter c.loop.number c.loop.visits i.past (i.so_far has.told) has.pages has.chain in
     subst (λ (x : Ground). LeadsOn x (next_of page)) (sym reads.keeps.ground)
     (subst (LeadsOn ground) (sym (ap next_of read)) (hand_leads ground c.args.owner s c.args.first has.pages c.loop.counter c.loop.number has.chain hand))))
     c.in_err-behind.ensures.ends c.from_residual-in_err-behind.ensures.1
@@ -80,20 +95,29 @@ returns-in-None-clause-visited g c told =
     let p = c.args.pages.now in
     let ground = g.P.PageView.ground p in
     let few_pages : ground.size ≤ NONE = omega (arith, c.pages-end.ensures) in
-    let none : next_of c.visit.new.page ≡ NONE = MatchOption-at_none _ _ c.in-None.is c.in_ok-behind.ensures.behind in
-    came_to_end ground c.args.owner (g.P.PageView.working p) c.args.first c.args.visits.now.seen.items (c.loop.counter + 1) c.visit.new.visits few_pages
-    (came_on g.P.PageView c.args.owner c.args.first c.args.visits.now.seen.items p c.loop.pages i.reads c.loop.counter c.loop.number NONE c.loop.visits c.visit.new.visits c.visit.new.page (i.so_far told)
-    (c.in_ok-visit.ensures.visited told c.args.visits.now.seen.items) (c.in_ok-visit.ensures.bytes told) c.in_ok-visit.ensures.read none)
+    let none : next_of c.visit.new.page ≡ NONE =
+    MatchOption-at_none _ _ c.in-None.is c.in_ok-behind.ensures.behind in
+    came_to_end ground c.args.owner (g.P.PageView.working p) c.args.first
+    c.args.visits.now.seen.items (c.loop.counter + 1) c.visit.new.visits few_pages
+    (came_on g.P.PageView c.args.owner c.args.first c.args.visits.now.seen.items p c.loop.pages
+    i.reads c.loop.counter c.loop.number NONE c.loop.visits c.visit.new.visits c.visit.new.page
+    (i.so_far told)
+    (c.in_ok-visit.ensures.visited told c.args.visits.now.seen.items)
+    (c.in_ok-visit.ensures.bytes told) c.in_ok-visit.ensures.read none)
 
 pub returns-in-None-clause-seen : goal.returns-in-None-clause-seen
-returns-in-None-clause-seen g c = c.visit.ensures.seen ∙ ap (λ (x : Ground). x.size) c.loop.invariant.reads.keeps.ground
+returns-in-None-clause-seen g c =
+    c.visit.ensures.seen ∙ ap (λ (x : Ground). x.size) c.loop.invariant.reads.keeps.ground
 
 pub returns-in-None-clause-reads : goal.returns-in-None-clause-reads
-returns-in-None-clause-reads g c = read_pages_joined g.P.PageView c.loop.invariant.reads c.visit.ensures.reads
+returns-in-None-clause-reads g c =
+    read_pages_joined g.P.PageView c.loop.invariant.reads c.visit.ensures.reads
 
 pub returns-in-None-clause-ends : goal.returns-in-None-clause-ends
 returns-in-None-clause-ends g c =
-    ends_well g.P.PageView (HasUnseenChain g.P.PageView c.args.pages.now c.args.owner c.args.first c.args.visits.now.seen.items) c.args.pages.now c.visit.new.pages _ (c.in_ok-visit.ensures.ends.cause.counted refl ∙ c.loop.invariant.faults)
+    ends_well g.P.PageView (HasUnseenChain g.P.PageView c.args.pages.now c.args.owner c.args.first
+    c.args.visits.now.seen.items) c.args.pages.now c.visit.new.pages _
+    (c.in_ok-visit.ensures.ends.cause.counted refl ∙ c.loop.invariant.faults)
 
 pub loop-preserved : goal.loop-preserved
 loop-preserved g c =
@@ -101,14 +125,20 @@ loop-preserved g c =
     let p = c.args.pages.now in
     let page = c.visit.new.page in
     let reads = read_pages_joined g.P.PageView i.reads c.visit.ensures.reads in
-    let led = MatchOption-at_some (next_of page ≡ NONE) (λ q. (next_of page ≡ q) × IsPast (g.P.PageView.ground c.visit.new.pages) q) c.in-Some.next c.in-Some.is c.in_ok-behind.ensures.behind in
+    let led = MatchOption-at_some (next_of page ≡ NONE)
+    (λ q. (next_of page ≡ q) × IsPast (g.P.PageView.ground c.visit.new.pages) q) c.in-Some.next
+    c.in-Some.is c.in_ok-behind.ensures.behind in
     record {
       reads = reads;
       faults = c.in_ok-visit.ensures.ends.cause.counted refl ∙ i.faults;
       past = subst (λ (x : Ground). IsPast x c.in-Some.next) reads.keeps.ground led.1;
       len = c.visit.ensures.seen ∙ ap (λ (x : Ground). x.size) i.reads.keeps.ground;
-      so_far = λ told. came_on g.P.PageView c.args.owner c.args.first c.args.visits.now.seen.items p c.loop.pages i.reads c.loop.counter c.loop.number c.in-Some.next c.loop.visits c.visit.new.visits page (i.so_far told)
-          (c.in_ok-visit.ensures.visited told c.args.visits.now.seen.items) (c.in_ok-visit.ensures.bytes told) c.in_ok-visit.ensures.read led.0;
+      so_far =
+          λ told. came_on g.P.PageView c.args.owner c.args.first c.args.visits.now.seen.items p
+          c.loop.pages i.reads c.loop.counter c.loop.number c.in-Some.next c.loop.visits
+          c.visit.new.visits page (i.so_far told)
+          (c.in_ok-visit.ensures.visited told c.args.visits.now.seen.items)
+          (c.in_ok-visit.ensures.bytes told) c.in_ok-visit.ensures.read led.0;
     }
 
 pub block-requires : goal.block-requires
@@ -127,9 +157,12 @@ returns-clause-ends g c =
     let s = g.P.PageView.working p in
     let ground = g.P.PageView.ground p in
     let few_pages : ground.size ≤ NONE = omega (arith, c.pages-end.ensures) in
-    ends_shown g.P.PageView (HasUnseenChain g.P.PageView p c.args.owner c.args.first c.args.visits.now.seen.items) p c.loop.pages c.block.result i.faults
+    ends_shown g.P.PageView
+    (HasUnseenChain g.P.PageView p c.args.owner c.args.first c.args.visits.now.seen.items) p
+    c.loop.pages c.block.result i.faults
     (subst (λ (x : Ground). c.block.result < x.blocks) i.reads.keeps.ground c.block.ensures.below)
     (λ has. (let hand = whole_hand ground c.args.owner s c.args.first c.args.visits.now.seen.items few_pages c.loop.counter c.loop.number c.loop.visits i.past (i.so_far has.told) has.pages has.chain in
-    let less = hand_ends ground c.args.owner s c.args.first has.pages c.loop.counter c.loop.number has.chain hand in
+    let less = hand_ends ground c.args.owner s c.args.first has.pages c.loop.counter c.loop.number
+    has.chain hand in
     let over = c.loop-test.false in
     omega (arith, less, over, c.pages-end.ensures)))

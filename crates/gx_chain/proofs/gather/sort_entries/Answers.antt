@@ -9,5 +9,7 @@ use Rattle.gx_chain.proofs.gather.sort_entries.Goals as goal
 
 pub returns-clause-in_order : goal.returns-clause-in_order
 returns-clause-in_order c =
-    c.in_ok-sort_by.ensures.sorted (λ (a b : LeafEntry). is_lt (entry_cmp a b)) (ranks_by nat_list_cmp_total (λ (e : LeafEntry). e.key))
-    (always_returns_same _ (λ a r. is_lt r ≡ is_lt (entry_cmp a.0.now a.1.0.now)) _ (λ a r q k. search rules))
+    c.in_ok-sort_by.ensures.sorted (λ (a b : LeafEntry). is_lt (entry_cmp a b))
+    (ranks_by nat_list_cmp_total (λ (e : LeafEntry). e.key))
+    (always_returns_same _ (λ a r. is_lt r ≡ is_lt (entry_cmp a.0.now a.1.0.now)) _
+    (λ a r q k. search rules))

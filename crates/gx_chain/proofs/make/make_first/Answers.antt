@@ -12,5 +12,8 @@ returns-clause-made g c told free =
     record {
       between = m;
       claimed = c.in_ok-claim_at.ensures.claimed told free;
-      written = written m m t c.args.first NONE _ [] refl (let below = c.requires.first.below in omega (arith, below, many.1, ap (λ x. x.size) ground)) (c.in_ok-write.ensures.written told) c.clear.ensures.page c.clear.ensures.entries c.clear.ensures.next;
+      written = written m m t c.args.first NONE _ [] refl (let below = c.requires.first.below in
+          omega (arith, below, many.1, ap (λ x. x.size) ground))
+          (c.in_ok-write.ensures.written told) c.clear.ensures.page c.clear.ensures.entries
+          c.clear.ensures.next;
     }

@@ -11,4 +11,5 @@ add-requires-clause-other c =
     let es = entries_of c.args.page.now in
     let found = c.in-Some.ensures.found in
     subst (All (λ (e : Entry). e.key ≢ c.args.key.now)) (sym c.take.ensures.entries)
-    (less_other es c.in-Some.place c.args.key.now (page_of c.args.page.now c.requires.page).distinct found.0 found.1)
+    (less_other es c.in-Some.place c.args.key.now (page_of c.args.page.now c.requires.page).distinct
+    found.0 found.1)

@@ -13,6 +13,9 @@ returns-clause-added g c told =
     let same = c.in_ok-read_entries.ensures.reads.working in
     let read = c.in_ok-read_entries.ensures.bytes told in
     let many = g.met.P.Pages.many c.args.pages.now told in
-    written s m _ c.args.number _ _ _ same (let below = c.requires.number.below in omega (arith, below, many.1)) (c.in_ok-write.ensures.written told) c.add_last.ensures.page
-    (c.if-not-add_last.ensures.added ∙ ap (λ b. insert (entries_of b) (length (entries_of b)) e) read)
+    written s m _ c.args.number _ _ _ same
+    (let below = c.requires.number.below in omega (arith, below, many.1))
+    (c.in_ok-write.ensures.written told) c.add_last.ensures.page
+    (c.if-not-add_last.ensures.added
+    ∙ ap (λ b. insert (entries_of b) (length (entries_of b)) e) read)
     (c.add_last.ensures.next ∙ ap next_of read)

@@ -19,14 +19,23 @@ returns-clause-appended g c told apart =
     let later = g.met.P.Pages.many c.write.new.self told in
     let ground = c.in_ok-write.ensures.keeps.ground in
     let none : length (entries_of c.clear.new.page) ≡ 0 = ap length c.clear.ensures.entries in
-    let added = MatchBool-at_true (entries_of c.add.new.page ≡ insert (entries_of c.clear.new.page) 0 e) ⊤ (c.add.ensures.few (omega (arith, none))) c.add.ensures.added in
+    let added = MatchBool-at_true
+    (entries_of c.add.new.page ≡ insert (entries_of c.clear.new.page) 0 e) ⊤
+    (c.add.ensures.few (omega (arith, none))) c.add.ensures.added in
     let first = written s s b c.args.fresh NONE c.add.new.page (e ∷ []) refl (let below = c.requires.fresh.below in omega (arith, below, many.1)) (c.in_ok-write.ensures.written told) c.add.ensures.page
-    (added ∙ ap (λ es. insert es 0 e) c.clear.ensures.entries) (c.add.ensures.next ∙ c.clear.ensures.next) in
-    let read = c.in_ok-read_entries.ensures.bytes told ∙ at_other s b c.args.last (first.others c.args.last apart) in
+    (added ∙ ap (λ es. insert es 0 e) c.clear.ensures.entries)
+    (c.add.ensures.next ∙ c.clear.ensures.next) in
+    let read =
+    c.in_ok-read_entries.ensures.bytes told
+    ∙ at_other s b c.args.last (first.others c.args.last apart) in
     record {
       between = b;
       begun = first;
-      hung = written b m (g.P.PageView.working c.write-2.new.self) c.args.last c.args.fresh _ _ c.in_ok-read_entries.ensures.reads.working
-          (let below = c.requires.last.below in omega (arith, below, later.1, ap (λ x. x.size) ground)) (c.in_ok-write-2.ensures.written told) c.set_next.ensures.page
+      hung =
+          written b m (g.P.PageView.working c.write-2.new.self) c.args.last c.args.fresh _ _
+          c.in_ok-read_entries.ensures.reads.working
+          (let below = c.requires.last.below in omega
+          (arith, below, later.1, ap (λ x. x.size) ground)) (c.in_ok-write-2.ensures.written told)
+          c.set_next.ensures.page
           (c.set_next.ensures.entries ∙ ap entries_of read) c.set_next.ensures.next;
     }

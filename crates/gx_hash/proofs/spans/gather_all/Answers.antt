@@ -5,7 +5,7 @@ use Rattle.gx_ports.specs.Sheets.{Sheets}
 use Rattle.gx_ports.proofs.PageLemmas.{pages_read_themselves, read_pages_joined, ends_handed_on}
 use Rattle.gx_chain.specs.Chain.{HasChain}
 use Rattle.gx_chain.specs.Collect.{inside_on}
-use Rattle.gx_hash.specs.Gathered.{pages_below}
+use Rattle.gx_chain.specs.Chains.{pages_below}
 use Rattle.gx_hash.specs.Hash.{IsHash}
 use Rattle.gx_hash.proofs.SpanLemmas.{inside_more, chain_now, chain_there, gathered_all}
 use Rattle.gx_hash.proofs.spans.gather_all.Goals as goal

@@ -1,39 +1,57 @@
-use Rattle.std.proofs.Common.{◌≡◌, ℕ, refl, subst, sym, arith}
+use Rattle.std.proofs.Common.{◌≡◌, ℕ, List, refl, subst, sym, arith}
 use Rattle.std.proofs.lemmas.Bool.{false≢true}
 use Rattle.gx_isam_index.specs.Index.{HoldsAscending}
 use Rattle.gx_order.proofs.BelowLemmas.{below_is_less}
-use Rattle.gx_isam_index.proofs.ScanLemmas.{scanned_first, scanned_more, scanned_all, none_first, no_more, not_ascending}
+use Rattle.gx_bytes.proofs.ScanLemmas.{scanned_first, scanned_more, scanned_all, none_first, no_more, not_ascending}
+use Rattle.gx_isam_index.proofs.SeparatorLemmas.{separator_format}
 use Rattle.gx_isam_index.proofs.index.are_some_separators.Goals as goal
 
+abbrev own : List ℕ → List ℕ
+own separator = separator
+
 pub returns-in_default : goal.returns-in_default
-returns-in_default c = (λ bad. absurd (false≢true bad), λ held. absurd (none_first c.args.bytes.now c.args.count c.requires c.in_default.ensures held))
+returns-in_default c = (
+  λ bad. absurd (false≢true bad),
+  λ held. absurd (none_first separator_format own c.args.bytes.now c.args.count c.requires
+      c.in_default.ensures held),
+)
 
 pub loop-init : goal.loop-init
 loop-init c =
     let found = c.in-Some.ensures in
-    scanned_first c.args.bytes.now c.in-Some.first.now c.in-Some.behind.now found.0 found.1
+    scanned_first separator_format own c.args.bytes.now c.in-Some.first.now c.in-Some.behind.now
+    found.0 found.1
 
 pub returns-in_default-split_separator : goal.returns-in_default-split_separator
 returns-in_default-split_separator c = (
   λ bad. absurd (false≢true bad),
-  λ held. absurd (no_more c.args.bytes.now c.loop.counter c.loop.rest.now c.loop.last.now c.args.count c.loop.invariant c.loop-test.true c.in_default-split_separator.ensures held),
+  λ held. absurd
+      (no_more separator_format own c.args.bytes.now c.loop.counter c.loop.rest.now c.loop.last.now c.args.count c.loop.invariant c.loop-test.true c.in_default-split_separator.ensures held),
 )
 
 pub returns-then-not-is_below : goal.returns-then-not-is_below
 returns-then-not-is_below c =
     let found = c.in-Some-split_separator.ensures in (
       λ bad. absurd (false≢true bad),
-      λ held. absurd (not_ascending c.args.bytes.now c.loop.counter c.loop.rest.now c.loop.last.now c.args.count c.in-Some-split_separator.separator.now c.in-Some-split_separator.behind.now
+      λ held. absurd
+          (not_ascending separator_format own c.args.bytes.now c.loop.counter c.loop.rest.now c.loop.last.now c.args.count c.in-Some-split_separator.separator.now c.in-Some-split_separator.behind.now
           c.loop.invariant c.loop-test.true found.0 found.1 (sym c.if-not-is_below.ensures) held),
     )
 
 pub loop-preserved : goal.loop-preserved
 loop-preserved c =
     let found = c.in-Some-split_separator.ensures in
-    scanned_more c.args.bytes.now c.loop.counter c.loop.rest.now c.loop.last.now c.in-Some-split_separator.separator.now c.in-Some-split_separator.behind.now
-    c.loop.invariant found.0 found.1 (below_is_less c.loop.last.now c.in-Some-split_separator.separator.now c.is_below.result c.is_below.ensures c.if-not-is_below.false)
+    scanned_more separator_format own c.args.bytes.now c.loop.counter c.loop.rest.now
+    c.loop.last.now c.in-Some-split_separator.separator.now c.in-Some-split_separator.behind.now
+    c.loop.invariant found.0 found.1 (below_is_less c.loop.last.now
+    c.in-Some-split_separator.separator.now c.is_below.result c.is_below.ensures
+    c.if-not-is_below.false)
 
 pub returns : goal.returns
 returns c =
-    let end : c.loop.counter ≡ c.args.count = omega (arith, c.loop-test.false, c.loop.auto.counter-end c.requires) in
-    (λ _. subst (λ (n : ℕ). HoldsAscending n c.args.bytes.now) end (scanned_all c.args.bytes.now c.loop.counter c.loop.rest.now c.loop.last.now c.loop.invariant), λ _. refl)
+    let end : c.loop.counter ≡ c.args.count =
+    omega (arith, c.loop-test.false, c.loop.auto.counter-end c.requires) in (
+      λ _. subst (λ (n : ℕ). HoldsAscending n c.args.bytes.now) end
+          (scanned_all separator_format own c.args.bytes.now c.loop.counter c.loop.rest.now c.loop.last.now c.loop.invariant),
+      λ _. refl,
+    )

@@ -5,4 +5,6 @@ use Rattle.gx_isam_index.proofs.IndexLemmas.{IsCounting}
 use Rattle.gx_isam_index.proofs.index.bucket_of.Given as goal
 
 abbrev pub invariant-loop : goal.invariant-loop
-invariant-loop l = IsCounting (λ separator. is_le (key_cmp separator l.key)) (behind_firsts l.page) l.count l.counter l.rest l.bucket
+invariant-loop l =
+    IsCounting (λ separator. is_le (key_cmp separator l.key)) (behind_firsts l.page) l.count
+    l.counter l.rest l.bucket

@@ -10,11 +10,20 @@ use Rattle.gx_isam_index.proofs.index.last_bucket.Goals as goal
 pub unwrap-requires : goal.unwrap-requires
 unwrap-requires c =
     let ahead = c.loop.invariant.ahead in
-    holds_split separator_format lent ahead.held c.loop.rest.now c.split_separator.result ahead.holds (omega (arith, ahead.count, c.loop-test.true)) c.split_separator.ensures
+    holds_split separator_format lent ahead.held c.loop.rest.now c.split_separator.result
+    ahead.holds (omega (arith, ahead.count, c.loop-test.true)) c.split_separator.ensures
 
 pub loop-preserved : goal.loop-preserved
 loop-preserved c =
-    let found = split_found separator_bytes IsFit lent c.loop.rest.now c.split_separator.result c.unwrap.result c.unwrap.ensures c.split_separator.ensures in
-    let more : c.from-bucket.result ≡ tick (is_le (key_cmp (take (length c.args.hi.now) c.unwrap.result.0.now) c.args.hi.now)) = tick_of c.from-bucket.result c.is_front_at_most.result c.from-bucket.ensures ∙ ap tick c.is_front_at_most.ensures in
-    counting_more (λ separator. is_le (key_cmp (take (length c.args.hi.now) separator) c.args.hi.now)) (behind_firsts c.args.page.now) c.record_count-count.result c.loop.counter c.loop.rest.now c.loop.bucket c.unwrap.result.0.now c.unwrap.result.1.now c.from-bucket.result
-    c.loop.invariant c.loop-test.true found.0 found.1 more (tick_small c.from-bucket.result (is_le (key_cmp (take (length c.args.hi.now) c.unwrap.result.0.now) c.args.hi.now)) more)
+    let found = split_found separator_bytes IsFit lent c.loop.rest.now c.split_separator.result
+    c.unwrap.result c.unwrap.ensures c.split_separator.ensures in
+    let more : c.from-bucket.result
+    ≡ tick (is_le (key_cmp (take (length c.args.hi.now) c.unwrap.result.0.now) c.args.hi.now)) =
+    tick_of c.from-bucket.result c.is_front_at_most.result c.from-bucket.ensures
+    ∙ ap tick c.is_front_at_most.ensures in
+    counting_more
+    (λ separator. is_le (key_cmp (take (length c.args.hi.now) separator) c.args.hi.now))
+    (behind_firsts c.args.page.now) c.record_count-count.result c.loop.counter c.loop.rest.now
+    c.loop.bucket c.unwrap.result.0.now c.unwrap.result.1.now c.from-bucket.result
+    c.loop.invariant c.loop-test.true found.0 found.1 more (tick_small c.from-bucket.result
+    (is_le (key_cmp (take (length c.args.hi.now) c.unwrap.result.0.now) c.args.hi.now)) more)

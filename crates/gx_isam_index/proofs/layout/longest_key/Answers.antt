@@ -14,6 +14,7 @@ loop-i-preserved c =
     let fit = (c.requires.fit i e c.entry-entry.ensures).key in
     let now = max_of c.loop-i.longest (length key) c.max-longest.result c.max-longest.ensures in
     record {
-      is = now ∙ ap (λ n. max n (length key)) c.loop-i.invariant.is ∙ sym (longest_more (keys_of es) i key (key_at es i e c.entry-entry.ensures));
+      is = now ∙ ap (λ n. max n (length key)) c.loop-i.invariant.is
+          ∙ sym (longest_more (keys_of es) i key (key_at es i e c.entry-entry.ensures));
       most = omega (arith, now, most, fit);
     }

@@ -13,9 +13,12 @@ loop-bucket-init c =
     let old = c.begin_index.new.page in
     let new = c.write_separators.new.page in
     record {
-      index = index_new es c.requires.ordered old new count is.some is.most is.few c.begin_index.ensures c.write_separators.ensures;
-      fresh = fresh_new es c.requires.ordered old new count is.some is.most is.few c.begin_index.ensures c.write_separators.ensures is.value;
-      counted = new_count es c.requires.ordered old new count is.some is.most is.few c.begin_index.ensures c.write_separators.ensures;
+      index = index_new es c.requires.ordered old new count is.some is.most is.few
+          c.begin_index.ensures c.write_separators.ensures;
+      fresh = fresh_new es c.requires.ordered old new count is.some is.most is.few
+          c.begin_index.ensures c.write_separators.ensures is.value;
+      counted = new_count es c.requires.ordered old new count is.some is.most is.few
+          c.begin_index.ensures c.write_separators.ensures;
       within = omega arith;
       none = λ i less. absurd (omega (arith, less));
     }
@@ -29,7 +32,8 @@ loop-bucket-preserved c =
     let set = c.set_first.ensures in
     record {
       index = set.page;
-      fresh = fresh_stays c.loop-bucket.page c.set_first.new.page (keys_of c.args.entries.now) i.fresh set.count set.separators;
+      fresh = fresh_stays c.loop-bucket.page c.set_first.new.page (keys_of c.args.entries.now)
+          i.fresh set.count set.separators;
       counted = set.count ∙ i.counted;
       within = omega (arith, test);
       none = λ n less. elim (cases_eq n bucket) [

@@ -13,5 +13,8 @@ returns-clause-page c =
     let separator = c.args.separator.now in
     let len = to_be_bytes w16 (length separator) in
     let room = c.requires.room in
-    c.overwrite-2.ensures ∙ ap (λ (b : List ℕ). overwritten b (at + 2) separator) (c.overwrite.ensures ∙ ap (overwritten bytes at) c.to_be_bytes.ensures) ∙ overwritten-overwritten bytes at (at + 2) len separator refl (omega (arith, room))
+    c.overwrite-2.ensures
+    ∙ ap (λ (b : List ℕ). overwritten b (at + 2) separator)
+    (c.overwrite.ensures ∙ ap (overwritten bytes at) c.to_be_bytes.ensures)
+    ∙ overwritten-overwritten bytes at (at + 2) len separator refl (omega (arith, room))
     ∙ ap (overwritten bytes at) (sym (separator_parts separator))

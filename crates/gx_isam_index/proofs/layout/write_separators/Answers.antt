@@ -16,8 +16,10 @@ write_separator-at-requires-clause-room c =
     let es = c.args.entries.now in
     let key = c.entry-first.result.key.now in
     let e : LeafEntry = record { key = key; body = c.entry-first.result.body.now } in
-    writing_room c.args.page.now c.loop-bucket.page (keys_of es) c.args.count c.loop-bucket.bucket c.loop-bucket.at key c.loop-bucket.invariant c.loop-bucket-test.true
-    (longest_least (keys_of es) c.begin_of-place.result key (key_at es c.begin_of-place.result e c.entry-first.ensures))
+    writing_room c.args.page.now c.loop-bucket.page (keys_of es) c.args.count c.loop-bucket.bucket
+    c.loop-bucket.at key c.loop-bucket.invariant c.loop-bucket-test.true
+    (longest_least (keys_of es) c.begin_of-place.result key
+    (key_at es c.begin_of-place.result e c.entry-first.ensures))
 
 pub loop-bucket-preserved : goal.loop-bucket-preserved
 loop-bucket-preserved c =
@@ -27,8 +29,15 @@ loop-bucket-preserved c =
     let count = c.args.count in
     let e : LeafEntry = record { key = key; body = c.entry-first.result.body.now } in
     let place_is : c.begin_of-place.result ≡ begin_of bucket count (length (keys_of es)) =
-    c.begin_of-place.ensures ∙ ap (λ n. begin_of n c.from-in-loop-bucket-2.result c.len.result) c.from-in-loop-bucket.ensures ∙ ap (λ n. begin_of bucket n c.len.result) c.from-in-loop-bucket-2.ensures
+    c.begin_of-place.ensures
+    ∙ ap (λ n. begin_of n c.from-in-loop-bucket-2.result c.len.result) c.from-in-loop-bucket.ensures
+    ∙ ap (λ n. begin_of bucket n c.len.result) c.from-in-loop-bucket-2.ensures
     ∙ ap (λ n. begin_of bucket count n) (c.len.ensures ∙ sym (length-keys_of es)) in
-    writing_more c.args.page.now c.loop-bucket.page c.write_separator-at.new.page (keys_of es) count bucket c.loop-bucket.at c.write_separator-at.result key c.loop-bucket.invariant c.loop-bucket-test.true
-    (subst (λ n. slice_get (keys_of es) n ≡ Some key) place_is (key_at es c.begin_of-place.result e c.entry-first.ensures)) (c.requires.ordered.fit c.begin_of-place.result e c.entry-first.ensures).key
-    c.write_separator-at.ensures.page c.write_separator-at.auto.page c.write_separator-at.ensures.end
+    writing_more c.args.page.now c.loop-bucket.page c.write_separator-at.new.page (keys_of es) count
+    bucket c.loop-bucket.at c.write_separator-at.result key c.loop-bucket.invariant
+    c.loop-bucket-test.true
+    (subst (λ n. slice_get (keys_of es) n ≡ Some key) place_is
+    (key_at es c.begin_of-place.result e c.entry-first.ensures))
+    (c.requires.ordered.fit c.begin_of-place.result e c.entry-first.ensures).key
+    c.write_separator-at.ensures.page c.write_separator-at.auto.page
+    c.write_separator-at.ensures.end

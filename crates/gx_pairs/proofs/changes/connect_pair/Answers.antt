@@ -2,9 +2,9 @@ use Rattle.std.proofs.Common.{rules, ◌<◌, ◌∙◌, List, length, sym, ap, 
 use Rattle.gx_ports.specs.declared.stop.Stop.TheVariants as stop
 use Rattle.gx_ports.specs.LeafMaps.{LeafMap, map_at}
 use Rattle.gx_stack.proofs.PassLemmas.{same_stop, passes_joined, passes, ends_given_after}
-use Rattle.gx_links.proofs.JoinLemmas.{connect_still, crowded_still}
+use Rattle.gx_links.proofs.JoinLemmas.{crowded_still}
 use Rattle.gx_links.specs.Linksets.{IsJoined}
-use Rattle.gx_pairs.proofs.LinkedLemmas.{link_there, have_still, is_free, may_connect, has_no_room}
+use Rattle.gx_pairs.proofs.LinkedLemmas.{link_there, have_still, may_join}
 use Rattle.gx_pairs.proofs.changes.connect_pair.Goals as goal
 
 pub has_owner-requires-clause-below : goal.has_owner-requires-clause-below
@@ -37,107 +37,95 @@ returns-in_err-connect-clause-ends g c =
 
 pub returns-in_err-connect-clause-full : goal.returns-in_err-connect-clause-full
 returns-in_err-connect-clause-full g c = λ owners members link whole are full.
-    let b = g.B.View in
-    let s = c.args.stored.now in
-    let rule = g.L.Linkset.rule s.linkset in
-    let held = g.L.Linkset.held s.linkset in
-    let o = c.args.owner.now in
-    let m = c.args.member.now in
-    let old = b.working c.args.leaves.now in
-    let new = b.working c.has_owner.new.leaves in
     let half = c.has_both.ensures.reads.reads.working in
-    let same = c.has_owner.ensures.reads.reads.working ∙ half in
     let between = c.in_ok-has_both.ensures.reads.ends.whole whole in
-    let after = c.in_ok-has_owner.ensures.reads.ends.whole between in
-    let both = c.in_ok-has_both.ensures.found owners members link whole are in
-    let has = c.in_ok-has_owner.ensures.found link between are.is_link (subst (held link) (sym half) are.link) in
-    let can = connect_still rule held old new link m same (record { is_link = are.is_link; is_held = are.link; free = is_free owners members link o m _ _ both (search rules) has (search rules) }) in
-    let limit = c.has_owner.ensures.reads.reads.limit ∙ c.has_both.ensures.reads.reads.limit in
-    let crowded = c.in_err-connect.ensures.full link after can (same_stop c.from_residual-in_err-connect.result stop.Full c.from_residual-in_err-connect.ensures.1 full) in
-    (may_connect owners members link o m _ _ both (search rules) has (search rules) crowded.0, crowded_still (b.limit c.args.leaves.now) (b.limit c.has_owner.new.leaves) old new _ limit same crowded.1)
+    let has = c.in_ok-has_owner.ensures.found link between are.is_link
+    (subst (g.L.Linkset.held c.args.stored.now.linkset link) (sym half) are.link) in
+    let may = may_join owners members link c.args.owner.now c.args.member.now _ _
+    (c.in_ok-has_both.ensures.found owners members link whole are) (search rules) has
+    (search rules) g.L.Linkset.rule g.L.Linkset.held c.args.stored.now _ _
+    (c.has_owner.ensures.reads.reads.working ∙ half) are in
+    let crowded = c.in_err-connect.ensures.full link (c.in_ok-has_owner.ensures.reads.ends.whole
+    between) may.can (same_stop c.from_residual-in_err-connect.result stop.Full
+    c.from_residual-in_err-connect.ensures.1 full) in (
+      may.room crowded.0,
+      crowded_still (g.B.View.limit c.args.leaves.now) _ _ _ _
+          (c.has_owner.ensures.reads.reads.limit ∙ c.has_both.ensures.reads.reads.limit)
+          (c.has_owner.ensures.reads.reads.working ∙ half) crowded.1,
+    )
 
 pub returns-in-Joined-clause-refused : goal.returns-in-Joined-clause-refused
 returns-in-Joined-clause-refused g c = λ owners members link whole are.
-    let b = g.B.View in
-    let s = c.args.stored.now in
-    let rule = g.L.Linkset.rule s.linkset in
-    let held = g.L.Linkset.held s.linkset in
-    let o = c.args.owner.now in
-    let m = c.args.member.now in
-    let old = b.working c.args.leaves.now in
-    let new = b.working c.has_owner.new.leaves in
     let half = c.has_both.ensures.reads.reads.working in
-    let same = c.has_owner.ensures.reads.reads.working ∙ half in
     let between = c.in_ok-has_both.ensures.reads.ends.whole whole in
-    let after = c.in_ok-has_owner.ensures.reads.ends.whole between in
-    let both = c.in_ok-has_both.ensures.found owners members link whole are in
-    let has = c.in_ok-has_owner.ensures.found link between are.is_link (subst (held link) (sym half) are.link) in
-    let can = connect_still rule held old new link m same (record { is_link = are.is_link; is_held = are.link; free = is_free owners members link o m _ _ both (search rules) has (search rules) }) in
-    let joined = subst (IsJoined held (b.working c.connect.new.leaves) link o m) c.in-Joined.is (c.in_ok-connect.ensures.joined link after can) in
-    sym (may_connect owners members link o m _ _ both (search rules) has (search rules) joined.0)
+    let has = c.in_ok-has_owner.ensures.found link between are.is_link
+    (subst (g.L.Linkset.held c.args.stored.now.linkset link) (sym half) are.link) in
+    let may = may_join owners members link c.args.owner.now c.args.member.now _ _
+    (c.in_ok-has_both.ensures.found owners members link whole are) (search rules) has
+    (search rules) g.L.Linkset.rule g.L.Linkset.held c.args.stored.now _ _
+    (c.has_owner.ensures.reads.reads.working ∙ half) are in
+    let joined = subst (IsJoined (g.L.Linkset.held c.args.stored.now.linkset)
+    (g.B.View.working c.connect.new.leaves) link c.args.owner.now c.args.member.now)
+    c.in-Joined.is (c.in_ok-connect.ensures.joined link
+    (c.in_ok-has_owner.ensures.reads.ends.whole between) may.can) in
+    sym (may.room joined.0)
 
 pub returns-in-Joined-clause-connected : goal.returns-in-Joined-clause-connected
 returns-in-Joined-clause-connected g c = λ owners members link whole are.
-    let b = g.B.View in
-    let s = c.args.stored.now in
-    let rule = g.L.Linkset.rule s.linkset in
-    let held = g.L.Linkset.held s.linkset in
-    let o = c.args.owner.now in
-    let m = c.args.member.now in
-    let old = b.working c.args.leaves.now in
-    let new = b.working c.has_owner.new.leaves in
     let half = c.has_both.ensures.reads.reads.working in
-    let same = c.has_owner.ensures.reads.reads.working ∙ half in
     let between = c.in_ok-has_both.ensures.reads.ends.whole whole in
-    let after = c.in_ok-has_owner.ensures.reads.ends.whole between in
-    let both = c.in_ok-has_both.ensures.found owners members link whole are in
-    let has = c.in_ok-has_owner.ensures.found link between are.is_link (subst (held link) (sym half) are.link) in
-    let can = connect_still rule held old new link m same (record { is_link = are.is_link; is_held = are.link; free = is_free owners members link o m _ _ both (search rules) has (search rules) }) in
-    let joined = subst (IsJoined held (b.working c.connect.new.leaves) link o m) c.in-Joined.is (c.in_ok-connect.ensures.joined link after can) in
+    let has = c.in_ok-has_owner.ensures.found link between are.is_link
+    (subst (g.L.Linkset.held c.args.stored.now.linkset link) (sym half) are.link) in
+    let may = may_join owners members link c.args.owner.now c.args.member.now _ _
+    (c.in_ok-has_both.ensures.found owners members link whole are) (search rules) has
+    (search rules) g.L.Linkset.rule g.L.Linkset.held c.args.stored.now _ _
+    (c.has_owner.ensures.reads.reads.working ∙ half) are in
+    let joined = subst (IsJoined (g.L.Linkset.held c.args.stored.now.linkset)
+    (g.B.View.working c.connect.new.leaves) link c.args.owner.now c.args.member.now)
+    c.in-Joined.is (c.in_ok-connect.ensures.joined link
+    (c.in_ok-has_owner.ensures.reads.ends.whole between) may.can) in
     record {
       link = joined.1;
-      others = λ n away. c.in_ok-connect.ensures.others n after (λ e. cc) away ∙ ap (λ (maps : List LeafMap). map_at maps n) same;
+      others = λ n away. c.in_ok-connect.ensures.others n
+          (c.in_ok-has_owner.ensures.reads.ends.whole between) (λ e. cc) away
+          ∙ ap (λ (maps : List LeafMap). map_at maps n)
+          (c.has_owner.ensures.reads.reads.working ∙ half);
     }
 
 pub returns-in-NoRoom-clause-refused : goal.returns-in-NoRoom-clause-refused
 returns-in-NoRoom-clause-refused g c = λ owners members link whole are.
-    let b = g.B.View in
-    let s = c.args.stored.now in
-    let rule = g.L.Linkset.rule s.linkset in
-    let held = g.L.Linkset.held s.linkset in
-    let o = c.args.owner.now in
-    let m = c.args.member.now in
-    let old = b.working c.args.leaves.now in
-    let new = b.working c.has_owner.new.leaves in
     let half = c.has_both.ensures.reads.reads.working in
-    let same = c.has_owner.ensures.reads.reads.working ∙ half in
     let between = c.in_ok-has_both.ensures.reads.ends.whole whole in
-    let after = c.in_ok-has_owner.ensures.reads.ends.whole between in
-    let both = c.in_ok-has_both.ensures.found owners members link whole are in
-    let has = c.in_ok-has_owner.ensures.found link between are.is_link (subst (held link) (sym half) are.link) in
-    let can = connect_still rule held old new link m same (record { is_link = are.is_link; is_held = are.link; free = is_free owners members link o m _ _ both (search rules) has (search rules) }) in
-    let joined = subst (IsJoined held (b.working c.connect.new.leaves) link o m) c.in-NoRoom.is (c.in_ok-connect.ensures.joined link after can) in
-    sym (has_no_room owners members link o m _ _ both (search rules) has (search rules) joined.0)
+    let has = c.in_ok-has_owner.ensures.found link between are.is_link
+    (subst (g.L.Linkset.held c.args.stored.now.linkset link) (sym half) are.link) in
+    let may = may_join owners members link c.args.owner.now c.args.member.now _ _
+    (c.in_ok-has_both.ensures.found owners members link whole are) (search rules) has
+    (search rules) g.L.Linkset.rule g.L.Linkset.held c.args.stored.now _ _
+    (c.has_owner.ensures.reads.reads.working ∙ half) are in
+    let joined = subst (IsJoined (g.L.Linkset.held c.args.stored.now.linkset)
+    (g.B.View.working c.connect.new.leaves) link c.args.owner.now c.args.member.now)
+    c.in-NoRoom.is (c.in_ok-connect.ensures.joined link
+    (c.in_ok-has_owner.ensures.reads.ends.whole between) may.can) in
+    sym (may.no_room joined.0)
 
 pub returns-in-NoRoom-clause-connected : goal.returns-in-NoRoom-clause-connected
 returns-in-NoRoom-clause-connected g c = λ owners members link whole are.
-    let b = g.B.View in
-    let s = c.args.stored.now in
-    let rule = g.L.Linkset.rule s.linkset in
-    let held = g.L.Linkset.held s.linkset in
-    let o = c.args.owner.now in
-    let m = c.args.member.now in
-    let old = b.working c.args.leaves.now in
-    let new = b.working c.has_owner.new.leaves in
     let half = c.has_both.ensures.reads.reads.working in
-    let same = c.has_owner.ensures.reads.reads.working ∙ half in
     let between = c.in_ok-has_both.ensures.reads.ends.whole whole in
-    let after = c.in_ok-has_owner.ensures.reads.ends.whole between in
-    let both = c.in_ok-has_both.ensures.found owners members link whole are in
-    let has = c.in_ok-has_owner.ensures.found link between are.is_link (subst (held link) (sym half) are.link) in
-    let can = connect_still rule held old new link m same (record { is_link = are.is_link; is_held = are.link; free = is_free owners members link o m _ _ both (search rules) has (search rules) }) in
-    let joined = subst (IsJoined held (b.working c.connect.new.leaves) link o m) c.in-NoRoom.is (c.in_ok-connect.ensures.joined link after can) in
+    let has = c.in_ok-has_owner.ensures.found link between are.is_link
+    (subst (g.L.Linkset.held c.args.stored.now.linkset link) (sym half) are.link) in
+    let may = may_join owners members link c.args.owner.now c.args.member.now _ _
+    (c.in_ok-has_both.ensures.found owners members link whole are) (search rules) has
+    (search rules) g.L.Linkset.rule g.L.Linkset.held c.args.stored.now _ _
+    (c.has_owner.ensures.reads.reads.working ∙ half) are in
+    let joined = subst (IsJoined (g.L.Linkset.held c.args.stored.now.linkset)
+    (g.B.View.working c.connect.new.leaves) link c.args.owner.now c.args.member.now)
+    c.in-NoRoom.is (c.in_ok-connect.ensures.joined link
+    (c.in_ok-has_owner.ensures.reads.ends.whole between) may.can) in
     record {
       link = joined.1;
-      others = λ n away. c.in_ok-connect.ensures.others n after (λ e. cc) away ∙ ap (λ (maps : List LeafMap). map_at maps n) same;
+      others = λ n away. c.in_ok-connect.ensures.others n
+          (c.in_ok-has_owner.ensures.reads.ends.whole between) (λ e. cc) away
+          ∙ ap (λ (maps : List LeafMap). map_at maps n)
+          (c.has_owner.ensures.reads.reads.working ∙ half);
     }

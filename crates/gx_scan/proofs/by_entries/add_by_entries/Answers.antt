@@ -1,4 +1,4 @@
-use Rattle.std.proofs.Common.{◌∙◌, ◌++◌, ◌+◌, [], List, filter, get_or, refl, sym, ap, subst, arith, length, length-append, append-nil, append_assoc}
+use Rattle.std.proofs.Common.{◌∙◌, ◌++◌, ◌+◌, [], List, filter, refl, sym, ap, subst, arith, length, length-append, append-nil, append_assoc}
 use Rattle.std.specs.FinMap as fin
 use Rattle.std.proofs.lemmas.List.{length-take, length-map}
 use Rattle.std.proofs.lemmas.List.Sorted.{length_permutation}
@@ -13,7 +13,7 @@ use Rattle.gx_scan.specs.Entries.{rows_at}
 use Rattle.gx_scan.specs.Within.{is_within}
 use Rattle.gx_scan.specs.Steps.{is_key_inside, rows_inside}
 use Rattle.gx_gather.proofs.Lists.{in_filter}
-use Rattle.gx_scan.proofs.PlaceLemmas.{IsOnce, data_once, data_few, leaf_there, get_or_any, number}
+use Rattle.gx_scan.proofs.PlaceLemmas.{IsOnce, data_once, data_few, leaf_there, number}
 use Rattle.gx_stack.proofs.PassLemmas.{reads_given_after}
 use Rattle.gx_scan.proofs.StepLemmas.{whole_most}
 use Rattle.gx_scan.proofs.ListingLemmas.{none_chosen, place_chosen, all_chosen}
@@ -33,11 +33,11 @@ pub add_at-requires-clause-place : goal.add_at-requires-clause-place
 add_at-requires-clause-place g c =
     let ps = c.args.places.now in
     let i = c.loop-place.place-index in
-    let p : Place = get_or ps i (record { leaf = 0; lengths = 0 }) in
+    let p : Place = c.place-item.result in
     record {
       places = ps;
       are = c.requires.places;
-      there = in_read ps i p (get_or_any ps i _ p c.loop-place-test.true) c.loop-place-test.true;
+      there = in_read ps i p c.place-item.is c.loop-place-test.true;
     }
 
 pub loop-place-preserved : goal.loop-place-preserved
@@ -46,7 +46,7 @@ loop-place-preserved g c =
     let t = tree_of c.args.node.now in
     let ps = c.args.places.now in
     let i = c.loop-place.place-index in
-    let p : Place = get_or ps i (record { leaf = 0; lengths = 0 }) in
+    let p : Place = c.place-item.result in
     let inv = c.loop-place.invariant in
     let e = c.in_ok-add_at.ensures in
     let are = c.requires.places in
@@ -58,7 +58,9 @@ loop-place-preserved g c =
           let now = e.rows f (inv.whole whole) (subst (λ (maps : List LeafMap). IsInternal c.args.file.now t maps f) (sym inv.reads.working) is) in (
             so_far.0 ++ more,
             now ∙ ap (λ (l : List Row). l ++ more) so_far.1 ∙ append_assoc c.args.rows.now.items so_far.0 more,
-            place_chosen t test f ps i p so_far.0 (so_far.0 ++ more) (subst IsOnce (sym are.leaves) (data_once t c.requires.tree.valid)) c.loop-place-test.true (get_or_any ps i _ p c.loop-place-test.true) so_far.2 refl,
+            place_chosen t test f ps i p so_far.0 (so_far.0 ++ more)
+                (subst IsOnce (sym are.leaves) (data_once t c.requires.tree.valid))
+                c.loop-place-test.true c.place-item.is so_far.2 refl,
           );
       steps = λ f whole is.
           let inside = is_key_inside c.args.span.now in
@@ -66,7 +68,9 @@ loop-place-preserved g c =
           let more = filter inside (rows_at t p.leaf f) in
           let now = e.steps f (inv.whole whole) (subst (λ (maps : List LeafMap). IsInternal c.args.file.now t maps f) (sym inv.reads.working) is) in (
             so_far.0 ++ more,
-            place_chosen t inside f ps i p so_far.0 (so_far.0 ++ more) (subst IsOnce (sym are.leaves) (data_once t c.requires.tree.valid)) c.loop-place-test.true (get_or_any ps i _ p c.loop-place-test.true) so_far.1 refl,
+            place_chosen t inside f ps i p so_far.0 (so_far.0 ++ more)
+                (subst IsOnce (sym are.leaves) (data_once t c.requires.tree.valid))
+                c.loop-place-test.true c.place-item.is so_far.1 refl,
             omega (arith, so_far.2, now, length-append so_far.0 more, length-take i ps, length-take (i + 1) ps),
           );
       front = (inv.front.0 ++ e.front.0, e.front.1 ∙ ap (λ (l : List Row). l ++ e.front.0) inv.front.1 ∙ append_assoc c.args.rows.now.items inv.front.0 e.front.0);

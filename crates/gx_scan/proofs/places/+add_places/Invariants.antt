@@ -10,4 +10,6 @@ decreases-add_places l = height (tree_of l.node.now)
 
 -- the places of the children so far
 abbrev pub invariant-loop-child : goal.invariant-loop-child
-invariant-loop-child l = (added : List Place) × (l.places.items ≡ l.fn.places.items ++ added) × ArePlacesOf l.layer.mapping l.below l.layer.kids.items l.child added
+invariant-loop-child l =
+    (added : List Place) × (l.places.items ≡ l.fn.places.items ++ added)
+    × ArePlacesOf l.layer.mapping l.below.layers l.below.codes l.layer.kids.items l.child added

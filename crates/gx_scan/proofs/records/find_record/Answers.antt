@@ -12,7 +12,7 @@ use Rattle.gx_scan.proofs.records.find_record.Goals as goal
 
 pub select-requires-clause-span : goal.select-requires-clause-span
 select-requires-clause-span g c =
-    subst (λ form. IsKeySpan form c.key_span.result) (sym c.requires.tree.form) (span_of_key c.args.file.now c.args.key.now c.key_span.result c.requires.storable.keyed c.requires.storable.key c.requires.key c.key_span.ensures.lo c.key_span.ensures.hi)
+    subst (λ form. IsKeySpan form c.set_key.new.span) (sym c.requires.tree.form) (span_of_key c.args.file.now c.args.key.now c.set_key.new.span c.requires.storable.keyed c.requires.storable.key c.requires.key c.set_key.ensures.lo c.set_key.ensures.hi)
 
 pub returns-in_err-select-clause-reads : goal.returns-in_err-select-clause-reads
 returns-in_err-select-clause-reads g c =
@@ -27,7 +27,7 @@ pub returns-clause-found : goal.returns-clause-found
 returns-clause-found g c = λ f whole is.
     let found = c.in_ok-select.ensures.found in
     let set = subst (λ form. IsSet form (records_of f)) (sym c.requires.tree.form) (set_of c.args.file.now f c.requires.storable.keyed is.fit) in
-    let one = one_found c.args.file.now f c.args.key.now c.key_span.result found.found c.requires.storable.keyed c.requires.storable.key c.requires.key is.fit c.key_span.ensures.lo c.key_span.ensures.hi (found.selected whole (records_of f) set is.held) in
+    let one = one_found c.args.file.now f c.args.key.now c.set_key.new.span found.found c.requires.storable.keyed c.requires.storable.key c.requires.key is.fit c.set_key.ensures.lo c.set_key.ensures.hi (found.selected whole (records_of f) set is.held) in
     c.last_record.ensures.last (record_at f c.args.key.now) (found.appended ∙ ap (λ (before : List Rec). before ++ found.found) c.new-found.ensures ∙ one)
 
 pub returns-clause-steps : goal.returns-clause-steps
@@ -35,5 +35,5 @@ returns-clause-steps g c = λ f most whole is few.
     let found = c.in_ok-select.ensures.found in
     let set = subst (λ form. IsSet form (records_of f)) (sym c.requires.tree.form) (set_of c.args.file.now f c.requires.storable.keyed is.fit) in
     let those = found.selected whole (records_of f) set is.held in
-    let one = one_found c.args.file.now f c.args.key.now c.key_span.result found.found c.requires.storable.keyed c.requires.storable.key c.requires.key is.fit c.key_span.ensures.lo c.key_span.ensures.hi those in
+    let one = one_found c.args.file.now f c.args.key.now c.set_key.new.span found.found c.requires.storable.keyed c.requires.storable.key c.requires.key is.fit c.set_key.ensures.lo c.set_key.ensures.hi those in
     omega (arith, found.few_steps, one_total (tree_of c.args.node.now) f most (record_at f c.args.key.now) found.found one few (λ r h. (those.sound r h).0))

@@ -1,4 +1,4 @@
-use Rattle.std.proofs.Common.{◌≡◌, ◌++◌, List, take, map, filter}
+use Rattle.std.proofs.Common.{[], ◌≡◌, ◌++◌, List, take, map, filter}
 use Rattle.std.specs.List.{AllByRecursion}
 use Rattle.gx_ports.specs.LeafMaps.{entry_of, Extends}
 use Rattle.gx_model.specs.States.{Row, IsRowOf}
@@ -8,6 +8,8 @@ use Rattle.gx_scan.proofs.scan.add_chosen_rows.Given as goal
 
 abbrev pub invariant-loop-index : goal.invariant-loop-index
 invariant-loop-index l = record {
-  rows : (rs : List Row) → AllByRecursion (IsRowOf l.file) rs → l.entries ≡ map (λ (r : Row). entry_of (entry_of_row l.lengths r)) rs → l.rows.items ≡ l.fn.rows.items ++ filter (meets_conds l.conds) (take l.index rs);
+  rows : (rs : List Row) → AllByRecursion (IsRowOf l.file) rs
+      → l.entries ≡ map (λ (r : Row). entry_of (entry_of_row l.lengths [] r)) rs
+      → l.rows.items ≡ l.fn.rows.items ++ filter (meets_conds l.conds) (take l.index rs);
   front : Extends l.fn.rows.items l.rows.items;
 }

@@ -1,5 +1,7 @@
-use Rattle.gx_slots.proofs.SearchLemmas.{IsAt}
+use Rattle.std.proofs.Common.{◌≢◌}
+use Rattle.gx_bytes.proofs.SearchLemmas.{HasPassed}
 use Rattle.gx_slots.proofs.iter.place_of.Given as goal
 
 abbrev pub invariant-loop-found : goal.invariant-loop-found
-invariant-loop-found l = IsAt l.fn.entries l.key l.place l.found-iterator
+invariant-loop-found l =
+    HasPassed (λ entry. entry.key ≢ l.key) l.fn.entries l.place l.found-iterator

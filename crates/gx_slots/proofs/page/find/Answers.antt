@@ -6,4 +6,5 @@ use Rattle.gx_slots.proofs.page.find.Goals as goal
 pub place_of-requires : goal.place_of-requires
 place_of-requires c =
     let page = c.args.page.now in
-    omega (arith, ap length c.entries.ensures, four_each (entries_of page), used_most page c.requires)
+    omega
+    (arith, ap length c.entries.ensures, four_each (entries_of page), used_most page c.requires)

@@ -1,73 +1,66 @@
-use Rattle.std.proofs.Common.{◌≡◌, ℕ, ◌+◌, ◌-◌, ◌≤◌, List, length, take, drop, ap, arith}
-use Rattle.std.specs.List.{sum_by}
-use Rattle.std.proofs.lemmas.List.{length-drop}
-use Rattle.gx_bytes.proofs.PageLemmas.{passed_start, start_within, rest_holds, passed_end}
+use Rattle.std.proofs.Common.{◌+◌, ap, arith}
+use Rattle.gx_bytes.proofs.PageLemmas.{start_within, rest_count, parts_end}
 use Rattle.gx_bytes.proofs.RecordLemmas.{count_take}
-use Rattle.gx_slots.specs.Entries.{entry_len, entries_in, HoldsCount}
-use Rattle.gx_slots.specs.Page.{IsEntryPage, entries_of}
+use Rattle.gx_slots.specs.Page.{entries_of}
 use Rattle.gx_slots.proofs.EntryLemmas.{entry_format}
 use Rattle.gx_slots.proofs.PageLemmas.{body_holds, used_most}
 use Rattle.gx_slots.proofs.page.offsets.Goals as goal
-
--- where the entry at a place begins, counted from the header's end
-start_is : (page body : List ℕ) (i start : ℕ) → IsEntryPage page → body ≡ drop 8 page → i ≤ length (entries_of page) → start ≡ sum_by entry_len (entries_in i body) → start ≡ sum_by entry_len (take i (entries_of page))
-start_is page body i start is behind within = passed_start entry_format (entries_of page) body i start (body_holds page body is behind) within
-
--- the entries from that place on
-rest_count : (page body rest : List ℕ) (i start count : ℕ) → IsEntryPage page → body ≡ drop 8 page → i ≤ length (entries_of page) → start ≡ sum_by entry_len (take i (entries_of page)) → rest ≡ drop start body → count ≡ length (entries_of page)
-    → HoldsCount (count - i) rest
-rest_count page body rest i start count is behind within here rest_is counted =
-    let entries = entries_of page in
-    let holds = rest_holds entry_format entries body rest i start (body_holds page body is behind) here rest_is in
-    count_take entry_format (count - i) (drop i entries) rest holds (omega (arith, length-drop i entries))
-
--- where they end
-end_is : (page body rest : List ℕ) (i start count len : ℕ) → IsEntryPage page → body ≡ drop 8 page → start ≡ sum_by entry_len (take i (entries_of page)) → rest ≡ drop start body → count ≡ length (entries_of page)
-    → len ≡ sum_by entry_len (entries_in (count - i) rest) → start + len ≡ sum_by entry_len (entries_of page)
-end_is page body rest i start count len is behind here rest_is counted =
-    let entries = entries_of page in
-    passed_end entry_format entries rest i start count len (rest_holds entry_format entries body rest i start (body_holds page body is behind) here rest_is) here counted
 
 pub entries_len-start-requires : goal.entries_len-start-requires
 entries_len-start-requires c =
     let page = c.args.page.now in
     let body = c.page_body-body.result.now in
-    count_take entry_format c.args.i (entries_of page) body (body_holds page body c.requires.page c.page_body-body.ensures) c.requires.place
+    let held = body_holds page body c.requires.page c.page_body-body.ensures in
+    count_take entry_format c.args.i (entries_of page) body held c.requires.place
 
 pub split_at-requires : goal.split_at-requires
 split_at-requires c =
     let page = c.args.page.now in
     let body = c.page_body-body.result.now in
-    start_within entry_format (entries_of page) body c.args.i c.entries_len-start.result (body_holds page body c.requires.page c.page_body-body.ensures)
-    (start_is page body c.args.i c.entries_len-start.result c.requires.page c.page_body-body.ensures c.requires.place c.entries_len-start.ensures)
+    let held = body_holds page body c.requires.page c.page_body-body.ensures in
+    start_within entry_format (entries_of page) body c.args.i c.entries_len-start.result held
+    c.requires.place
+    c.entries_len-start.ensures
 
 pub entries_len-requires : goal.entries_len-requires
 entries_len-requires c =
     let page = c.args.page.now in
     let body = c.page_body-body.result.now in
-    let start = start_is page body c.args.i c.entries_len-start.result c.requires.page c.page_body-body.ensures c.requires.place c.entries_len-start.ensures in
-    rest_count page body c.split_at.result.1.now c.args.i c.entries_len-start.result c.count.result c.requires.page c.page_body-body.ensures c.requires.place start c.split_at.ensures.back c.count.ensures
+    let held = body_holds page body c.requires.page c.page_body-body.ensures in
+    rest_count entry_format (entries_of page) body c.split_at.result.1.now c.args.i
+    c.entries_len-start.result
+    c.count.result held c.requires.place c.entries_len-start.ensures c.split_at.ensures.back
+    c.count.ensures
 
 pub overflow_add-end : goal.overflow_add-end
 overflow_add-end c =
     let page = c.args.page.now in
     let body = c.page_body-body.result.now in
-    let start = start_is page body c.args.i c.entries_len-start.result c.requires.page c.page_body-body.ensures c.requires.place c.entries_len-start.ensures in
-    let end = end_is page body c.split_at.result.1.now c.args.i c.entries_len-start.result c.count.result c.entries_len.result c.requires.page c.page_body-body.ensures start c.split_at.ensures.back c.count.ensures c.entries_len.ensures in
-    omega (arith, end, used_most page c.requires.page)
+    let held = body_holds page body c.requires.page c.page_body-body.ensures in
+    let ends = parts_end entry_format (entries_of page) body c.split_at.result.1.now c.args.i
+    c.entries_len-start.result c.count.result c.entries_len.result held c.requires.place
+    c.entries_len-start.ensures c.split_at.ensures.back c.count.ensures
+    c.entries_len.ensures in
+    omega (arith, ends.1, used_most page c.requires.page)
 
 pub overflow_add-result-2 : goal.overflow_add-result-2
 overflow_add-result-2 c =
     let page = c.args.page.now in
     let body = c.page_body-body.result.now in
-    let start = start_is page body c.args.i c.entries_len-start.result c.requires.page c.page_body-body.ensures c.requires.place c.entries_len-start.ensures in
-    let end = end_is page body c.split_at.result.1.now c.args.i c.entries_len-start.result c.count.result c.entries_len.result c.requires.page c.page_body-body.ensures start c.split_at.ensures.back c.count.ensures c.entries_len.ensures in
-    omega (arith, end, used_most page c.requires.page)
+    let held = body_holds page body c.requires.page c.page_body-body.ensures in
+    let ends = parts_end entry_format (entries_of page) body c.split_at.result.1.now c.args.i
+    c.entries_len-start.result c.count.result c.entries_len.result held c.requires.place
+    c.entries_len-start.ensures c.split_at.ensures.back c.count.ensures
+    c.entries_len.ensures in
+    omega (arith, ends.1, used_most page c.requires.page)
 
 pub returns : goal.returns
 returns c =
     let page = c.args.page.now in
     let body = c.page_body-body.result.now in
-    let start = start_is page body c.args.i c.entries_len-start.result c.requires.page c.page_body-body.ensures c.requires.place c.entries_len-start.ensures in
-    let end = end_is page body c.split_at.result.1.now c.args.i c.entries_len-start.result c.count.result c.entries_len.result c.requires.page c.page_body-body.ensures start c.split_at.ensures.back c.count.ensures c.entries_len.ensures in
-    record { start = ap (λ n. 8 + n) start; end = ap (λ n. 8 + n) end }
+    let held = body_holds page body c.requires.page c.page_body-body.ensures in
+    let ends = parts_end entry_format (entries_of page) body c.split_at.result.1.now c.args.i
+    c.entries_len-start.result c.count.result c.entries_len.result held c.requires.place
+    c.entries_len-start.ensures c.split_at.ensures.back c.count.ensures
+    c.entries_len.ensures in
+    record { start = ap (λ n. 8 + n) ends.0; end = ap (λ n. 8 + n) ends.1 }

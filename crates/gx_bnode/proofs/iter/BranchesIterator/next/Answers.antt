@@ -7,20 +7,25 @@ use Rattle.gx_bnode.proofs.iter.BranchesIterator.next.Goals as goal
 pub returns-in_err-branch-clause-steps : goal.returns-in_err-branch-clause-steps
 returns-in_err-branch-clause-steps c =
     let all = c.self.invariant in
-    absurd (holds_first branch_format all.held c.self.inside.bytes.now all.holds (omega (arith, all.count)) c.in_err-branch.ensures)
+    absurd (holds_first branch_format all.held c.self.inside.bytes.now all.holds
+    (omega (arith, all.count)) c.in_err-branch.ensures)
 
 pub invariant_of-self : goal.invariant_of-self
 invariant_of-self c =
     let found = c.in_ok-branch.ensures in
-    count_behind branch_format c.self.inside.left (lent c.in_ok-branch.branch) c.self.inside.bytes.now c.in_ok-branch.rest.now c.self.invariant (omega arith) found.0 found.1
+    count_behind branch_format c.self.inside.left (lent c.in_ok-branch.branch)
+    c.self.inside.bytes.now c.in_ok-branch.rest.now c.self.invariant (omega arith) found.0 found.1
 
 pub returns-clause-steps : goal.returns-clause-steps
 returns-clause-steps c =
     let found = c.in_ok-branch.ensures in
-    sym c.self.view_is ∙ records-next branch_format c.self.inside.left (lent c.in_ok-branch.branch) c.self.inside.bytes.now c.in_ok-branch.rest.now (omega arith) found.0 found.1
+    sym c.self.view_is
+    ∙ records-next branch_format c.self.inside.left (lent c.in_ok-branch.branch)
+    c.self.inside.bytes.now c.in_ok-branch.rest.now (omega arith) found.0 found.1
 
 pub returns-clause-goes : goal.returns-clause-goes
 returns-clause-goes c =
     let found = c.in_ok-branch.ensures in
-    let shorter = ap length (sym c.self.view_is ∙ records-next branch_format c.self.inside.left (lent c.in_ok-branch.branch) c.self.inside.bytes.now c.in_ok-branch.rest.now (omega arith) found.0 found.1) in
+    let shorter = ap length
+    (sym c.self.view_is ∙ records-next branch_format c.self.inside.left (lent c.in_ok-branch.branch) c.self.inside.bytes.now c.in_ok-branch.rest.now (omega arith) found.0 found.1) in
     search rules

@@ -11,8 +11,8 @@ use Rattle.gx_engine.proofs.StepLemmas.{file_cause}
 use Rattle.gx_engine.proofs.WorkLemmas.{record_within}
 use Rattle.gx_engine.proofs.engine.Engine.get.Goals as goal
 
-pub find_record-requires-clause-tree : goal.find_record-requires-clause-tree
-find_record-requires-clause-tree g c =
+pub find_values-requires-clause-tree : goal.find_values-requires-clause-tree
+find_values-requires-clause-tree g c =
     subst (λ (file : FileDef). IsTreeFor file (tree_of c.file_node-node.result.now) (length (g.B.View.working c.args.self.now.leaves))) (sym c.file_def-def.ensures) (c.file_node-node.ensures.fit c.args.self.now.schema _ c.requires.ready.nodes)
 
 pub returns-in_err-found-clause-step : goal.returns-in_err-found-clause-step

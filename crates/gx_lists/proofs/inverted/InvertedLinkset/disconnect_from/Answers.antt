@@ -1,66 +1,56 @@
-use Rattle.std.proofs.Common.{◌<◌, ◌∙◌, Err, Some, None, sym, ap, subst}
-use Rattle.std.proofs.lemmas.Result.{err_from_is_err_and}
-use Rattle.gx_values.specs.declared.records.Rec.{Rec}
-use Rattle.gx_mapping.specs.Rule.{IsOf}
+use Rattle.std.proofs.Common.{◌∙◌, ap, sym, subst}
+use Rattle.std.proofs.lemmas.Result.{on_ok_weaker}
 use Rattle.gx_stack.specs.Seen.{tree_of}
 use Rattle.gx_stack.specs.Tree.{tree_form}
-use Rattle.gx_stack.specs.Internal.{IsInternal, IsChange, changed}
-use Rattle.gx_links.specs.Rows.{node_rows}
-use Rattle.gx_lists.specs.Inverted.{pair_rec, inverted_rows}
-use Rattle.gx_lists.proofs.InvertedLemmas.{on_ok_kept, down_leaf, up_leaf, down_set, up_set, pair_of_form, owned_of_form, in_down, in_up, up_stays, down_stays, disconnected}
+use Rattle.gx_links.specs.Changes.{FitsChange, coming, reversed}
+use Rattle.gx_lists.proofs.InvertedLemmas.{down_leaf, up_leaf, pair_of_form, owned_of_form, pair_goes}
 use Rattle.gx_lists.proofs.inverted.InvertedLinkset.disconnect_from.Goals as goal
 
-pub replace-requires-clause-below : goal.replace-requires-clause-below
-replace-requires-clause-below g c = λ n h. c.requires.below n (down_leaf g.M.Mapping.rule (tree_of c.args.self.now.down.now) (tree_of c.args.self.now.up.now) c.requires.valid n h)
+pub replace_both-requires-clause-first_below : goal.replace_both-requires-clause-first_below
+replace_both-requires-clause-first_below g c = λ n h. c.requires.below n
+    (down_leaf g.M.Mapping.rule (tree_of c.args.self.now.down.now) (tree_of c.args.self.now.up.now)
+    c.requires.valid n h)
 
-pub replace-requires-clause-old_fits : goal.replace-requires-clause-old_fits
-replace-requires-clause-old_fits g c =
-    let rule = g.M.Mapping.rule in
-    let down = tree_of c.args.self.now.down.now in
-    subst (IsOf (tree_form rule down)) (sym c.in_ok-pair.ensures) (pair_of_form rule down (tree_of c.args.self.now.up.now) c.requires.valid c.args.owner.now c.args.member.now c.requires.owner c.requires.member)
+pub replace_both-requires-clause-second_below : goal.replace_both-requires-clause-second_below
+replace_both-requires-clause-second_below g c = λ n h. c.requires.below n
+    (up_leaf g.M.Mapping.rule (tree_of c.args.self.now.down.now) (tree_of c.args.self.now.up.now)
+    c.requires.valid n h)
 
-pub returns-in_err-replace-clause-others : goal.returns-in_err-replace-clause-others
-returns-in_err-replace-clause-others g c = λ n whole fault away.
-    let p = err_from_is_err_and c.from_residual-in_err-replace.result c.from_residual-in_err-replace.ensures.1 in
-    c.in_err-replace.ensures.others n whole (λ f. fault (p.1 ∙ ap Err p.2 ∙ f)) (λ h. away (down_leaf g.M.Mapping.rule (tree_of c.args.self.now.down.now) (tree_of c.args.self.now.up.now) c.requires.valid n h))
+pub replace_both-requires-clause-first_fits : goal.replace_both-requires-clause-first_fits
+replace_both-requires-clause-first_fits g c = subst (FitsChange
+    (tree_form g.M.Mapping.rule (tree_of c.args.self.now.down.now)))
+    (sym (c.reversed-pair.ensures ∙ ap reversed (c.coming.ensures
+    ∙ ap coming c.in_ok-pair_rec.ensures))) (
+      pair_of_form g.M.Mapping.rule (tree_of c.args.self.now.down.now)
+          (tree_of c.args.self.now.up.now) c.requires.valid c.args.owner.now c.args.member.now
+          c.requires.owner c.requires.member,
+      tt,
+    )
 
-pub replace-requires-2-clause-below : goal.replace-requires-2-clause-below
-replace-requires-2-clause-below g c = λ n h. subst (λ j. n < j) (sym c.in_ok-replace.ensures.keeps.leaves) (c.requires.below n (up_leaf g.M.Mapping.rule (tree_of c.args.self.now.down.now) (tree_of c.args.self.now.up.now) c.requires.valid n h))
-
-pub replace-requires-2-clause-old_fits : goal.replace-requires-2-clause-old_fits
-replace-requires-2-clause-old_fits g c =
-    let rule = g.M.Mapping.rule in
-    let up = tree_of c.args.self.now.up.now in
-    subst (IsOf (tree_form rule up)) (sym c.in_ok-owned.ensures) (owned_of_form rule (tree_of c.args.self.now.down.now) up c.requires.valid c.args.owner.now c.args.member.now c.requires.owner c.requires.member)
+pub replace_both-requires-clause-second_fits : goal.replace_both-requires-clause-second_fits
+replace_both-requires-clause-second_fits g c = subst (FitsChange
+    (tree_form g.M.Mapping.rule (tree_of c.args.self.now.up.now)))
+    (sym (c.reversed-owned.ensures ∙ ap reversed (c.coming-2.ensures
+    ∙ ap coming c.in_ok-owned_rec.ensures))) (
+      owned_of_form g.M.Mapping.rule (tree_of c.args.self.now.down.now)
+          (tree_of c.args.self.now.up.now) c.requires.valid c.args.owner.now c.args.member.now
+          c.requires.owner c.requires.member,
+      tt,
+    )
 
 pub returns-clause-disconnected : goal.returns-clause-disconnected
 returns-clause-disconnected g c = λ link whole can.
-    let rule = g.M.Mapping.rule in
-    let down = tree_of c.args.self.now.down.now in
-    let up = tree_of c.args.self.now.up.now in
-    let valid = c.requires.valid in
-    let o = c.args.owner.now in
-    let m = c.args.member.now in
-    let b = g.B.View in
-    let maps = b.working c.args.leaves.now in
-    let between = b.working c.replace.new.leaves in
-    let after = b.working c.replace-2.new.leaves in
-    let R = node_rows inverted_rows link 0 in
-    let S = node_rows inverted_rows link 1 in
-    let is = can.is_link in
-    let first = c.in_ok-replace.ensures.internal R whole (down_set rule down up valid link is) (subst (λ (r : Rec). IsChange R (Some r) None) (sym c.in_ok-pair.ensures) (in_down link o m can.owned)) can.is_held.0 in
-    let first_is = subst (λ (r : Rec). IsInternal rule down (changed R (Some r) None) between) c.in_ok-pair.ensures first in
-    let up_held = up_stays rule down up valid link o m is maps between after S can.is_held.1.0 (λ n h. c.in_ok-replace.ensures.others n whole (λ f. cc) h) in
-    let second = c.replace-2.ensures.internal S (c.in_ok-replace.ensures.ends.whole whole) (up_set rule down up valid link is) (subst (λ (r : Rec). IsChange S (Some r) None) (sym c.in_ok-owned.ensures) (in_up link o m can.owned)) up_held in
-    on_ok_kept c.replace-2.result (λ kept d.
-    disconnected rule down up valid link o m is maps between after can.owned
-    (down_stays rule down up valid link o m is maps between after (changed R (Some (pair_rec o m)) None) first_is (λ n h. c.replace-2.ensures.others n (c.in_ok-replace.ensures.ends.whole whole) kept h))
-    (subst (λ (r : Rec). IsInternal rule up (changed S (Some r) None) after) c.in_ok-owned.ensures d)) second
+    on_ok_weaker c.replace_both.result (λ are. pair_goes g.M.Mapping.rule
+    (tree_of c.args.self.now.down.now) (tree_of c.args.self.now.up.now) c.requires.valid link
+    c.args.owner.now c.args.member.now can.is_link _ _ can.owned can.is_held _ _
+    (c.reversed-pair.ensures ∙ ap reversed (c.coming.ensures
+    ∙ ap coming c.in_ok-pair_rec.ensures)) (c.reversed-owned.ensures
+    ∙ ap reversed (c.coming-2.ensures ∙ ap coming c.in_ok-owned_rec.ensures)) are)
+    (c.replace_both.ensures.changed whole)
 
 pub returns-clause-others : goal.returns-clause-others
-returns-clause-others g c = λ n whole fault away.
-    let rule = g.M.Mapping.rule in
-    let down = tree_of c.args.self.now.down.now in
-    let up = tree_of c.args.self.now.up.now in
-    c.replace-2.ensures.others n (c.in_ok-replace.ensures.ends.whole whole) fault (λ h. away (up_leaf rule down up c.requires.valid n h))
-    ∙ c.in_ok-replace.ensures.others n whole (λ f. cc) (λ h. away (down_leaf rule down up c.requires.valid n h))
+returns-clause-others g c = λ n whole fault away. c.replace_both.ensures.others n whole fault
+    (λ h. away (down_leaf g.M.Mapping.rule (tree_of c.args.self.now.down.now)
+    (tree_of c.args.self.now.up.now) c.requires.valid n h))
+    (λ h. away (up_leaf g.M.Mapping.rule (tree_of c.args.self.now.down.now)
+    (tree_of c.args.self.now.up.now) c.requires.valid n h))

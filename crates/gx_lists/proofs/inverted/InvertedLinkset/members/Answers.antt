@@ -8,9 +8,9 @@ use Rattle.gx_mapping.specs.Rule.{In}
 use Rattle.gx_gather.proofs.Lists.{from_map}
 use Rattle.gx_stack.specs.Seen.{tree_of}
 use Rattle.gx_stack.proofs.PassLemmas.{reads_given}
-use Rattle.gx_links.specs.Rows.{node_rows}
+use Rattle.gx_links.specs.Rows.{node_rows, member_kind}
 use Rattle.gx_links.specs.Spans.{begins_with}
-use Rattle.gx_lists.specs.Inverted.{inverted_rows, member_in, member_kind}
+use Rattle.gx_lists.specs.Inverted.{inverted_rows, member_in}
 use Rattle.gx_lists.proofs.InvertedLemmas.{down_leaf, down_set, down_has_set, pair_long, pairs_found, members_found, members_steps}
 use Rattle.gx_lists.proofs.inverted.InvertedLinkset.members.Goals as goal
 

@@ -9,9 +9,9 @@ use Rattle.gx_values.specs.Keys.{key_of, is_inside}
 use Rattle.gx_mapping.specs.Rule.{In}
 use Rattle.gx_stack.specs.Seen.{tree_of}
 use Rattle.gx_stack.proofs.PassLemmas.{reads_given}
-use Rattle.gx_links.specs.Rows.{node_rows}
+use Rattle.gx_links.specs.Rows.{node_rows, owner_kind}
 use Rattle.gx_links.specs.Spans.{begins_with}
-use Rattle.gx_lists.specs.Inverted.{inverted_rows, owner_in, owner_kind}
+use Rattle.gx_lists.specs.Inverted.{inverted_rows, owner_in}
 use Rattle.gx_lists.proofs.InvertedLemmas.{up_leaf, up_set, up_has_set, owned_long, owner_fits, owned_found, owner_again, owner_steps}
 use Rattle.gx_lists.proofs.inverted.InvertedLinkset.owner.Goals as goal
 

@@ -6,11 +6,11 @@ use Rattle.gx_mapping.specs.Rule.{In}
 use Rattle.gx_stack.specs.Tree.{leaves_of, tree_form}
 use Rattle.gx_stack.specs.Seen.{tree_of}
 use Rattle.gx_stack.specs.Internal.{IfThere}
-use Rattle.gx_ring.specs.Ring.{owner_kind, member_kind}
+use Rattle.gx_links.specs.Rows.{owner_kind, member_kind}
 use Rattle.gx_ring.specs.Records.{IsKeyValue}
 use Rattle.gx_ring.specs.Places.{before_in, next_in}
 use Rattle.gx_ring.specs.Steps.{leading}
-use Rattle.gx_ring.specs.Changes.{FitsChange}
+use Rattle.gx_links.specs.Changes.{FitsChange}
 use Rattle.gx_ring.proofs.FoundLemmas.{nexts_below}
 use Rattle.gx_ring.proofs.ComeLemmas.{key_value_of, before_fits, next_fits, leading_below, lead_fits, own_fits}
 use Rattle.gx_ring.proofs.AskLemmas.{connected, connect_full}

@@ -2,7 +2,7 @@ use Rattle.std.proofs.Common.{◌<◌, sym, subst, length}
 use Rattle.std.proofs.lemmas.Result.{on_ok_weaker}
 use Rattle.gx_values.specs.Values.{Fits}
 use Rattle.gx_stack.specs.Seen.{tree_of}
-use Rattle.gx_ring.specs.Ring.{member_kind}
+use Rattle.gx_links.specs.Rows.{member_kind}
 use Rattle.gx_ring.specs.Reads.{IsRecordAt}
 use Rattle.gx_stack.proofs.PassLemmas.{read_passes, reads_after, reads_given}
 use Rattle.gx_ring.proofs.FoundLemmas.{heads_below, nexts_below, heads_held, head_field, members_none, members_some, chain_of_link}

@@ -1,0 +1,102 @@
+use Rattle.std.proofs.Common.{◌≡◌, ◌++◌, ◌∷◌, ◌∙◌, [], List, sym, ap, true, false, append_assoc}
+use Rattle.std.proofs.lemmas.Bool.{true≢false}
+use Rattle.gx_ports.specs.declared.leaves.Entry.{Entry}
+use Rattle.gx_model.specs.States.{Row}
+use Rattle.gx_model.specs.Found.{meets_conds}
+use Rattle.gx_scan.specs.Entries.{entry_of_row, IsStoredRow}
+use Rattle.gx_scan.proofs.ScanLemmas.{row_of, row_kept, row_left}
+use Rattle.gx_scan.proofs.coded.add_coded_rows.Goals as goal
+
+pub returns-in_default-clause-chosen : goal.returns-in_default-clause-chosen
+returns-in_default-clause-chosen c = λ rs all same.
+    let e : Entry =
+    record { key = c.entry-entry.result.key.now; body = c.entry-entry.result.body.now } in
+    let place = c.args.place.now in
+    let at = row_of (IsStoredRow c.args.file.now place.codes)
+    (entry_of_row place.lengths place.codes) rs c.args.entries.now c.loop-index.index e all same
+    c.entry-entry.ensures in
+    let key = ap (λ (x : Entry). x.key) at.is in
+    let body = ap (λ (x : Entry). x.body) at.is in
+    let tested = c.in_ok-found.ensures at.row at.fits key body in
+    let none = c.in_default.is in
+    cc
+
+pub returns-then-not-branch-clause-chosen : goal.returns-then-not-branch-clause-chosen
+returns-then-not-branch-clause-chosen c = λ rs all same.
+    let e : Entry =
+    record { key = c.entry-entry.result.key.now; body = c.entry-entry.result.body.now } in
+    let place = c.args.place.now in
+    let at = row_of (IsStoredRow c.args.file.now place.codes)
+    (entry_of_row place.lengths place.codes) rs c.args.entries.now c.loop-index.index e all same
+    c.entry-entry.ensures in
+    let key = ap (λ (x : Entry). x.key) at.is in
+    let body = ap (λ (x : Entry). x.body) at.is in
+    let plain = c.in_ok-make_plain_body.ensures at.row at.fits body in
+    absurd (true≢false (sym plain.0 ∙ c.if-not-branch.true))
+
+pub returns-in_default-2-clause-chosen : goal.returns-in_default-2-clause-chosen
+returns-in_default-2-clause-chosen c = λ rs all same.
+    let e : Entry =
+    record { key = c.entry-entry.result.key.now; body = c.entry-entry.result.body.now } in
+    let place = c.args.place.now in
+    let at = row_of (IsStoredRow c.args.file.now place.codes)
+    (entry_of_row place.lengths place.codes) rs c.args.entries.now c.loop-index.index e all same
+    c.entry-entry.ensures in
+    let key = ap (λ (x : Entry). x.key) at.is in
+    let body = ap (λ (x : Entry). x.body) at.is in
+    let plain = c.in_ok-make_plain_body.ensures at.row at.fits body in
+    let read = c.in_ok-row.ensures at.row at.fits.0 key (c.as_slice.ensures.value ∙ plain.1) in
+    let none = c.in_default-2.is in
+    cc
+
+pub loop-index-preserved-then-not-is_chosen : goal.loop-index-preserved-then-not-is_chosen
+loop-index-preserved-then-not-is_chosen c = record {
+  rows = λ rs all same.
+      let e : Entry =
+      record { key = c.entry-entry.result.key.now; body = c.entry-entry.result.body.now } in
+      let place = c.args.place.now in
+      let at = row_of (IsStoredRow c.args.file.now place.codes)
+      (entry_of_row place.lengths place.codes) rs c.args.entries.now c.loop-index.index e all
+      same c.entry-entry.ensures in
+      let key = ap (λ (x : Entry). x.key) at.is in
+      let body = ap (λ (x : Entry). x.body) at.is in
+      let tested = c.in_ok-found.ensures at.row at.fits key body in
+      let some = c.in-Some.is in
+      let chosen = c.if-not-is_chosen.true in
+      let unmet : meets_conds c.args.conds.now at.row ≡ false = cc in
+      row_left (IsStoredRow c.args.file.now place.codes) (entry_of_row place.lengths place.codes)
+      (meets_conds c.args.conds.now) rs c.args.rows.now.items c.loop-index.rows.items
+      c.loop-index.index e at (c.loop-index.invariant.rows rs all same) unmet;
+  front = c.loop-index.invariant.front;
+}
+
+pub loop-index-preserved : goal.loop-index-preserved
+loop-index-preserved c = record {
+  rows = λ rs all same.
+      let e : Entry =
+      record { key = c.entry-entry.result.key.now; body = c.entry-entry.result.body.now } in
+      let place = c.args.place.now in
+      let at = row_of (IsStoredRow c.args.file.now place.codes)
+      (entry_of_row place.lengths place.codes) rs c.args.entries.now c.loop-index.index e all
+      same c.entry-entry.ensures in
+      let key = ap (λ (x : Entry). x.key) at.is in
+      let body = ap (λ (x : Entry). x.body) at.is in
+      let tested = c.in_ok-found.ensures at.row at.fits key body in
+      let some = c.in-Some.is in
+      let chosen = c.if-not-is_chosen.false in
+      let met : meets_conds c.args.conds.now at.row ≡ true = cc in
+      let plain = c.in_ok-make_plain_body.ensures at.row at.fits body in
+      let read = c.in_ok-row.ensures at.row at.fits.0 key (c.as_slice.ensures.value ∙ plain.1) in
+      let there = c.in-Some-2.is in
+      let row : c.in-Some-2.row ≡ at.row = cc in
+      row_kept (IsStoredRow c.args.file.now place.codes) (entry_of_row place.lengths place.codes)
+      (meets_conds c.args.conds.now) rs c.args.rows.now.items c.loop-index.rows.items
+      c.loop-index.index e at (c.loop-index.invariant.rows rs all same) c.push.new.self.items
+      c.in-Some-2.row met row c.in_ok-push.ensures.items;
+  front = (
+    c.loop-index.invariant.front.0 ++ c.in-Some-2.row ∷ [],
+    c.in_ok-push.ensures.items
+        ∙ ap (λ (l : List Row). l ++ c.in-Some-2.row ∷ []) c.loop-index.invariant.front.1
+        ∙ append_assoc c.args.rows.now.items c.loop-index.invariant.front.0 (c.in-Some-2.row ∷ []),
+  );
+}

@@ -1,0 +1,139 @@
+// The values of the record at a key of a file, without the record where an entry has them.
+ghost use Rattle.std.specs.Prelude.{◌≡◌, ◌≤◌, ◌+◌, ℕ, Option, length, option_map, IfOk, OnOk};
+ghost use Rattle.std.specs.FinMap as fin;
+ghost use Rattle.gx_values.specs.Values.{Fits};
+ghost use Rattle.gx_schema.specs.Lookups.{key_kind};
+ghost use Rattle.gx_ports.specs.Calls.{ReadsMaps};
+ghost use Rattle.gx_stack.specs.Tree.{leaves_of};
+ghost use Rattle.gx_stack.specs.Seen.{tree_of};
+ghost use Rattle.gx_model.specs.States.{File as FileMap, Row as TheRow};
+ghost use Rattle.gx_scan.specs.Files.{IsInternal, HasFile, IsStorable, IsTreeFor};
+ghost use Rattle.gx_scan.specs.Entries.{ArePlaces};
+ghost use Rattle.gx_scan.specs.Records.{list_of_one};
+ghost use Rattle.gx_scan.specs.Steps.{HaveAtMost};
+
+use crate::by_entries::{KeyProbe, add_at_key, are_few};
+use crate::places::{Place, places_of};
+use crate::records::find_record;
+use gx_ports::{Leaves, Stop};
+use gx_rows::Row;
+use gx_schema::FileDef;
+use gx_stack::Node;
+use gx_types::AnyMapping;
+use gx_values::{Value, Values};
+use std::alloc::Global;
+
+/// The values of the record with this key, but for the key, where there is one. Where the records stand
+/// whole in few leaves, they are read from the bytes of its entry. It takes a step for each leaf, and one for
+/// each leaf entry of the record.
+///
+/// `Damaged`: some leaf's stored form isn't whole, or the leaves hold no file, which is said of block 0.
+/// `Fault`: the count of faults rose; with any other answer it stays. `NoMemory`: there was none.
+pub fn find_values<B: Leaves>(
+    alloc: Global,
+    file: &FileDef,
+    node: &Node<AnyMapping>,
+    key: &Value,
+    leaves: &mut B,
+) -> Result<Option<Values>, Stop>
+    requires tree { IsTreeFor file.now (tree_of node.now) (length (B.working leaves.old)) }
+    requires storable { IsStorable file.now }
+    requires key { Fits (key_kind file.now) key.now }
+    ensures found { (f : FileMap) → B.whole leaves.old →
+        IsInternal file.now (tree_of node.now) (B.working leaves.old) f →
+        IfOk result (λ found. found ≡ fin.get f key.now) }
+    ensures steps { (f : FileMap) (most : ℕ) → B.whole leaves.old →
+        IsInternal file.now (tree_of node.now) (B.working leaves.old) f →
+        HaveAtMost most (tree_of node.now) f → OnOk result
+        (B.work leaves.new
+        ≤ B.work leaves.old + (length (leaves_of (tree_of node.now)) + most)) }
+    ensures reads { ReadsMaps B.View
+        (B.whole leaves.old × HasFile file.now (tree_of node.now) (B.working leaves.old))
+        leaves.old leaves.new result }
+{
+    match places_of(alloc, node)? {
+        Some(places) if are_few(&places) => {
+            values_by_entry(alloc, file, node, &places, key, leaves)
+        }
+        _ => values_by_record(alloc, file, node, key, leaves),
+    }
+}
+
+// The same by the bytes of entries, which stand at these places.
+fn values_by_entry<B: Leaves>(
+    alloc: Global,
+    file: &FileDef,
+    node: &Node<AnyMapping>,
+    places: &[Place],
+    key: &Value,
+    leaves: &mut B,
+) -> Result<Option<Values>, Stop>
+    requires places { ArePlaces 0 (tree_of node.now) places.now }
+    requires tree { IsTreeFor file.now (tree_of node.now) (length (B.working leaves.old)) }
+    requires storable { IsStorable file.now }
+    requires key { Fits (key_kind file.now) key.now }
+    ensures found { (f : FileMap) → B.whole leaves.old →
+        IsInternal file.now (tree_of node.now) (B.working leaves.old) f →
+        IfOk result (λ found. found ≡ fin.get f key.now) }
+    ensures steps { (f : FileMap) (most : ℕ) → B.whole leaves.old →
+        IsInternal file.now (tree_of node.now) (B.working leaves.old) f →
+        HaveAtMost most (tree_of node.now) f → OnOk result
+        (B.work leaves.new
+        ≤ B.work leaves.old + (length (leaves_of (tree_of node.now)) + most)) }
+    ensures reads { ReadsMaps B.View
+        (B.whole leaves.old × HasFile file.now (tree_of node.now) (B.working leaves.old))
+        leaves.old leaves.new result }
+{
+    let mut probe = KeyProbe::new(alloc);
+    let mut rows = Vec::new(alloc);
+    add_at_key(
+        alloc,
+        file,
+        node,
+        places,
+        key,
+        &mut probe,
+        &[],
+        leaves,
+        &mut rows,
+    )?;
+    Ok(last_values(rows))
+}
+
+fn last_values(rows: Vec<Row>) -> Option<Values>
+    ensures { (one : Option TheRow) → rows.items ≡ list_of_one one →
+        result ≡ option_map (λ row. row.1) one }
+{
+    let mut rows = rows;
+    let row = rows.pop()?;
+    Some(row.values)
+}
+
+// The same by the record of the node.
+fn values_by_record<B: Leaves>(
+    alloc: Global,
+    file: &FileDef,
+    node: &Node<AnyMapping>,
+    key: &Value,
+    leaves: &mut B,
+) -> Result<Option<Values>, Stop>
+    requires tree { IsTreeFor file.now (tree_of node.now) (length (B.working leaves.old)) }
+    requires storable { IsStorable file.now }
+    requires key { Fits (key_kind file.now) key.now }
+    ensures found { (f : FileMap) → B.whole leaves.old →
+        IsInternal file.now (tree_of node.now) (B.working leaves.old) f →
+        IfOk result (λ found. found ≡ fin.get f key.now) }
+    ensures steps { (f : FileMap) (most : ℕ) → B.whole leaves.old →
+        IsInternal file.now (tree_of node.now) (B.working leaves.old) f →
+        HaveAtMost most (tree_of node.now) f → OnOk result
+        (B.work leaves.new
+        ≤ B.work leaves.old + (length (leaves_of (tree_of node.now)) + most)) }
+    ensures reads { ReadsMaps B.View
+        (B.whole leaves.old × HasFile file.now (tree_of node.now) (B.working leaves.old))
+        leaves.old leaves.new result }
+{
+    match find_record(alloc, file, node, key, leaves)? {
+        Some(rec) => Ok(Some(rec.fields)),
+        None => Ok(None),
+    }
+}

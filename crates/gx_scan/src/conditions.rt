@@ -1,0 +1,165 @@
+// Conditions tested on the bytes of an entry where some data fields stand by their codes. Only the values
+// that are tested are decoded.
+ghost use Rattle.std.specs.Prelude.{◌≡◌, ◌++◌, List, ℕ, pos, slice_index_or, Some, IfOk, IsSomeAnd};
+ghost use Rattle.gx_values.specs.declared.values.Value.{Value as FieldValue};
+ghost use Rattle.gx_values.specs.declared.values.Value.TheVariants as value;
+ghost use Rattle.gx_values.specs.Values.{Fits, AreFit, value_cmp, is_met};
+ghost use Rattle.gx_values.specs.Keys.{bytes_of, IsKeyKind};
+ghost use Rattle.gx_actual.specs.Bodies.{field_bytes, body_of, IsShort, AreShort};
+ghost use Rattle.gx_model.specs.States.{Row as TheRow};
+ghost use Rattle.gx_model.specs.Found.{meets_cond, meets_conds};
+ghost use Rattle.gx_scan.specs.Files.{IsStorable};
+ghost use Rattle.gx_scan.specs.Entries.{entry_of_row, IsStoredRow};
+ghost use Rattle.gx_scan.specs.Stored.{stored_value, stored_values, HasCode, HaveCodes};
+ghost use Rattle.gx_scan.specs.Scan.{value_of};
+
+use crate::coded::push_plain_value;
+use crate::codes::Codes;
+use crate::places::Place;
+use crate::records::data_fields;
+use crate::scan::{ValueRef, behind_lengths, compare, holds, key_value, split_bytes, split_value};
+use gx_commands::Cond;
+use gx_schema::FileDef;
+use gx_values::{Code, Field, Kind, NoMemory};
+use std::alloc::Global;
+
+/// Whether the record of an entry of a place meets every condition. `None`: the entry is that of no record.
+/// `plain` has other bytes then. `NoMemory`: there was none to decode a value.
+pub(crate) fn is_chosen(
+    alloc: Global,
+    file: &FileDef,
+    place: &Place,
+    conds: &[Cond],
+    key: &[u8],
+    body: &[u8],
+    plain: &mut Vec<u8>,
+) -> Result<Option<bool>, NoMemory>
+    requires { IsStorable file.now }
+    ensures { (r : TheRow) → IsStoredRow file.now place.now.codes r → key.now ≡ bytes_of r.0 →
+        body.now ≡ (entry_of_row place.now.lengths place.now.codes r).1 →
+        IfOk result (λ found. found ≡ Some (meets_conds conds.now r)) }
+{
+    let Some(stored) = behind_lengths(body, place.lengths) else {
+        return Ok(None);
+    };
+    for cond in conds {
+        let Some(is_met) = meets_one(alloc, file, &place.codes, cond, key, stored, plain)? else {
+            return Ok(None);
+        };
+        if !is_met {
+            return Ok(Some(false));
+        }
+    }
+    Ok(Some(true))
+}
+
+// The same of one condition, and of a body without its lengths.
+fn meets_one(
+    alloc: Global,
+    file: &FileDef,
+    codes: &Codes,
+    cond: &Cond,
+    key: &[u8],
+    stored: &[u8],
+    plain: &mut Vec<u8>,
+) -> Result<Option<bool>, NoMemory>
+    requires { IsStorable file.now }
+    ensures { (r : TheRow) → IsStoredRow file.now codes.now r → key.now ≡ bytes_of r.0 →
+        stored.now ≡ body_of (stored_values codes.now r.1) →
+        IfOk result (λ found. found ≡ Some (meets_cond r cond.now)) }
+{
+    if cond.field == 0 {
+        return Ok(meets_key(file.fields.0[0].kind, cond, key));
+    }
+    let index = usize::from(cond.field) - 1;
+    meets_data(alloc, data_fields(file), codes, index, cond, stored, plain)
+}
+
+fn meets_key(kind: Kind, cond: &Cond, key: &[u8]) -> Option<bool>
+    requires { IsKeyKind kind }
+    ensures { (v : FieldValue) → Fits kind v → key.now ≡ bytes_of v →
+        result ≡ Some (is_met cond.now.op (value_cmp v cond.now.bound)) }
+{
+    Some(meets(key_value(kind, key)?, cond))
+}
+
+// Whether the value of one of these fields, counted from 0, meets the condition, and 0 where there are
+// fewer. `None`: the body is that of no values of the fields.
+fn meets_data(
+    alloc: Global,
+    fields: &[Field],
+    codes: &Codes,
+    index: usize,
+    cond: &Cond,
+    stored: &[u8],
+    plain: &mut Vec<u8>,
+) -> Result<Option<bool>, NoMemory>
+    requires { AreShort fields.now }
+    ensures { (vs : List FieldValue) → AreFit fields.now vs → HaveCodes codes.now vs →
+        stored.now ≡ body_of (stored_values codes.now vs) → IfOk result (λ found. found
+        ≡ Some (is_met cond.now.op
+        (value_cmp (slice_index_or vs index (value.Int (pos 0))) cond.now.bound))) }
+{
+    let mut rest = stored;
+    for (at, field) in fields.iter().enumerate() {
+        let code = codes.code_at(at);
+        if at == index {
+            return meets_front(alloc, field.kind, code, cond, rest, plain);
+        }
+        let Some(more) = behind_value(field.kind, code, rest) else {
+            return Ok(None);
+        };
+        rest = more;
+    }
+    Ok(Some(meets(ValueRef::Int(0), cond)))
+}
+
+// Whether the value at the front of a body, which stands there by its code if it has one, meets the
+// condition.
+fn meets_front(
+    alloc: Global,
+    kind: Kind,
+    code: Option<Code>,
+    cond: &Cond,
+    rest: &[u8],
+    plain: &mut Vec<u8>,
+) -> Result<Option<bool>, NoMemory>
+    requires { IsShort kind }
+    ensures { (v : FieldValue) (more : List ℕ) → Fits kind v → HasCode code v →
+        rest.now ≡ field_bytes (stored_value code v) ++ more → IfOk result (λ found. found
+        ≡ Some (is_met cond.now.op (value_cmp v cond.now.bound))) }
+{
+    plain.clear();
+    let Some(_) = push_plain_value(alloc, kind, code, rest, plain)? else {
+        return Ok(None);
+    };
+    let Some((value, _)) = split_value(kind, plain.as_slice()) else {
+        return Ok(None);
+    };
+    Ok(Some(meets(value, cond)))
+}
+
+// What follows that value.
+fn behind_value(kind: Kind, code: Option<Code>, rest: &[u8]) -> Option<&[u8]>
+    requires { IsShort kind }
+    ensures { (v : FieldValue) (more : List ℕ) → Fits kind v → HasCode code v →
+        rest.now ≡ field_bytes (stored_value code v) ++ more →
+        IsSomeAnd result (λ m. m.now ≡ more) }
+{
+    match code {
+        Some(_) => {
+            let (_, more) = split_bytes(rest)?;
+            Some(more)
+        }
+        None => {
+            let (_, more) = split_value(kind, rest)?;
+            Some(more)
+        }
+    }
+}
+
+fn meets(value: ValueRef<'_>, cond: &Cond) -> bool
+    ensures { result ≡ is_met cond.now.op (value_cmp (value_of value.entry) cond.now.bound) }
+{
+    holds(cond.op, compare(value, &cond.bound))
+}
