@@ -1,5 +1,5 @@
 -- A device that was opened and examined, or that wasn't had: what was found, and what is left of it.
-use Rattle.std.proofs.Common.{◌≡◌, ℕ, true, not, List, length, Option, Some, None, Result, Ok, Err, refl, sym, ap, subst, ◌∙◌}
+use Rattle.std.proofs.Common.{◌≡◌, ℕ, List, length, Option, Some, None, Result, Ok, Err, refl, sym, ap, subst, ◌∙◌}
 use Rattle.std.specs.Prelude.{◌≢◌}
 use Rattle.gx_device.specs.Content.{Content, Shelf, SameContent, Silent, device_at}
 use Rattle.gx_ports.specs.declared.kinds.LeafSpec.{LeafSpec}
@@ -11,7 +11,7 @@ use Rattle.gx_states.specs.Internal.{AreInternal}
 use Rattle.gx_audit.specs.Texts.{inspect_text}
 use Rattle.gx_store.specs.Device.{Reopens, IsSettled, ReadAlike}
 use Rattle.gx_store.specs.Opening.{AreOpened, IsUnopened}
-use Rattle.gx_store.specs.Store.{Attaches, OfBlocks, is_fault}
+use Rattle.gx_store.specs.Store.{Attaches, OfBlocks}
 use Rattle.gx_store.specs.declared.unopened.Unopened.{Unopened}
 use Rattle.gx_store.specs.declared.unopened.Unopened.TheVariants as unopened
 use Rattle.gx_store.proofs.ShelfLemmas.{named_at}

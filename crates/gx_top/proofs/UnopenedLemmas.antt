@@ -81,11 +81,11 @@ module _ (words : List (List ℕ)) (device : List ℕ) (x : Stored) (old middle 
   pub unopened_starts : (mid new : Content) (why : Unopened) (s : Status) → IsTried device p.typing.specs middle mid why → SameDevices mid new → (unopened_ending why ≡ ending.Fault → s ≡ status.Outside) → s ≡ status.Memory → (t : Task) → IsTask words old.aside.texts t → StartsAlike t old new
   unopened_starts mid new why s tried devices fault memory t task = starts_alike t old new here
     where
-      reads : ReadsAlike device middle mid
-      reads = record { absent = tried.absent; alike = tried.kept (not_failed why (λ f. never (sym memory ∙ fault f))) }
-
       never : status.Memory ≡ status.Outside → ⊥
       never f = cc
+
+      reads : ReadsAlike device middle mid
+      reads = record { absent = tried.absent; alike = tried.kept (not_failed why (λ f. never (sym memory ∙ fault f))) }
 
       here : (other : List ℕ) → t.action ≡ running other → ReadsAlike other old new
       here other is =
