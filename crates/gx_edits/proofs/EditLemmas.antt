@@ -137,6 +137,18 @@ short_with limit schema built leaves before s i f r of many lt there = crowded_m
     subst (λ (x : File). entry_total any_rule (tree_at built.files i) (records_of x) ≤ entries_from built.files (with_file s i f).files) at (one_file built.files (set s.files i f) i (omega (arith, of.nodes.many)) (omega (arith, many, length-set s.files i f))) in
     omega (arith, one, all))
 
+-- ---- what isn't refused
+
+pub insert_accepted : (schema : Schema) (s : State) (i : ℕ) (key : Value) (values rest : List Value) → values ≡ key ∷ rest → fin.get (file_in s i) key ≡ None → refusal_of schema s (command.Insert i values) ≡ None
+insert_accepted schema s i key values rest parts none =
+    subst (λ (vs : List Value). refusal_of schema s (command.Insert i vs) ≡ None) (sym parts) (ap (λ (o : Option (List Value)). first_refusal ((is_some o, key_exists) ∷ [])) none)
+
+pub update_accepted : (schema : Schema) (s : State) (i : ℕ) (key : Value) (changes : List Change) (values : List Value) → fin.get (file_in s i) key ≡ Some values → refusal_of schema s (command.Update i key changes) ≡ None
+update_accepted schema s i key changes values found = ap (λ (o : Option (List Value)). first_refusal ((not (is_some o), no_record) ∷ [])) found
+
+pub delete_accepted : (schema : Schema) (s : State) (i : ℕ) (key : Value) (values : List Value) → is_linked schema.links s.links i key ≡ false → fin.get (file_in s i) key ≡ Some values → refusal_of schema s (command.Delete i key) ≡ None
+delete_accepted schema s i key values free found = λ j. first_refusal ((not (is_some (found j)), no_record) ∷ (free j, linked) ∷ [])
+
 -- what isn't refused is carried out
 pub next_is : (schema : Schema) (s : State) (c : Command) → refusal_of schema s c ≡ None → next_state schema s c ≡ state_after s c
 next_is schema s c none = ap (λ (r : Option Refusal). cond (is_some r) s (state_after s c)) none
@@ -148,7 +160,7 @@ module _ (limit : Option Limits) (schema : Schema) (built : Built) (leaves befor
   pub short_insert : (key : Value) (values rest : List Value) → values ≡ key ∷ rest → fin.get (file_in s i) key ≡ None → IsCrowdedBy limit (before + length (entries_of any_rule t (rec_of (key, rest)))) → IsCrowdedBy limit (before + state_entries built (next_state schema s (command.Insert i values)))
   short_insert key values rest parts none c =
       let f = fin.insert (file_in s i) key rest in
-      let free : refusal_of schema s (command.Insert i (key ∷ rest)) ≡ None = ap (λ (o : Option (List Value)). first_refusal ((is_some o, key_exists) ∷ [])) none in
+      let free = insert_accepted schema s i key (key ∷ rest) rest refl none in
       subst (λ (vs : List Value). IsCrowdedBy limit (before + state_entries built (next_state schema s (command.Insert i vs)))) (sym parts)
       (short_after limit built before (with_file s i f) (next_state schema s (command.Insert i (key ∷ rest))) (next_is schema s (command.Insert i (key ∷ rest)) free)
       (short_with limit schema built leaves before s i f (rec_of (key, rest)) of are.valid.files_many lt (inserted_new (file_in s i) key rest)
@@ -157,7 +169,7 @@ module _ (limit : Option Limits) (schema : Schema) (built : Built) (leaves befor
   pub short_update : (key : Value) (changes : List Change) (values : List Value) → fin.get (file_in s i) key ≡ Some values → IsCrowdedBy limit (before + length (entries_of any_rule t (rec_of (key, changed values changes)))) → IsCrowdedBy limit (before + state_entries built (next_state schema s (command.Update i key changes)))
   short_update key changes values found c =
       let f = fin.insert (file_in s i) key (changed values changes) in
-      let free : refusal_of schema s (command.Update i key changes) ≡ None = ap (λ (o : Option (List Value)). first_refusal ((not (is_some o), no_record) ∷ [])) found in
+      let free = update_accepted schema s i key changes values found in
       let after : updated (file_in s i) key changes ≡ f = ap (λ (o : Option (List Value)). fin.insert (file_in s i) key (changed (unwrap_or o []) changes)) found in
       short_after limit built before (with_file s i f) (next_state schema s (command.Update i key changes)) (next_is schema s (command.Update i key changes) free ∙ ap (with_file s i) after)
       (short_with limit schema built leaves before s i f (rec_of (key, changed values changes)) of are.valid.files_many lt (inserted_new (file_in s i) key (changed values changes))

@@ -42,6 +42,8 @@ pub record EditsEach {S : Type 0} (g : Ghosts S) (schema : Schema) (built : Buil
   pub edit : (s : State) → Known s → g.whole old → AreInternal schema built (g.working old) s → IfOk result (IsEdit schema built c s (g.working new))
   -- the pages may not be enough for the entries that there are and those of the state after it
   pub full : (s : State) → Known s → g.whole old → AreInternal schema built (g.working old) s → IsErrOf result stop.Full → IsCrowdedBy (g.limit old) (entry_count (g.working old) + state_entries built (next_state schema s c))
+  -- they are enough for an edit that is refused
+  pub accepted : (s : State) → Known s → g.whole old → AreInternal schema built (g.working old) s → IsErrOf result stop.Full → refusal_of schema s c ≡ None
   pub keeps : Keeps g old new
   pub ends : Ends g (g.whole old × HaveState schema built (g.working old)) old new result
   pub block : (n : ℕ) → IsErrOf result (stop.Damaged n) → g.whole old → n ≡ 0

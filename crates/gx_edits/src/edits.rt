@@ -21,10 +21,11 @@ use std::alloc::Global;
 /// Carries out a command that changes records or links, as the abstract database does, or answers why
 /// it is refused. Where it is refused the leaves hold what they held.
 ///
-/// `Full`: the pages may not be enough for the entries that there are and those of the state after the
-/// command. `Damaged`: the leaves stood for no state, which is said of block 0 where each is whole.
-/// `Fault`: the count of faults rose; with any other answer it stays. `NoMemory`: an allocation failed.
-/// After a stop a part of the change may be made; what was last committed stays, whatever is answered.
+/// `Full`: the command isn't refused, and the pages may not be enough for the entries that there
+/// are and those of the state after it. `Damaged`: the leaves stood for no state, which is said of
+/// block 0 where each is whole. `Fault`: the count of faults rose; with any other answer it stays.
+/// `NoMemory`: an allocation failed. After a stop a part of the change may be made; what was last
+/// committed stays, whatever is answered.
 pub fn edit<B: Leaves>(
     alloc: Global,
     schema: &Schema,

@@ -103,6 +103,9 @@ pub(crate) fn delete_record<B: Leaves>(
     ensures block { (n : ℕ) → IsErrOf result (Stop.Damaged n) → B.whole leaves.old → n ≡ 0 }
     ensures full { B.whole leaves.old → IsErrOf result Stop.Full →
         IsCrowded (B.limit leaves.old) (B.working leaves.old) }
+    ensures found { (f : FileMap) → B.whole leaves.old →
+        IsInternal file.now (tree_of node.now) (B.working leaves.old) f → IsErrOf result Stop.Full →
+        (values : List TheValue) × (fin.get f key.now ≡ Option.Some values) }
 {
     let Some(old) = find_record(alloc, file, node, key, leaves)? else {
         return Ok(Some(Refused::NoRecord));

@@ -38,7 +38,7 @@ use Rattle.gx_states.proofs.StoredLemmas.{has_file}
 use Rattle.gx_edits.specs.Edits.{is_edit, edit_text, IsEdit}
 use Rattle.gx_edits.proofs.EditLemmas.{short_after}
 use Rattle.gx_answers.specs.Work.{IsBounded}
-use Rattle.gx_engine.specs.Moments.{Stands, IsCarried}
+use Rattle.gx_engine.specs.Moments.{Stands, IsCarried, may_want_room, MayWantRoom}
 
 -- ---- moments of the play
 
@@ -187,10 +187,21 @@ edit_carried schema built inside commits old new kept now p c why out said text 
       (subst (Stands schema built inside commits new kept) (sym (edit_next schema p c is)) (stands_with schema built inside commits old new kept p (next_state schema (seen_state p) c) stands (edit_open inside c is place) edit.stands));
 }
 
+edit_room : (c : Command) → is_edit c ≡ true → may_want_room c ≡ true
+edit_room (command.ReorganizeFile file) e = refl
+edit_room (command.ReorganizeLink link) e = refl
+edit_room _ e = e
+
 pub edit_short : (limit : Option Limits) (schema : Schema) (built : Built) (before : ℕ) (p : Playing) (c : Command) → is_edit c ≡ true → is_inside p ≡ true → IsCrowdedBy limit (before + state_entries built (next_state schema (seen_state p) c)) → IsCrowdedBy limit (before + state_entries built (seen_state (next_of schema p c)))
 edit_short limit schema built before p c is open_ short =
     let s = next_state schema (seen_state p) c in
     short_after limit built before s (seen_state (next_of schema p c)) (ap seen_state (edit_next schema p c is) ∙ seen_next p s open_) short
+
+pub edit_wants : (schema : Schema) (p : Playing) (c : Command) → is_edit c ≡ true → refusal_of schema (seen_state p) c ≡ None → MayWantRoom schema p c
+edit_wants schema p c is accepted = record {
+  kind = edit_room c is;
+  accepted = accepted;
+}
 
 pub edit_stays : (inside : Bool) (c : Command) → is_edit c ≡ true → inside_after inside c ≡ inside
 edit_stays inside command.Begin e = absurd (true≢false (sym e))

@@ -1,11 +1,14 @@
--- What an engine stands for at a moment of a play.
-use Rattle.std.specs.Prelude.{◌≡◌, ℕ, List, ◌++◌, Bool}
+-- What an engine stands for at a moment of a play, and which commands may want room there.
+use Rattle.std.specs.Prelude.{◌≡◌, ℕ, List, ◌++◌, Bool, true, None}
 use Rattle.gx_schema.specs.declared.schema.Schema.{Schema}
 use Rattle.gx_ports.specs.LeafMaps.{LeafMap}
 use Rattle.gx_commands.specs.declared.command.Command.{Command}
+use Rattle.gx_commands.specs.declared.command.Command.TheVariants as command
 use Rattle.gx_types.specs.declared.built.Built.{Built}
+use Rattle.gx_model.specs.Commands.{refusal_of}
 use Rattle.gx_model.specs.Play.{Playing, seen_state, is_inside, next_of, IsAnswered}
 use Rattle.gx_states.specs.Internal.{AreInternal}
+use Rattle.gx_edits.specs.Edits.{is_edit}
 
 -- what the engine has stands for a moment of the play
 pub record Stands (schema : Schema) (built : Built) (inside : Bool) (commits : ℕ) (working kept : List LeafMap) (p : Playing) : Type 0 where
@@ -20,3 +23,16 @@ pub record IsCarried (schema : Schema) (built : Built) (p : Playing) (c : Comman
   pub said : new ≡ old ++ answer
   pub answered : IsAnswered schema p c answer
   pub stands : Stands schema built inside commits working kept (next_of schema p c)
+
+-- ---- which commands may want room
+
+-- the command changes records or links, or lays the leaves of a file or a link out anew
+abbrev pub may_want_room : Command → Bool
+may_want_room (command.ReorganizeFile file) = true
+may_want_room (command.ReorganizeLink link) = true
+may_want_room c = is_edit c
+
+-- it is such a command, and it isn't refused at this moment
+pub record MayWantRoom (schema : Schema) (p : Playing) (c : Command) : Type 0 where
+  pub kind : may_want_room c ≡ true
+  pub accepted : refusal_of schema (seen_state p) c ≡ None

@@ -23,7 +23,7 @@ use Rattle.gx_engine.specs.declared.engine.StepStop.{StepStop}
 use Rattle.gx_engine.specs.declared.engine.StepStop.TheVariants.{Now, Stopped}
 use Rattle.gx_states.specs.Internal.{AreFor, state_entries}
 use Rattle.gx_answers.specs.Work.{IsBounded}
-use Rattle.gx_engine.specs.Moments.{Stands, IsCarried}
+use Rattle.gx_engine.specs.Moments.{Stands, IsCarried, MayWantRoom}
 
 -- ---- what contracts see of an engine
 
@@ -73,9 +73,9 @@ pub record IsAt {S : Type 0} (g : Ghosts S) (p : Playing) (e : Engine S) : Type 
 abbrev pub IsSound : {S : Type 0} → Ghosts S → Engine S → Type 0
 IsSound g e = (p : Playing) × IsAt g p e
 
--- the pages may not be enough for the entries that there are and those of what comes after the command
+-- the command may want room, and the pages may not be enough for the entries that there are and those of what comes after it
 abbrev pub IsShortFor : {S : Type 0} → Ghosts S → Engine S → Playing → Command → Type 0
-IsShortFor g e p c = IsCrowdedBy (g.limit (leaves_of e)) (entry_count (g.working (leaves_of e)) + state_entries (built_of e) (seen_state (next_of (schema_of e) p c)))
+IsShortFor g e p c = MayWantRoom (schema_of e) p c × IsCrowdedBy (g.limit (leaves_of e)) (entry_count (g.working (leaves_of e)) + state_entries (built_of e) (seen_state (next_of (schema_of e) p c)))
 
 -- ---- one command
 
@@ -136,7 +136,8 @@ pub record EndsCommand {S : Type 0} (g : Ghosts S) (old new : Engine S) (c : Com
   pub cause : HasStopCause (g.faults (leaves_of old)) (g.faults (leaves_of new)) (IsSound g old) result
   pub block : (n : ℕ) → result ≡ Err (stop.Damaged n) → g.whole (leaves_of old) → n ≡ 0
 
--- what one command does: on Ok it was carried out, and Full comes only where the pages may not be enough
+-- what one command does: on Ok it was carried out, and Full comes only of a command that may want room, for which the pages
+-- may not be enough
 pub record IsStep {S : Type 0} (g : Ghosts S) (old new : Engine S) (c : Command) (out now : List ℕ) (result : Result (Unit {0}) Stop) : Type 0 where
   pub carried : (p : Playing) → IsAt g p old → OnOk result (CarriesOut g p c old new out now)
   pub full : (p : Playing) → IsAt g p old → result ≡ Err stop.Full → IsShortFor g old p c

@@ -89,11 +89,13 @@ impl<B: Leaves + Drop> Engine<B> {
     /// Carries out a command of the schema, where the transaction rule lets it stand, and appends its
     /// answer, which is that of the abstract database; the leaves stand for what comes after it.
     ///
-    /// `Now` gives this call up and is kept: `out` is as before, and each later call answers `Stopped` with
-    /// it and does nothing. Where it isn't `Now(Fault)`, the state of the last commit stays. `Now(Fault)`: the
-    /// count of faults rose; with any other answer it stays. `Now(Full)`: the pages may be too few for the
-    /// entries of the states before and after. `Now(Damaged)`: the leaves stood for no state, which is said
-    /// of block 0 where the stored form of each is whole. `Now(NoMemory)`: there was no memory.
+    /// `Now` gives this call up and is kept: `out` is as before, and each later call answers
+    /// `Stopped` with it and does nothing. Where it isn't `Now(Fault)`, the state of the last
+    /// commit stays. `Now(Fault)`: the count of faults rose; with any other answer it stays.
+    /// `Now(Full)`: the command changes records or links and isn't refused, or it lays leaves out
+    /// anew, and the pages may be too few for the entries of the states before and after.
+    /// `Now(Damaged)`: the leaves stood for no state, which is said of block 0 where the stored
+    /// form of each is whole. `Now(NoMemory)`: there was no memory.
     ///
     /// After `ReorganizeFile` or `ReorganizeLink` each leaf of the file or the link is fresh. `Begin`,
     /// `Commit`, `Abort` and a line without a command take no step. `Get`, `Members` and `Find` take at most

@@ -4,6 +4,7 @@ pub mod SlotLemmas
 pub mod ForgetLemmas
 pub mod PageLemmas
 pub mod CleanLemmas
+pub mod UnchangedLemmas
 pub mod PublishLemmas
 pub mod OpenLemmas
 pub mod CommitLemmas

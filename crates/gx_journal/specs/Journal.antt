@@ -3,6 +3,7 @@ use Rattle.std.specs.Prelude.{◌≡◌, ℕ, false, List, length}
 use Rattle.gx_device.specs.declared.device.Device as device
 use Rattle.gx_device.specs.Content.{Content}
 use Rattle.gx_journal.specs.State.{pages_told, homes_told, head_told, CalmSince}
+use Rattle.gx_journal.specs.Working.{IsUnchangedIn}
 use Rattle.gx_journal.specs.declared.journal.Journal.{Journal}
 
 module _ {D : Type 0} {g : device.Ghosts D} where
@@ -31,6 +32,10 @@ module _ {D : Type 0} {g : device.Ghosts D} where
   -- no commit has failed
   abbrev pub IsSteady : Journal D g → Type 0
   IsSteady j = j.failed ≡ false
+
+  -- no page in a frame has changed, and none is spilled
+  abbrev pub IsUnchanged : Journal D g → Type 0
+  IsUnchanged j = IsUnchangedIn j.working
 
   -- A crash at any moment since that content leaves blocks that stand for the kept pages, and no commit
   -- has failed.

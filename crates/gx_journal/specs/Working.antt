@@ -1,6 +1,7 @@
 -- What is in memory of the working pages, as contracts see it.
-use Rattle.std.specs.Prelude.{ℕ, Bool, List, length}
+use Rattle.std.specs.Prelude.{◌≡◌, ℕ, Bool, false, List, length, get_or}
 use Rattle.gx_device.specs.Content.{Content}
+use Rattle.gx_frames.specs.Pool.{IsChanged}
 use Rattle.gx_journal.specs.Sources.{page_of, IsCached}
 use Rattle.gx_journal.specs.State.{pages_told}
 use Rattle.gx_journal.specs.declared.working.WorkingPages.{WorkingPages}
@@ -20,3 +21,8 @@ pages_in tells P c w = pages_told tells P c w.spilled.items w.frames.resident
 -- a page in a frame that hasn't changed has the bytes that the device holds of it
 abbrev pub IsCachedIn : ℕ → Content → WorkingPages → Type 0
 IsCachedIn P c w = IsCached P c.now.blocks w.spilled.items w.frames.resident
+
+-- no page in a frame has changed, and none is spilled
+pub record IsUnchangedIn (w : WorkingPages) : Type 0 where
+  pub clean : (q : ℕ) → ¬ IsChanged w.frames q
+  pub unspilled : (q : ℕ) → get_or w.spilled.items q false ≡ false

@@ -6,7 +6,7 @@ ghost use Rattle.gx_device.specs.Faults.{IsCounted};
 ghost use Rattle.gx_frames.specs.Pool.{IsChanged};
 ghost use Rattle.gx_layout.specs.Layout.{View, AtRest, Either, OnlyBlocks, with_pages, home, is_open};
 ghost use Rattle.gx_journal.specs.Sources.{stored, SamePages, IsListed, OnlySlots, IsBody};
-ghost use Rattle.gx_journal.specs.Working.{size_in, page_in, pages_in, IsCachedIn};
+ghost use Rattle.gx_journal.specs.Working.{size_in, page_in, pages_in, IsCachedIn, IsUnchangedIn};
 
 use crate::publish::publish;
 use crate::room::spill;
@@ -37,6 +37,7 @@ fn spill_one<D: Device>(device: &mut D, working: &mut WorkingPages, p: u32) -> R
 pub(crate) fn spill_all<D: Device>(device: &mut D, working: &mut WorkingPages) -> Result<(), Failed>
     requires room { 7 + 2 * size_in working.old ≤ D.size device.old }
     requires cached { IsTrue D.tells → IsCachedIn (size_in working.old) (D.content device.old) working.old }
+    ensures unchanged { ((q : ℕ) → ¬ IsChanged working.old.frames q) → (device.new ≡ device.old) × (working.new ≡ working.old) }
     ensures none_changed { OnOk result ((q : ℕ) → ¬ IsChanged working.new.frames q) }
     ensures stored { IsTrue D.tells → OnOk result ((q : ℕ) → page_in (size_in working.old) (D.content device.new) working.new q ≡ stored (size_in working.old) (D.content device.new).now.blocks working.new.spilled.items q) }
     ensures long { size_in working.new ≡ size_in working.old }
@@ -80,6 +81,8 @@ pub(crate) fn commit<D: Device>(device: &mut D, working: &mut WorkingPages) -> R
         → OnOk result (AtRest (D.content device.new).now (with_pages kept (pages_in D.tells (size_in working.old) (D.content device.old) working.old))) }
     ensures closed { IsTrue D.tells → is_open (block_of (D.content device.old).now 1) ≡ false → OnOk result (is_open (block_of (D.content device.new).now 1) ≡ false) }
     ensures cached { IsTrue D.tells → IsCachedIn (size_in working.old) (D.content device.new) working.new }
+    ensures unchanged { IsUnchangedIn working.old → device.new ≡ device.old }
+    ensures saved { OnOk result (IsUnchangedIn working.new) }
     ensures body { OnlyBlocks IsBody (D.content device.old) (D.content device.new) }
     ensures long { size_in working.new ≡ size_in working.old }
     ensures size { D.size device.new ≡ D.size device.old }

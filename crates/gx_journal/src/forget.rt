@@ -3,7 +3,7 @@ ghost use Rattle.std.specs.Prelude.{◌≡◌, ◌≢◌, ◌<◌, ℕ, false, S
 ghost use Rattle.gx_device.specs.Content.{Content, block_of};
 ghost use Rattle.gx_frames.specs.Pool.{Resident, find_page};
 ghost use Rattle.gx_layout.specs.Layout.{home};
-ghost use Rattle.gx_journal.specs.Working.{size_in, page_in, IsCachedIn};
+ghost use Rattle.gx_journal.specs.Working.{size_in, page_in, IsCachedIn, IsUnchangedIn};
 
 use crate::commit::clear;
 use crate::working::WorkingPages;
@@ -35,6 +35,7 @@ fn forget_changed(frames: &mut Frames)
 pub(crate) fn forget(working: &mut WorkingPages)
     ensures same { (P : ℕ) (c : Content) → IsCachedIn P c working.old → (q : ℕ) → page_in P c working.new q ≡ block_of c.now (home P q) }
     ensures cached { (P : ℕ) (c : Content) → IsCachedIn P c working.old → IsCachedIn P c working.new }
+    ensures unchanged { IsUnchangedIn working.new }
     ensures long { size_in working.new ≡ size_in working.old }
 {
     forget_changed(&mut working.frames);

@@ -36,7 +36,7 @@ pub struct Journal<D: Device> {
 }
 
 impl<D: Device> Journal<D> {
-    ghost use Rattle.gx_journal.specs.Journal.{device_of, content_of, size_of, working_of, kept_of, head_blocks, IsSteady, IsCalm, Keeps};
+    ghost use Rattle.gx_journal.specs.Journal.{device_of, content_of, size_of, working_of, kept_of, head_blocks, IsSteady, IsUnchanged, IsCalm, Keeps};
     ghost use Rattle.gx_journal.specs.Opening.{device_left, content_left, has_no_fault};
     ghost use Rattle.gx_journal.specs.State.{homes_told, head_told};
     ghost use Rattle.gx_journal.specs.Working.{size_in};
@@ -53,6 +53,7 @@ impl<D: Device> Journal<D> {
         ensures device { device_of result ≡ device }
         ensures steady { IsSteady result }
         ensures working { working_of result ≡ kept_of result }
+        ensures unchanged { IsUnchanged result }
     {
         Journal {
             device,
@@ -76,6 +77,7 @@ impl<D: Device> Journal<D> {
         ensures working { IfOk result (λ j. working_of j ≡ kept_of j) }
         ensures head { IfOk result (λ j. head_blocks j ≡ head_told D.tells (D.content device)) }
         ensures size { IfOk result (λ j. size_of j ≡ pages_of (D.size device)) }
+        ensures unchanged { IfOk result (λ j. IsUnchanged j) }
         ensures steady { IfOk result (λ j. IsSteady j) }
         ensures calm { IsTrue D.tells → IfOk result (λ j. IsCalm j (content_of j)) }
         ensures magic { IsTrue D.tells → OnOk result (HasMagic (block_of (D.content device).now 0)) }
@@ -126,6 +128,7 @@ impl<D: Device> Journal<D> {
         ensures head { IsTrue D.tells → IfOk result (λ j. head_blocks j
             ≡ block_of (D.content device).now 0 ∷ text_blocks schema.now equation.now) }
         ensures size { IfOk result (λ j. size_of j ≡ pages_of (D.size device)) }
+        ensures unchanged { IfOk result (λ j. IsUnchanged j) }
         ensures steady { IfOk result (λ j. IsSteady j) }
         ensures calm { IsTrue D.tells → IfOk result (λ j. IsCalm j (content_of j)) }
         ensures database { IfErr result (λ e. e.1 ≢ Unopened.NoDatabase) }
@@ -236,6 +239,8 @@ impl<D: Device> Journal<D> {
             (content_of self.old).now)
             (content_of self.old) (content_of self.new) }
         ensures calm { (start : Content) → IsCalm self.old start → OnOk result (IsCalm self.new (content_of self.new)) }
+        ensures unchanged { IsUnchanged self.old → device_of self.new ≡ device_of self.old }
+        ensures saved { OnOk result (IsUnchanged self.new) }
         ensures silent { Silent (content_of self.old) (content_of self.new) }
         ensures faults { IsCounted (D.faults (device_of self.old)) (D.faults (device_of self.new)) result }
     {
@@ -247,6 +252,7 @@ impl<D: Device> Journal<D> {
     /// Makes the kept pages the working ones. The device isn't called.
     pub fn abort(&mut self)
         ensures working { working_of self.new ≡ kept_of self.old }
+        ensures unchanged { IsUnchanged self.new }
         ensures keeps { Keeps self.old self.new }
         ensures device { device_of self.new ≡ device_of self.old }
     {

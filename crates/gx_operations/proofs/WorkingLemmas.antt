@@ -63,33 +63,34 @@ module _ (x : Stored) (device : List ℕ) (count records : ℕ) (old mid new : C
   reopens = subst (λ (bs : List (List ℕ)). Reopens x.schema_text x.equation_text x.built.specs (replicate (length x.built.specs) empty) bs) here made.2.reopens
 
   -- the device holds the blocks that are left
-  new_device : (P : List (List ℕ) → Type 0) → P new.now.blocks → IsNewDevice x device count old new P
-  new_device P is = record {
+  new_device : (P : List (List ℕ) → Type 0) → length new.now.blocks ≡ length mid.now.blocks → P new.now.blocks → IsNewDevice x device count old new P
+  new_device P same is = record {
     size = size;
     free = free;
     left = (new.now.blocks, named_at new.now device (ap (λ (h : Shelf). h.name) silent.shelf ∙ named), is);
+    many = same ∙ many;
   }
 
-  by_result : (r : Result (List ℕ) Ending) → IsPlayedOn x count records new.now.blocks r → IsWorking x device count records old new r
-  by_result (Ok line) is = new_device (λ after. IsPlayedOn x count records after (Ok line)) is
-  by_result (Err ending.Full) is = new_device (λ after. IsPlayedOn x count records after (Err ending.Full)) is
-  by_result (Err ending.NoMemory) is = λ none blocks there.
+  by_result : (r : Result (List ℕ) Ending) → length new.now.blocks ≡ length mid.now.blocks → IsPlayedOn x count records new.now.blocks r → IsWorking x device count records old new r
+  by_result (Ok line) same is = new_device (λ after. IsPlayedOn x count records after (Ok line)) same is
+  by_result (Err ending.Full) same is = new_device (λ after. IsPlayedOn x count records after (Err ending.Full)) same is
+  by_result (Err ending.NoMemory) same is = λ none blocks there.
       subst (HoldsFirst x records) (some_blocks new.now.blocks blocks (sym (named_at new.now device (ap (λ (h : Shelf). h.name) silent.shelf ∙ named)) ∙ there)) is
-  by_result (Err ending.Fault) is = tt
-  by_result (Err (ending.Device why)) is = absurd is
-  by_result (Err ending.Words) is = absurd is
-  by_result (Err (ending.Missing name)) is = absurd is
-  by_result (Err (ending.TooLong name)) is = absurd is
-  by_result (Err (ending.Schema line why)) is = absurd is
-  by_result (Err (ending.Equation line why)) is = absurd is
-  by_result (Err (ending.Type line why)) is = absurd is
-  by_result (Err ending.TextsTooLong) is = absurd is
-  by_result (Err (ending.Accepted summary)) is = absurd is
-  by_result (Err (ending.Line number why)) is = absurd is
-  by_result (Err (ending.Made blocks pages)) is = absurd is
+  by_result (Err ending.Fault) same is = tt
+  by_result (Err (ending.Device why)) same is = absurd is
+  by_result (Err ending.Words) same is = absurd is
+  by_result (Err (ending.Missing name)) same is = absurd is
+  by_result (Err (ending.TooLong name)) same is = absurd is
+  by_result (Err (ending.Schema line why)) same is = absurd is
+  by_result (Err (ending.Equation line why)) same is = absurd is
+  by_result (Err (ending.Type line why)) same is = absurd is
+  by_result (Err ending.TextsTooLong) same is = absurd is
+  by_result (Err (ending.Accepted summary)) same is = absurd is
+  by_result (Err (ending.Line number why)) same is = absurd is
+  by_result (Err (ending.Made blocks pages)) same is = absurd is
 
-  pub working_by : (r : Result (List ℕ) Ending) → IsPlayedOn x (length mid.now.blocks) records new.now.blocks r → IsWorking x device count records old new r
-  working_by r is = by_result r (subst (λ (n : ℕ). IsPlayedOn x n records new.now.blocks r) many is)
+  pub working_by : (r : Result (List ℕ) Ending) → length new.now.blocks ≡ length mid.now.blocks → IsPlayedOn x (length mid.now.blocks) records new.now.blocks r → IsWorking x device count records old new r
+  working_by r same is = by_result r same (subst (λ (n : ℕ). IsPlayedOn x n records new.now.blocks r) many is)
 
 -- ---- the play on it
 
@@ -156,6 +157,14 @@ pub told_unopened : (x : Stored) (schema equation : List ℕ) (specs : List Leaf
 told_unopened x schema equation specs blocks why a b c is =
     subst (λ t. AreUnopened t x.equation_text x.built.specs blocks why) a
     (subst (λ e. AreUnopened schema e x.built.specs blocks why) b (subst (λ ks. AreUnopened schema equation ks blocks why) c is))
+
+-- the same limit is of as many blocks
+pub same_blocks : (a b : Limits) → ◌≡◌ {A = Option Limits} (Some a) (Some b) → a.blocks ≡ b.blocks
+same_blocks a b same = ap (blocks_or b) same
+  where
+    blocks_or : Limits → Option Limits → ℕ
+    blocks_or d (Some limits) = limits.blocks
+    blocks_or d None = d.blocks
 
 -- the limit of the leaves on these blocks
 pub limit_of : (blocks : List (List ℕ)) (base : Ground) (places : List Place) (specs : List LeafSpec) → base ≡ ground_on blocks → specs_of places ≡ specs → Some (limits_of base places) ≡ Some (limits_on specs (length blocks))

@@ -1,5 +1,5 @@
 -- The steps by which the workload is played on a device.
-use Rattle.std.specs.Prelude.{◌≡◌, ◌⊎◌, ℕ, List, Some, None, Result, Ok, Err}
+use Rattle.std.specs.Prelude.{◌≡◌, ◌⊎◌, ℕ, List, length, Some, None, Result, Ok, Err}
 use Rattle.gx_device.specs.Content.{Content, device_at}
 use Rattle.gx_model.specs.States.{State, empty_state}
 use Rattle.gx_work.specs.Schema.{work_schema}
@@ -30,11 +30,12 @@ IsPlayedOn x count records after (Err ending.NoMemory) = HoldsFirst x records af
 IsPlayedOn x count records after (Err ending.Fault) = Unit {0}
 IsPlayedOn x count records after other = ⊥
 
--- there was no device of that name, one of so many blocks was made, and P holds of its blocks
+-- there was no device of that name, one of so many blocks is there, and P holds of its blocks
 pub record IsNewDevice (x : Stored) (device : List ℕ) (count : ℕ) (old new : Content) (P : List (List ℕ) → Type 0) : Type 0 where
   pub size : IsSize x.built.specs count
   pub free : device_at old.now device ≡ None
   pub left : OfBlocks device new P
+  pub many : length left.0 ≡ count
 
 -- What making the device and playing on it did. After want of memory a device that wasn't there and is there holds first lines.
 abbrev pub IsWorking : Stored → List ℕ → ℕ → ℕ → Content → Content → Result (List ℕ) Ending → Type 0

@@ -19,10 +19,10 @@ use gx_working::play_work;
 use std::alloc::Global;
 
 /// Makes a device of that name with so many blocks, plays the workload of so many records on it, and closes
-/// it. After a line of its summary and after `Full` the device, which wasn't there, is settled with the last
-/// state that the play kept; after `Device` it is as it was. After want of memory a new one holds no
-/// database, an empty one, or the last state that first lines kept. One that was there reads as it did,
-/// whatever the answer is.
+/// it. After a line of its summary and after `Full` the device, which wasn't there, has so many blocks, and is
+/// settled with the last state that the play kept; after `Device` it is as it was. After want of memory a
+/// new one holds no database, an empty one, or the last state that first lines kept. One that was there
+/// reads as it did, whatever the answer is.
 pub fn make_and_play<'a, M: Machine + Drop>(
     alloc: Global,
     stored: Stored,
@@ -89,6 +89,8 @@ fn play_made<'a, M: Machine + Drop>(
         (replicate (length stored.built.specs) empty) (M.content machine).now.blocks →
         IsPlayedOn stored (length (M.content machine).now.blocks) records
         (M.content result.1).now.blocks result.0 }
+    ensures count { IsTrue M.tells →
+        length (M.content result.1).now.blocks ≡ length (M.content machine).now.blocks }
     ensures silent { Silent (M.content machine) (M.content result.1) }
     ensures fault { IsErrOf result.0 Ending.Fault → Rose (M.faults machine) (M.faults result.1) }
     ensures counted { is_fault result.0 ≡ false → M.faults result.1 ≡ M.faults machine }

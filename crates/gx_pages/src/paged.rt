@@ -1,5 +1,5 @@
 // Pages with owners.
-ghost use Rattle.std.specs.Prelude.{◌≡◌, ◌≤◌, ℕ, slice_get, IsTrue, IfOk};
+ghost use Rattle.std.specs.Prelude.{◌≡◌, ◌≤◌, ◌<◌, ℕ, slice_get, IsTrue, IfOk};
 
 use crate::owners::{clear_owners, find_free, owner, owners_on, set_owner};
 use crate::table::{FREE, TABLE_PAGES};
@@ -82,6 +82,9 @@ impl<D: Device> PageView for Paged<D> {
 }
 
 impl<D: Device> Pages for Paged<D> {
+    ghost use Rattle.gx_layout.specs.Layout.{home};
+    ghost use Rattle.gx_journal.specs.Journal.{device_of, size_of};
+    ghost use Rattle.gx_pages.specs.View.{journal_of};
     ghost use Rattle.gx_pages.specs.Laws.{many_pages, calm_stands, calm_later};
 
     fn pages(&self) -> u32 {
@@ -119,7 +122,11 @@ impl<D: Device> Pages for Paged<D> {
         owners_on(&mut self.journal, table, into)
     }
 
-    fn block(&self, page: u32) -> u32 {
+    fn block(&self, page: u32) -> u32
+        requires page { page < size_of (journal_of self.now) }
+        ensures below { result < D.size (device_of (journal_of self.now)) }
+        ensures home { result ≡ home (size_of (journal_of self.now)) page }
+    {
         self.journal.block(page)
     }
 

@@ -1,5 +1,6 @@
 -- Lines whose answers are said, or kept.
 use Rattle.std.proofs.Common.{◌≡◌, ℕ, List, Bool, false, true, None, Result, Ok, Err, refl, sym, ap, subst, ◌∙◌, inl, inr, arith}
+use Rattle.std.specs.Prelude.{◌⊎◌}
 use Rattle.gx_commands.specs.declared.command.Command.{Command}
 use Rattle.gx_commands.specs.Commands.{place_reason}
 use Rattle.gx_commands.specs.Lines.{Lines}
@@ -127,8 +128,13 @@ played_aloud g p lines old new out now (Err (play_end.Stop why)) part = record {
   front = part.front;
   whole = part.whole;
   kept = part.kept;
+  failed = λ fault. stands_alone (part.failed fault);
   short = part.short;
 }
+  where
+    stands_alone : {B : Type 0} → IsAt (beside g answers.Said) part.final (with_answers new now) ⊎ B → IsAt g part.final new ⊎ B
+    stands_alone (inl at) = inl (at_alone g answers.Said part.final new now at)
+    stands_alone (inr b) = inr b
 
 -- ---- how failures are counted where a play ends a request
 

@@ -1,12 +1,12 @@
 -- The loop over the lines of a script.
 use Rattle.std.proofs.Common.{◌≡◌, ℕ, ◌+◌, ◌≤◌, List, [], ◌∷◌, ◌++◌, length, take, Bool, true, false, IsTrue, Result, Ok, Err, Option, Some, None, refl, sym, ap, subst, ◌∙◌, arith, inl, inr}
-use Rattle.std.specs.Prelude.{nat_lt, ◌==◌, ◌≢◌, if◌then◌else◌, IsErrAnd, IsSome, OnErr}
+use Rattle.std.specs.Prelude.{nat_lt, ◌==◌, ◌≢◌, ◌⊎◌, if◌then◌else◌, IsErrAnd, IsSome}
 use Rattle.std.proofs.lemmas.List.{append-nil, append_assoc, length-take, length-append, take_all}
 use Rattle.std.proofs.Math.Seq.{take-append-add}
 use Rattle.gx_device.specs.Faults.{Rose}
-use Rattle.gx_device.specs.Content.{Content}
 use Rattle.gx_schema.specs.declared.schema.Schema.{Schema}
 use Rattle.gx_commands.specs.declared.command.Command.{Command}
+use Rattle.gx_commands.specs.declared.command.Command.TheVariants as command
 use Rattle.gx_commands.specs.declared.command.LineWhy.{LineWhy}
 use Rattle.gx_commands.specs.declared.command.LineWhy.TheVariants as why
 use Rattle.gx_commands.specs.Commands.{place_reason}
@@ -22,11 +22,11 @@ use Rattle.gx_model.specs.Runs.{Step, Runs, IsBadLine, IsEnd, AreFirstLines}
 use Rattle.gx_model.proofs.RunLemmas.{run_on}
 use Rattle.gx_engine.specs.declared.engine.Engine.{Engine}
 use Rattle.gx_states.specs.Internal.{AreInternal}
-use Rattle.gx_engine.specs.Steps.{schema_of, built_of, leaves_of, is_open, IsDue, IsReady, IsAt}
+use Rattle.gx_engine.specs.Steps.{schema_of, built_of, leaves_of, is_open, is_commit, IsReady, IsAt}
 use Rattle.gx_ports.specs.declared.stop.Stop.TheVariants as stop
 use Rattle.gx_play.specs.declared.play.PlayEnd.{PlayEnd}
 use Rattle.gx_play.specs.declared.play.PlayEnd.TheVariants as play_end
-use Rattle.gx_play.specs.Plays.{IsLinePlayed, IsLineCut, IsCommandCut, HasPlayCause, IsBadAt, IsPlayedUp, IsPlayedPart, IsPlayedTo, IsLineEnd, IsSoFar, IsShortLine, IsGivenUp, KeepsState}
+use Rattle.gx_play.specs.Plays.{IsLinePlayed, IsLineCut, IsCommitLine, HasPlayCause, IsBadAt, IsPlayedUp, IsPlayedPart, IsPlayedTo, IsLineEnd, IsSoFar, IsShortLine, IsGivenUp, KeepsState}
 use Rattle.gx_play.specs.Played.{IsShortAt}
 
 -- no line was played yet
@@ -135,12 +135,13 @@ short_at g p before left line old e schema_is built_is limit_is before_is ready 
       maps = g.working (leaves_of e);
       many = sym ready.owned.each;
       before = at.stands.working_is;
-      short = record { line = line; later = left.lines; lines_are = ap (λ (ls : Lines). ls.lines) before_is; command = command; means = means; placed = placed; short = short };
+      short = record { line = line; later = left.lines; lines_are = ap (λ (ls : Lines). ls.lines) before_is; command = command; means = means; placed = placed; wants = short.0; short = short.1 };
     })))
 
 -- the answers of the lines before it
-part_before : {S : Type 0} (g : Ghosts S) (start : Playing) (all before : Lines) (number : ℕ) (old e new : Engine S) (why : Stop) → (so : IsSoFar g start all before number old e) → (g.content (leaves_of new)).now.said ≡ (g.content (leaves_of e)).now.said → (why ≢ stop.Fault → KeepsState g (schema_of old) (built_of old) (leaves_of new) so.now.kept) → (why ≡ stop.Full → IsShortAt (schema_of old) (built_of old) (g.limit (leaves_of old)) so.now before.lines) → IsPlayedPart g start all old new why
-part_before g start all before number old e new why so unsaid kept short = record {
+part_before : {S : Type 0} (g : Ghosts S) (start : Playing) (all before : Lines) (number : ℕ) (old e new : Engine S) (why : Stop) → (so : IsSoFar g start all before number old e) → (g.content (leaves_of new)).now.said ≡ (g.content (leaves_of e)).now.said → (why ≢ stop.Fault → KeepsState g (schema_of old) (built_of old) (leaves_of new) so.now.kept)
+    → (why ≡ stop.Fault → KeepsState g (schema_of old) (built_of old) (leaves_of new) so.now.kept ⊎ IsCommitLine (schema_of old) before.lines) → (why ≡ stop.Full → IsShortAt (schema_of old) (built_of old) (g.limit (leaves_of old)) so.now before.lines) → IsPlayedPart g start all old new why
+part_before g start all before number old e new why so unsaid kept failed short = record {
   ran = so.ran;
   later = before.lines;
   parts = so.lines_are;
@@ -150,6 +151,7 @@ part_before g start all before number old e new why so unsaid kept short = recor
   front = (length so.answers, unsaid ∙ so.said ∙ ap (λ t. (g.content (leaves_of old)).now.said ++ t) (sym (take_all (length so.answers) so.answers (omega arith))));
   whole = λ _. unsaid ∙ so.said;
   kept = kept;
+  failed = λ fault. inr (unsaid ∙ so.said, failed fault);
   short = short;
 }
 
@@ -160,8 +162,9 @@ fault_not_full e = absurd (never e)
     never f = cc
 
 -- the same, and a front of its own
-part_within : {S : Type 0} (g : Ghosts S) (start : Playing) (all before left : Lines) (number : ℕ) (line : List ℕ) (command : Command) (answer : List ℕ) (n : ℕ) (old e new : Engine S) → before ≡ with_line line left → (so : IsSoFar g start all before number old e) → IsLineOf (schema_of old) line command → place_reason (is_inside so.now) command ≡ None → IsAnswered (schema_of old) so.now command answer → (g.content (leaves_of new)).now.said ≡ (g.content (leaves_of e)).now.said ++ take n answer → IsPlayedPart g start all old new stop.Fault
-part_within g start all before left number line command answer n old e new before_is so means placed answered said = record {
+part_within : {S : Type 0} (g : Ghosts S) (start : Playing) (all before left : Lines) (number : ℕ) (line : List ℕ) (command : Command) (answer : List ℕ) (n : ℕ) (old e new : Engine S) → before ≡ with_line line left → (so : IsSoFar g start all before number old e) → IsLineOf (schema_of old) line command → place_reason (is_inside so.now) command ≡ None → IsAnswered (schema_of old) so.now command answer
+    → IsAt g (next_of (schema_of old) so.now command) new → (g.content (leaves_of new)).now.said ≡ (g.content (leaves_of e)).now.said ++ take n answer → IsPlayedPart g start all old new stop.Fault
+part_within g start all before left number line command answer n old e new before_is so means placed answered at said = record {
   ran = so.ran ++ line ∷ [];
   later = left.lines;
   parts = parts_more all before left so.ran line so.lines_are before_is;
@@ -175,36 +178,44 @@ part_within g start all before left number line command answer n old e new befor
   );
   whole = λ other. absurd (other refl);
   kept = λ other. absurd (other refl);
+  failed = λ _. inl at;
   short = fault_not_full;
 }
 
--- after a fault a front of its answer may have been said
-pub at_fault : {S : Type 0} (g : Ghosts S) (start : Playing) (all before left : Lines) (number : ℕ) (line : List ℕ) (old e new : Engine S) → schema_of e ≡ schema_of old → before ≡ with_line line left → (so : IsSoFar g start all before number old e) → IsLineCut (schema_of e) so.now line (g.content (leaves_of e)) (g.content (leaves_of new)) → IsPlayedPart g start all old new stop.Fault
-at_fault g start all before left number line old e new schema_is before_is so (inl unsaid) = part_before g start all before number old e new stop.Fault so unsaid (λ other. absurd (other refl)) fault_not_full
-at_fault g start all before left number line old e new schema_is before_is so (inr (command, means, placed, inl unsaid)) = part_before g start all before number old e new stop.Fault so unsaid (λ other. absurd (other refl)) fault_not_full
-at_fault g start all before left number line old e new schema_is before_is so (inr (command, means, placed, inr (answer, answered, (n, said)))) =
-    part_within g start all before left number line command answer n old e new before_is so
+-- a command of which nothing was said kept what was last committed, or it is a commit
+unsaid_keeps : {S : Type 0} (g : Ghosts S) (p : Playing) (before left : Lines) (line : List ℕ) (command : Command) (old e new : Engine S) → schema_of e ≡ schema_of old → built_of e ≡ built_of old → before ≡ with_line line left → IsAt g p e → IsLineOf (schema_of e) line command → (is_commit command ≡ false → Keeps g (leaves_of e) (leaves_of new))
+    → KeepsState g (schema_of old) (built_of old) (leaves_of new) p.kept ⊎ IsCommitLine (schema_of old) before.lines
+unsaid_keeps g p before left line command.Commit old e new schema_is built_is before_is at means keeps = inr (line, left.lines, ap (λ (ls : Lines). ls.lines) before_is, subst (λ s. IsLineOf s line command.Commit) schema_is means)
+unsaid_keeps g p before left line _ old e new schema_is built_is before_is at means keeps = inl (kept_after g p old e new schema_is built_is at (keeps refl))
+
+-- after a fault a front of its answer may have been said, where it was carried out
+pub at_fault : {S : Type 0} (g : Ghosts S) (start : Playing) (all before left : Lines) (number : ℕ) (line : List ℕ) (old e new : Engine S) → schema_of e ≡ schema_of old → built_of e ≡ built_of old → before ≡ with_line line left → (so : IsSoFar g start all before number old e) → IsLineCut g so.now line e new → IsPlayedPart g start all old new stop.Fault
+at_fault g start all before left number line old e new schema_is built_is before_is so (inl same) =
+    part_before g start all before number old e new stop.Fault so (ap (λ (x : Engine _). (g.content (leaves_of x)).now.said) same) (λ other. absurd (other refl))
+    (λ _. inl (subst (λ (x : Engine _). KeepsState g (schema_of old) (built_of old) (leaves_of x) so.now.kept) (sym same) (kept_at g so.now old e schema_is built_is so.at))) fault_not_full
+at_fault g start all before left number line old e new schema_is built_is before_is so (inr (command, means, placed, inl (unsaid, keeps))) =
+    part_before g start all before number old e new stop.Fault so unsaid (λ other. absurd (other refl))
+    (λ _. unsaid_keeps g so.now before left line command old e new schema_is built_is before_is so.at means keeps) fault_not_full
+at_fault g start all before left number line old e new schema_is built_is before_is so (inr (command, means, placed, inr (at, cut))) =
+    part_within g start all before left number line command cut.0 cut.2.0 old e new before_is so
     (subst (λ s. IsLineOf s line command) schema_is means) placed
-    (subst (λ s. IsAnswered s so.now command answer) schema_is answered) said
+    (subst (λ s. IsAnswered s so.now command cut.0) schema_is cut.1)
+    (subst (λ s. IsAt g (next_of s so.now command) new) schema_is at) cut.2.1
 
 -- after another stop nothing of it was
 at_other : {S : Type 0} (g : Ghosts S) (start : Playing) (all before left : Lines) (number : ℕ) (line : List ℕ) (why : Stop) (old e new : Engine S) → schema_of e ≡ schema_of old → built_of e ≡ built_of old → g.limit (leaves_of e) ≡ g.limit (leaves_of old) → before ≡ with_line line left → (so : IsSoFar g start all before number old e) → IsReady g e → why ≢ stop.Fault → IsGivenUp g so.now line e new why → IsPlayedPart g start all old new why
 at_other g start all before left number line why old e new schema_is built_is limit_is before_is so ready other up =
     part_before g start all before number old e new why so (up.unsaid other)
     (λ _. kept_after g so.now old e new schema_is built_is so.at (up.kept other))
+    (λ fault. absurd (other fault))
     (λ full. short_at g so.now before left line old e schema_is built_is limit_is before_is ready so.at (up.short full))
 
 -- the same of every stop
 pub at_cut : {S : Type 0} (g : Ghosts S) (start : Playing) (all before left : Lines) (number : ℕ) (line : List ℕ) (why : Stop) (old e new : Engine S) → schema_of e ≡ schema_of old → built_of e ≡ built_of old → g.limit (leaves_of e) ≡ g.limit (leaves_of old) → before ≡ with_line line left → (so : IsSoFar g start all before number old e) → IsReady g e → IsGivenUp g so.now line e new why → IsPlayedPart g start all old new why
-at_cut g start all before left number line stop.Fault old e new schema_is built_is limit_is before_is so ready up = at_fault g start all before left number line old e new schema_is before_is so up.cut
+at_cut g start all before left number line stop.Fault old e new schema_is built_is limit_is before_is so ready up = at_fault g start all before left number line old e new schema_is built_is before_is so up.cut
 at_cut g start all before left number line stop.Full old e new schema_is built_is limit_is before_is so ready up = at_other g start all before left number line stop.Full old e new schema_is built_is limit_is before_is so ready (λ f. cc) up
 at_cut g start all before left number line stop.NoMemory old e new schema_is built_is limit_is before_is so ready up = at_other g start all before left number line stop.NoMemory old e new schema_is built_is limit_is before_is so ready (λ f. cc) up
 at_cut g start all before left number line (stop.Damaged block) old e new schema_is built_is limit_is before_is so ready up = at_other g start all before left number line (stop.Damaged block) old e new schema_is built_is limit_is before_is so ready (λ f. cc) up
-
--- the cut of the command that the line means
-pub line_cut : {S : Type 0} (e : Engine S) (p : Playing) (line : List ℕ) (command : Command) (old new : Content) (out : Result (Unit {0}) PlayEnd) → is_open e ≡ is_inside p → IsLineOf (schema_of e) line command → IsDue e command → IsCommandCut (schema_of e) p command old new → OnErr out (IsLineCut (schema_of e) p line old new)
-line_cut e p line command old new (Ok x) same means due cut = tt
-line_cut e p line command old new (Err end) same means due cut = inr (command, means, subst (λ i. place_reason i command ≡ None) same due.allowed, cut)
 
 -- a cause in a later call is one in all of them
 pub rose_since : (before mid now : ℕ) → before ≤ mid → Rose mid now → Rose before now

@@ -14,6 +14,7 @@ use Rattle.gx_model.specs.States.{State}
 use Rattle.gx_model.specs.Play.{Playing, End, stopped, start_at, end_text, seen_state, is_inside, next_of}
 use Rattle.gx_model.specs.Runs.{Runs, IsPlayFrom, AreFirstAnswersFrom}
 use Rattle.gx_states.specs.Internal.{AreInternal, state_entries}
+use Rattle.gx_engine.specs.Moments.{MayWantRoom}
 use Rattle.gx_play.specs.Built.{IsBuiltOf}
 use Rattle.gx_play.specs.Endings.{memory_line, full_line}
 
@@ -60,8 +61,8 @@ pub record IsShortText (schema : Schema) (start : State) (script text : List ℕ
 
 -- ---- a full device
 
--- The first of these lines has a command, which may stand there, and the pages may be too few for so many entries and
--- those of the state behind it.
+-- The first of these lines has a command, which may stand there. It may want room, and the pages may be too few for so
+-- many entries and those of the state behind it.
 pub record IsShortWith (schema : Schema) (built : Built) (limit : Option Limits) (p : Playing) (entries : ℕ) (lines : List (List ℕ)) : Type 0 where
   pub line : List ℕ
   pub later : List (List ℕ)
@@ -69,6 +70,7 @@ pub record IsShortWith (schema : Schema) (built : Built) (limit : Option Limits)
   pub command : Command
   pub means : IsLineOf schema line command
   pub placed : place_reason (is_inside p) command ≡ None
+  pub wants : MayWantRoom schema p command
   pub short : IsCrowdedBy limit (entries + state_entries built (seen_state (next_of schema p command)))
 
 -- the same of the entries of the state before it

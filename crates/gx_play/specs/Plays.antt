@@ -1,10 +1,11 @@
 -- What the play of a script on an engine says, line by line.
-use Rattle.std.specs.Prelude.{◌≡◌, ◌≢◌, ◌⊎◌, ℕ, ◌+◌, ◌<◌, ◌≤◌, List, [], ◌++◌, length, take, Bool, true, false, IsTrue, Option, None, IsSome, Result, Ok, Err}
-use Rattle.gx_device.specs.Content.{Content, Silent}
+use Rattle.std.specs.Prelude.{◌≡◌, ◌≢◌, ◌⊎◌, ℕ, ◌+◌, ◌<◌, ◌≤◌, List, [], ◌∷◌, ◌++◌, length, take, Bool, true, false, IsTrue, Option, None, IsSome, Result, Ok, Err}
+use Rattle.gx_device.specs.Content.{Silent}
 use Rattle.gx_device.specs.Quiet.{IsPrefix}
 use Rattle.gx_device.specs.Faults.{Rose}
 use Rattle.gx_schema.specs.declared.schema.Schema.{Schema}
 use Rattle.gx_commands.specs.declared.command.Command.{Command}
+use Rattle.gx_commands.specs.declared.command.Command.TheVariants as command
 use Rattle.gx_commands.specs.declared.command.LineWhy.{LineWhy}
 use Rattle.gx_commands.specs.Commands.{place_reason}
 use Rattle.gx_script.specs.Grammar.{IsLineOf}
@@ -21,7 +22,7 @@ use Rattle.gx_types.specs.declared.built.Built.{Built}
 use Rattle.gx_model.specs.Runs.{Runs, IsBadLine, IsPlayFrom}
 use Rattle.gx_engine.specs.declared.engine.Engine.{Engine}
 use Rattle.gx_states.specs.Internal.{AreInternal}
-use Rattle.gx_engine.specs.Steps.{IsAt, IsReady, IsShortFor, schema_of, built_of, leaves_of}
+use Rattle.gx_engine.specs.Steps.{IsAt, IsReady, IsShortFor, is_commit, schema_of, built_of, leaves_of}
 use Rattle.gx_play.specs.declared.ending.Ending.{Ending}
 use Rattle.gx_play.specs.declared.ending.Ending.TheVariants as ending
 use Rattle.gx_play.specs.Endings.{ending_of}
@@ -46,13 +47,23 @@ pub record IsLinePlayed {S : Type 0} (g : Ghosts S) (p : Playing) (line : List �
   pub placed : place_reason (is_inside p) command ≡ None
   pub played : IsCommandPlayed g p command old new
 
--- A command was given up: nothing was said, or a front of its answer.
-abbrev pub IsCommandCut : Schema → Playing → Command → Content → Content → Type 0
-IsCommandCut schema p command old new = (new.now.said ≡ old.now.said) ⊎ ((answer : List ℕ) × IsAnswered schema p command answer × ((count : ℕ) × (new.now.said ≡ old.now.said ++ take count answer)))
+-- nothing was said of a command, and unless it is a commit what was last committed stays
+abbrev pub IsCommandUnsaid : {S : Type 0} → Ghosts S → Command → Engine S → Engine S → Type 0
+IsCommandUnsaid g command old new = ((g.content (leaves_of new)).now.said ≡ (g.content (leaves_of old)).now.said) × (is_commit command ≡ false → Keeps g (leaves_of old) (leaves_of new))
 
--- the same of the command that a line means, which may stand there; where none was read, nothing was said
-abbrev pub IsLineCut : Schema → Playing → List ℕ → Content → Content → Type 0
-IsLineCut schema p line old new = (new.now.said ≡ old.now.said) ⊎ ((command : Command) × IsLineOf schema line command × (place_reason (is_inside p) command ≡ None) × IsCommandCut schema p command old new)
+-- a command was carried out, and a front of its answer was said
+abbrev pub IsAnswerCut : {S : Type 0} → Ghosts S → Playing → Command → Engine S → Engine S → Type 0
+IsAnswerCut g p command old new =
+    IsAt g (next_of (schema_of old) p command) new
+    × ((answer : List ℕ) × IsAnswered (schema_of old) p command answer × ((count : ℕ) × ((g.content (leaves_of new)).now.said ≡ (g.content (leaves_of old)).now.said ++ take count answer)))
+
+-- A command was given up: nothing was said, or a front of its answer behind which it was carried out.
+abbrev pub IsCommandCut : {S : Type 0} → Ghosts S → Playing → Command → Engine S → Engine S → Type 0
+IsCommandCut g p command old new = IsCommandUnsaid g command old new ⊎ IsAnswerCut g p command old new
+
+-- the same of the command that a line means, which may stand there; where none was read, nothing happened
+abbrev pub IsLineCut : {S : Type 0} → Ghosts S → Playing → List ℕ → Engine S → Engine S → Type 0
+IsLineCut g p line old new = (new ≡ old) ⊎ ((command : Command) × IsLineOf (schema_of old) line command × (place_reason (is_inside p) command ≡ None) × IsCommandCut g p command old new)
 
 -- the line of this number is bad
 abbrev pub IsBadAt : Schema → Bool → ℕ → List ℕ → ℕ → LineWhy → Type 0
@@ -104,14 +115,14 @@ IsShortLine g e p line = (command : Command) × IsLineOf (schema_of e) line comm
 -- A command was given up: unless a call below failed, nothing was said of it, and what was last committed stays.
 pub record IsCommandGivenUp {S : Type 0} (g : Ghosts S) (p : Playing) (command : Command) (old new : Engine S) (why : Stop) : Type 0 where
   pub unsaid : why ≢ stop.Fault → (g.content (leaves_of new)).now.said ≡ (g.content (leaves_of old)).now.said
-  pub cut : IsCommandCut (schema_of old) p command (g.content (leaves_of old)) (g.content (leaves_of new))
+  pub cut : IsCommandCut g p command old new
   pub kept : why ≢ stop.Fault → Keeps g (leaves_of old) (leaves_of new)
   pub short : why ≡ stop.Full → IsShortFor g old p command
 
 -- A line was given up: unless a call below failed, nothing of it was said, and what was last committed stays.
 pub record IsGivenUp {S : Type 0} (g : Ghosts S) (p : Playing) (line : List ℕ) (old new : Engine S) (why : Stop) : Type 0 where
   pub unsaid : why ≢ stop.Fault → (g.content (leaves_of new)).now.said ≡ (g.content (leaves_of old)).now.said
-  pub cut : IsLineCut (schema_of old) p line (g.content (leaves_of old)) (g.content (leaves_of new))
+  pub cut : IsLineCut g p line old new
   pub kept : why ≢ stop.Fault → Keeps g (leaves_of old) (leaves_of new)
   pub short : why ≡ stop.Full → IsShortLine g old p line
 
@@ -129,8 +140,13 @@ pub record IsPlayedUp {S : Type 0} (g : Ghosts S) (p : Playing) (lines : Lines) 
   pub said : (g.content (leaves_of new)).now.said ≡ (g.content (leaves_of old)).now.said ++ text
   pub at : IsAt g final new
 
+-- the first of these lines is a commit
+abbrev pub IsCommitLine : Schema → List (List ℕ) → Type 0
+IsCommitLine schema lines = (line : List ℕ) × (later : List (List ℕ)) × (lines ≡ line ∷ later) × IsLineOf schema line command.Commit
+
 -- The first lines ran from a moment on, and a front of their answers was said. Unless a call below failed, all of them
--- was, and the last kept state is theirs.
+-- was, and the last kept state is theirs. After a failed call the engine stands behind them; or all of their answers was
+-- said, and the last kept state is theirs unless the next line is a commit.
 pub record IsPlayedPart {S : Type 0} (g : Ghosts S) (p : Playing) (lines : Lines) (old new : Engine S) (why : Stop) : Type 0 where
   pub ran : List (List ℕ)
   pub later : List (List ℕ)
@@ -141,6 +157,7 @@ pub record IsPlayedPart {S : Type 0} (g : Ghosts S) (p : Playing) (lines : Lines
   pub front : (n : ℕ) × ((g.content (leaves_of new)).now.said ≡ (g.content (leaves_of old)).now.said ++ take n text)
   pub whole : why ≢ stop.Fault → (g.content (leaves_of new)).now.said ≡ (g.content (leaves_of old)).now.said ++ text
   pub kept : why ≢ stop.Fault → KeepsState g (schema_of old) (built_of old) (leaves_of new) final.kept
+  pub failed : why ≡ stop.Fault → IsAt g final new ⊎ (((g.content (leaves_of new)).now.said ≡ (g.content (leaves_of old)).now.said ++ text) × (KeepsState g (schema_of old) (built_of old) (leaves_of new) final.kept ⊎ IsCommitLine (schema_of old) later))
   pub short : why ≡ stop.Full → IsShortAt (schema_of old) (built_of old) (g.limit (leaves_of old)) final later
 
 -- the same for the end that a play answers

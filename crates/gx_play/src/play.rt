@@ -173,9 +173,12 @@ fn step<B: Leaves + Drop>(
 /// to `out`, and nothing is said. Where they are kept, or said on a device that tells its content:
 /// after `Ok` and `Line` exactly the answers of the play were given, it ends there, and the engine
 /// stands for its last moment; after `Stop` exactly the answers of the first lines, and the kept
-/// leaves stand for the last state that these kept; after `Stop(Fault)` a front of the answers. Of
-/// a stop, `Fault` comes only where the count of faults rose, `Full` only where the pages may be
-/// too few for the command of the next line, and `Damaged` never where the leaves hold a state.
+/// leaves stand for the last state that these kept; after `Stop(Fault)` a front of the answers.
+/// After that the engine stands behind the lines whose answers were said; or what they committed
+/// last stays, unless the next line is a `commit`, of which nothing was said. Of a stop, `Fault`
+/// comes only where the count of faults rose, `Full` only where the pages may be too few for the
+/// command of the next line, which changes records or links and isn't refused, or is a
+/// `reorganize`, and `Damaged` never where the leaves hold a state.
 pub fn play_script<B: Leaves + Drop>(
     alloc: Global,
     script: &[u8],

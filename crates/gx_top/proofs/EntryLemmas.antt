@@ -338,6 +338,7 @@ full_by_state schema ds built limit start script answers final trees full =
         command = at.short.command;
         means = at.short.means;
         placed = at.short.placed;
+        wants = at.short.wants;
         short = crowded_more limit (entry_count at.maps + behind) (state_entries built (seen_state final) + behind) (omega (arith, few)) at.short.short;
       };
     }
@@ -411,6 +412,6 @@ never_full schema ds built l start script answers final trees enough full =
     let at = full.short in
     let first : AreFirst schema start script answers = record { ran = full.ran; later = full.later; parts = full.parts; final = final; runs = full.runs } in
     let behind = seen_state (next_of schema final at.command) in
-    let fits : need l built (seen_state final) behind ≤ l.pages = enough answers first at.line at.later at.command at.lines_are at.means at.placed in
+    let fits : need l built (seen_state final) behind ≤ l.pages = enough answers first at.line at.later at.command at.lines_are at.means at.placed at.wants in
     let short : l.pages < l.fixed + 2 * (state_entries full.built (seen_state final) + state_entries full.built behind) + 2 = at.short in
     omega (arith, fits, short, same_entries schema ds built full.built (seen_state final) trees full.trees, same_entries schema ds built full.built behind trees full.trees)

@@ -245,7 +245,8 @@ module _ (words : List (List ℕ)) (device digits number : List ℕ) (count reco
     free_for P made = (subst (λ (ks : List LeafSpec). IsSize ks count) p.specs_are made.size, sym (ap (λ n. device_at n device) same.now) ∙ made.free)
 
     -- played to its end
-    text_of : (line : List ℕ) → (made : IsNewDevice x device count middle mid (λ after. IsPlayedOn x count records after (Ok line))) → IsWorkText Asked device records new line
+    text_of : (line : List ℕ) → (made : IsNewDevice x device count middle mid (λ after. IsPlayedOn x count records after (Ok line))) → IsWorkText Asked device count records new line
+    unfolding settled_on
     text_of line made =
         let out = made.left.2 in
         record {
@@ -253,11 +254,13 @@ module _ (words : List (List ℕ)) (device digits number : List ℕ) (count reco
           final = out.final;
           play = out.play;
           settled = settled_on made.left.0 out.final.kept made.left.1 out.holds;
+          count = made.many;
           text_is = out.line_is;
         }
 
     -- up to a full device
     full_of : (made : IsNewDevice x device count middle mid (λ after. IsPlayedOn x count records after (Err ending.Full))) → IsWorkFull Asked device count records new full_line
+    unfolding settled_on
     full_of made =
         let out = made.left.2 in
         record {
@@ -267,6 +270,7 @@ module _ (words : List (List ℕ)) (device digits number : List ℕ) (count reco
               (subst (λ (k : Schema). IsBuiltOf k p.definitions x.built) is_work p.trees)
               (subst (λ (ks : List LeafSpec). IsFullAt work_schema x.built (Some (limits_on ks count)) (empty_state work_schema) (work_script records) out.answers out.final) p.specs_are out.full);
           settled = settled_on made.left.0 out.final.kept made.left.1 out.holds;
+          count = made.many;
           text_is = refl;
         }
 

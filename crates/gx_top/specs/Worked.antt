@@ -1,5 +1,5 @@
 -- What `work` says of a workload, and what it leaves.
-use Rattle.std.specs.Prelude.{◌≡◌, ◌≢◌, ◌⊎◌, ℕ, List, Some, None}
+use Rattle.std.specs.Prelude.{◌≡◌, ◌≢◌, ◌⊎◌, ℕ, List, length, Some, None}
 use Rattle.gx_device.specs.Content.{Content, Texts, device_at}
 use Rattle.gx_schema.specs.declared.schema.Schema.{Schema}
 use Rattle.gx_schema.specs.Printing.{schema_text}
@@ -43,22 +43,24 @@ worked r = record { action = working r.device r.digits r.number; schema = r.sche
 
 -- ---- what is said
 
--- The workload was played from the empty state to its end, the device is settled with the last kept state, and the text is
--- the summary.
-pub record IsWorkText (t : Task) (device : List ℕ) (records : ℕ) (after : Content) (text : List ℕ) : Type 0 where
+-- The workload was played from the empty state to its end, the device has so many blocks and is settled with the last kept
+-- state, and the text is the summary.
+pub record IsWorkText (t : Task) (device : List ℕ) (blocks records : ℕ) (after : Content) (text : List ℕ) : Type 0 where
   pub answers : List ℕ
   pub final : Playing
   pub play : IsPlay work_schema (empty_state work_schema) (work_script records) answers final good
   pub settled : IsSettledOn t device after final.kept
+  pub count : length settled.blocks ≡ blocks
   pub text_is : text ≡ work_text records final
 
--- It was played up to a command for which the pages of so many blocks may be too few, and the device is settled with the last
--- kept state.
+-- It was played up to a command for which the pages of so many blocks may be too few, and the device, which has so many, is
+-- settled with the last kept state.
 pub record IsWorkFull (t : Task) (device : List ℕ) (blocks records : ℕ) (after : Content) (text : List ℕ) : Type 0 where
   pub answers : List ℕ
   pub final : Playing
   pub full : IsFull work_schema t.definitions (Some (limits_on t.typing.specs blocks)) (empty_state work_schema) (work_script records) answers final
   pub settled : IsSettledOn t device after final.kept
+  pub count : length settled.blocks ≡ blocks
   pub text_is : text ≡ full_line
 
 -- the line of why no such device is made
@@ -68,7 +70,7 @@ IsUnmadeText t device blocks before text = (why : DeviceWhy) × IsUnmakable t.ty
 -- one of these, or that there was no memory
 abbrev pub IsWorkedText : Task → List ℕ → ℕ → ℕ → Content → Content → List ℕ → Type 0
 IsWorkedText t device blocks records before after text =
-    IsWorkText t device records after text ⊎ IsWorkFull t device blocks records after text ⊎ IsUnmadeText t device blocks before text ⊎ (text ≡ memory_line)
+    IsWorkText t device blocks records after text ⊎ IsWorkFull t device blocks records after text ⊎ IsUnmadeText t device blocks before text ⊎ (text ≡ memory_line)
 
 -- there was no device of that name, and one of so many blocks can be made
 abbrev pub IsFreeFor : Task → List ℕ → ℕ → Content → Type 0
@@ -76,7 +78,7 @@ IsFreeFor t device blocks before = IsSize t.typing.specs blocks × (device_at be
 
 -- what was said, and nothing else, by the status
 abbrev pub IsWorked : Task → List ℕ → ℕ → ℕ → Content → Content → Status → Type 0
-IsWorked t device blocks records old new status.Done = IsFreeFor t device blocks old × Says (IsWorkText t device records new) old new
+IsWorked t device blocks records old new status.Done = IsFreeFor t device blocks old × Says (IsWorkText t device blocks records new) old new
 IsWorked t device blocks records old new status.Full = IsFreeFor t device blocks old × Says (IsWorkFull t device blocks records new) old new
 IsWorked t device blocks records old new status.Device = Says (IsUnmadeText t device blocks old) old new
 IsWorked t device blocks records old new status.Memory = Says (λ text. text ≡ memory_line) old new

@@ -103,6 +103,7 @@ short_before built limit p lines more s = record {
     command = s.short.command;
     means = s.short.means;
     placed = s.short.placed;
+    wants = s.short.wants;
     short = s.short.short;
   };
 }

@@ -29,11 +29,11 @@ const FIND_BY_PAY: &[u8] = b"find emp where pay = 1500\n";
 const FIND_BY_LINK: &[u8] = b"find emp of works 3\n";
 
 /// Plays the workload's script over leaves, says nothing and hears nothing, and gives the line of
-/// its summary. The leaves are handed back. On leaves that hold a state: after `Ok` all of the
-/// script was played from that state, to its end, and the last kept state is in the kept leaves;
-/// after `NoMemory` and `Full` the first lines, and their last kept state. `Full` comes only where
-/// the pages may be too few for the command of the next line. No other ending is answered but
-/// `Fault`, after which the count of faults rose.
+/// its summary. The leaves are handed back, under the same limit. On leaves that hold a state: after
+/// `Ok` all of the script was played from that state, to its end, and the last kept state is in the
+/// kept leaves; after `NoMemory` and `Full` the first lines, and their last kept state. `Full` comes
+/// only where the pages may be too few for the command of the next line, which may want room. No
+/// other ending is answered but `Fault`, after which the count of faults rose.
 pub fn play_work<'a, B: Leaves + Drop>(
     alloc: Global,
     schema: Schema,
@@ -49,6 +49,7 @@ pub fn play_work<'a, B: Leaves + Drop>(
         result.0 }
     ensures ending { IfErr result.0 IsPlayEnding }
     ensures fault { IsErrOf result.0 Ending.Fault → Rose (B.faults leaves) (B.faults result.1) }
+    ensures limit { B.limit result.1 ≡ B.limit leaves }
     ensures head { B.head result.1 ≡ B.head leaves }
     ensures silent { Silent (B.content leaves) (B.content result.1) }
     ensures counted { is_fault result.0 ≡ false → B.faults result.1 ≡ B.faults leaves }

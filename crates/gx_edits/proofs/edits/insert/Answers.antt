@@ -4,7 +4,7 @@ use Rattle.gx_stack.specs.Seen.{tree_of}
 use Rattle.gx_scan.specs.Files.{IsTreeFor}
 use Rattle.gx_scan.proofs.CallLemmas.{ok_one, ends_so}
 use Rattle.gx_states.proofs.StoredLemmas.{internal_at, has_file}
-use Rattle.gx_edits.proofs.EditLemmas.{insert_edited, short_insert}
+use Rattle.gx_edits.proofs.EditLemmas.{insert_edited, insert_accepted, short_insert}
 use Rattle.gx_edits.proofs.edits.insert.Goals as goal
 
 pub insert_record-requires-clause-tree : goal.insert_record-requires-clause-tree
@@ -30,6 +30,9 @@ returns g c =
       full = λ s known whole are stops.
           let short = c.insert_record.ensures.full _ whole (internal_at schema built i def t old s def_is tree_is lt are) stops in
           short_insert (g.B.View.limit c.args.leaves.now) schema built _ _ old s i t c.requires.ready are lt tree_is c.key_and_values-key.result.0 c.args.values c.key_and_values-key.result.1 c.key_and_values-key.ensures.parts short.0 short.1;
+      accepted = λ s known whole are stops.
+          let short = c.insert_record.ensures.full _ whole (internal_at schema built i def t old s def_is tree_is lt are) stops in
+          insert_accepted schema s i c.key_and_values-key.result.0 c.args.values c.key_and_values-key.result.1 c.key_and_values-key.ensures.parts short.0;
       keeps = c.insert_record.ensures.keeps;
       ends = ends_so g.B.View _ _ _ _ _ (λ found. (found.0, has_file schema built i def t old def_is tree_is lt found.1)) c.insert_record.ensures.ends;
       block = c.insert_record.ensures.block;

@@ -13,7 +13,7 @@ use Rattle.gx_model.specs.Commands.{changed, updated, first_refusal, no_record}
 use Rattle.gx_scan.proofs.CallLemmas.{ok_one, ends_so}
 use Rattle.gx_states.proofs.StoredLemmas.{internal_at, has_file}
 use Rattle.gx_edits.specs.Records.{IsEditedWhere}
-use Rattle.gx_edits.proofs.EditLemmas.{update_edited, short_update}
+use Rattle.gx_edits.proofs.EditLemmas.{update_edited, update_accepted, short_update}
 use Rattle.gx_edits.proofs.edits.update.Goals as goal
 
 pub update_record-requires-clause-tree : goal.update_record-requires-clause-tree
@@ -41,6 +41,9 @@ returns g c =
           let short = c.update_record.ensures.full _ whole (internal_at schema built i def t old s def_is tree_is lt are) stops in
           short_update (g.B.View.limit c.args.leaves.now) schema built _ _ old s i t c.requires.ready are lt tree_is c.args.key.now c.args.changes.now short.0 short.1
           (subst (λ (cs : List Change). IsCrowdedBy (g.B.View.limit c.args.leaves.now) (entry_count old + length (entries_of any_rule t (rec_of (c.args.key.now, changed short.0 cs))))) (c.deref.ensures.value ∙ c.changes.view_is) short.2);
+      accepted = λ s known whole are stops.
+          let short = c.update_record.ensures.full _ whole (internal_at schema built i def t old s def_is tree_is lt are) stops in
+          update_accepted schema s i c.args.key.now c.args.changes.now short.0 short.1;
       keeps = c.update_record.ensures.keeps;
       ends = ends_so g.B.View _ _ _ _ _ (λ found. (found.0, has_file schema built i def t old def_is tree_is lt found.1)) c.update_record.ensures.ends;
       block = c.update_record.ensures.block;

@@ -41,6 +41,8 @@ returns g c =
           let linked = is_linked_in any_link_rule IsHeldBy IsValidLinkset schema built _ i x c.requires.ready lt is old s are in
           let full = pair.full _ _ _ whole linked stops in
           connect_full any_link_rule IsHeldBy IsValidLinkset schema built _ i x c.requires.ready lt is _ _ s c.args.owner.now c.args.member.now are.valid full.0 full.1;
+      accepted = λ s known whole are stops.
+          (pair.full _ _ _ whole (is_linked_in any_link_rule IsHeldBy IsValidLinkset schema built _ i x c.requires.ready lt is old s are) stops).0;
       keeps = pair.keeps;
       ends = ends_so b _ _ _ _ _ (λ sound. (sound.0, have_link any_link_rule IsHeldBy IsValidLinkset schema built _ i x c.requires.ready lt is old sound.1)) pair.ends;
       block = pair.block;

@@ -38,6 +38,8 @@ returns g c =
           let linked = is_linked_in any_link_rule IsHeldBy IsValidLinkset schema built _ i x c.requires.ready lt is old s are in
           let full = pair.full _ _ _ whole linked stops in
           disconnect_full any_link_rule IsHeldBy IsValidLinkset schema built _ i x c.requires.ready lt is _ _ s full.0 c.args.member.now are.valid full.1 full.3;
+      accepted = λ s known whole are stops.
+          (pair.full _ _ _ whole (is_linked_in any_link_rule IsHeldBy IsValidLinkset schema built _ i x c.requires.ready lt is old s are) stops).1;
       keeps = pair.keeps;
       ends = ends_so b _ _ _ _ _ (λ sound. (sound.0, have_link any_link_rule IsHeldBy IsValidLinkset schema built _ i x c.requires.ready lt is old sound.1)) pair.ends;
       block = pair.block;

@@ -1,4 +1,4 @@
-use Rattle.std.proofs.Common.{rules, ◌≡◌, ◌∙◌, ℕ, ◌+◌, ◌*◌, ◌≤◌, false, true, List, [], length, get_or, sym, subst, arith}
+use Rattle.std.proofs.Common.{rules, ◌≡◌, ◌∙◌, ℕ, ◌+◌, ◌*◌, ◌≤◌, false, true, List, [], length, get_or, vec_len, sym, subst, arith}
 use Rattle.gx_device.specs.Crash.{EachImage}
 use Rattle.gx_device.proofs.RunLemmas.{joined}
 use Rattle.gx_device.specs.Content.{block_of}
@@ -9,6 +9,8 @@ use Rattle.gx_journal.proofs.CommitLemmas.{spilled_rest, spilled_images, spilled
 use Rattle.gx_journal.specs.Sources.{IsCommitted}
 use Rattle.gx_journal.proofs.PublishLemmas.{failed_stored, done_stored, moved_cached, moved_pages, stored_home}
 use Rattle.gx_journal.proofs.SlotLemmas.{slots_gate}
+use Rattle.gx_journal.proofs.ForgetLemmas.{none_left}
+use Rattle.gx_journal.proofs.UnchangedLemmas.{never_listed, still_unchanged}
 use Rattle.gx_journal.proofs.commit.commit.Goals as goal
 
 pub returns-in_err-spill_all-clause-images : goal.returns-in_err-spill_all-clause-images
@@ -175,3 +177,40 @@ returns-clause-home g c told q =
     let stored = done_stored P is listed c.spill_all.new.working.named e.long mid new rest flags c.clear.ensures.none homes in
     moved_pages P mid.now.blocks new.now.blocks is flags rs c.publish.new.frames.resident c.publish.ensures.order stored q
     ∙ c.in_ok-spill_all.ensures.stored told q ∙ sym (stored q) ∙ stored_home P new.now.blocks flags c.clear.ensures.none q
+
+-- ---- where no page has changed
+
+pub returns-in_err-spill_all-clause-unchanged : goal.returns-in_err-spill_all-clause-unchanged
+returns-in_err-spill_all-clause-unchanged g c is = (c.spill_all.ensures.unchanged is.clean).0
+
+pub returns-then-is_empty-clause-unchanged : goal.returns-then-is_empty-clause-unchanged
+returns-then-is_empty-clause-unchanged g c is = (c.spill_all.ensures.unchanged is.clean).0
+
+pub returns-in_err-publish-clause-unchanged : goal.returns-in_err-publish-clause-unchanged
+returns-in_err-publish-clause-unchanged g c is =
+    absurd (never_listed c.args.working.now c.spill_all.new.working
+    (vec_len c.spill_all.new.working.listed) is (c.spill_all.ensures.unchanged is.clean).1
+    (search rules) (sym c.is_empty.ensures ∙ c.if-is_empty.false))
+
+pub returns-clause-unchanged : goal.returns-clause-unchanged
+returns-clause-unchanged g c is =
+    absurd (never_listed c.args.working.now c.spill_all.new.working
+    (vec_len c.spill_all.new.working.listed) is (c.spill_all.ensures.unchanged is.clean).1
+    (search rules) (sym c.is_empty.ensures ∙ c.if-is_empty.false))
+
+pub returns-then-is_empty-clause-saved : goal.returns-then-is_empty-clause-saved
+returns-then-is_empty-clause-saved g c =
+    let working = c.spill_all.new.working in
+    let none : length working.listed.items ≡ 0 = search rules in
+    record {
+      clean = c.in_ok-spill_all.ensures.none_changed;
+      unspilled = none_left 0 working.listed.items working.spilled.items (omega (arith, none))
+          working.named.every;
+    }
+
+pub returns-clause-saved : goal.returns-clause-saved
+returns-clause-saved g c = record {
+  clean = λ q. still_unchanged c.spill_all.new.working.frames.resident c.publish.new.frames.resident q
+      (c.publish.ensures.order q) (c.in_ok-spill_all.ensures.none_changed q);
+  unspilled = c.clear.ensures.none;
+}

@@ -5,6 +5,7 @@ use Rattle.gx_journal.specs.Sources.{page_of, IsCached, OnlySlots}
 use Rattle.gx_journal.proofs.SourceLemmas.{found_below}
 use Rattle.gx_journal.proofs.SlotLemmas.{slots_twice}
 use Rattle.gx_journal.proofs.CleanLemmas.{changed_at}
+use Rattle.gx_journal.proofs.UnchangedLemmas.{never_changed}
 use Rattle.gx_journal.proofs.commit.spill_all.Goals as goal
 
 next_below : (pool : Pool) (from page : ℕ) → IsPool pool → IsNextChanged pool from page → page < pool.pages
@@ -44,6 +45,7 @@ loop-p-preserved g c =
       same = λ told q. subst (λ (n : ℕ). page_of n after.now.blocks spilled ss q ≡ page_of n mid.now.blocks c.loop-p.working.spilled.items c.loop-p.working.frames.resident q) inv.long (e.same told q) ∙ inv.same told q;
       cached = λ told. subst (λ (n : ℕ). IsCached n after.now.blocks spilled ss) inv.long (e.cached told);
       slots = slots_twice P before mid after inv.slots (subst (λ (n : ℕ). OnlySlots n mid after) inv.long e.slots);
+      idle = λ none. absurd (never_changed c.args.working.now c.loop-p.working c.in-Some.p none (inv.idle none).1 c.in-Some.ensures.next.changed);
       below = λ q lt h. elim (eqb_tells q c.in-Some.p) [
         | inl same ↦ c.in_ok-spill_one.ensures.clean (subst (λ (k : ℕ). IsChanged c.spill_one.new.working.frames k) same.1 h)
         | inr other ↦ (let ne = other.1 in c.in_ok-spill_one.ensures.still q (none_before c.loop-p.working.frames c.loop-p.from c.in-Some.p c.in-Some.ensures.next inv.below q (omega (arith, lt, ne))) h)
@@ -56,3 +58,8 @@ returns-in_err-spill_one-clause-slots g c =
     let mid = g.D.Device.content c.loop-p.device in
     let after = g.D.Device.content c.spill_one.new.device in
     slots_twice (length c.args.working.now.spilled.items) before mid after c.loop-p.invariant.slots (subst (λ (n : ℕ). OnlySlots n mid after) c.loop-p.invariant.long c.spill_one.ensures.slots)
+
+pub returns-in_err-spill_one-clause-unchanged : goal.returns-in_err-spill_one-clause-unchanged
+returns-in_err-spill_one-clause-unchanged g c none =
+    absurd (never_changed c.args.working.now c.loop-p.working c.in-Some.p none
+    (c.loop-p.invariant.idle none).1 c.in-Some.ensures.next.changed)

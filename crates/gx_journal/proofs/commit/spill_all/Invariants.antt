@@ -14,6 +14,7 @@ invariant-loop-p g l =
       same : IsTrue g.D.Device.tells → SamePages (page_of P (content l.fn.device).now.blocks l.fn.working.spilled.items l.fn.working.frames.resident) (page_of P (content l.device).now.blocks l.working.spilled.items l.working.frames.resident);
       cached : IsTrue g.D.Device.tells → IsCached P (content l.device).now.blocks l.working.spilled.items l.working.frames.resident;
       slots : OnlySlots P (content l.fn.device) (content l.device);
+      idle : ((q : ℕ) → IsChanged l.fn.working.frames q → ⊥) → (l.device ≡ l.fn.device) × (l.working ≡ l.fn.working);
       below : (q : ℕ) → q < l.from → IsChanged l.working.frames q → ⊥;
     }
 

@@ -26,6 +26,7 @@ returns-in-Ok-clause-worked g c = λ can.
     (subst (λ r. OnOk r (OfBlocks c.args.device.now mid (IsMadeOn c.args.blocks c.as_slice.result.now c.as_slice-2.result.now c.deref.result.now))) c.in-Ok.is (c.make-made.ensures.made can)))) in
     let named = subst (λ r. OnOk r (mid.now.shelf.name ≡ Some c.args.device.now)) c.in-Ok.is (c.make-made.ensures.named can) in
     working_by x c.args.device.now c.args.blocks c.args.records old mid new size free made named c.play_made.ensures.silent c.play_made.result.0
+    (c.play_made.ensures.count can.told)
     (c.play_made.ensures.worked can.told (reopens x c.args.device.now c.args.blocks c.args.records old mid new size free made named c.play_made.ensures.silent))
 
 pub returns-in-Ok-clause-there : goal.returns-in-Ok-clause-there

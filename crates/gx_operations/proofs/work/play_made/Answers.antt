@@ -1,4 +1,4 @@
-use Rattle.std.proofs.Common.{rules, List, Some, Err, replicate, length, sym, subst, ◌∙◌}
+use Rattle.std.proofs.Common.{rules, List, Some, Err, replicate, length, ap, sym, subst, ◌∙◌}
 use Rattle.std.specs.FinMap.{empty}
 use Rattle.gx_ports.specs.declared.kinds.LeafSpec.{LeafSpec}
 use Rattle.gx_ports.specs.LeafMaps.{LeafMap}
@@ -11,11 +11,12 @@ use Rattle.gx_states.specs.Internal.{AreInternal}
 use Rattle.gx_states.proofs.StartLemmas.{start_state}
 use Rattle.gx_work.specs.Schema.{work_schema}
 use Rattle.gx_store.specs.Device.{IsHeadOf, Reopens}
+use Rattle.gx_store.specs.Store.{machine_of}
 use Rattle.gx_schema.specs.declared.schema.Schema.{Schema}
 use Rattle.gx_operations.specs.Settled.{IsSettledIn}
 use Rattle.gx_operations.specs.Working.{IsPlayedOn}
 use Rattle.gx_operations.proofs.StoreLemmas.{settled_from}
-use Rattle.gx_operations.proofs.WorkingLemmas.{empty_still, never_unopened, played_on, sliced_texts, told_settled, told_unopened, limit_of}
+use Rattle.gx_operations.proofs.WorkingLemmas.{empty_still, never_unopened, played_on, sliced_texts, told_settled, told_unopened, limit_of, same_blocks}
 use Rattle.gx_operations.proofs.work.play_made.Goals as goal
 
 pub returns-in-Ok-clause-worked : goal.returns-in-Ok-clause-worked
@@ -59,3 +60,19 @@ returns-clause-worked g c = λ told reopens.
     (never_unopened x (length blocks) c.args.records x.schema_text x.equation_text x.built.specs (replicate (length x.built.specs) empty) blocks (g.M.Device.content c.in-Err.machine).now.blocks c.in-Err.why reopens
     (told_unopened x c.as_slice.result.now c.as_slice-2.result.now c.deref.result.now blocks c.in-Err.why c.as_slice.ensures c.as_slice-2.ensures (search rules) (c.in-Err.ensures.unopened told))
     (λ goes. empty_still x blocks (g.M.Device.content c.in-Err.machine).now.blocks (c.in-Err.ensures.kept told goes) reopens))
+
+-- ---- how many blocks there are
+
+pub returns-in-Ok-clause-count : goal.returns-in-Ok-clause-count
+returns-in-Ok-clause-count g c = λ told.
+    let store = c.in-Ok.store in
+    let left = c.play_work-worked.result.1 in
+    let was = limits_of (ground_of (journal_of (pages_of store))) (places_in store) in
+    let is = limits_of (ground_of (journal_of (pages_of left))) (places_in left) in
+    ap (λ m. length (g.M.Device.content m).now.blocks) c.close.ensures.machine
+    ∙ sym (g.met.M.Device.sized (machine_of left) told)
+    ∙ same_blocks is was c.play_work-worked.ensures.limit
+    ∙ g.met.M.Device.sized (machine_of store) told ∙ (c.in-Ok.ensures.recovered told).count
+
+pub returns-clause-count : goal.returns-clause-count
+returns-clause-count g c = λ told. (c.in-Err.ensures.recovered told).count
