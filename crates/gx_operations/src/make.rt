@@ -4,7 +4,7 @@ ghost use Rattle.gx_device.specs.Content.{device_at};
 ghost use Rattle.gx_device.specs.Faults.{Rose};
 ghost use Rattle.gx_layout.specs.Layout.{pages_of};
 ghost use Rattle.gx_store.specs.Device.{IsNoneOrEmpty};
-ghost use Rattle.gx_store.specs.Store.{CanAttach, Attaches};
+ghost use Rattle.gx_store.specs.Store.{CanAttach, Attaches, KeepsDevice};
 ghost use Rattle.gx_requests.specs.Checked.{IsStored};
 ghost use Rattle.gx_play.specs.Endings.{is_outside};
 ghost use Rattle.gx_operations.specs.Making.{making_ending, IsMaking};
@@ -17,7 +17,8 @@ use std::alloc::Global;
 
 /// Makes a device of that name with so many blocks, and an empty database of what is stored on it, and
 /// tells how the request ends. After `Made` there was none of that name; after `Device` it is as it was.
-/// Where there was none and one is there afterwards, it holds no database or an empty one.
+/// Where there was none and one is there afterwards, it has no magic, or it is opened as an empty
+/// database. One that was there reads as it did, whatever the ending is.
 pub fn make_stored<'a, M: Machine + Drop>(
     alloc: Global,
     stored: Stored,
@@ -29,6 +30,8 @@ pub fn make_stored<'a, M: Machine + Drop>(
     ensures made { CanAttach M.tells (M.content machine) →
         IsMaking stored.schema_text stored.equation_text stored.built.specs device.now
         blocks (M.content machine) (M.content result.1) result.0 }
+    ensures there { CanAttach M.tells (M.content machine) →
+        KeepsDevice device.now (M.content machine) (M.content result.1) }
     ensures attaches { CanAttach M.tells (M.content machine) →
         Attaches device.now (M.content machine) (M.content result.1) }
     ensures left { CanAttach M.tells (M.content machine) →

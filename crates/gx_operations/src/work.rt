@@ -5,7 +5,7 @@ ghost use Rattle.gx_device.specs.Content.{Silent};
 ghost use Rattle.gx_device.specs.Faults.{Rose};
 ghost use Rattle.gx_work.specs.Schema.{work_schema};
 ghost use Rattle.gx_store.specs.Device.{Reopens};
-ghost use Rattle.gx_store.specs.Store.{CanAttach, Attaches};
+ghost use Rattle.gx_store.specs.Store.{CanAttach, Attaches, KeepsDevice};
 ghost use Rattle.gx_requests.specs.Checked.{IsStored};
 ghost use Rattle.gx_play.specs.Endings.{is_fault};
 ghost use Rattle.gx_operations.specs.Working.{IsPlayedOn, IsWorking};
@@ -21,7 +21,8 @@ use std::alloc::Global;
 /// Makes a device of that name with so many blocks, plays the workload of so many records on it, and closes
 /// it. After a line of its summary and after `Full` the device, which wasn't there, has so many blocks, and is
 /// settled with the last state that the play kept; after `Device` it is as it was. After want of memory a
-/// new one holds no database, an empty one, or the last state that first lines kept.
+/// new one holds no database, an empty one, or the last state that first lines kept. One that was there
+/// reads as it did, whatever the answer is.
 pub fn make_and_play<'a, M: Machine + Drop>(
     alloc: Global,
     stored: Stored,
@@ -36,6 +37,8 @@ pub fn make_and_play<'a, M: Machine + Drop>(
     ensures worked { CanAttach M.tells (M.content machine) →
         IsWorking stored device.now blocks records (M.content machine) (M.content result.1)
         result.0 }
+    ensures there { CanAttach M.tells (M.content machine) →
+        KeepsDevice device.now (M.content machine) (M.content result.1) }
     ensures attaches { CanAttach M.tells (M.content machine) →
         Attaches device.now (M.content machine) (M.content result.1) }
     ensures fault { IsErrOf result.0 Ending.Fault → Rose (M.faults machine) (M.faults result.1) }

@@ -24,7 +24,7 @@ use Rattle.gx_requests.specs.Requests.{IsRefused, IsSummary, IsUnprepared}
 use Rattle.gx_play.specs.Say.{IsCut, SameDevices}
 use Rattle.gx_play.specs.Played.{Says, SaysFront, SaysKeeping, IsPlayText, IsStoppedText, IsShortText, IsFullText, IsPlayedText}
 use Rattle.gx_play.specs.Plays.{IsPlayedAs}
-use Rattle.gx_top.specs.Tasks.{Task, IsTask, IsFrom, IsLeft, StartsAlike}
+use Rattle.gx_top.specs.Tasks.{Task, IsTask, HasDevice, IsFrom, IsLeft, StartsAlike}
 use Rattle.gx_top.specs.Devices.{IsToMake, IsWrong, IsBefore, SaysWrong}
 use Rattle.gx_top.specs.Tries.{IsDoneText, IsOtherText, CanPlayTo, IsSaid, IsEnd, IsDueStatus, IsAsDue}
 use Rattle.gx_requests.specs.Words.{explaining, making}
@@ -435,6 +435,7 @@ Row t limit start old new status.Device = ⊥
 -- a script that was played for a task, and how that ended
 pub record IsRun (words : List (List ℕ)) (t : Task) (old mid new : Content) (played : Result (Unit {0}) Ending) (s : Status) : Type 0 where
   pub task : IsTask words old.aside.texts t
+  pub had : HasDevice t old
   pub built : Built
   pub trees : IsBuiltOf t.schema t.definitions built
   pub answered : (limit : Option Limits) (start : State) → IsFrom t old limit start → IsPlayedAs t.schema built limit start (IsLeft t new) old.script old.now.said mid.now.said played
@@ -561,11 +562,11 @@ run_unrefused words t old mid new (Ok x) r = never r.finished.0
 run_unrefused words t old mid new (Err why) r = subst IsStopStatus (sym (r.finished.status_is (λ f. cc) (λ f. cc))) (stop_status why r.play_ending)
 
 run_said : (words : List (List ℕ)) (t : Task) (old mid new : Content) (played : Result (Unit {0}) Ending) (s : Status) → IsRun words t old mid new played s → IsSaid words old new s
-run_said words t old mid new played status.Done r = inr (inl (t, r.task, run_row words t old mid new played status.Done r))
-run_said words t old mid new played status.Script r = inl (t, r.task, run_row words t old mid new played status.Script r)
-run_said words t old mid new played status.Memory r = inr (inl (t, r.task, run_row words t old mid new played status.Memory r))
-run_said words t old mid new played status.Full r = inl (t, r.task, run_row words t old mid new played status.Full r)
-run_said words t old mid new played status.Outside r = inr (inl (t, r.task, run_row words t old mid new played status.Outside r))
+run_said words t old mid new played status.Done r = inr (inl (t, r.task, r.had, run_row words t old mid new played status.Done r))
+run_said words t old mid new played status.Script r = inl (t, r.task, r.had, run_row words t old mid new played status.Script r)
+run_said words t old mid new played status.Memory r = inr (inl (t, r.task, r.had, run_row words t old mid new played status.Memory r))
+run_said words t old mid new played status.Full r = inl (t, r.task, r.had, run_row words t old mid new played status.Full r)
+run_said words t old mid new played status.Outside r = inr (inl (t, r.task, r.had, run_row words t old mid new played status.Outside r))
 run_said words t old mid new played status.Device r = inl (run_device words t old mid new played r)
 run_said words t old mid new played status.Refused r = absurd (run_unrefused words t old mid new played r)
 

@@ -1,5 +1,5 @@
 -- A device that was opened and examined, or that wasn't had: what was found, and what is left of it.
-use Rattle.std.proofs.Common.{◌≡◌, ℕ, true, not, List, length, Option, Some, None, Result, Ok, Err, refl, sym, ap, subst, ◌∙◌}
+use Rattle.std.proofs.Common.{◌≡◌, ℕ, List, length, Option, Some, None, Result, Ok, Err, refl, sym, ap, subst, ◌∙◌}
 use Rattle.std.specs.Prelude.{◌≢◌}
 use Rattle.gx_device.specs.Content.{Content, Shelf, SameContent, Silent, device_at}
 use Rattle.gx_ports.specs.declared.kinds.LeafSpec.{LeafSpec}
@@ -11,7 +11,7 @@ use Rattle.gx_states.specs.Internal.{AreInternal}
 use Rattle.gx_audit.specs.Texts.{inspect_text}
 use Rattle.gx_store.specs.Device.{Reopens, IsSettled, ReadAlike}
 use Rattle.gx_store.specs.Opening.{AreOpened, IsUnopened}
-use Rattle.gx_store.specs.Store.{Attaches, OfBlocks, is_fault}
+use Rattle.gx_store.specs.Store.{Attaches, OfBlocks}
 use Rattle.gx_store.specs.declared.unopened.Unopened.{Unopened}
 use Rattle.gx_store.specs.declared.unopened.Unopened.TheVariants as unopened
 use Rattle.gx_store.proofs.ShelfLemmas.{named_at}
@@ -40,7 +40,7 @@ use Rattle.gx_top.proofs.StayLemmas.{devices_same, ReadsAlike, reads_itself, rea
 use Rattle.gx_top.proofs.CompleteLemmas.{same_words, had_not_wrong}
 use Rattle.gx_operations.proofs.NameLemmas.{other_at}
 use Rattle.gx_top.proofs.RanLemmas.{stays_itself}
-use Rattle.gx_top.proofs.UnopenedLemmas.{IsTried, gone, stays, device_ended}
+use Rattle.gx_top.proofs.UnopenedLemmas.{IsTried, not_failed, gone, stays}
 use Rattle.gx_top.proofs.InspectLemmas.{device_once, one_inspection, IsUninspected, uninspected_row, IsFoundOf, found_row}
 
 -- ---- a device that was opened
@@ -81,15 +81,6 @@ stored_still : (t : Task) (device : List ℕ) (old new : Content) (maps : List L
 stored_still t device old new maps reads stored =
     let is = reads.alike stored.0 stored.1 in
     (is.0, is.1, reopens_alike (schema_text t.schema) (equation_text t.definitions) t.typing.specs maps stored.0 is.0 is.2 stored.2)
-
-not_failed : (why : Unopened) → (unopened_ending why ≡ ending.Fault → ⊥) → not (is_fault why) ≡ true
-not_failed unopened.Fault never = absurd (never refl)
-not_failed unopened.Missing never = refl
-not_failed unopened.Exists never = refl
-not_failed unopened.Size never = refl
-not_failed unopened.NoDatabase never = refl
-not_failed (unopened.OtherTexts place) never = refl
-not_failed unopened.NoMemory never = refl
 
 refused_never : (t : Task) (device : List ℕ) (old new : Content) (s : Status) → IsInspected t device old new s → s ≡ status.Refused → ⊥
 refused_never t device old new s row e = subst (IsInspected t device old new) e row
@@ -141,7 +132,7 @@ module _ (words : List (List ℕ)) (device : List ℕ) (x : Stored) (old middle 
   unopened_why unopened.Fault is = tt
   unopened_why unopened.NoMemory is = tt
 
-  module _ (mid new : Content) (why : Unopened) (s : Status) (tried : IsTried device middle mid why) (devices : SameDevices mid new) (is : IsUnopened device (schema_text x.schema) (equation_text p.definitions) p.typing.specs middle why) (ended : IsEnded (unopened_ending why) mid new s) where
+  module _ (mid new : Content) (why : Unopened) (s : Status) (tried : IsTried device p.typing.specs middle mid why) (devices : SameDevices mid new) (is : IsUnopened device (schema_text x.schema) (equation_text p.definitions) p.typing.specs middle why) (ended : IsEnded (unopened_ending why) mid new s) where
     pub unopened_row : IsInspected Asked device old new s
     unopened_row = uninspected_row Asked device old mid new (unopened_ending why) (unopened_why why is) (tried.attaches.said ∙ ap (λ n. n.said) same.now) s ended
 
@@ -159,11 +150,11 @@ module _ (words : List (List ℕ)) (device : List ℕ) (x : Stored) (old middle 
     pub unopened_left : LeavesInspected words device old new s
     unopened_left = record {
       refused = λ e. absurd (refused_never Asked device old new s unopened_row e);
-      wrong = λ e r wrong is_wrong. stays Asked device old middle mid new why same.now tried devices is (device_ended why s e ended.status_is) wrong (wrong_here r wrong (one_inspection words old.aside.texts r Request).devices is_wrong);
+      wrong = λ outside r wrong is_wrong. stays Asked device old middle mid new why same.now tried devices (not_failed why (λ f. outside (ended.fault f))) wrong (wrong_here r wrong (one_inspection words old.aside.texts r Request).devices is_wrong);
       holds = λ outside r limit state held. (limit, held_there r new limit state (holds_still outside limit state (held_here r old limit state held)));
       keeps = λ outside r maps stored. stored_there r new maps (stored_still Asked device old new maps (reads_still outside) (stored_here r old maps stored));
       reads = λ outside r none blocks there. (reads_still outside).alike blocks there;
-      missing = gone Asked device old middle mid new why same.now tried devices is;
+      missing = gone Asked device old middle mid new why same.now tried devices;
       others = λ other differ. devices_same mid new devices other ∙ tried.attaches.others other differ ∙ ap (λ n. device_at n other) same.now;
     }
 
@@ -291,7 +282,7 @@ module _ (words : List (List ℕ)) (device : List ℕ) (x : Stored) (old middle 
     pub examined_left : (new : Content) (s : Status) → SameDevices mid new → IsTold found mid new s → LeavesInspected words device old new s
     examined_left new s devices told = record {
       refused = λ e. absurd (refused_never Asked device old new s (examined_row new s devices told) e);
-      wrong = λ e r wrong is. found_late wrong (wrong_here r wrong (one_inspection words old.aside.texts r Request).devices is) new;
+      wrong = λ outside r wrong is. found_late wrong (wrong_here r wrong (one_inspection words old.aside.texts r Request).devices is) new;
       holds = λ outside r limit state held. let now = holds_on new devices limit state (held_here r old limit state held) in (now.0, held_there r new now.0 state now.1);
       keeps = λ outside r others stored. stored_there r new others (keeps_on new devices others (stored_here r old others stored));
       reads = λ outside r none blocks is. reads_on new devices (λ others stored. none others (stored_there r old others stored)) blocks is;
@@ -304,7 +295,7 @@ module _ (words : List (List ℕ)) (device : List ℕ) (x : Stored) (old middle 
 pub unprepared_inspected : (words : List (List ℕ)) (device : List ℕ) (old mid new : Content) (s : Status) → mid.now ≡ old.now → SameDevices mid new → LeavesInspected words device old new s
 unprepared_inspected words device old mid new s before same = record {
   refused = λ e. record { blocks = same.blocks ∙ ap (λ n. n.blocks) before; shelf = same.shelf ∙ ap (λ n. n.shelf) before };
-  wrong = λ e r wrong is. stays_itself device old new (stays_at device) wrong;
+  wrong = λ outside r wrong is. stays_itself device old new (stays_at device) wrong;
   holds = λ outside r limit state held. (limit, held_still (inspected r) device old new limit state (reads_itself device old new (stays_at device)) held);
   keeps = λ outside r maps stored. stored_still (inspected r) device old new maps (reads_itself device old new (stays_at device)) stored;
   reads = λ outside r none blocks there. (reads_itself device old new (stays_at device)).alike blocks there;

@@ -11,7 +11,7 @@ use Rattle.gx_typing.specs.Typed.{leaves, typing_with}
 use Rattle.gx_states.proofs.StartLemmas.{start_state}
 use Rattle.gx_layout.specs.Layout.{pages_of}
 use Rattle.gx_store.specs.Device.{IsSize, IsMadeOn, IsNoneOrEmpty}
-use Rattle.gx_store.specs.Store.{Attaches}
+use Rattle.gx_store.specs.Store.{Attaches, KeepsDevice}
 use Rattle.gx_play.specs.declared.ending.DeviceWhy.{DeviceWhy}
 use Rattle.gx_play.specs.declared.ending.DeviceWhy.TheVariants as device_why
 use Rattle.gx_play.specs.declared.ending.Ending.{Ending}
@@ -308,17 +308,18 @@ module _ (words : List (List ℕ)) (device digits : List ℕ) (count : ℕ) (x :
       (subst (λ (ks : List LeafSpec). IsNoneOrEmpty x.schema_text x.equation_text ks blocks) (st.specs_are ∙ ap (λ (t : Typing). t.specs) once.typings)
       (left (subst (λ m. device_at m device ≡ None) (sym before) free) blocks (sym (devices_same end new same device) ∙ there))))
 
-  left_by : (why : Ending) (s : Status) → IsStored x → Ways x.schema_text x.equation_text x.built.specs device count mid end why → Attaches device mid end → IsLeft → SameDevices end new → IsEnded why end new s → LeavesMade words device old new s
-  left_by why s can w attaches left same e = record {
+  left_by : (why : Ending) (s : Status) → IsStored x → Ways x.schema_text x.equation_text x.built.specs device count mid end why → Attaches device mid end → KeepsDevice device mid end → IsLeft → SameDevices end new → IsEnded why end new s → LeavesMade words device old new s
+  left_by why s can w attaches keeps left same e = record {
     done = λ is. done_left why can w same (status_is why end new s status.Done e is (λ f. cc) (λ f. cc));
     refused = λ is. absurd (not_refused why w (status_is why end new s status.Refused e is (λ f. cc) (λ f. cc)));
     wrong = λ is. devices_same end new same device ∙ wrong_left why w (status_is why end new s status.Device e is (λ f. cc) (λ f. cc)) ∙ ap (λ m. device_at m device) before;
+    there = λ blocks was. devices_same end new same device ∙ keeps blocks (ap (λ m. device_at m device) before ∙ was);
     others = λ other ne. devices_same end new same other ∙ attaches.others other ne ∙ ap (λ m. device_at m other) before;
     opens = opens_then left same;
   }
 
-  pub made_left : (why : Ending) (s : Status) → IsStored x → IsMaking x.schema_text x.equation_text x.built.specs device count mid end why → Attaches device mid end → IsLeft → SameDevices end new → IsEnded why end new s → LeavesMade words device old new s
-  made_left why s can m attaches left same e = left_by why s can (ways x.schema_text x.equation_text x.built.specs device count mid end why m) attaches left same e
+  pub made_left : (why : Ending) (s : Status) → IsStored x → IsMaking x.schema_text x.equation_text x.built.specs device count mid end why → Attaches device mid end → KeepsDevice device mid end → IsLeft → SameDevices end new → IsEnded why end new s → LeavesMade words device old new s
+  made_left why s can m attaches keeps left same e = left_by why s can (ways x.schema_text x.equation_text x.built.specs device count mid end why m) attaches keeps left same e
 
 -- ---- a request that isn't carried out
 
@@ -327,6 +328,7 @@ unprepared_left words device old mid new before now why s is stays same e = reco
   done = λ d. absurd (not_done (status_of why) (unplayed words old before now why is) (sym (status_is why mid new s status.Done e d (λ f. cc) (λ f. cc))));
   refused = λ d. record { blocks = same.blocks ∙ ap (λ m. m.blocks) stays; shelf = same.shelf ∙ ap (λ m. m.shelf) stays };
   wrong = λ d. absurd (not_device (status_of why) (unplayed words old before now why is) (sym (status_is why mid new s status.Device e d (λ f. cc) (λ f. cc))));
+  there = λ blocks was. devices_same mid new same device ∙ ap (λ m. device_at m device) stays ∙ was;
   others = λ other ne. devices_same mid new same other ∙ ap (λ m. device_at m other) stays;
   opens = λ free blocks there count r. absurd (never blocks (sym there ∙ devices_same mid new same device ∙ ap (λ m. device_at m device) stays ∙ free));
 }

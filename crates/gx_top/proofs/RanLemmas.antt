@@ -54,7 +54,7 @@ pub played_left : (words : List (List ℕ)) (device : List ℕ) (old middle open
     → Attaches device middle opened → opened.now.shelf.name ≡ Some device → mid.now.shelf ≡ opened.now.shelf → SameDevices mid new → IfErr played IsPlayEnding → IsFinished played mid new s → LeavesRun words device old new s
 played_left words device old middle opened mid new played s before blocks there right attaches named shelf same ends finished = record {
   refused = λ e. absurd (finish_unrefused played mid new ends (subst (IsFinished played mid new) e finished));
-  wrong = λ e wrong is. found_late wrong (λ early. right wrong early is);
+  wrong = λ outside wrong is. found_late wrong (λ early. right wrong early is);
   missing = λ none. absurd (never (sym none ∙ sym (ap (λ n. device_at n device) before) ∙ there));
   others = λ other differ. other_at opened.now new.now device other named (same.shelf ∙ shelf) differ ∙ attaches.others other differ ∙ ap (λ n. device_at n other) before;
 }
@@ -83,7 +83,7 @@ stays_itself device old new same device_why.NoDatabase = same
 pub unprepared_ran : (words : List (List ℕ)) (device : List ℕ) (old mid new : Content) (s : Status) → mid.now ≡ old.now → SameDevices mid new → LeavesRun words device old new s
 unprepared_ran words device old mid new s before same = record {
   refused = λ e. record { blocks = same.blocks ∙ ap (λ n. n.blocks) before; shelf = same.shelf ∙ ap (λ n. n.shelf) before };
-  wrong = λ e wrong is. stays_itself device old new (stays_at device) wrong;
+  wrong = λ outside wrong is. stays_itself device old new (stays_at device) wrong;
   missing = λ none. stays_at device ∙ none;
   others = λ other differ. stays_at other;
 }

@@ -26,7 +26,7 @@ use Rattle.gx_requests.specs.Checked.{IsPrepared, IsStoredFor}
 use Rattle.gx_play.specs.Endings.{IsPlayEnding, IsFinished, unopened_ending}
 use Rattle.gx_play.specs.Plays.{IsPlayedAs}
 use Rattle.gx_play.specs.Say.{SameDevices}
-use Rattle.gx_top.specs.Tasks.{Task, IsTask, IsHeldOn, IsSettledOn}
+use Rattle.gx_top.specs.Tasks.{Task, IsTask, IsOpenedOn, IsHeldOn, IsSettledOn}
 use Rattle.gx_operations.specs.Settled.{IsSettledIn, limits_on}
 use Rattle.gx_top.specs.Devices.{IsWrongOn, IsWrong, IsBefore}
 use Rattle.gx_requests.specs.Words.{Action, trying, running}
@@ -61,6 +61,7 @@ try_run words x old middle mid new played s p same is heard ends finished =
     (subst (λ (l : List ℕ). IsPlayedAs x.0 x.1 None (empty_state x.0) (λ kept. Unit {0}) l middle.now.said mid.now.said played) same.script is) in
     record {
       task = task;
+      had = tt;
       built = x.1;
       trees = p.trees;
       answered = λ limit start from.
@@ -194,9 +195,13 @@ module _ (words : List (List ℕ)) (device : List ℕ) (x : Stored) (old middle 
       internal = record { built = x.built; trees = p.trees; is = is.2 };
     }
 
+    had : IsOpenedOn Run device old
+    had = (o.had.0, subst (λ n. device_at n device ≡ Some o.had.0) same.now o.had.1, had_opened o.had.0 o.had.2)
+
     pub device_run : (new : Content) (s : Status) → IfErr played IsPlayEnding → IsFinished played mid new s → SameDevices mid new → IsRun words Run old mid new played s
     device_run new s ends finished devices = record {
       task = run_is_task;
+      had = had;
       built = x.built;
       trees = p.trees;
       answered = λ bound start h. held_as x.schema x.built bound start Settled (IsSettledOn Run device new) old.script old.now.said mid.now.said played (left new devices) (from_start bound start h);
@@ -209,7 +214,7 @@ module _ (words : List (List ℕ)) (device : List ℕ) (x : Stored) (old middle 
           device = device;
           action_is = refl;
           wrong = record {
-            had = (o.had.0, subst (λ n. device_at n device ≡ Some o.had.0) same.now o.had.1, had_opened o.had.0 o.had.2);
+            had = had;
             stateless = λ bound start h. subst (λ (r : Result (Unit {0}) Ending). IsPlayedAs x.schema x.built bound start Settled old.script old.now.said mid.now.said r) found (from_start bound start h);
           };
         }),
@@ -221,7 +226,7 @@ module _ (words : List (List ℕ)) (device : List ℕ) (x : Stored) (old middle 
 
   -- ---- a device that isn't opened
 
-  pub unopened_texts : (why : Unopened) → IsUnopened device x.schema_text x.equation_text x.built.specs middle why → IsUnopened device (schema_text x.schema) (equation_text p.definitions) p.typing.specs middle why
+  unopened_texts : (why : Unopened) → IsUnopened device x.schema_text x.equation_text x.built.specs middle why → IsUnopened device (schema_text x.schema) (equation_text p.definitions) p.typing.specs middle why
   unopened_texts why is =
       subst (λ (t : List ℕ). IsUnopened device t (equation_text p.definitions) p.typing.specs middle why) p.schema_text_is
       (subst (λ (t : List ℕ). IsUnopened device x.schema_text t p.typing.specs middle why) p.equation_text_is

@@ -13,7 +13,7 @@ use Rattle.gx_play.specs.Built.{IsBuiltOf}
 use Rattle.gx_work.specs.Schema.{work_schema}
 use Rattle.gx_work.specs.Workload.{work_script}
 use Rattle.gx_store.specs.Device.{IsSettled, IsSize, IsNoneOrEmpty}
-use Rattle.gx_store.specs.Store.{Attaches}
+use Rattle.gx_store.specs.Store.{Attaches, KeepsDevice}
 use Rattle.gx_play.specs.declared.ending.DeviceWhy.{DeviceWhy}
 use Rattle.gx_play.specs.declared.ending.DeviceWhy.TheVariants as device_why
 use Rattle.gx_play.specs.declared.ending.Ending.{Ending}
@@ -366,14 +366,15 @@ module _ (words : List (List ℕ)) (device digits number : List ℕ) (count reco
     memory_left (Ok line) is (inr told) none blocks there = absurd (let e : status.Memory ≡ status.Outside = told.0 in cc)
     memory_left (Err why) is told none blocks there = first_by why is (λ f. let e : status.Memory ≡ status.Outside = told.fault f in cc) none blocks there
 
-    pub work_left : Attaches device middle mid → (r : Result (List ℕ) Ending) (s : Status) → IsWorking x device count records middle mid r → IsTold r mid new s → LeavesWorked words device old new s
-    work_left attaches r s is told = record {
+    pub work_left : Attaches device middle mid → KeepsDevice device middle mid → (r : Result (List ℕ) Ending) (s : Status) → IsWorking x device count records middle mid r → IsTold r mid new s → LeavesWorked words device old new s
+    work_left attaches keeps r s is told = record {
       refused = λ e. absurd (told_unrefused x device count records middle mid new r is (subst (IsTold r mid new) e told));
       wrong = λ e. devices_same mid new devices device ∙ device_left x device count records middle mid new r s is told e ∙ ap (λ n. device_at n device) same.now;
       memory = λ e none blocks there others many q.
           let one = one_work words old.aside.texts count others records many Request q in
           subst (λ (y : Task × ℕ). HoldsWork y.0 device y.1 new blocks) (λ i. (one.tasks i, one.numbers i))
           (memory_left r is (subst (IsTold r mid new) e told) (ap (λ n. device_at n device) same.now ∙ none) blocks (sym (devices_same mid new devices device) ∙ there));
+      there = λ blocks was. devices_same mid new devices device ∙ keeps blocks (ap (λ n. device_at n device) same.now ∙ was);
       others = λ other differ. devices_same mid new devices other ∙ attaches.others other differ ∙ ap (λ n. device_at n other) same.now;
     }
 
@@ -383,6 +384,7 @@ pub unprepared_worked : (words : List (List ℕ)) (device : List ℕ) (old mid n
 unprepared_worked words device old mid new s before same = record {
   refused = λ e. record { blocks = same.blocks ∙ ap (λ n. n.blocks) before; shelf = same.shelf ∙ ap (λ n. n.shelf) before };
   wrong = λ e. stays_at device;
+  there = λ blocks was. stays_at device ∙ was;
   memory = λ e none blocks there count records r. absurd (not_there blocks (sym (stays_at device ∙ none) ∙ there));
   others = λ other differ. stays_at other;
 }

@@ -9,15 +9,14 @@ use Rattle.gx_equation.specs.Printing.{equation_text}
 use Rattle.gx_typing.specs.declared.typing.Typing.{Typing}
 use Rattle.gx_model.specs.States.{State}
 use Rattle.gx_layout.specs.Layout.{pages_of}
-use Rattle.gx_store.specs.Opening.{AreOpened, IsUnopened}
-use Rattle.gx_store.specs.Store.{OfBlocks}
+use Rattle.gx_store.specs.Opening.{IsUnopened}
 use Rattle.gx_store.specs.declared.unopened.Unopened.TheVariants as unopened
 use Rattle.gx_play.specs.declared.ending.DeviceWhy.{DeviceWhy}
 use Rattle.gx_play.specs.declared.ending.DeviceWhy.TheVariants as device_why
 use Rattle.gx_play.specs.Endings.{device_line, made_line}
 use Rattle.gx_requests.specs.Words.{making, running, IsCount}
 use Rattle.gx_requests.specs.Requests.{IsAccepted}
-use Rattle.gx_top.specs.Tasks.{Task, IsTask, IsHeldOn}
+use Rattle.gx_top.specs.Tasks.{Task, IsTask, IsOpenedOn, IsHeldOn}
 use Rattle.gx_operations.specs.Making.{IsUnmakable}
 
 -- ---- what `make` says
@@ -40,7 +39,7 @@ IsMadeText words before text = (blocks : ℕ) × IsToMake words before.aside.tex
 
 -- a device that is there, with the size, the magic and the texts that are asked for, and holds no state
 pub record IsDamagedOn (device : List ℕ) (t : Task) (before : Content) : Type 0 where
-  pub had : OfBlocks device before (AreOpened (schema_text t.schema) (equation_text t.definitions) t.typing.specs)
+  pub had : IsOpenedOn t device before
   pub stateless : (limit : Option Limits) (s : State) → ¬ IsHeldOn t device before limit s
 
 -- Why a script isn't played on the device of that name, or why it isn't inspected. Each comes only where those before it don't.

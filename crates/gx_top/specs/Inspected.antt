@@ -82,12 +82,12 @@ IsUnsoundDevice words before = (r : IsToInspect words before.aside.texts) × ((l
 abbrev pub IsStoredOn : Task → List ℕ → Content → List LeafMap → Type 0
 IsStoredOn t device c maps = OfBlocks device c (Reopens (schema_text t.schema) (equation_text t.definitions) t.typing.specs maps)
 
--- All devices stay where the request is refused, one that is wrong stays as `run` leaves it, none is made, and those of other
--- names stay. Unless a call of the machine failed: one that held a state holds it, one that reopened to maps reopens to them, and
--- one that reopened to none reads as before.
+-- All devices stay where the request is refused, none is made, and those of other names stay. Unless a call of the machine failed:
+-- one that is wrong stays as `run` leaves it, one that held a state holds it, one that reopened to maps reopens to them, and one
+-- that reopened to none reads as before.
 pub record LeavesInspected (words : List (List ℕ)) (device : List ℕ) (old new : Content) (s : Status) : Type 0 where
   pub refused : s ≡ status.Refused → SameDevices old new
-  pub wrong : s ≡ status.Device → (r : IsToInspect words old.aside.texts) (why : DeviceWhy) → IsWrongOn device (inspected r) old why → StaysWrong why device old new
+  pub wrong : s ≢ status.Outside → (r : IsToInspect words old.aside.texts) (why : DeviceWhy) → IsWrongOn device (inspected r) old why → StaysWrong why device old new
   pub holds : s ≢ status.Outside → (r : IsToInspect words old.aside.texts) (limit : Option Limits) (state : State) → IsHeldOn (inspected r) device old limit state → (now : Option Limits) × IsHeldOn (inspected r) device new now state
   pub keeps : s ≢ status.Outside → (r : IsToInspect words old.aside.texts) (maps : List LeafMap) → IsStoredOn (inspected r) device old maps → IsStoredOn (inspected r) device new maps
   pub reads : s ≢ status.Outside → (r : IsToInspect words old.aside.texts) → ((maps : List LeafMap) → ¬ IsStoredOn (inspected r) device old maps) → (blocks : List (List ℕ)) → device_at old.now device ≡ Some blocks → OfBlocks device new (ReadAlike blocks)

@@ -20,10 +20,11 @@ StaysWrong (device_why.OtherEquation place) device old new =
 StaysWrong (device_why.Damaged block) device old new = Unit {0}
 StaysWrong why device old new = device_at new.now device ≡ device_at old.now device
 
--- All devices stay where the request is refused, one that is wrong stays as it was, none is made, and those of other names stay.
+-- All devices stay where the request is refused, one that is wrong stays as it was unless a call of the machine failed, none is
+-- made, and those of other names stay.
 pub record LeavesRun (words : List (List ℕ)) (device : List ℕ) (old new : Content) (s : Status) : Type 0 where
   pub refused : s ≡ status.Refused → SameDevices old new
-  pub wrong : s ≡ status.Device → (why : DeviceWhy) → IsWrong words old why → StaysWrong why device old new
+  pub wrong : s ≢ status.Outside → (why : DeviceWhy) → IsWrong words old why → StaysWrong why device old new
   pub missing : device_at old.now device ≡ None → device_at new.now device ≡ None
   pub others : (other : List ℕ) → other ≢ device → device_at new.now other ≡ device_at old.now other
 

@@ -12,6 +12,8 @@ use Rattle.gx_play.specs.Built.{IsBuiltOf}
 use Rattle.gx_model.specs.States.{State, empty_state}
 use Rattle.gx_states.specs.Internal.{AreInternal}
 use Rattle.gx_store.specs.Device.{Reopens, IsSettled}
+use Rattle.gx_store.specs.Opening.{AreOpened}
+use Rattle.gx_store.specs.Store.{OfBlocks}
 use Rattle.gx_requests.specs.Words.{Action, checking, trying, explaining, making, running, inspecting, working}
 use Rattle.gx_requests.specs.Requests.{IsAccepted}
 use Rattle.gx_operations.specs.Settled.{limits_on}
@@ -54,6 +56,25 @@ pub record IsHeldOn (t : Task) (device : List ℕ) (before : Content) (limit : O
   pub maps : List LeafMap
   pub reopens : Reopens (schema_text t.schema) (equation_text t.definitions) t.typing.specs maps blocks
   pub internal : IsInternalOf t.schema t.definitions maps s
+
+-- ---- the device on which it is played
+
+-- the device of that name has the size, the magic and the texts that are asked for
+abbrev pub IsOpenedOn : Task → List ℕ → Content → Type 0
+IsOpenedOn t device before = OfBlocks device before (AreOpened (schema_text t.schema) (equation_text t.definitions) t.typing.specs)
+
+-- where the script is to be played on a device, it is such a one
+abbrev pub HasDeviceBy : Action → Task → Content → Type 0
+HasDeviceBy checking t before = Unit {0}
+HasDeviceBy trying t before = Unit {0}
+HasDeviceBy explaining t before = Unit {0}
+HasDeviceBy (making device blocks) t before = Unit {0}
+HasDeviceBy (running device) t before = IsOpenedOn t device before
+HasDeviceBy (inspecting device) t before = Unit {0}
+HasDeviceBy (working device blocks records) t before = Unit {0}
+
+abbrev pub HasDevice : Task → Content → Type 0
+HasDevice t before = HasDeviceBy t.action t before
 
 -- ---- where the play begins
 

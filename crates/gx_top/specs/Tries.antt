@@ -18,7 +18,7 @@ use Rattle.gx_play.specs.Endings.{line_of, status_of, memory_line}
 use Rattle.gx_requests.specs.Requests.{IsRefused, IsAccepted}
 use Rattle.gx_play.specs.Summaries.{summary_of, accepted_line}
 use Rattle.gx_play.specs.Played.{Says, SaysFront, SaysKeeping, IsPlay, IsPlayText, IsStoppedText, IsShortText, IsFull, IsFullText, IsPlayedText}
-use Rattle.gx_top.specs.Tasks.{Task, IsTask, IsFrom, IsLeft, StartsAlike}
+use Rattle.gx_top.specs.Tasks.{Task, IsTask, HasDevice, IsFrom, IsLeft, StartsAlike}
 use Rattle.gx_top.specs.Explained.{IsToExplain, Explains, IsExplainable}
 use Rattle.gx_top.specs.Inspected.{Inspects, IsSoundDevice, IsUnsoundDevice}
 use Rattle.gx_top.specs.Worked.{Works, CanWork, IsUnworkable}
@@ -49,17 +49,17 @@ IsOtherText words before text = IsRefusalText words before text ⊎ (text ≡ me
 
 -- ---- texts of scripts that are played
 
--- Under the texts of the task, which the words ask for, from each state from which it is played: such a text was said, and the
--- state that goes with it is left.
+-- The device of the task, which the words ask for, was opened under its texts. From each state from which it is played: such a
+-- text was said, and the state that goes with it is left.
 abbrev pub Plays : (Task → Option Limits → State → List ℕ → State → Type 0) → List (List ℕ) → Content → Content → Type 0
 Plays P words old new =
-    (t : Task) × IsTask words old.aside.texts t
+    (t : Task) × IsTask words old.aside.texts t × HasDevice t old
     × ((limit : Option Limits) (s : State) → IsFrom t old limit s → SaysKeeping (P t limit s) (IsLeft t new) old new)
 
 -- the same of a front of a text that a play may say
 abbrev pub PlaysFront : List (List ℕ) → Content → Content → Type 0
 PlaysFront words old new =
-    (t : Task) × IsTask words old.aside.texts t
+    (t : Task) × IsTask words old.aside.texts t × HasDevice t old
     × ((limit : Option Limits) (s : State) → IsFrom t old limit s → SaysFront (IsPlayedText t.schema t.definitions limit s old.script) old new)
 
 -- The line that there was no memory was said, and nothing else. A device on which a script is to be played holds the states that

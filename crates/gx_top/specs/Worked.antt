@@ -12,6 +12,7 @@ use Rattle.gx_work.specs.Schema.{work_schema}
 use Rattle.gx_work.specs.Workload.{work_script}
 use Rattle.gx_work.specs.Summary.{work_text}
 use Rattle.gx_store.specs.Device.{IsSize, IsNoneOrEmpty}
+use Rattle.gx_store.specs.Store.{KeepsDevice}
 use Rattle.gx_play.specs.declared.ending.DeviceWhy.{DeviceWhy}
 use Rattle.gx_play.specs.declared.status.Status.{Status}
 use Rattle.gx_play.specs.declared.status.Status.TheVariants as status
@@ -122,11 +123,13 @@ abbrev pub HoldsWork : Task → List ℕ → ℕ → Content → List (List ℕ)
 HoldsWork t device records after blocks =
     IsNoneOrEmpty (schema_text t.schema) (equation_text t.definitions) t.typing.specs blocks ⊎ IsWorkFirst t device records after
 
--- All devices stay where the request is refused, one that is there or can't be had stays as it was, and those of other names
--- stay. After Memory one that wasn't there holds what first lines kept, or no database or an empty one.
+-- All devices stay where the request is refused, and those of other names stay. One of that name that was there reads as it did,
+-- whatever the status is; one that can't be had stays as it was. After Memory one that wasn't there holds what first lines kept, or
+-- no database or an empty one.
 pub record LeavesWorked (words : List (List ℕ)) (device : List ℕ) (old new : Content) (s : Status) : Type 0 where
   pub refused : s ≡ status.Refused → SameDevices old new
   pub wrong : s ≡ status.Device → device_at new.now device ≡ device_at old.now device
+  pub there : KeepsDevice device old new
   pub memory : s ≡ status.Memory → device_at old.now device ≡ None → (blocks : List (List ℕ)) → device_at new.now device ≡ Some blocks → (count records : ℕ) (r : IsToWork words old.aside.texts count records) → HoldsWork (worked r) device records new blocks
   pub others : (other : List ℕ) → other ≢ device → device_at new.now other ≡ device_at old.now other
 

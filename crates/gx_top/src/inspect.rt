@@ -20,7 +20,8 @@ use std::alloc::Global;
 /// says of each leaf, file and link what was found; or says the reason where the request is refused or
 /// the device is another than was asked for. It says `sound` last, and then the device is settled with
 /// the state that it held. A device that holds no valid state is damaged. No script is heard, no device
-/// is made, and devices of other names stay. Of a device that isn't sound what is stored stays.
+/// is made, and devices of other names stay. Of a device that isn't sound what is stored stays, and with
+/// any status but `Outside` one that is wrong is as `run` leaves it.
 pub fn inspect<M: Machine + Drop>(
     alloc: Global,
     schema: &str,

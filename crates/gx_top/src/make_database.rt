@@ -15,7 +15,8 @@ use std::alloc::Global;
 /// Makes a device of that name with so many blocks, and an empty database on it under the texts of
 /// these names, and says what was made; or says the reason where the request is refused, or where the
 /// size or the name can't be had. Then no device is made or changed. After `Memory` and `Outside` there
-/// may be a device with no database, or with an empty one.
+/// may be a new device: it has no magic, or it is opened as the empty database. Whatever the status is, a
+/// device that was there reads as it did.
 pub fn make_database<M: Machine + Drop>(
     alloc: Global,
     schema: &str,

@@ -53,13 +53,14 @@ use std::alloc::Global;
 ///
 /// After `Done` of `make` an empty database of the texts is on the device of that name, which wasn't
 /// there; after its `Refused` and `Device` all devices are as they were. Whatever it answers, the devices
-/// of other names are, and what is there under a new name is no database or an empty one.
+/// of other names are, one of its name that was there reads as it did, and a new one has no magic or is
+/// opened as the empty database.
 ///
 /// After `Done`, `Script`, `Full` and `Memory` of `run` the device is settled with the last state that the
 /// lines kept which were answered; after `Memory` where none was, it may also hold exactly the states that
-/// it held. After `Refused` all devices are as they were, and after `Device` so is one of another size or
-/// with no database; one of other texts reads as before, and no block of it was written but by recovery.
-/// Whatever it answers, no device is made, and those of other names are as they were.
+/// it held. After `Refused` all devices are as they were. With any status but `Outside` so is one of another
+/// size or with no magic, and one of other texts reads as before, and no block of it was written but by
+/// recovery. Whatever it answers, no device is made, and those of other names are as they were.
 ///
 /// After `Done` of `inspect` the device is settled with the state that it held. With any status but
 /// `Outside` one that held a state holds it, one that can be opened is opened with what it held, one that
@@ -68,13 +69,15 @@ use std::alloc::Global;
 ///
 /// After `Done` and `Full` of `work` its device is settled with the last kept state of the workload's play.
 /// After `Memory` one that is new holds no database, an empty one, or the last state that some first lines
-/// of that play kept. After `Refused` all devices are as they were, after `Device` so is the one of its
-/// name, and those of other names always.
+/// of that play kept. After `Refused` all devices are as they were, and after `Device` so is the one of its
+/// name. Whatever it answers, those of other names are as they were, and one of its name that was there
+/// reads as it did.
 ///
 /// Whatever `check`, `try` and `explain` answer, and of words that are no request, all devices are as they
 /// were, where none is attached before.
 ///
-/// What is said of `run` after it has opened its device holds where that held a state. `Outside` comes
+/// What is said of `run` after it has opened its device holds where that held a state. The answer of a line
+/// is said only of a device that is there, with its size, a database and the same texts. `Outside` comes
 /// only where a call of the machine failed in this one, and with any other status none did: the count of
 /// faults is as before. Both hold on every machine. So where none failed, a request for whose refusal
 /// there is a reason is answered `Refused` or `Memory`; one whose device is missing, exists, or has

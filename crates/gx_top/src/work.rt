@@ -23,8 +23,9 @@ use std::alloc::Global;
 /// Makes a device of that name with so many blocks, and plays the workload of so many records on it under
 /// the equation of this name; it says what was found then. Or it says the reason where the request is
 /// refused, where the size or the name can't be had, and where the device is too small. After `Memory` a
-/// new device holds what first lines of the workload kept, an empty database, or none. Devices of other
-/// names stay, and no script is heard.
+/// new device holds what first lines of the workload kept, an empty database, or none. Whatever the status
+/// is, a device of its name that was there reads as it did, and those of other names stay. No script is
+/// heard.
 pub fn work<M: Machine + Drop>(
     alloc: Global,
     equation: &str,

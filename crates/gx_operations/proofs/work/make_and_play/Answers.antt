@@ -1,4 +1,4 @@
-use Rattle.std.proofs.Common.{rules, ◌≡◌, List, ℕ, Some, None, Err, true, sym, subst}
+use Rattle.std.proofs.Common.{rules, ◌≡◌, ◌∙◌, List, ℕ, Some, None, Err, true, sym, subst}
 use Rattle.std.specs.Prelude.{OnOk, IfErr}
 use Rattle.gx_ports.specs.declared.kinds.LeafSpec.{LeafSpec}
 use Rattle.gx_store.specs.Device.{IsMadeOn, IsSize}
@@ -28,6 +28,12 @@ returns-in-Ok-clause-worked g c = λ can.
     working_by x c.args.device.now c.args.blocks c.args.records old mid new size free made named c.play_made.ensures.silent c.play_made.result.0
     (c.play_made.ensures.count can.told)
     (c.play_made.ensures.worked can.told (reopens x c.args.device.now c.args.blocks c.args.records old mid new size free made named c.play_made.ensures.silent))
+
+pub returns-in-Ok-clause-there : goal.returns-in-Ok-clause-there
+returns-in-Ok-clause-there g c = λ can blocks was.
+    let old = g.M.Device.content c.args.machine in
+    let free = subst (λ r. OnOk r (device_at old.now c.args.device.now ≡ None)) c.in-Ok.is (c.make-made.ensures.new can) in
+    absurd (let wrong : ◌≡◌ {A = _} (Some blocks) None = sym was ∙ free in cc)
 
 pub returns-clause-worked : goal.returns-clause-worked
 returns-clause-worked g c = λ can.

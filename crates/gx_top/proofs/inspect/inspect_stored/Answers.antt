@@ -1,9 +1,9 @@
-use Rattle.std.proofs.Common.{rules, refl, sym, subst, List}
+use Rattle.std.proofs.Common.{◌≡◌, ◌∙◌, rules, refl, sym, subst, List}
 use Rattle.gx_ports.specs.declared.kinds.LeafSpec.{LeafSpec}
 use Rattle.gx_ports.specs.LeafMaps.{LeafMap}
 use Rattle.gx_leaves.specs.Paged.{working_of, kept_of, head_of, IsWhole}
 use Rattle.gx_store.specs.Device.{IsHeadOf, IsSettled}
-use Rattle.gx_store.specs.Opening.{IsUnopened}
+use Rattle.gx_store.specs.Opening.{HaveDatabase, IsUnopened}
 use Rattle.gx_store.specs.Store.{machine_of}
 use Rattle.gx_play.specs.Endings.{IsEnded}
 use Rattle.gx_top.specs.Inspected.{Inspects}
@@ -57,9 +57,11 @@ returns-in-Err-clause-fulfilled g c = λ can words old same stored.
     let after = content c.end-status.new.machine in
     let x = c.args.stored in
     let un = typed_texts words c.args.device.now x old middle stored same (λ schema equation specs. IsUnopened c.args.device.now schema equation specs middle c.in-Err.why) c.as_slice.result.now c.as_slice-2.result.now c.deref.result.now c.as_slice.ensures c.as_slice-2.ensures (search rules) (c.in-Err.ensures.unopened can) in
-    let tried : IsTried c.args.device.now middle mid c.in-Err.why = record {
+    let built : c.deref.result.now ≡ c.args.stored.built.specs = first_of (search rules, cc) in
+    let kinds : c.deref.result.now ≡ stored.typing.specs = built ∙ stored.specs_are in
+    let tried : IsTried c.args.device.now stored.typing.specs middle mid c.in-Err.why = record {
       attaches = c.in-Err.ensures.attaches can;
-      untouched = c.in-Err.ensures.untouched can;
+      no_database = λ goes blocks there none. c.in-Err.ensures.no_database can goes blocks there (subst (λ (ks : List LeafSpec). ¬ HaveDatabase ks blocks) (sym kinds) none);
       absent = c.in-Err.ensures.absent can;
       kept = c.in-Err.ensures.kept can;
       recovered = c.in-Err.ensures.recovered can;

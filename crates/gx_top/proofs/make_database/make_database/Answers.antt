@@ -55,7 +55,7 @@ returns-in-Ok-clause-left g c = λ can digits counted.
     let after = g.M.Device.content c.make_stored-machine.result.1 in
     let free : CanAttach g.M.Device.tells mid = record { told = can.told; free = ap (λ n. n.shelf.name) c.in-Ok.ensures.content.now ∙ can.free } in
     made_left words c.args.device.now digits c.args.blocks c.in-Ok.stored old mid after (g.M.Device.content c.end-status.new.machine) (c.in-Ok.ensures.ready can.told (making c.args.device.now digits) (_, counted)) counted c.in-Ok.ensures.content.now c.make_stored-machine.result.0 c.end-status.result
-    c.in-Ok.ensures.stored (c.make_stored-machine.ensures.made free) (c.make_stored-machine.ensures.attaches free) (c.make_stored-machine.ensures.left free) c.end-status.ensures.devices
+    c.in-Ok.ensures.stored (c.make_stored-machine.ensures.made free) (c.make_stored-machine.ensures.attaches free) (c.make_stored-machine.ensures.there free) (c.make_stored-machine.ensures.left free) c.end-status.ensures.devices
     (record {
       status_is = c.end-status.ensures.status;
       said = c.end-status.ensures.said can.told;

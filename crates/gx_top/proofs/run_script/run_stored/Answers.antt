@@ -1,10 +1,12 @@
-use Rattle.std.proofs.Common.{rules, List, Some, sym, ap, subst, ◌∙◌}
+use Rattle.std.proofs.Common.{◌≡◌, rules, List, Some, sym, ap, subst, ◌∙◌}
+use Rattle.gx_ports.specs.declared.kinds.LeafSpec.{LeafSpec}
 use Rattle.gx_ports.specs.LeafMaps.{LeafMap}
 use Rattle.gx_leaves.specs.Paged.{pages_of, places_in, head_of}
 use Rattle.gx_leaves.specs.Wholeness.{limits_of}
 use Rattle.gx_pages.specs.Paged.{ground_of}
 use Rattle.gx_pages.specs.View.{journal_of}
 use Rattle.gx_store.specs.Device.{IsHeadOf}
+use Rattle.gx_store.specs.Opening.{HaveDatabase}
 use Rattle.gx_store.specs.Store.{HoldsMaps, machine_of}
 use Rattle.gx_play.specs.Endings.{IsEnded}
 use Rattle.gx_play.specs.Plays.{IsPlayedAs}
@@ -63,9 +65,11 @@ returns-in-Err-clause-fulfilled g c = λ can words old same stored.
     let after = content c.end-status.new.machine in
     let told = unopened_told c.args.device.now c.args.stored c.as_slice.result.now c.as_slice-2.result.now c.deref.result.now middle c.in-Err.why c.as_slice.ensures c.as_slice-2.ensures (search rules) (c.in-Err.ensures.unopened can) in
     let unhad = subst (IsUnhad words old) (sym c.unopened_ending.ensures) (unopened_unhad words c.args.device.now c.args.stored old middle stored same c.in-Err.why told) in
-    let tried : IsTried c.args.device.now middle mid c.in-Err.why = record {
+    let built : c.deref.result.now ≡ c.args.stored.built.specs = first_of (search rules, cc) in
+    let kinds : c.deref.result.now ≡ stored.typing.specs = built ∙ stored.specs_are in
+    let tried : IsTried c.args.device.now stored.typing.specs middle mid c.in-Err.why = record {
       attaches = c.in-Err.ensures.attaches can;
-      untouched = c.in-Err.ensures.untouched can;
+      no_database = λ goes blocks there none. c.in-Err.ensures.no_database can goes blocks there (subst (λ (ks : List LeafSpec). ¬ HaveDatabase ks blocks) (sym kinds) none);
       absent = c.in-Err.ensures.absent can;
       kept = c.in-Err.ensures.kept can;
       recovered = c.in-Err.ensures.recovered can;
@@ -96,7 +100,6 @@ returns-in-Err-clause-fulfilled g c = λ can words old same stored.
       left = unopened_left words c.args.device.now c.args.stored old middle stored same mid after c.in-Err.why
           tried
           c.end-status.ensures.devices
-          told
           c.end-status.result
           (subst (λ w. IsEnded w mid after c.end-status.result) c.unopened_ending.ensures ended);
     }
