@@ -38,8 +38,8 @@ returns-then-branch-clause-rows g c = λ f whole is.
     (c.in_ok-add_rows_at.ensures.chosen (filter inside (rows_at t p.leaf f)) fit same).1
     ∙ ap (λ (l : List Row). c.args.rows.now.items ++ l) (filter_twice (meets_conds c.args.conds.now) inside (rows_at t p.leaf f))
 
-pub returns-clause-reads : goal.returns-clause-reads
-returns-clause-reads g c = record {
+pub returns-else-branch-clause-reads : goal.returns-else-branch-clause-reads
+returns-else-branch-clause-reads g c = record {
   reads = search rules;
   ends = record {
     whole = search rules;
