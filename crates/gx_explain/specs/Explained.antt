@@ -1,5 +1,5 @@
 -- What `explain` says: the plan of each `find` of a script, by the fields that are indexed in the terms of its files.
-use Rattle.std.specs.Prelude.{◌≡◌, ◌⊎◌, ℕ, ◌+◌, List, [], ◌∷◌, ◌++◌, length, map, Bool, false, Option, Some, None, Result, Ok, Err}
+use Rattle.std.specs.Prelude.{◌≡◌, ◌⊎◌, ℕ, ◌+◌, List, [], ◌∷◌, ◌++◌, length, map, Bool, false, Option, None, Result}
 use Rattle.gx_device.specs.Content.{Content}
 use Rattle.gx_schema.specs.declared.schema.Schema.{Schema}
 use Rattle.gx_schema.specs.Lookups.{file_at}
@@ -14,7 +14,7 @@ use Rattle.gx_explain.specs.Indexed.{file_indexed}
 use Rattle.gx_planner.specs.Plans.{least_plan}
 use Rattle.gx_planner.specs.Texts.{plan_text}
 use Rattle.gx_model.specs.Play.{End, good, stopped, end_text}
-use Rattle.gx_model.specs.Runs.{IsBadLine, AreFirstLines}
+use Rattle.gx_model.specs.Runs.{IsEndBehind, AreFirstLines}
 use Rattle.gx_play.specs.declared.status.Status.{Status}
 use Rattle.gx_play.specs.declared.status.Status.TheVariants as status
 use Rattle.gx_play.specs.Endings.{memory_line}
@@ -44,10 +44,7 @@ AreExplained schema indexed number inside (line ∷ lines) text final =
 -- where it ends behind the line of this number: at the next one, which is bad or can't be had; or with the script, also where a
 -- transaction is open
 abbrev pub IsExplainEnd : Schema → Bool → ℕ → Result (Option (List ℕ)) LineWhy → End → Type 0
-IsExplainEnd schema inside last (Ok (Some line)) end =
-    (why : LineWhy) × IsBadLine schema inside line why × (end ≡ stopped (last + 1) why)
-IsExplainEnd schema inside last (Ok None) end = end ≡ good
-IsExplainEnd schema inside last (Err why) end = end ≡ stopped (last + 1) why
+IsExplainEnd schema inside = IsEndBehind schema inside good
 
 -- what is said of all lines up to this end
 pub record IsExplainedTo (schema : Schema) (indexed : ℕ → List Bool) (all : Lines) (end : End) (text : List ℕ) : Type 0 where

@@ -1,3 +1,4 @@
 pub mod ListedLemmas
 pub mod AnswerLemmas
+pub mod LineEndLemmas
 pub mod RunLemmas

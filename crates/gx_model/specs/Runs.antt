@@ -30,13 +30,17 @@ IsBadLine schema inside line why =
     IsReading schema line (Err why)
     ⊎ ((command : Command) × IsLineOf schema line command × (place_reason inside command ≡ Some why))
 
--- how a play ends where `ran` lines ran: at the next, which is bad; with the last of them, where there is none; or at one
--- that can't be had
+-- how lines end of which so many were gone through, inside of a transaction or outside: at the
+-- next, which is bad; as it is said, where there is none; or at one that can't be had
+abbrev pub IsEndBehind : Schema → Bool → End → ℕ → Result (Option (List ℕ)) LineWhy → End → Type 0
+IsEndBehind schema inside none last (Ok (Some line)) end =
+    (why : LineWhy) × IsBadLine schema inside line why × (end ≡ stopped (last + 1) why)
+IsEndBehind schema inside none last (Ok None) end = end ≡ none
+IsEndBehind schema inside none last (Err why) end = end ≡ stopped (last + 1) why
+
+-- how a play ends where `ran` lines ran
 abbrev pub IsEnd : Schema → Playing → ℕ → Result (Option (List ℕ)) LineWhy → End → Type 0
-IsEnd schema p ran (Ok (Some line)) end =
-    (why : LineWhy) × IsBadLine schema (is_inside p) line why × (end ≡ stopped (ran + 1) why)
-IsEnd schema p ran (Ok None) end = end ≡ end_at ran (is_inside p)
-IsEnd schema p ran (Err why) end = end ≡ stopped (ran + 1) why
+IsEnd schema p ran = IsEndBehind schema (is_inside p) (end_at ran (is_inside p)) ran
 
 -- the first lines of all, and the next: a line, none, or one that can't be had
 abbrev pub AreFirstLines : Lines → List (List ℕ) → Result (Option (List ℕ)) LineWhy → Type 0
