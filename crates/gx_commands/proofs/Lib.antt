@@ -2,3 +2,4 @@ pub mod WordLaws
 pub mod CuttingLaws
 pub mod LineLaws
 pub mod BareLaws
+pub mod LineCounts
