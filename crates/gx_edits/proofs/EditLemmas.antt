@@ -1,6 +1,6 @@
 -- What edits of one file do to the states that leaves stand for.
-use Rattle.std.proofs.Common.{◌≡◌, ℕ, zero, suc, ◌+◌, ◌<◌, ◌≤◌, List, [], ◌∷◌, length, get_or, set, cond, true, false, Option, Some, None, refl, sym, ap, subst, ◌∙◌, arith, inl, inr}
-use Rattle.std.specs.Prelude.{is_some, not, unwrap_or}
+use Rattle.std.proofs.Common.{Result, ◌≡◌, ℕ, zero, suc, ◌+◌, ◌<◌, ◌≤◌, List, [], ◌∷◌, length, get_or, set, cond, true, false, Option, Some, None, refl, sym, ap, subst, ◌∙◌, arith, inl, inr}
+use Rattle.std.specs.Prelude.{is_some, not, unwrap_or, IfOk, IsErrOf}
 use Rattle.std.specs.FinMap as fin
 use Rattle.std.proofs.lemmas.Bool.{cases_eq}
 use Rattle.std.proofs.lemmas.List.{get_or-set_same, length-set}
@@ -12,7 +12,11 @@ use Rattle.gx_schema.specs.Lookups.{file_at, link_at}
 use Rattle.gx_commands.specs.declared.command.Change.{Change}
 use Rattle.gx_commands.specs.declared.command.Command.{Command}
 use Rattle.gx_commands.specs.declared.command.Command.TheVariants as command
-use Rattle.gx_ports.specs.LeafMaps.{LeafMap, Limits, IsCrowdedBy}
+use Rattle.gx_ports.specs.declared.stop.Stop.{Stop}
+use Rattle.gx_ports.specs.declared.stop.Stop.TheVariants as stop
+use Rattle.gx_ports.specs.declared.view.View.{Ghosts}
+use Rattle.gx_ports.specs.Calls.{Keeps, Ends}
+use Rattle.gx_ports.specs.LeafMaps.{LeafMap, Limits, entry_count, IsCrowdedBy}
 use Rattle.gx_mapping.specs.Rule.{In}
 use Rattle.gx_stack.specs.Tree.{Tree, entries_of, entry_total}
 use Rattle.gx_stack.proofs.Same.{internal_elsewhere}
@@ -24,11 +28,13 @@ use Rattle.gx_pairs.specs.declared.refused.Refused.{Refused}
 use Rattle.gx_pairs.specs.declared.refused.Refused.TheVariants as refused
 use Rattle.gx_model.specs.States.{File, State, file_in, link_in, IsLinkOf}
 use Rattle.gx_model.specs.Commands.{Refusal, key_exists, no_record, linked, changed, updated, state_after, next_state, refusal_of, first_refusal, is_linked, with_file}
-use Rattle.gx_scan.specs.Files.{rec_of, records_of, IsInternal}
+use Rattle.gx_scan.specs.Files.{rec_of, records_of, IsInternal, HasFile}
+use Rattle.gx_scan.proofs.CallLemmas.{ok_one, ends_so}
 use Rattle.gx_states.specs.Internal.{AreInternal, AreFor, entries_from, state_entries}
 use Rattle.gx_states.proofs.CountLemmas.{one_total, one_file, crowded_more}
 use Rattle.gx_states.proofs.LinkLemmas.{file_is, link_elsewhere}
-use Rattle.gx_edits.specs.Edits.{IsEdit}
+use Rattle.gx_states.proofs.StoredLemmas.{internal_at, has_file}
+use Rattle.gx_edits.specs.Edits.{IsEdit, EditsEach}
 use Rattle.gx_edits.specs.Records.{IsEdited, IsEditedWhere}
 use Rattle.gx_edits.proofs.ChangeLemmas.{inserted_new}
 use Rattle.gx_edits.proofs.EndLemmas.{file_here, file_there, link_stays, inserted_stay, no_end, removed_stay, linked_there}
@@ -162,3 +168,38 @@ module _ (limit : Option Limits) (schema : Schema) (built : Built) (leaves befor
       short_after limit built before (with_file s i f) (next_state schema s (command.Update i key changes)) (next_is schema s (command.Update i key changes) free ∙ ap (with_file s i) after)
       (short_with limit schema built leaves before s i f (rec_of (key, changed values changes)) of are.valid.files_many lt (inserted_new (file_in s i) key (changed values changes))
       (subst (λ (x : Tree AnyMapping). IsCrowdedBy limit (before + length (entries_of any_rule x (rec_of (key, changed values changes))))) tree c))
+
+-- ---- the edit of a file, by what became of its node
+
+module _ {S : Type 0} (g : Ghosts S) (schema : Schema) (built : Built) (c : Command)
+    (Known : State → Type 0) (i : ℕ) (file : FileDef) (t : Tree AnyMapping) (old new : S)
+    (result : Result (Option Refused) Stop) (def : file ≡ file_at schema i)
+    (tree : t ≡ tree_at built.files i) (there : i < length schema.files) where
+  pub edits_file : (Edited : File → Option Refused → Type 0) (Short : File → Type 0)
+      → ((f : File) → g.whole old → IsInternal file t (g.working old) f → IfOk result (Edited f))
+      → ((s : State) → Known s → AreInternal schema built (g.working old) s → (why : Option Refused)
+      → Edited (file_in s i) why → IsEdit schema built c s (g.working new) why)
+      → ((f : File) → g.whole old → IsInternal file t (g.working old) f → IsErrOf result stop.Full
+      → Short f)
+      → ((s : State) → AreInternal schema built (g.working old) s → Short (file_in s i)
+      → IsCrowdedBy (g.limit old) (entry_count (g.working old) + state_entries built
+      (next_state schema s c)))
+      → Keeps g old new → Ends g (g.whole old × HasFile file t (g.working old)) old new result
+      → ((n : ℕ) → IsErrOf result (stop.Damaged n) → g.whole old → n ≡ 0)
+      → EditsEach g schema built c Known old new result
+  edits_file Edited Short edited edit short full keeps ends block = record {
+    edit = λ s known whole are. ok_one result _ _ (edited (file_in s i) whole (here s are))
+        (edit s known are);
+    full = λ s known whole are stops. full s are (short (file_in s i) whole (here s are) stops);
+    keeps = keeps;
+    ends = ends_so g _ _ _ _ _ (λ found. (
+      found.0,
+      has_file schema built i file t (g.working old)
+          def tree there found.1,
+    )) ends;
+    block = block;
+  }
+    where
+      here : (s : State) → AreInternal schema built (g.working old) s
+          → IsInternal file t (g.working old) (file_in s i)
+      here s are = internal_at schema built i file t (g.working old) s def tree there are

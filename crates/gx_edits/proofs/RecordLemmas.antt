@@ -191,9 +191,6 @@ rec_sized file r keyed fits =
     let one = key_of_form file.fields r.key keyed fits.key in
     (subst AreSized (sym one.1) (fit_sized _ one.0 one.2, tt), are_sized (data_fields file) r.fields fits.fields)
 
-pub new_sized : (file : FileDef) (k : Value) (vs : List Value) → Fits (key_kind file) k → AreFit (data_fields file) vs → AreSized (k ∷ vs)
-new_sized file k vs of are = (fit_sized _ k of, are_sized (data_fields file) vs are)
-
 -- the record after changes of its data
 pub rec_made : (old new : Rec) (k : Value) (values : List Value) (cs : List Change) → old ≡ rec_of (k, values) → new.key ≡ old.key → new.fields ≡ changed old.fields cs → new ≡ rec_of (k, changed values cs)
 rec_made old new k values cs was key fields =

@@ -1,10 +1,9 @@
 use Rattle.std.proofs.Common.{length, sym, subst}
+use Rattle.gx_ports.specs.LeafMaps.{entry_count, IsCrowdedBy}
 use Rattle.gx_schema.specs.declared.schema.FileDef.{FileDef}
 use Rattle.gx_stack.specs.Seen.{tree_of}
 use Rattle.gx_scan.specs.Files.{IsTreeFor}
-use Rattle.gx_scan.proofs.CallLemmas.{ok_one, ends_so}
-use Rattle.gx_states.proofs.StoredLemmas.{internal_at, has_file}
-use Rattle.gx_edits.proofs.EditLemmas.{delete_edited, short_as_it_is}
+use Rattle.gx_edits.proofs.EditLemmas.{delete_edited, short_as_it_is, edits_file}
 use Rattle.gx_edits.proofs.edits.delete_unlinked.Goals as goal
 
 pub delete_record-requires-clause-tree : goal.delete_record-requires-clause-tree
@@ -13,22 +12,15 @@ delete_record-requires-clause-tree g c =
 
 pub returns : goal.returns
 returns g c =
-    let schema = c.args.schema.now in
-    let built = c.args.built.now in
-    let i = c.args.file in
-    let def = c.file_def-def.result.now in
-    let t = tree_of c.file_node-node.result.now in
-    let old = g.B.View.working c.args.leaves.now in
-    let new = g.B.View.working c.delete_record.new.leaves in
-    let lt = c.requires.of_schema.0 in
-    let def_is = c.file_def-def.ensures in
-    let tree_is = c.file_node-node.ensures.tree in
-    record {
-      edit = λ s free whole are.
-          ok_one c.delete_record.result _ _ (c.delete_record.ensures.deleted _ whole (internal_at schema built i def t old s def_is tree_is lt are))
-          (λ why is. delete_edited schema built _ old new s i def t why c.requires.ready are lt def_is tree_is c.args.key.now free is);
-      full = λ s free whole are stops. short_as_it_is _ _ _ (c.delete_record.ensures.full whole stops);
-      keeps = c.delete_record.ensures.keeps;
-      ends = ends_so g.B.View _ _ _ _ _ (λ found. (found.0, has_file schema built i def t old def_is tree_is lt found.1)) c.delete_record.ensures.ends;
-      block = c.delete_record.ensures.block;
-    }
+    edits_file g.B.View c.args.schema.now c.args.built.now _ _ c.args.file c.file_def-def.result.now
+    (tree_of c.file_node-node.result.now) c.args.leaves.now _ _ c.file_def-def.ensures
+    c.file_node-node.ensures.tree c.requires.of_schema.0
+    _ (λ _. IsCrowdedBy (g.B.View.limit c.args.leaves.now)
+    (entry_count (g.B.View.working c.args.leaves.now)))
+    c.delete_record.ensures.deleted
+    (λ s free are why. delete_edited c.args.schema.now c.args.built.now _ _ _ s c.args.file _ _ why
+    c.requires.ready are c.requires.of_schema.0 c.file_def-def.ensures
+    c.file_node-node.ensures.tree c.args.key.now free)
+    (λ f whole held stops. c.delete_record.ensures.full whole stops)
+    (λ s are short. short_as_it_is _ _ _ short)
+    c.delete_record.ensures.keeps c.delete_record.ensures.ends c.delete_record.ensures.block

@@ -10,10 +10,8 @@ use Rattle.gx_stack.specs.Tree.{entries_of}
 use Rattle.gx_types.specs.Any.{any_rule}
 use Rattle.gx_model.specs.States.{file_in}
 use Rattle.gx_model.specs.Commands.{changed, updated, first_refusal, no_record}
-use Rattle.gx_scan.proofs.CallLemmas.{ok_one, ends_so}
-use Rattle.gx_states.proofs.StoredLemmas.{internal_at, has_file}
 use Rattle.gx_edits.specs.Records.{IsEditedWhere}
-use Rattle.gx_edits.proofs.EditLemmas.{update_edited, short_update}
+use Rattle.gx_edits.proofs.EditLemmas.{update_edited, short_update, edits_file}
 use Rattle.gx_edits.proofs.edits.update.Goals as goal
 
 pub update_record-requires-clause-tree : goal.update_record-requires-clause-tree
@@ -22,26 +20,25 @@ update_record-requires-clause-tree g c =
 
 pub returns : goal.returns
 returns g c =
-    let schema = c.args.schema.now in
-    let built = c.args.built.now in
-    let i = c.args.file in
+    let given = c.deref.ensures.value ∙ c.changes.view_is in
     let def = c.file_def-def.result.now in
     let t = tree_of c.file_node-node.result.now in
-    let old = g.B.View.working c.args.leaves.now in
-    let new = g.B.View.working c.update_record.new.leaves in
-    let lt = c.requires.of_schema.0 in
-    let def_is = c.file_def-def.ensures in
-    let tree_is = c.file_node-node.ensures.tree in
-    record {
-      edit = λ s known whole are.
-          ok_one c.update_record.result _ _ (c.update_record.ensures.updated _ whole (internal_at schema built i def t old s def_is tree_is lt are))
-          (λ why is. update_edited schema built _ old new s i def t why c.requires.ready are lt def_is tree_is c.args.key.now c.args.changes.now
-          (subst (λ (cs : List Change). IsEditedWhere def t old new (file_in s i) (first_refusal ((not (is_some (get (file_in s i) c.args.key.now)), no_record) ∷ [])) (updated (file_in s i) c.args.key.now cs) why) (c.deref.ensures.value ∙ c.changes.view_is) is));
-      full = λ s known whole are stops.
-          let short = c.update_record.ensures.full _ whole (internal_at schema built i def t old s def_is tree_is lt are) stops in
-          short_update (g.B.View.limit c.args.leaves.now) schema built _ _ old s i t c.requires.ready are lt tree_is c.args.key.now c.args.changes.now short.0 short.1
-          (subst (λ (cs : List Change). IsCrowdedBy (g.B.View.limit c.args.leaves.now) (entry_count old + length (entries_of any_rule t (rec_of (c.args.key.now, changed short.0 cs))))) (c.deref.ensures.value ∙ c.changes.view_is) short.2);
-      keeps = c.update_record.ensures.keeps;
-      ends = ends_so g.B.View _ _ _ _ _ (λ found. (found.0, has_file schema built i def t old def_is tree_is lt found.1)) c.update_record.ensures.ends;
-      block = c.update_record.ensures.block;
-    }
+    edits_file g.B.View c.args.schema.now c.args.built.now _ _ c.args.file c.file_def-def.result.now
+    (tree_of c.file_node-node.result.now) c.args.leaves.now _ _ c.file_def-def.ensures
+    c.file_node-node.ensures.tree c.requires.of_schema.0
+    _ _
+    c.update_record.ensures.updated
+    (λ s known are why is. update_edited c.args.schema.now c.args.built.now _ _ _ s c.args.file def
+    t why c.requires.ready are c.requires.of_schema.0 c.file_def-def.ensures
+    c.file_node-node.ensures.tree c.args.key.now c.args.changes.now
+    (subst (λ (cs : List Change). IsEditedWhere def t _ _ (file_in s c.args.file)
+    (first_refusal ((not (is_some (get (file_in s c.args.file) c.args.key.now)), no_record) ∷
+    [])) (updated (file_in s c.args.file) c.args.key.now cs) why) given is))
+    c.update_record.ensures.full
+    (λ s are short. short_update (g.B.View.limit c.args.leaves.now) c.args.schema.now
+    c.args.built.now _ _ _ s c.args.file _ c.requires.ready are c.requires.of_schema.0
+    c.file_node-node.ensures.tree c.args.key.now c.args.changes.now short.0 short.1
+    (subst (λ (cs : List Change). IsCrowdedBy (g.B.View.limit c.args.leaves.now)
+    (entry_count (g.B.View.working c.args.leaves.now) + length
+    (entries_of any_rule t (rec_of (c.args.key.now, changed short.0 cs))))) given short.2))
+    c.update_record.ensures.keeps c.update_record.ensures.ends c.update_record.ensures.block
