@@ -1,5 +1,5 @@
 -- Links whose pairs are between records of files.
-use Rattle.std.proofs.Common.{◌≡◌, ◌<◌, ℕ, List, length, map, get_or, Some, None, sym, ap, subst, ◌∙◌, arith}
+use Rattle.std.proofs.Common.{◌≡◌, ◌<◌, ℕ, List, length, map, get_or, Option, Some, None, sym, ap, subst, ◌∙◌, arith}
 use Rattle.std.specs.Prelude.{◌↔◌, is_some, IsTrue}
 use Rattle.std.specs.List.Sorted.{IsStrictlySortedBy}
 use Rattle.std.specs.FinMap as fin
@@ -22,7 +22,7 @@ use Rattle.gx_model.specs.States.{File, Link}
 use Rattle.gx_states.specs.Internal.{AreFor}
 use Rattle.gx_states.proofs.LinkLemmas.{key_fits, member_there, owner_there, as_many}
 use Rattle.gx_audit.proofs.KeyLemmas.{there, in_keys, keys_sorted}
-use Rattle.gx_audit.specs.Audits.{keys_of, AreFiles, AreAmong, with_files, IsLinkAt, IsPairCount}
+use Rattle.gx_audit.specs.Audits.{keys_of, AreFiles, AreAmong, with_files, IsLinkAt, IsCountAmong, IsPairCount}
 
 -- ---- keys
 
@@ -64,10 +64,12 @@ module _ (schema : Schema) (built : Built) (leaves : ℕ) (for : AreFor schema b
         few = λ o. omega (arith, as_many link o, is.valid.few o);
       })
 
-  pub no_pairs : ArePairs (any_link_rule l) (IsHeldBy l) whole maps None → IsPairCount schema built whole maps fs i None
+  no_pairs : ArePairs (any_link_rule l) (IsHeldBy l) whole maps None
+      → IsPairCount schema built whole maps fs i None
   no_pairs none w link is = none w (link, is_link link is, (held link maps).0 is.held)
 
-  pub pairs_among : (pairs : List (Value × Value)) → ArePairs (any_link_rule l) (IsHeldBy l) whole maps (Some pairs)
+  pairs_among : (pairs : List (Value × Value))
+      → ArePairs (any_link_rule l) (IsHeldBy l) whole maps (Some pairs)
       → AreAmong members owners pairs → IsPairCount schema built whole maps fs i (Some (length pairs))
   pairs_among pairs are among w =
       let a = are w in (
@@ -87,7 +89,8 @@ module _ (schema : Schema) (built : Built) (leaves : ℕ) (for : AreFor schema b
         ap (λ (ps : List (Value × Value)). length ps) a.those ∙ sym (fin.len-entries a.link),
       )
 
-  pub pairs_apart : (pairs : List (Value × Value)) → ArePairs (any_link_rule l) (IsHeldBy l) whole maps (Some pairs)
+  pairs_apart : (pairs : List (Value × Value))
+      → ArePairs (any_link_rule l) (IsHeldBy l) whole maps (Some pairs)
       → (IsStrictlySortedBy value_cmp members → IsStrictlySortedBy value_cmp owners → ¬ AreAmong members owners pairs)
       → IsPairCount schema built whole maps fs i None
   pairs_apart pairs are apart w link is =
@@ -105,3 +108,13 @@ module _ (schema : Schema) (built : Built) (leaves : ℕ) (for : AreFor schema b
             (in_keys owner_file p.1 (all_at (λ (q : Value × Value). IsTrue (is_some (fin.get owner_file q.1)))
             (fin.entries link) p is.valid.owners there_in)),
       ))
+
+  pub count_of : (found : Option (List (Value × Value))) (count : Option ℕ)
+      → ArePairs (any_link_rule l) (IsHeldBy l) whole maps found
+      → IsCountAmong members owners found count → IsPairCount schema built whole maps fs i count
+  count_of None count are none = subst (IsPairCount schema built whole maps fs i) (sym none)
+      (no_pairs are)
+  count_of (Some pairs) None are apart = pairs_apart pairs are apart
+  count_of (Some pairs) (Some count) are (many, among) =
+      subst (λ (n : ℕ). IsPairCount schema built whole maps fs i (Some n)) (sym many)
+      (pairs_among pairs are among)

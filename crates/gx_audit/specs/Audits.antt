@@ -1,7 +1,9 @@
 -- What an audit finds in leaves: the files of a state, and then its links.
 use Rattle.std.specs.Prelude.{◌≡◌, ℕ, ◌<◌, List, [], ◌++◌, map, length, Option, Some, None, slice_index_or}
+use Rattle.std.specs.List.Sorted.{IsStrictlySortedBy}
 use Rattle.std.specs.FinMap as fin
 use Rattle.gx_values.specs.declared.values.Value.{Value}
+use Rattle.gx_values.specs.Values.{value_cmp}
 use Rattle.gx_schema.specs.declared.schema.FileDef.{FileDef}
 use Rattle.gx_schema.specs.declared.schema.Schema.{Schema}
 use Rattle.gx_schema.specs.Lookups.{file_at, link_at}
@@ -45,6 +47,15 @@ AreAllKeys schema nodes whole maps (Some keys) = whole → (fs : List File) × A
 -- the member of each pair is one of the members, and its owner one of the owners
 abbrev pub AreAmong : List Value → List Value → List (Value × Value) → Type 0
 AreAmong members owners pairs = (pair : Value × Value) → In pair pairs → In pair.0 members × In pair.1 owners
+
+-- how many pairs were found, where each is among ascending members and owners
+abbrev pub IsCountAmong : List Value → List Value → Option (List (Value × Value)) → Option ℕ
+    → Type 0
+IsCountAmong members owners None count = count ≡ None
+IsCountAmong members owners (Some pairs) None = IsStrictlySortedBy value_cmp members
+    → IsStrictlySortedBy value_cmp owners → ¬ AreAmong members owners pairs
+IsCountAmong members owners (Some pairs) (Some count) = (count ≡ length pairs)
+    × AreAmong members owners pairs
 
 -- a state of these files, without links
 abbrev pub with_files : List File → State

@@ -6,7 +6,7 @@ ghost use Rattle.gx_ports.specs.Calls.{ReadsMaps};
 ghost use Rattle.gx_stack.specs.Held.{AreCounts};
 ghost use Rattle.gx_model.specs.States.{File};
 ghost use Rattle.gx_states.specs.Internal.{AreFor};
-ghost use Rattle.gx_audit.specs.Audits.{keys_of, AreAmong, AreFiles, IsPairCount, ArePairCounts};
+ghost use Rattle.gx_audit.specs.Audits.{keys_of, AreAmong, AreFiles, IsCountAmong, IsPairCount, ArePairCounts};
 
 use crate::files::FileKeys;
 use crate::search::contains;
@@ -89,13 +89,19 @@ fn pair_count<B: Leaves>(
     let members = &keys.0[usize::from(def.member)];
     let owners = &keys.0[usize::from(def.owner)];
     let linkset = linkset_at(schema, built, link);
-    let Some(pairs) = linkset.pairs(alloc, leaves, entries)? else {
-        return Ok(None);
-    };
+    let found = linkset.pairs(alloc, leaves, entries)?;
+    Ok(count_among(members, owners, found))
+}
+
+// How many pairs were found, where each is of one of the members and one of the owners.
+fn count_among(members: &Values, owners: &Values, found: Option<Pairs>) -> Option<usize>
+    ensures { IsCountAmong members.now owners.now found result }
+{
+    let pairs = found?;
     if are_among(members, owners, &pairs) {
-        Ok(Some(pairs.0.len()))
+        Some(pairs.0.len())
     } else {
-        Ok(None)
+        None
     }
 }
 

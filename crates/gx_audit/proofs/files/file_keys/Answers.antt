@@ -75,22 +75,16 @@ loop-file-preserved g c =
     }
 
 pub returns-in_default-clause-entries : goal.returns-in_default-clause-entries
-returns-in_default-clause-entries g c = λ w.
-    let b = g.B.View in
-    let at = c.loop-file in
-    let inv = at.invariant in
-    counts_joined (b.working c.args.leaves.now) (b.working at.leaves) c.args.entries.now at.entries c.node_keys.new.entries inv.reads.working (inv.entries w) (c.in_ok-found.ensures.entries (inv.whole w))
+returns-in_default-clause-entries g c = λ w. let inv = c.loop-file.invariant in counts_joined _ _ _
+    _ c.node_keys.new.entries inv.reads.working (inv.entries w)
+    (c.in_ok-found.ensures.entries (inv.whole w))
 
 pub returns-in_err-push-clause-entries : goal.returns-in_err-push-clause-entries
-returns-in_err-push-clause-entries g c = λ w.
-    let b = g.B.View in
-    let at = c.loop-file in
-    let inv = at.invariant in
-    counts_joined (b.working c.args.leaves.now) (b.working at.leaves) c.args.entries.now at.entries c.node_keys.new.entries inv.reads.working (inv.entries w) (c.in_ok-found.ensures.entries (inv.whole w))
+returns-in_err-push-clause-entries g c = λ w. let inv = c.loop-file.invariant in counts_joined _ _ _
+    _ c.node_keys.new.entries inv.reads.working (inv.entries w)
+    (c.in_ok-found.ensures.entries (inv.whole w))
 
 pub returns-in_err-found-clause-entries : goal.returns-in_err-found-clause-entries
-returns-in_err-found-clause-entries g c = λ w.
-    let b = g.B.View in
-    let at = c.loop-file in
-    let inv = at.invariant in
-    counts_joined (b.working c.args.leaves.now) (b.working at.leaves) c.args.entries.now at.entries c.node_keys.new.entries inv.reads.working (inv.entries w) (c.node_keys.ensures.entries (inv.whole w))
+returns-in_err-found-clause-entries g c = λ w. let inv = c.loop-file.invariant in counts_joined _ _
+    _ _ c.node_keys.new.entries inv.reads.working (inv.entries w)
+    (c.node_keys.ensures.entries (inv.whole w))

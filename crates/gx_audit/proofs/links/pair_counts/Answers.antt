@@ -33,22 +33,16 @@ loop-link-preserved g c =
     }
 
 pub returns-in_default-clause-entries : goal.returns-in_default-clause-entries
-returns-in_default-clause-entries g c = λ w.
-    let b = g.B.View in
-    let at = c.loop-link in
-    let inv = at.invariant in
-    counts_joined (b.working c.args.leaves.now) (b.working at.leaves) c.args.entries.now at.entries c.pair_count.new.entries inv.reads.working (inv.entries w) (c.in_ok-count.ensures.entries (inv.whole w))
+returns-in_default-clause-entries g c = λ w. let inv = c.loop-link.invariant in counts_joined _ _ _
+    _ c.pair_count.new.entries inv.reads.working (inv.entries w)
+    (c.in_ok-count.ensures.entries (inv.whole w))
 
 pub returns-in_err-push-clause-entries : goal.returns-in_err-push-clause-entries
-returns-in_err-push-clause-entries g c = λ w.
-    let b = g.B.View in
-    let at = c.loop-link in
-    let inv = at.invariant in
-    counts_joined (b.working c.args.leaves.now) (b.working at.leaves) c.args.entries.now at.entries c.pair_count.new.entries inv.reads.working (inv.entries w) (c.in_ok-count.ensures.entries (inv.whole w))
+returns-in_err-push-clause-entries g c = λ w. let inv = c.loop-link.invariant in counts_joined _ _ _
+    _ c.pair_count.new.entries inv.reads.working (inv.entries w)
+    (c.in_ok-count.ensures.entries (inv.whole w))
 
 pub returns-in_err-count-clause-entries : goal.returns-in_err-count-clause-entries
-returns-in_err-count-clause-entries g c = λ w.
-    let b = g.B.View in
-    let at = c.loop-link in
-    let inv = at.invariant in
-    counts_joined (b.working c.args.leaves.now) (b.working at.leaves) c.args.entries.now at.entries c.pair_count.new.entries inv.reads.working (inv.entries w) (c.pair_count.ensures.entries (inv.whole w))
+returns-in_err-count-clause-entries g c = λ w. let inv = c.loop-link.invariant in counts_joined _ _
+    _ _ c.pair_count.new.entries inv.reads.working (inv.entries w)
+    (c.pair_count.ensures.entries (inv.whole w))
