@@ -8,7 +8,7 @@ ghost use Rattle.gx_ports.specs.PageCalls.{KeepsPages};
 ghost use Rattle.gx_ports.specs.Sheets.{IsPast, HasNone};
 ghost use Rattle.gx_bnode.specs.Branches.{AreAscending};
 ghost use Rattle.gx_bnode.specs.Page.{IsInnerPage, HasRoom, first_of, branches_of, separators_of};
-ghost use Rattle.gx_btree.specs.Order.{IsBelow, is_below};
+ghost use Rattle.gx_btree.specs.Order.{IsBelow};
 ghost use Rattle.gx_btree.specs.Tree.{Tree, ShowsInner, child_for, with_branch};
 ghost use Rattle.gx_bplus.specs.Changes.{MayStand};
 ghost use Rattle.gx_bplus.specs.Search.{IsHeld, IsReached, HasReached, HasCome};
@@ -16,7 +16,7 @@ ghost use Rattle.gx_bplus.specs.Splits.{IsDivided, IsRaised, MayHaveClaimed};
 
 use gx_bnode::{child_of, has_room, insert, make_inner, separator, separators, split};
 use gx_btree::child_for;
-use gx_order::compare_bytes;
+use gx_order::is_below;
 use gx_ports::{PAGE_LEN, Pages, Stop};
 
 /// Splits the inner child on the way to a key where it hasn't room for a separator. Gives the page
@@ -263,11 +263,4 @@ fn is_under(page: &[u8], i: u16, key: &[u8]) -> bool
         IsBelow key.now (slice_index_or (separators_of page.now) i [])) }
 {
     i == separators(page) || is_below(key, separator(page, i))
-}
-
-// Whether `a` stands before `b`, byte by byte, a proper front first.
-fn is_below(a: &[u8], b: &[u8]) -> bool
-    ensures { result ≡ is_below a.now b.now }
-{
-    compare_bytes(a, b).is_lt()
 }
