@@ -32,12 +32,20 @@ prefix_both xs ys p q =
     let down = ap (λ (l : List ℕ). length l) q.1 in
     p.1 ∙ ap (λ (l : List ℕ). xs ++ l) (no_items p.0 (omega (arith, more, less, up, down))) ∙ append-nil xs
 
+-- a device is at rest with the kept pages, and each page that is to be one of the others is in its slot
+pub record IsSpilled (kept : View) (pages : List (List ℕ)) (spilled : List Bool) (c : Content) : Type 0 where
+  pub count : length kept.pages ≡ length pages
+  pub long : length spilled ≡ length pages
+  pub rest : AtRest c.now kept
+  pub same : SameButChanged spilled kept.pages pages
+  pub held : Holds 7 pages spilled c.now
+
 -- slots alone were written
 module _ (P : ℕ) (kept : View) (old mid : Content) (count : length kept.pages ≡ P) (rest : AtRest old.now kept) (slots : OnlySlots P old mid) where
   still_calm : Calm old kept mid
   still_calm = slots.calm old kept count (calm_now kept old (rest_own kept old.now rest) (sym rest.fits.shelf))
 
-  pub spilled_rest : AtRest mid.now kept
+  spilled_rest : AtRest mid.now kept
   spilled_rest = subst (λ (s : List ℕ). AtRest mid.now (with_said kept s)) (slots.outside.said ∙ rest.fits.said) still_calm.now
 
   quiet_stands : (image : Image) → IsQuiet (Shows kept.head kept.pages) old.now mid.now.said image → StandsFor kept image
@@ -63,19 +71,28 @@ module _ (P : ℕ) (kept : View) (old mid : Content) (count : length kept.pages 
     moved : pages_told tells P mid is ss ≡ pages_told tells P old was rs
     moved = pages_same tells P P old mid was is rs ss refl (λ b. same)
 
-    pub spilled_count : length kept.pages ≡ length (pages_told tells P old was rs)
+    spilled_count : length kept.pages ≡ length (pages_told tells P old was rs)
     spilled_count = count ∙ sym pages_long
 
-    pub spilled_long : length is ≡ length (pages_told tells P old was rs)
+    spilled_long : length is ≡ length (pages_told tells P old was rs)
     spilled_long = long ∙ sym pages_long
 
-    pub spilled_same : SameButChanged is kept.pages (pages_told tells P old was rs)
+    spilled_same : SameButChanged is kept.pages (pages_told tells P old was rs)
     spilled_same =
         subst (λ (homes : List (List ℕ)). SameButChanged is homes (pages_told tells P old was rs)) (opened_kept tells told P mid kept count room spilled_rest)
         (subst (λ (pages : List (List ℕ)). SameButChanged is (homes_told tells P mid) pages) moved (homes_stored tells P mid is ss told at_slot))
 
-    pub spilled_held : Holds 7 (pages_told tells P old was rs) is mid.now
+    spilled_held : Holds 7 (pages_told tells P old was rs) is mid.now
     spilled_held = subst (λ (pages : List (List ℕ)). Holds 7 pages is mid.now) moved (slots_hold tells P mid is ss told at_slot)
+
+    pub spilled : IsSpilled kept (pages_told tells P old was rs) is mid
+    spilled = record {
+      count = spilled_count;
+      long = spilled_long;
+      rest = spilled_rest;
+      same = spilled_same;
+      held = spilled_held;
+    }
 
     -- where nothing was spilled, it is at rest with these pages
     pub none_spilled : (listed : List ℕ) → length listed ≡ 0 → IsListed is listed → AtRest mid.now (with_pages kept (pages_told tells P old was rs))

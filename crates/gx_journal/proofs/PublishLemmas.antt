@@ -70,7 +70,12 @@ found listed p among = elim (find_place listed p) [
 ]
 
 -- what is stored where a commit got as far as its homes
-module _ (P : ℕ) (spilled : List Bool) (listed : List ℕ) (h : IsListed spilled listed) (long : length spilled ≡ P) (mid new : Content) (rest : OnlyBlocks (IsCommitted P listed) mid new) where
+module _ (P : ℕ) (spilled : List Bool) (listed : List ℕ) (h : IsListed spilled listed)
+    (long : length spilled ≡ P) (mid new : Content)
+    (others : OnlyBlocks (IsCommitted (length spilled) listed) mid new) where
+  rest : OnlyBlocks (IsCommitted P listed) mid new
+  rest = subst (λ (k : ℕ). OnlyBlocks (IsCommitted k listed) mid new) long others
+
   not_home : (q : ℕ) → get_or spilled q false ≡ false → IsCommitted P listed (home P q) → ⊥
   not_home q off (inl e) = absurd (omega (arith, e))
   not_home q off (inr (inl e)) = absurd (omega (arith, e))
@@ -102,10 +107,14 @@ module _ (P : ℕ) (spilled : List Bool) (listed : List ℕ) (h : IsListed spill
   ]
 
   -- no flag stands, and what was spilled is at home
-  pub done_stored : (flags : List Bool) → ((p : ℕ) → get_or flags p false ≡ false) → ((p : ℕ) → get_or spilled p false ≡ true → block_of new.now (home P p) ≡ block_of mid.now (7 + p)) → (q : ℕ) → stored P new.now.blocks flags q ≡ stored P mid.now.blocks spilled q
+  pub done_stored : (flags : List Bool) → ((p : ℕ) → get_or flags p false ≡ false)
+      → ((p : ℕ) → get_or spilled p false ≡ true
+      → block_of new.now (home (length spilled) p) ≡ block_of mid.now (7 + p))
+      → (q : ℕ) → stored P new.now.blocks flags q ≡ stored P mid.now.blocks spilled q
   done_stored flags none homes q =
       ap (λ (b : Bool). if b then get_or new.now.blocks (7 + q) [] else get_or new.now.blocks (home P q) []) (none q) ∙ elim (cases_Bool (get_or spilled q false)) [
-        | inl on ↦ homes q on ∙ sym (ap (λ (b : Bool). if b then get_or mid.now.blocks (7 + q) [] else get_or mid.now.blocks (home P q) []) on)
+        | inl on ↦ subst (λ (k : ℕ). block_of new.now (home k q) ≡ block_of mid.now (7 + q)) long (homes q on)
+            ∙ sym (ap (λ (b : Bool). if b then get_or mid.now.blocks (7 + q) [] else get_or mid.now.blocks (home P q) []) on)
         | inr off ↦ rest.blocks (home P q) (not_home q off) ∙ sym (ap (λ (b : Bool). if b then get_or mid.now.blocks (7 + q) [] else get_or mid.now.blocks (home P q) []) off)
       ]
 

@@ -55,32 +55,6 @@ fn write_home<D: Device>(
     }
 }
 
-// The listed pages go home.
-fn write_homes<D: Device>(
-    device: &mut D,
-    frames: &mut Frames,
-    pages: u32,
-    listed: &Vec<u32>,
-) -> Result<(), Failed>
-    requires within { (i : ℕ) → i < length listed.now.items → slice_index_or listed.now.items i 0 < pages }
-    requires few { pages ≤ 32768 }
-    requires room { 7 + 2 * pages ≤ D.size device.old }
-    requires pages { frames.old.pages ≡ pages }
-    requires slots { IsTrue D.tells → (i : ℕ) (r : Resident) → i < length listed.now.items → find_page (slice_index_or listed.now.items i 0) frames.old.resident ≡ Some r → r.bytes ≡ block_of (D.content device.old).now (7 + slice_index_or listed.now.items i 0) }
-    ensures homes { IsTrue D.tells → OnOk result ((i : ℕ) → i < length listed.now.items → block_of (D.content device.new).now (home pages (slice_index_or listed.now.items i 0)) ≡ block_of (D.content device.old).now (7 + slice_index_or listed.now.items i 0)) }
-    ensures order { (q : ℕ) → find_page q frames.new.resident ≡ find_page q frames.old.resident }
-    ensures pages { frames.new.pages ≡ frames.old.pages }
-    ensures run { Through (Outside (IsHomeOf pages listed.now.items) (D.content device.old).now) (D.content device.old) (D.content device.new) }
-    ensures rest { OnlyBlocks (IsHomeOf pages listed.now.items) (D.content device.old) (D.content device.new) }
-    ensures size { D.size device.new ≡ D.size device.old }
-    ensures faults { IsCounted (D.faults device.old) (D.faults device.new) result }
-{
-    for i in 0..listed.len() {
-        write_home(device, frames, pages, listed[i])?;
-    }
-    Ok(())
-}
-
 // The bitmap names the spilled pages.
 fn log<D: Device>(device: &mut D, spilled: &Vec<bool>) -> Result<(), Failed>
     requires few { length spilled.now.items ≤ 32768 }
@@ -117,7 +91,9 @@ fn bring_home<D: Device>(
     ensures size { D.size device.new ≡ D.size device.old }
     ensures faults { IsCounted (D.faults device.old) (D.faults device.new) result }
 {
-    write_homes(device, frames, pages, listed)?;
+    for i in 0..listed.len() {
+        write_home(device, frames, pages, listed[i])?;
+    }
     device.sync()
 }
 

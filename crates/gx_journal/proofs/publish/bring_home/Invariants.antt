@@ -4,7 +4,7 @@ use Rattle.gx_device.specs.Content.{block_of}
 use Rattle.gx_device.specs.Crash.{Through, Outside}
 use Rattle.gx_layout.specs.Layout.{OnlyBlocks, home}
 use Rattle.gx_journal.specs.Sources.{IsHomeOf}
-use Rattle.gx_journal.proofs.publish.write_homes.Given as goal
+use Rattle.gx_journal.proofs.publish.bring_home.Given as goal
 
 abbrev pub invariant-loop-i : goal.invariant-loop-i
 invariant-loop-i g l =
