@@ -26,7 +26,8 @@ take_out x (z ∷ xs) u = elim (cases_eq z x) [
     rest = z ∷ w.rest;
     shorter = (let s = w.shorter in omega (arith, s));
     unique = ((λ i. u.0 (w.members z i).0), w.unique);
-    members = λ y i. elim i [ inl e ↦ (inl e, λ f. d (sym e ∙ f)) | inr j ↦ (let m = w.members y j in (inr m.0, m.1)) ];
+    members = λ y i. elim i
+        [ inl e ↦ (inl e, λ f. d (sym e ∙ f)) | inr j ↦ (let m = w.members y j in (inr m.0, m.1)) ];
   })
 ]
 
@@ -38,11 +39,13 @@ few zero [] u below = omega arith
 few zero (x ∷ xs) u below = let h = below x (inl refl) in omega (arith, h)
 few (suc n) xs u below =
     let w = take_out n xs u in
-    let h = few n w.rest w.unique (λ x i. let m = w.members x i in let b = below x m.0 in let d = m.1 in less_of x n b d) in
+    let h = few n w.rest w.unique
+    (λ x i. let m = w.members x i in let b = below x m.0 in let d = m.1 in less_of x n b d) in
     let s = w.shorter in
     omega (arith, h, s)
 
-pub ends : {steps : ℕ} (at : ℕ → List ℕ) (owned : ℕ → Type 0) (root p : ℕ) (key : List ℕ) (old : Tree) (size : ℕ)
+pub ends : {steps : ℕ} (at : ℕ → List ℕ) (owned : ℕ → Type 0) (root p : ℕ) (key : List ℕ)
+    (old : Tree) (size : ℕ)
     → IsAtHand at owned root p key old steps → ((q : ℕ) → owned q → q < size) → steps < size
 ends at owned root p key old size h within =
     let top = top_in h.subtree in

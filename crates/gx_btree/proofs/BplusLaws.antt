@@ -31,7 +31,8 @@ use Rattle.gx_btree.proofs.SheetLemmas.{bytes_same, get_below}
 
 -- ---- it depends on its own pages alone
 
-file_same : (ground : Ground) (place : Place) (s t : Sheets) (m : LeafMap) → SameFor ground place.owner s t
+file_same : (ground : Ground) (place : Place) (s t : Sheets) (m : LeafMap)
+    → SameFor ground place.owner s t
     → IsBplus ground place s m → IsBplus ground place t m
 file_same ground place s t m same b = record {
   tree = b.tree;
@@ -44,7 +45,8 @@ file_same ground place s t m same b = record {
     apart = b.whole.apart;
   };
   past = b.past;
-  owned = λ q. ((λ o. (b.owned q).0 ((same.owned q).1 o)), (λ i. (same.owned q).0 ((b.owned q).1 i)));
+  owned =
+      λ q. ((λ o. (b.owned q).0 ((same.owned q).1 o)), (λ i. (same.owned q).0 ((b.owned q).1 i)));
   map_is = b.map_is;
 }
 
@@ -56,12 +58,14 @@ IsSeen p all q =
     ((es : List Entry) × ShowsEntries (p q) es × ((x : Entry) → In x es → In x all))
     ⊎ ((first : ℕ) × (bs : List Branch) × ShowsInner (p q) first bs)
 
-wider : (p : ℕ → List ℕ) (some all : List Entry) (q : ℕ) → ((x : Entry) → In x some → In x all) → IsSeen p some q → IsSeen p all q
+wider : (p : ℕ → List ℕ) (some all : List Entry) (q : ℕ) → ((x : Entry) → In x some → In x all)
+    → IsSeen p some q → IsSeen p all q
 wider p some all q f (inl a) = inl (a.0, a.1, λ x i. f x (a.2 x i))
 wider p some all q f (inr b) = inr b
 
 mutual
-  page_seen : (p : ℕ → List ℕ) (t : Tree) (q : ℕ) → Stands p t → In q (pages t) → IsSeen p (entries t) q
+  page_seen : (p : ℕ → List ℕ) (t : Tree) (q : ℕ) → Stands p t → In q (pages t)
+      → IsSeen p (entries t) q
   page_seen p (leaf r es) q stands i =
       elim i [ inl e ↦ inl (es, subst (λ n. ShowsEntries (p n) es) (sym e) stands, λ x j. j) | inr n ↦ absurd n ]
   page_seen p (node r kids) q stands i = elim i [
@@ -69,7 +73,8 @@ mutual
     | inr j ↦ kids_seen p kids q stands.1 j
   ]
 
-  kids_seen : (p : ℕ → List ℕ) (kids : Kids) (q : ℕ) → AllStand p kids → In q (kids_pages kids) → IsSeen p (kids_entries kids) q
+  kids_seen : (p : ℕ → List ℕ) (kids : Kids) (q : ℕ) → AllStand p kids → In q (kids_pages kids)
+      → IsSeen p (kids_entries kids) q
   kids_seen p (last t) q stand i = page_seen p t q stand i
   kids_seen p (more t s kids) q stand i = elim (in_cases q (pages t) (kids_pages kids) i) [
     | inl a ↦ wider p (entries t) (entries t ++ kids_entries kids) q
@@ -83,11 +88,13 @@ abbrev IsOnPage : (ℕ → List ℕ) → List ℕ → Entry → Type 0
 IsOnPage p qs x = (q : ℕ) × In q qs × ((es : List Entry) × ShowsEntries (p q) es × In x es)
 
 mutual
-  on_page : (p : ℕ → List ℕ) (t : Tree) (x : Entry) → Stands p t → In x (entries t) → IsOnPage p (pages t) x
+  on_page : (p : ℕ → List ℕ) (t : Tree) (x : Entry) → Stands p t → In x (entries t)
+      → IsOnPage p (pages t) x
   on_page p (leaf r es) x stands i = (r, inl refl, (es, stands, i))
   on_page p (node r kids) x stands i = let f = on_kids p kids x stands.1 i in (f.0, inr f.1, f.2)
 
-  on_kids : (p : ℕ → List ℕ) (kids : Kids) (x : Entry) → AllStand p kids → In x (kids_entries kids) → IsOnPage p (kids_pages kids) x
+  on_kids : (p : ℕ → List ℕ) (kids : Kids) (x : Entry) → AllStand p kids → In x (kids_entries kids)
+      → IsOnPage p (kids_pages kids) x
   on_kids p (last t) x stand i = on_page p t x stand i
   on_kids p (more t s kids) x stand i = elim (in_cases x (entries t) (kids_entries kids) i) [
     | inl a ↦ (let f = on_page p t x stand.0 a in (f.0, in_left f.0 (pages t) (kids_pages kids) f.1, f.2))
@@ -110,7 +117,8 @@ itself : (n : ℕ) → (n == n) ≡ true
 itself n = grind (arith, nat_tests)
 
 -- where there is an entry, one is found
-found_some : (es : List Entry) (k b : List ℕ) → In (at k b) es → (c : List ℕ) × (fin.find key_cmp k (map pair es) ≡ Some c)
+found_some : (es : List Entry) (k b : List ℕ) → In (at k b) es
+    → (c : List ℕ) × (fin.find key_cmp k (map pair es) ≡ Some c)
 found_some [] k b i = absurd i
 found_some (e ∷ es) k b i =
     elim (eq_by_cmp key_cmp k e.key) as
@@ -118,7 +126,8 @@ found_some (e ∷ es) k b i =
       | true ↦ λ _. (e.body, refl)
       | false ↦ λ other. elim i [
         | inl same ↦ (let is : true ≡ false = sym (tied e.key)
-            ∙ ap (λ z. eq_by_cmp key_cmp z e.key) (sym (ap (λ (x : Entry). x.key) same)) ∙ other in let no : ⊥ = cc in absurd no)
+            ∙ ap (λ z. eq_by_cmp key_cmp z e.key) (sym (ap (λ (x : Entry). x.key) same))
+            ∙ other in let no : ⊥ = cc in absurd no)
         | inr later ↦ found_some es k b later
       ]
     ] refl
@@ -129,7 +138,8 @@ pub record IsOwnedEntry (owner : ℕ) (s : Sheets) (e : Entry) : Type 0 where
   pub owned : has_entries owner s page ≡ true
   pub here : In e (entries_of (bytes_at s page))
 
-owned_from : (owner : ℕ) (s : Sheets) (n : ℕ) (e : Entry) → In e (owned_entries owner s n) → IsOwnedEntry owner s e
+owned_from : (owner : ℕ) (s : Sheets) (n : ℕ) (e : Entry) → In e (owned_entries owner s n)
+    → IsOwnedEntry owner s e
 owned_from owner s zero e i = absurd i
 owned_from owner s (suc n) e i = elim (in_cases e (entries_if_owned owner s n) (owned_entries owner s n) i) [
   | inl here ↦ elim (has_entries owner s n) as
@@ -145,12 +155,14 @@ owned_to : (owner : ℕ) (s : Sheets) (n q : ℕ) (e : Entry) → q < n → has_
 owned_to owner s zero q e less is i = absurd (omega (arith, less))
 owned_to owner s (suc n) q e less is i = elim (cases_eq q n) [
   | inl same ↦ in_left e (entries_if_owned owner s n) (owned_entries owner s n)
-      (subst (λ b. In e (cond b (entries_of (bytes_at s n)) [])) (sym (ap (has_entries owner s) (sym same) ∙ is))
+      (subst (λ b. In e (cond b (entries_of (bytes_at s n)) []))
+      (sym (ap (has_entries owner s) (sym same) ∙ is))
       (subst (λ r. In e (entries_of (bytes_at s r))) same i))
   | inr other ↦ in_right e (entries_if_owned owner s n) (owned_entries owner s n) (owned_to owner s n q e (omega (arith, less, other)) is i)
 ]
 
-module _ (ground : Ground) (place : Place) (s : Sheets) (m : LeafMap) (some : 1 ≤ place.owner) (b : IsBplus ground place s m) where
+module _ (ground : Ground) (place : Place) (s : Sheets) (m : LeafMap) (some : 1 ≤ place.owner)
+    (b : IsBplus ground place s m) where
   shown : (o : Option ℕ) → unwrap_or o 0 ≡ place.owner → o ≡ Some place.owner
   shown None is = absurd (omega (arith, is, some))
   shown (Some n) is = ap Some is
@@ -163,7 +175,8 @@ module _ (ground : Ground) (place : Place) (s : Sheets) (m : LeafMap) (some : 1 
       shown (slice_get s.owners q) (unwrap_or-slice_get s.owners q 0 ∙ here)
 
   -- what is read stands in the tree
-  read_in : (e : Entry) → In e (owned_entries place.owner s (length s.owners)) → In e (entries b.tree)
+  read_in : (e : Entry) → In e (owned_entries place.owner s (length s.owners))
+      → In e (entries b.tree)
   read_in e i =
       let o = owned_from place.owner s (length s.owners) e i in
       let kind : slice_index_or (bytes_at s o.page) 0 0 ≡ 68 =
@@ -176,38 +189,50 @@ module _ (ground : Ground) (place : Place) (s : Sheets) (m : LeafMap) (some : 1 
       ]
 
   -- what stands in the tree is read
-  in_read : (e : Entry) → In e (entries b.tree) → In e (owned_entries place.owner s (length s.owners))
+  in_read : (e : Entry) → In e (entries b.tree)
+      → In e (owned_entries place.owner s (length s.owners))
   in_read e i =
       let o = on_page (bytes_at s) b.tree e b.whole.stands i in
       let mine : IsOwned place.owner s o.0 = (b.owned o.0).1 o.1 in
       let first : (slice_index_or s.owners o.0 0 == place.owner) ≡ true =
-      ap (λ n. n == place.owner) (sym (unwrap_or-slice_get s.owners o.0 0) ∙ ap (λ x. unwrap_or x 0) mine) ∙ itself place.owner in
-      let kind : slice_index_or (bytes_at s o.0) 0 0 ≡ 68 = ap (λ (xs : List ℕ). get_or xs 0 0) o.2.1.page.is in
-      let second : (slice_index_or (bytes_at s o.0) 0 0 == 68) ≡ true = ap (λ n. n == 68) kind ∙ itself 68 in
+      ap (λ n. n == place.owner)
+      (sym (unwrap_or-slice_get s.owners o.0 0) ∙ ap (λ x. unwrap_or x 0) mine)
+      ∙ itself place.owner in
+      let kind : slice_index_or (bytes_at s o.0) 0 0 ≡ 68 =
+      ap (λ (xs : List ℕ). get_or xs 0 0) o.2.1.page.is in
+      let second : (slice_index_or (bytes_at s o.0) 0 0 == 68) ≡ true =
+      ap (λ n. n == 68) kind ∙ itself 68 in
       owned_to place.owner s (length s.owners) o.0 e (get_below s.owners o.0 place.owner mine)
-      (both_true (slice_index_or s.owners o.0 0 == place.owner) (slice_index_or (bytes_at s o.0) 0 0 == 68) first second)
+      (both_true (slice_index_or s.owners o.0 0 == place.owner)
+      (slice_index_or (bytes_at s o.0) 0 0 == 68) first second)
       (subst (In e) (sym (entries_of-page o.2.0 NONE (bytes_at s o.0) o.2.1)) o.2.2)
 
   found_at : (k : List ℕ) → fin.get (bplus_map ground place s) k ≡ fin.find key_cmp k
       (map pair (owned_entries place.owner s (length s.owners)))
-  found_at k = fin.get-from_entries nat_list_cmp_total (map pair (owned_entries place.owner s (length s.owners))) k
+  found_at k =
+      fin.get-from_entries nat_list_cmp_total
+      (map pair (owned_entries place.owner s (length s.owners))) k
 
   read_to : (k v : List ℕ) → fin.get (bplus_map ground place s) k ≡ Some v → fin.get m k ≡ Some v
   read_to k v is =
-      (b.map_is k v).1 (read_in (at k v) (found_in (owned_entries place.owner s (length s.owners)) k v (sym (found_at k) ∙ is)))
+      (b.map_is k v).1 (read_in (at k v)
+      (found_in (owned_entries place.owner s (length s.owners)) k v (sym (found_at k) ∙ is)))
 
   to_read : (k v : List ℕ) → fin.get m k ≡ Some v → fin.get (bplus_map ground place s) k ≡ Some v
   to_read k v is =
-      let f = found_some (owned_entries place.owner s (length s.owners)) k v (in_read (at k v) ((b.map_is k v).0 is)) in
+      let f = found_some (owned_entries place.owner s (length s.owners)) k v
+      (in_read (at k v) ((b.map_is k v).0 is)) in
       let found : fin.get (bplus_map ground place s) k ≡ Some f.0 = found_at k ∙ f.1 in
       found ∙ sym (read_to k f.0 found) ∙ is
 
   one_map : bplus_map ground place s ≡ m
   one_map =
       fin.same_map nat_list_cmp_total only_equal (bplus_map ground place s) m
-      (λ k. same_option (fin.get (bplus_map ground place s) k) (fin.get m k) (read_to k) (to_read k))
+      (λ k. same_option (fin.get (bplus_map ground place s) k) (fin.get m k) (read_to k)
+      (to_read k))
 
-pub bplus_laws : (ground : Ground) (place : Place) → place.spec.kind ≡ kinds.Bplus → IsPlace ground place
+pub bplus_laws : (ground : Ground) (place : Place) → place.spec.kind ≡ kinds.Bplus
+    → IsPlace ground place
     → AreFileLaws ground place (IsBplus ground place) (bplus_map ground place)
 bplus_laws ground place kind is = record {
   one = λ s m b. one_map ground place s m is.least b;

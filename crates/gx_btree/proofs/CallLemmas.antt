@@ -17,7 +17,8 @@ module _ {S : Type 0} (g : Ghosts S) where
       → EndsFile g less a b r → EndsFile g more a b r
   ends_weaker more less a b r f e = record {
     cause =
-        record { later = e.cause.later; fault = e.cause.fault; counted = e.cause.counted; damaged = λ n is h. e.cause.damaged n is (f h) };
+        record
+        { later = e.cause.later; fault = e.cause.fault; counted = e.cause.counted; damaged = λ n is h. e.cause.damaged n is (f h) };
     bound = e.bound;
   }
 
@@ -55,7 +56,8 @@ module _ {S : Type 0} (g : Ghosts S) where
   pages_read_joined x y = record { working = y.working ∙ x.working; keeps = pages_keep_joined x.keeps y.keeps }
 
   -- a call whose count of faults begins where an earlier one ended
-  pub ends_after : {T : Type 0} (more less : Type 0) (a b c : S) (r : Result T Stop) → g.faults b ≡ g.faults a
+  pub ends_after : {T : Type 0} (more less : Type 0) (a b c : S) (r : Result T Stop)
+      → g.faults b ≡ g.faults a
       → g.ground b ≡ g.ground a → (more → less) → EndsFile g less b c r → EndsFile g more a c r
   ends_after more less a b c r f h w e =
       let k = ends_weaker more less b c r w e in
@@ -86,7 +88,8 @@ module _ {S : Type 0} (g : Ghosts S) where
   recast : (T U : Type 0) (why v : Stop) → IsErrOf {T = U} (Err why) v → IsErrOf {T = T} (Err why) v
   recast T U why v h = let e : why ≡ v = cc in ap Err e
 
-  pub ends_err : (T U : Type 0) (sound : Type 0) (a b : S) (why : Stop) → EndsFile {T = T} g sound a b (Err why)
+  pub ends_err : (T U : Type 0) (sound : Type 0) (a b : S) (why : Stop)
+      → EndsFile {T = T} g sound a b (Err why)
       → EndsFile {T = U} g sound a b (Err why)
   ends_err T U sound a b why e = record {
     cause =
@@ -101,6 +104,8 @@ module _ {S : Type 0} (g : Ghosts S) where
   }
 
   pub ends_handed : (T U : Type 0) (sound : Type 0) (a b : S) (why : Stop) (r : Result U Stop)
-      → EndsFile {T = T} g sound a b (Err why) → IsErrAnd r (λ s. s ≡ why) → EndsFile {T = U} g sound a b r
+      → EndsFile {T = T} g sound a b (Err why) → IsErrAnd r (λ s. s ≡ why)
+      → EndsFile {T = U} g sound a b r
   ends_handed T U sound a b why (Ok x) e same = absurd same
-  ends_handed T U sound a b why (Err s) e same = subst (λ x. EndsFile {T = U} g sound a b (Err x)) (sym same) (ends_err T U sound a b why e)
+  ends_handed T U sound a b why (Err s) e same =
+      subst (λ x. EndsFile {T = U} g sound a b (Err x)) (sym same) (ends_err T U sound a b why e)

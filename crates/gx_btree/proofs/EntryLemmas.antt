@@ -32,25 +32,32 @@ pub ascending_of : (es : List Entry) → AreAscending es → Ascending es
 ascending_of [] up = tt
 ascending_of (x ∷ xs) up = (
   (λ y i. let p = place_in y xs i in
-      subst (λ (e : Entry). IsBelow x.key e.key) (p.is x) (up 0 (suc p.place) x (omega arith) (let b = p.below in omega (arith, b)))),
-  ascending_of xs (λ i j d lt below. up (suc i) (suc j) d (omega (arith, lt)) (omega (arith, below))),
+      subst (λ (e : Entry). IsBelow x.key e.key) (p.is x)
+      (up 0 (suc p.place) x (omega arith) (let b = p.below in omega (arith, b)))),
+  ascending_of xs
+  (λ i j d lt below. up (suc i) (suc j) d (omega (arith, lt)) (omega (arith, below))),
 )
 
 pub ascending_from : (es : List Entry) → Ascending es → AreAscending es
 ascending_from [] up i j d lt below = absurd (omega (arith, below))
 ascending_from (x ∷ xs) up zero zero d lt below = absurd (omega (arith, lt))
-ascending_from (x ∷ xs) up zero (suc j) d lt below = up.0 (get_or xs j d) (in_place xs j d (omega (arith, below)))
+ascending_from (x ∷ xs) up zero (suc j) d lt below =
+    up.0 (get_or xs j d) (in_place xs j d (omega (arith, below)))
 ascending_from (x ∷ xs) up (suc i) zero d lt below = absurd (omega (arith, lt))
-ascending_from (x ∷ xs) up (suc i) (suc j) d lt below = ascending_from xs up.1 i j d (omega (arith, lt)) (omega (arith, below))
+ascending_from (x ∷ xs) up (suc i) (suc j) d lt below =
+    ascending_from xs up.1 i j d (omega (arith, lt)) (omega (arith, below))
 
 -- pages as the two crates see them
-pub shows_entries : (bytes : List ℕ) → Shows shapes.Entries bytes → ShowsEntries bytes (entries_of bytes)
-shows_entries bytes s = subst (λ n. IsPageOf (entries_of bytes) n bytes) s.1 (slots.page_of bytes s.0.page)
+pub shows_entries : (bytes : List ℕ) → Shows shapes.Entries bytes
+    → ShowsEntries bytes (entries_of bytes)
+shows_entries bytes s =
+    subst (λ n. IsPageOf (entries_of bytes) n bytes) s.1 (slots.page_of bytes s.0.page)
 
 pub entries_up : (bytes : List ℕ) → Shows shapes.Entries bytes → Ascending (entries_of bytes)
 entries_up bytes s = ascending_of (entries_of bytes) s.0.ascending
 
-pub shows_inner : (bytes : List ℕ) → Shows shapes.Inner bytes → ShowsInner bytes (bnode.first_of bytes) (bnode.branches_of bytes)
+pub shows_inner : (bytes : List ℕ) → Shows shapes.Inner bytes
+    → ShowsInner bytes (bnode.first_of bytes) (bnode.branches_of bytes)
 shows_inner bytes s = bnode_lemmas.page_of bytes s
 
 pub some_of : (es : List Entry) → 0 < length es → IsSome es

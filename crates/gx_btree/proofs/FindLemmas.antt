@@ -31,13 +31,15 @@ use Rattle.gx_btree.proofs.ShapeLemmas.{hand_page}
 use Rattle.gx_btree.proofs.StepLemmas.{at_root, root_hi, leaf_is, top_in, descend}
 
 -- the separators of a page of a tree are among those of the tree
-own_separators : (kids : Kids) (s : List ℕ) → In s (separators_in (trees.branches_of kids)) → In s (kids_separators kids)
+own_separators : (kids : Kids) (s : List ℕ) → In s (separators_in (trees.branches_of kids))
+    → In s (kids_separators kids)
 own_separators (last t) s i = absurd i
 own_separators (more t m kids) s i =
     elim i [ inl e ↦ inl e | inr j ↦ inr (in_right s (separators t) (kids_separators kids) (own_separators kids s j)) ]
 
 mutual
-  page_separators : (at : ℕ → List ℕ) (t : Tree) (q f : ℕ) (bs : List Branch) (s : List ℕ) → Stands at t
+  page_separators : (at : ℕ → List ℕ) (t : Tree) (q f : ℕ) (bs : List Branch) (s : List ℕ)
+      → Stands at t
       → In q (pages t) → ShowsInner (at q) f bs → In s (separators_in bs) → In s (separators t)
   page_separators at (leaf p es) q f bs s stands i shows j = elim i [
     | inl e ↦ absurd (one_kind (at p) es f bs stands (subst (λ n. ShowsInner (at n) f bs) e shows))
@@ -52,20 +54,25 @@ mutual
   ]
 
   kids_page_separators : (at : ℕ → List ℕ) (kids : Kids) (q f : ℕ) (bs : List Branch) (s : List ℕ)
-      → AllStand at kids → In q (kids_pages kids) → ShowsInner (at q) f bs → In s (separators_in bs) → In s (kids_separators kids)
-  kids_page_separators at (last t) q f bs s stand i shows j = page_separators at t q f bs s stand i shows j
-  kids_page_separators at (more t m kids) q f bs s stand i shows j = inr (elim (in_cases q (pages t) (kids_pages kids) i) [
+      → AllStand at kids → In q (kids_pages kids) → ShowsInner (at q) f bs → In s (separators_in bs)
+      → In s (kids_separators kids)
+  kids_page_separators at (last t) q f bs s stand i shows j =
+      page_separators at t q f bs s stand i shows j
+  kids_page_separators at (more t m kids) q f bs s stand i shows j =
+      inr (elim (in_cases q (pages t) (kids_pages kids) i) [
     | inl a ↦ in_left s (separators t) (kids_separators kids) (page_separators at t q f bs s stand.0 a shows j)
     | inr b ↦ in_right s (separators t) (kids_separators kids) (kids_page_separators at kids q f bs s stand.1 b shows j)
   ])
 
 -- The search has come to a page that is yet to be read, with the nearest separator behind it.
-pub record IsWay (sheets : Sheets) (owner root at : ℕ) (key : List ℕ) (bound : Option (List ℕ)) (tree : Tree) (steps : ℕ) : Type 0 where
+pub record IsWay (sheets : Sheets) (owner root at : ℕ) (key : List ℕ) (bound : Option (List ℕ))
+    (tree : Tree) (steps : ℕ) : Type 0 where
   pub hand : IsAtHand (bytes_at sheets) (IsOwned owner sheets) root at key tree steps
   pub bound_is : bound ≡ hand.hi
   pub separator : (s : List ℕ) → bound ≡ Some s → In s (separators tree)
 
-pub record IsFinding {S : Type 0} (g : Ghosts S) (place : Place) (key : List ℕ) (start now : S) (from at : ℕ)
+pub record IsFinding {S : Type 0} (g : Ghosts S) (place : Place) (key : List ℕ) (start now : S)
+    (from at : ℕ)
     (bound : Option (List ℕ)) (steps : ℕ) : Type 0 where
   pub reads : ReadsPages g start now
   pub faults : g.faults now ≡ g.faults start
@@ -77,7 +84,8 @@ module _ {S : Type 0} (g : Ghosts S) (place : Place) (key : List ℕ) (start : S
   abbrev Whole : Type 0
   Whole = IsWhole g (IsBplus (g.ground start) place) start
 
-  pub finding_starts : place.root < (g.ground start).size → IsFinding g place key start start place.root place.root None 0
+  pub finding_starts : place.root < (g.ground start).size
+      → IsFinding g place key start start place.root place.root None 0
   finding_starts below = record {
     reads = pages_read_itself g start;
     faults = refl;
@@ -85,17 +93,21 @@ module _ {S : Type 0} (g : Ghosts S) (place : Place) (key : List ℕ) (start : S
     way = λ map holds. record {
       hand =
           at_root (bytes_at (g.working start))
-          (IsOwned place.owner (g.working start)) place.root key holds.file.tree holds.file.whole holds.file.owned;
+          (IsOwned place.owner (g.working start)) place.root key holds.file.tree holds.file.whole
+          holds.file.owned;
       bound_is =
           sym (root_hi (bytes_at (g.working start))
-          (IsOwned place.owner (g.working start)) place.root key holds.file.tree holds.file.whole holds.file.owned);
+          (IsOwned place.owner (g.working start)) place.root key holds.file.tree holds.file.whole
+          holds.file.owned);
       separator = λ s e. let no : ⊥ = cc in absurd no;
     };
   }
 
-  module _ {steps : ℕ} (now : S) (from at : ℕ) (bound : Option (List ℕ)) (f : IsFinding g place key start now from at bound steps) where
+  module _ {steps : ℕ} (now : S) (from at : ℕ) (bound : Option (List ℕ))
+      (f : IsFinding g place key start now from at bound steps) where
     pub finding_ends : {T : Type 0} (b : S) (r : Result T Stop)
-        → EndsFile g (IsTrue g.tells × IsTreePage (g.ground now) (g.working now) at) now b r → EndsFile g Whole start b r
+        → EndsFile g (IsTrue g.tells × IsTreePage (g.ground now) (g.working now) at) now b r
+        → EndsFile g Whole start b r
     finding_ends b r e = ends_after g Whole _ start now b r f.faults f.reads.keeps.ground (λ w. (
       w.1.told,
       subst (λ s. IsTreePage (g.ground now) s at) (sym f.reads.working)
@@ -110,18 +122,22 @@ module _ {S : Type 0} (g : Ghosts S) (place : Place) (key : List ℕ) (start : S
         → Holds g (IsBplus (g.ground start) place) start map → Shows shape page
     finding_shape page shape seems told map holds =
         let sheets = g.working start in
-        let is : bytes_at sheets at ≡ page = subst (λ s. bytes_at s at ≡ page) f.reads.working (told holds.told) in
+        let is : bytes_at sheets at ≡ page =
+        subst (λ s. bytes_at s at ≡ page) f.reads.working (told holds.told) in
         let p =
-        hand_page (g.ground start) place.owner sheets place.root at key holds.file.tree (f.way map holds).hand
+        hand_page (g.ground start) place.owner sheets place.root at key holds.file.tree
+        (f.way map holds).hand
         (past_of (g.ground start) place sheets map holds.file) in
         let shown : Shows p.shape page = subst (Shows p.shape) is p.shows in
         subst (λ s. Shows s page) (seems p.shape shown) shown
 
-    pub finding_goes : (b : S) (page : List ℕ) (next : ℕ) (further : Option (List ℕ)) → ReadsPages g now b
+    pub finding_goes : (b : S) (page : List ℕ) (next : ℕ) (further : Option (List ℕ))
+        → ReadsPages g now b
         → g.faults b ≡ g.faults now → IsPast (g.ground now) at → Seems shapes.Inner page
         → (IsTrue g.tells → bytes_at (g.working now) at ≡ page)
         → (IsInnerPage page → (next ≡ child_for (first_of page) (branches_of page) key)
-        × (further ≡ bound_for (branches_of page) key bound)) → IsFinding g place key start b at next further (steps + 1)
+        × (further ≡ bound_for (branches_of page) key bound)) → IsFinding g place key start b at next further (steps +
+        1)
     finding_goes b page next further reads faults past seems told leads = record {
       reads = pages_read_joined g f.reads reads;
       faults = faults ∙ f.faults;
@@ -133,14 +149,17 @@ module _ {S : Type 0} (g : Ghosts S) (place : Place) (key : List ℕ) (start : S
           let inner : IsInnerPage page = finding_shape page shapes.Inner seems told map holds in
           let goes = (leads inner).0 in
           let further_is = (leads inner).1 in
-          let is : bytes_at sheets at ≡ page = subst (λ s. bytes_at s at ≡ page) f.reads.working (told holds.told) in
+          let is : bytes_at sheets at ≡ page =
+          subst (λ s. bytes_at s at ≡ page) f.reads.working (told holds.told) in
           let shows : ShowsInner (bytes_at sheets at) (first_of page) (branches_of page) =
-          subst (λ x. ShowsInner x (first_of page) (branches_of page)) (sym is) (shows_inner page inner) in
+          subst (λ x. ShowsInner x (first_of page) (branches_of page)) (sym is)
+          (shows_inner page inner) in
           let top : In at (pages tree) =
           (holds.file.owned at).0 ((w.hand.owns at).1
           (inl (subst (λ q. In q (pages w.hand.subtree)) w.hand.fits.page_is (top_in w.hand.subtree)))) in
           subst (λ q. IsWay sheets place.owner place.root q key further tree (steps + 1)) (sym goes)
-          (let d = descend (bytes_at sheets) (IsOwned place.owner sheets) place.root at key tree (first_of page)
+          (let d = descend (bytes_at sheets) (IsOwned place.owner sheets) place.root at key tree
+          (first_of page)
           (branches_of page) shows w.hand in
           record {
             hand = d.0;
@@ -154,22 +173,27 @@ module _ {S : Type 0} (g : Ghosts S) (place : Place) (key : List ℕ) (start : S
 
     pub finding_found : (page : List ℕ) → Seems shapes.Entries page
         → (IsTrue g.tells → bytes_at (g.working now) at ≡ page)
-        → (map : LeafMap) (holds : Holds g (IsBplus (g.ground start) place) start map) → IsFound holds.file.tree key bound (entries_of page)
+        → (map : LeafMap) (holds : Holds g (IsBplus (g.ground start) place) start map)
+        → IsFound holds.file.tree key bound (entries_of page)
     finding_found page seems told map holds =
-        let shown : Shows shapes.Entries page = finding_shape page shapes.Entries seems told map holds in
+        let shown : Shows shapes.Entries page =
+        finding_shape page shapes.Entries seems told map holds in
         let w = f.way map holds in
         let h = w.hand in
         let sheets = g.working start in
-        let is : bytes_at sheets at ≡ page = subst (λ s. bytes_at s at ≡ page) f.reads.working (told holds.told) in
+        let is : bytes_at sheets at ≡ page =
+        subst (λ s. bytes_at s at ≡ page) f.reads.working (told holds.told) in
         let shows : ShowsEntries (bytes_at sheets at) (entries_of page) =
         subst (λ x. ShowsEntries x (entries_of page)) (sym is) (shows_entries page shown) in
         let kid =
         leaf_is (bytes_at sheets) h.subtree (entries_of page)
-        (subst (λ q. ShowsEntries (bytes_at sheets q) (entries_of page)) (sym h.fits.page_is) shows) h.fits.stands in
+        (subst (λ q. ShowsEntries (bytes_at sheets q) (entries_of page)) (sym h.fits.page_is) shows)
+        h.fits.stands in
         let own : entries h.subtree ≡ entries_of page = ap entries kid in
         record {
           among = λ x i. (h.entries_are x).1 (inl (subst (In x) (sym own) i));
-          under = λ x i. subst (IsUnder x.key) (sym w.bound_is) (h.fits.bounds x (subst (In x) (sym own) i)).1;
+          under = λ x i. subst (IsUnder x.key) (sym w.bound_is)
+              (h.fits.bounds x (subst (In x) (sym own) i)).1;
           all = λ x i from_key under. elim ((h.entries_are x).0 i) [
             | inl a ↦ subst (In x) own a
             | inr b ↦ absurd (elim (h.hole.out x b) [
@@ -184,11 +208,14 @@ module _ {S : Type 0} (g : Ghosts S) (place : Place) (key : List ℕ) (start : S
     -- no such page is none
     pub finding_torn : {T : Type 0} (b : S) (page : List ℕ) (n : ℕ) → g.faults b ≡ g.faults now
         → n < (g.ground start).blocks → Seems shapes.Inner page
-        → (IsTrue g.tells → bytes_at (g.working now) at ≡ page) → ¬ IsInnerPage page → EndsFile {T = T} g Whole start b (Err (Damaged n))
+        → (IsTrue g.tells → bytes_at (g.working now) at ≡ page) → ¬ IsInnerPage page
+        → EndsFile {T = T} g Whole start b (Err (Damaged n))
     finding_torn b page n faults block seems told none =
-        ends_shown g Whole start b n (faults ∙ f.faults) block (λ w. none (finding_shape page shapes.Inner seems told w.0 w.1))
+        ends_shown g Whole start b n (faults ∙ f.faults) block
+        (λ w. none (finding_shape page shapes.Inner seems told w.0 w.1))
 
-    pub finding_lost : {T : Type 0} (n : ℕ) → (g.ground start).size ≤ steps → n < (g.ground start).blocks
+    pub finding_lost : {T : Type 0} (n : ℕ) → (g.ground start).size ≤ steps
+        → n < (g.ground start).blocks
         → EndsFile {T = T} g Whole start now (Err (Damaged n))
     finding_lost n over block = record {
       cause = record {
@@ -198,7 +225,8 @@ module _ {S : Type 0} (g : Ghosts S) (place : Place) (key : List ℕ) (start : S
         damaged =
             λ m is w. (let e = descent_ends (g.ground start) place.owner
             (g.working start) place.root at key w.1.file.tree
-            (past_of (g.ground start) place (g.working start) w.0 w.1.file) (f.way w.0 w.1).hand in omega (arith, e, over));
+            (past_of (g.ground start) place (g.working start) w.0 w.1.file) (f.way w.0 w.1).hand in
+            omega (arith, e, over));
       };
       bound = λ m is. let same : n ≡ m = cc in omega (arith, same, block);
     }

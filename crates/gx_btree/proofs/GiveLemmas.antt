@@ -27,7 +27,8 @@ is_given from lo hi e = is_le (slice_cmp nat_cmp from e.key) && is_inside lo hi 
 
 -- ---- one entry
 
-nothing_by : (from lo hi : List ℕ) (e : Entry) → is_given from lo hi e ≡ false → given_from from lo hi (e ∷ []) ≡ []
+nothing_by : (from lo hi : List ℕ) (e : Entry) → is_given from lo hi e ≡ false
+    → given_from from lo hi (e ∷ []) ≡ []
 nothing_by from lo hi e is = ap (λ b. map given_entry (cond b (e ∷ []) [])) is
 
 front_false : (a b c : Bool) → a ≡ false → (a && (b && c)) ≡ false
@@ -56,12 +57,15 @@ gt_of Equal h = let never : ⊥ = cc in absurd never
 gt_of Greater h = refl
 
 -- one below the key isn't given
-pub given_not : (from lo hi : List ℕ) (e : Entry) → is_le (slice_cmp nat_cmp from e.key) ≡ false → given_from from lo hi (e ∷ []) ≡ []
+pub given_not : (from lo hi : List ℕ) (e : Entry) → is_le (slice_cmp nat_cmp from e.key) ≡ false
+    → given_from from lo hi (e ∷ []) ≡ []
 given_not from lo hi e is =
-    nothing_by from lo hi e (front_false _ (is_le (slice_cmp nat_cmp lo e.key)) (is_le (slice_cmp nat_cmp (take (length hi) e.key) hi)) is)
+    nothing_by from lo hi e (front_false _ (is_le (slice_cmp nat_cmp lo e.key))
+    (is_le (slice_cmp nat_cmp (take (length hi) e.key) hi)) is)
 
 -- nor one below the span
-pub given_low : (from lo hi : List ℕ) (e : Entry) → is_le (slice_cmp nat_cmp lo e.key) ≡ false → given_from from lo hi (e ∷ []) ≡ []
+pub given_low : (from lo hi : List ℕ) (e : Entry) → is_le (slice_cmp nat_cmp lo e.key) ≡ false
+    → given_from from lo hi (e ∷ []) ≡ []
 given_low from lo hi e is =
     nothing_by from lo hi e (middle_false (is_le (slice_cmp nat_cmp from e.key)) _
     (is_le (slice_cmp nat_cmp (take (length hi) e.key) hi)) is)
@@ -72,19 +76,23 @@ past_not from lo hi e past =
     last_false (is_le (slice_cmp nat_cmp from e.key)) (is_le (slice_cmp nat_cmp lo e.key)) _
     (gt_of (slice_cmp nat_cmp (take (length hi) e.key) hi) past)
 
-pub given_high : (from lo hi : List ℕ) (e : Entry) → IsPastSpan hi e.key → given_from from lo hi (e ∷ []) ≡ []
+pub given_high : (from lo hi : List ℕ) (e : Entry) → IsPastSpan hi e.key
+    → given_from from lo hi (e ∷ []) ≡ []
 given_high from lo hi e past = nothing_by from lo hi e (past_not from lo hi e past)
 
 pub given_it : (from lo hi : List ℕ) (e : Entry) → is_le (slice_cmp nat_cmp from e.key) ≡ true
-    → is_le (slice_cmp nat_cmp lo e.key) ≡ true → is_gt (slice_cmp nat_cmp (take (length hi) e.key) hi) ≡ false
+    → is_le (slice_cmp nat_cmp lo e.key) ≡ true
+    → is_gt (slice_cmp nat_cmp (take (length hi) e.key) hi) ≡ false
     → given_from from lo hi (e ∷ []) ≡ given_entry e ∷ []
 given_it from lo hi e up low within =
-    ap (λ b. map given_entry (cond b (e ∷ []) [])) (all_true _ _ _ up low (le_of (slice_cmp nat_cmp (take (length hi) e.key) hi) within))
+    ap (λ b. map given_entry (cond b (e ∷ []) []))
+    (all_true _ _ _ up low (le_of (slice_cmp nat_cmp (take (length hi) e.key) hi) within))
 
 -- ---- entries, from the first on
 
 cons_cases : (b : Bool) (e : Entry) (ys : List Entry)
-    → map given_entry (cond b (e ∷ ys) ys) ≡ map given_entry (cond b (e ∷ []) []) ++ map given_entry ys
+    → map given_entry (cond b (e ∷ ys) ys)
+    ≡ map given_entry (cond b (e ∷ []) []) ++ map given_entry ys
 cons_cases true e ys = refl
 cons_cases false e ys = refl
 
@@ -107,9 +115,11 @@ past_up : (hi a b : List ℕ) → IsBelow a b → IsPastSpan hi a → IsPastSpan
 past_up hi a b below past =
     not_within (slice_cmp nat_cmp (take (length hi) b) hi)
     (λ le. clash_of (slice_cmp nat_cmp (take (length hi) a) hi)
-    (le_trans (take (length hi) a) (take (length hi) b) hi (front_le (length hi) a b below) le) past)
+    (le_trans (take (length hi) a) (take (length hi) b) hi (front_le (length hi) a b below) le)
+    past)
 
-past_all : (from lo hi : List ℕ) (e : Entry) (es : List Entry) → Ascending (e ∷ es) → IsPastSpan hi e.key
+past_all : (from lo hi : List ℕ) (e : Entry) (es : List Entry) → Ascending (e ∷ es)
+    → IsPastSpan hi e.key
     → given_from from lo hi (e ∷ es) ≡ []
 past_all from lo hi e [] up past = given_high from lo hi e past
 past_all from lo hi e (x ∷ es) up past =
@@ -125,12 +135,15 @@ ascending_drop (suc n) (e ∷ es) up = ascending_drop n es up.1
 -- ---- the walk over a page
 
 -- so many entries of a page were passed, and gave what they have to give
-pub record ArePassed (before : List LeafEntry) (from lo hi page body : List ℕ) (place : ℕ) (out : List LeafEntry)
+pub record ArePassed (before : List LeafEntry) (from lo hi page body : List ℕ) (place : ℕ)
+    (out : List LeafEntry)
     (rest : List ℕ) : Type 0 where
   pub passed : Passed entry_bytes IsFit (entries_of page) place body rest
-  pub gives : out ++ given_from from lo hi (drop place (entries_of page)) ≡ before ++ given_from from lo hi (entries_of page)
+  pub gives : out ++ given_from from lo hi (drop place (entries_of page))
+      ≡ before ++ given_from from lo hi (entries_of page)
 
-pub record IsGiving (before : List LeafEntry) (from lo hi page body : List ℕ) (place : ℕ) (out : List LeafEntry)
+pub record IsGiving (before : List LeafEntry) (from lo hi page body : List ℕ) (place : ℕ)
+    (out : List LeafEntry)
     (rest : List ℕ) : Type 0 where
   pub front : Extends before out
   pub passed : IsAscendingPage page → ArePassed before from lo hi page body place out rest
@@ -147,25 +160,32 @@ giving_starts before from lo hi page body behind =
       };
     }
 
-module _ (before : List LeafEntry) (from lo hi page body : List ℕ) (place : ℕ) (out : List LeafEntry)
-    (rest : List ℕ) (count : ℕ) (g : IsGiving before from lo hi page body place out rest) (counted : count ≡ count_of page) where
+module _ (before : List LeafEntry) (from lo hi page body : List ℕ) (place : ℕ)
+    (out : List LeafEntry)
+    (rest : List ℕ) (count : ℕ) (g : IsGiving before from lo hi page body place out rest)
+    (counted : count ≡ count_of page) where
   inside : place < count → IsAscendingPage page → place < length (entries_of page)
   inside below up = omega (arith, below, counted, count_is page up.page)
 
   -- an entry is ahead
-  pub giving_cut : place < count → ((e : Entry) (tail : List ℕ) → IsFit e → rest ≢ entry_bytes e ++ tail) → IsAscendingPage page → ⊥
+  pub giving_cut : place < count
+      → ((e : Entry) (tail : List ℕ) → IsFit e → rest ≢ entry_bytes e ++ tail)
+      → IsAscendingPage page → ⊥
   giving_cut below none up =
       holds_first entry_format (drop place (entries_of page)) rest (g.passed up).passed.ahead
       (omega (arith, inside below up, length-drop place (entries_of page))) none
 
-  module _ (e : Entry) (behind : List ℕ) (below : place < count) (fit : IsFit e) (is : rest ≡ entry_bytes e ++ behind) where
-    next_is : (up : IsAscendingPage page) → drop place (entries_of page) ≡ e ∷ drop (place + 1) (entries_of page)
+  module _ (e : Entry) (behind : List ℕ) (below : place < count) (fit : IsFit e)
+      (is : rest ≡ entry_bytes e ++ behind) where
+    next_is : (up : IsAscendingPage page)
+        → drop place (entries_of page) ≡ e ∷ drop (place + 1) (entries_of page)
     next_is up =
         let es = entries_of page in
         let more = drop_more es place e (inside below up) in
         let same =
         first_same entry_format (get_or es place e) e (drop (place + 1) es) rest behind
-        (subst (λ xs. HoldsRecords entry_bytes IsFit xs rest) more (g.passed up).passed.ahead) fit is in
+        (subst (λ xs. HoldsRecords entry_bytes IsFit xs rest) more (g.passed up).passed.ahead) fit
+        is in
         more ∙ ap (λ (x : Entry). x ∷ drop (place + 1) es) (sym same)
 
     pub giving_more : (new : List LeafEntry) → new ≡ out ++ given_from from lo hi (e ∷ [])
@@ -182,27 +202,37 @@ module _ (before : List LeafEntry) (from lo hi page body : List ℕ) (place : �
           let p = g.passed up in
           let ahead = given_from from lo hi (drop (place + 1) es) in
           record {
-            passed = passed_more entry_format es place body rest e behind p.passed (inside below up) fit is;
+            passed = passed_more entry_format es place body rest e behind p.passed (inside below up)
+                fit is;
             gives =
                 ap (λ (xs : List LeafEntry). xs ++ ahead) new_is
                 ∙ append_assoc out (given_from from lo hi (e ∷ [])) ahead
-                ∙ ap (λ (xs : List LeafEntry). out ++ xs) (sym (given_cons from lo hi e (drop (place + 1) es)))
-                ∙ ap (λ (xs : List Entry). out ++ given_from from lo hi xs) (sym (next_is up)) ∙ p.gives;
+                ∙ ap (λ (xs : List LeafEntry). out ++ xs)
+                (sym (given_cons from lo hi e (drop (place + 1) es)))
+                ∙ ap (λ (xs : List Entry). out ++ given_from from lo hi xs) (sym (next_is up))
+                ∙ p.gives;
           };
     }
 
     -- behind the span there is nothing more
-    pub giving_past : (new : List LeafEntry) → new ≡ out ++ given_from from lo hi (e ∷ []) → IsPastSpan hi e.key
+    pub giving_past : (new : List LeafEntry) → new ≡ out ++ given_from from lo hi (e ∷ [])
+        → IsPastSpan hi e.key
         → IsAscendingPage page → new ≡ before ++ given_from from lo hi (entries_of page)
     giving_past new new_is past up =
         let es = entries_of page in
         let left = drop (place + 1) es in
-        let rises = subst Ascending (next_is up) (ascending_drop place es (ascending_of es up.ascending)) in
-        new_is ∙ ap (λ (xs : List LeafEntry). out ++ xs) (given_high from lo hi e past ∙ sym (past_all from lo hi e left rises past))
-        ∙ ap (λ (xs : List Entry). out ++ given_from from lo hi xs) (sym (next_is up)) ∙ (g.passed up).gives
+        let rises =
+        subst Ascending (next_is up) (ascending_drop place es (ascending_of es up.ascending)) in
+        new_is
+        ∙ ap (λ (xs : List LeafEntry). out ++ xs)
+        (given_high from lo hi e past ∙ sym (past_all from lo hi e left rises past))
+        ∙ ap (λ (xs : List Entry). out ++ given_from from lo hi xs) (sym (next_is up))
+        ∙ (g.passed up).gives
 
-  pub giving_ended : count ≤ place → IsAscendingPage page → out ≡ before ++ given_from from lo hi (entries_of page)
+  pub giving_ended : count ≤ place → IsAscendingPage page
+      → out ≡ before ++ given_from from lo hi (entries_of page)
   giving_ended over up =
       let es = entries_of page in
       sym (append-nil out) ∙ ap (λ (xs : List Entry). out ++ given_from from lo hi xs)
-      (sym (drop_all place es (omega (arith, over, counted, count_is page up.page)))) ∙ (g.passed up).gives
+      (sym (drop_all place es (omega (arith, over, counted, count_is page up.page))))
+      ∙ (g.passed up).gives

@@ -18,7 +18,8 @@ pub within_itself : (hi : Option (List ℕ)) → IsWithin hi hi
 within_itself hi = record { under = λ key h. h; over = λ key h. h }
 
 -- a separator that is up to a key under a bound
-pub within_bound : (s x : List ℕ) (hi : Option (List ℕ)) → IsUpTo s x → IsUnder x hi → IsWithin (Some s) hi
+pub within_bound : (s x : List ℕ) (hi : Option (List ℕ)) → IsUpTo s x → IsUnder x hi
+    → IsWithin (Some s) hi
 within_bound s x hi h k =
     record {
       under = under_within s x hi h k;
@@ -27,7 +28,8 @@ within_bound s x hi h k =
     }
 
 mutual
-  pub stands_same : (at new : ℕ → List ℕ) (t : Tree) → Same (pages t) at new → Stands at t → Stands new t
+  pub stands_same : (at new : ℕ → List ℕ) (t : Tree) → Same (pages t) at new → Stands at t
+      → Stands new t
   stands_same at new (leaf p es) same h = subst (λ b. ShowsEntries b es) (sym (same p (inl refl))) h
   stands_same at new (node p kids) same h = (
     subst (λ b. ShowsInner b (first_of kids) (branches_of kids))
@@ -35,7 +37,8 @@ mutual
     all_stand_same at new kids (λ q i. same q (inr i)) h.1,
   )
 
-  pub all_stand_same : (at new : ℕ → List ℕ) (kids : Kids) → Same (kids_pages kids) at new → AllStand at kids → AllStand new kids
+  pub all_stand_same : (at new : ℕ → List ℕ) (kids : Kids) → Same (kids_pages kids) at new
+      → AllStand at kids → AllStand new kids
   all_stand_same at new (last t) same h = stands_same at new t same h
   all_stand_same at new (more t s kids) same h = (
     stands_same at new t (λ q i. same q (in_left q (pages t) (kids_pages kids) i)) h.0,
@@ -44,18 +47,22 @@ mutual
 
 -- separators stand above a bound below all entries
 above_bound : (kids : Kids) → AreOrdered kids → (s : List ℕ)
-    → ((x : Entry) → In x (kids_entries kids) → IsUpTo s x.key) → (m : List ℕ) → In m (separators_in (branches_of kids)) → IsBelow s m
+    → ((x : Entry) → In x (kids_entries kids) → IsUpTo s x.key) → (m : List ℕ)
+    → In m (separators_in (branches_of kids)) → IsBelow s m
 above_bound (last t) ordered s above m i = absurd i
 above_bound (more t n kids) ordered s above m i =
     let some = ordered.1 in
     let here : IsBelow s n = up_to_below s some.0.key n
-    (above some.0 (in_left some.0 (entries t) (kids_entries kids) some.1)) (ordered.2 some.0 some.1) in
+    (above some.0 (in_left some.0 (entries t) (kids_entries kids) some.1))
+    (ordered.2 some.0 some.1) in
     elim i [ inl e ↦ subst (IsBelow s) (sym e) here | inr j ↦ below_below s n m here (above_bound kids ordered.4 n ordered.3 m j) ]
 
 -- the last child
-hole_last : (at : ℕ → List ℕ) (t : Tree) (key lo : List ℕ) (hi : Option (List ℕ)) → AllStand at (last t)
+hole_last : (at : ℕ → List ℕ) (t : Tree) (key lo : List ℕ) (hi : Option (List ℕ))
+    → AllStand at (last t)
     → AreOrdered (last t) → AreApart (last t)
-    → ((x : Entry) → In x (entries t) → IsUpTo lo x.key × IsUnder x.key hi) → IsUpTo lo key → IsUnder key hi → KidHole at (last t) key lo hi
+    → ((x : Entry) → In x (entries t) → IsUpTo lo x.key × IsUnder x.key hi) → IsUpTo lo key
+    → IsUnder key hi → KidHole at (last t) key lo hi
 hole_last at t key lo hi stand ordered apart bounds from to = record {
   kid = t;
   low = lo;
@@ -108,17 +115,21 @@ hole_last at t key lo hi stand ordered apart bounds from to = record {
 }
 
 -- the first child, which stands before a separator
-hole_first : (at : ℕ → List ℕ) (t : Tree) (s : List ℕ) (kids : Kids) (key lo : List ℕ) (hi : Option (List ℕ))
+hole_first : (at : ℕ → List ℕ) (t : Tree) (s : List ℕ) (kids : Kids) (key lo : List ℕ)
+    (hi : Option (List ℕ))
     → AllStand at (more t s kids) → AreOrdered (more t s kids) → AreApart (more t s kids)
-    → ((x : Entry) → In x (kids_entries (more t s kids)) → IsUpTo lo x.key × IsUnder x.key hi) → IsUpTo lo key
-    → IsUnder key hi → is_below key s ≡ true → IsWithin (Some s) hi → KidHole at (more t s kids) key lo hi
+    → ((x : Entry) → In x (kids_entries (more t s kids)) → IsUpTo lo x.key × IsUnder x.key hi)
+    → IsUpTo lo key
+    → IsUnder key hi → is_below key s ≡ true → IsWithin (Some s) hi
+    → KidHole at (more t s kids) key lo hi
 hole_first at t s kids key lo hi stand ordered apart bounds from to is s_hi = record {
   kid = t;
   low = lo;
   high = Some s;
   rest = kids_entries kids;
   others = kids_pages kids;
-  way = cond-true (is_below key s) (page_of t) (child_for (first_of kids) (branches_of kids) key) is;
+  way =
+      cond-true (is_below key s) (page_of t) (child_for (first_of kids) (branches_of kids) key) is;
   fits =
       record {
         page_is = refl;
@@ -162,18 +173,18 @@ hole_first at t s kids key lo hi stand ordered apart bounds from to is s_hi = re
       fit_l.ordered,
       filled_l,
       below,
-      (λ x i. elim (in_cases x (entries r) (kids_entries kids) i) [
+          (λ x i. elim (in_cases x (entries r) (kids_entries kids) i) [
         | inl a ↦ above x a
         | inr b ↦ up_to_up_to m s x.key
             (below_is_up_to m s (up_to_below m filled_r.0.key s (above filled_r.0 filled_r.1)
             (fit_r.bounds filled_r.0 filled_r.1).1)) (ordered.3 x b)
       ]),
-      (fit_r.ordered, filled_r, (λ x i. (fit_r.bounds x i).1), ordered.3, ordered.4),
+          (fit_r.ordered, filled_r, (λ x i. (fit_r.bounds x i).1), ordered.3, ordered.4),
     );
     apart = (
       fit_l.apart,
-      (λ q i j. elim (in_cases q (pages r) (kids_pages kids) j) [ inl a ↦ apart_lr q i a | inr b ↦ fit_l.alone q i b ]),
-      (fit_r.apart, fit_r.alone, apart.2),
+          (λ q i j. elim (in_cases q (pages r) (kids_pages kids) j) [ inl a ↦ apart_lr q i a | inr b ↦ fit_l.alone q i b ]),
+          (fit_r.apart, fit_r.alone, apart.2),
     );
     entries_are = joins_append_three (entries l) (entries r) (kids_entries kids);
     pages_are = joins_append_three (pages l) (pages r) (kids_pages kids);
@@ -196,9 +207,10 @@ hole_first at t s kids key lo hi stand ordered apart bounds from to is s_hi = re
     ordered = (
       b.ordered,
       b.filled,
-      (λ x i. below_below x.key m s (b.below x i)
+          (λ x i. below_below x.key m s (b.below x i)
           (up_to_below m ordered.1.0.key s
-          (b.above ordered.1.0 (in_left ordered.1.0 (entries t) (kids_entries kids) ordered.1.1)) (ordered.2 ordered.1.0 ordered.1.1))),
+          (b.above ordered.1.0 (in_left ordered.1.0 (entries t) (kids_entries kids) ordered.1.1))
+          (ordered.2 ordered.1.0 ordered.1.1))),
       ordered.3,
       ordered.4,
     );
@@ -208,18 +220,49 @@ hole_first at t s kids key lo hi stand ordered apart bounds from to is s_hi = re
   };
 }
 
+-- a tree that fits beside more pages fits beside fewer
+narrowed : (at : ℕ → List ℕ) (p : ℕ) (low : List ℕ) (high : Option (List ℕ)) (wide others : List ℕ)
+    (t : Tree)
+    → IsFitting at p low high (wide ++ others) t → IsFitting at p low high others t
+narrowed at p low high wide others t fit = record {
+  page_is = fit.page_is;
+  stands = fit.stands;
+  ordered = fit.ordered;
+  apart = fit.apart;
+  bounds = fit.bounds;
+  alone = λ q i j. fit.alone q i (in_right q wide others j);
+}
+
+-- the first child stands before the others, also where other pages have changed
+first_before : (at new : ℕ → List ℕ) (t : Tree) (s : List ℕ) (kids : Kids)
+    → AllStand at (more t s kids)
+    → AreOrdered (more t s kids) → AreApart (more t s kids) → Same (pages t) at new
+    → IsBefore new t s kids
+first_before at new t s kids stand ordered apart same = record {
+  stands = stands_same at new t same stand.0;
+  ordered = ordered.0;
+  filled = ordered.1;
+  apart = apart.0;
+  below = ordered.2;
+  above = ordered.3;
+  alone = apart.1;
+}
+
 -- a child behind a separator
-hole_behind : (at : ℕ → List ℕ) (t : Tree) (s : List ℕ) (kids : Kids) (key lo : List ℕ) (hi : Option (List ℕ))
+hole_behind : (at : ℕ → List ℕ) (t : Tree) (s : List ℕ) (kids : Kids) (key lo : List ℕ)
+    (hi : Option (List ℕ))
     → AllStand at (more t s kids) → AreOrdered (more t s kids) → AreApart (more t s kids)
     → ((x : Entry) → In x (kids_entries (more t s kids)) → IsUpTo lo x.key × IsUnder x.key hi)
-    → is_below key s ≡ false → IsUpTo lo s → KidHole at kids key s hi → KidHole at (more t s kids) key lo hi
+    → is_below key s ≡ false → IsUpTo lo s → KidHole at kids key s hi
+    → KidHole at (more t s kids) key lo hi
 hole_behind at t s kids key lo hi stand ordered apart bounds is lo_s h = record {
   kid = h.kid;
   low = h.low;
   high = h.high;
   rest = entries t ++ h.rest;
   others = pages t ++ h.others;
-  way = cond-false (is_below key s) (page_of t) (child_for (first_of kids) (branches_of kids) key) is ∙ h.way;
+  way = cond-false (is_below key s) (page_of t) (child_for (first_of kids) (branches_of kids) key)
+      is ∙ h.way;
   fits = record {
     page_is = refl;
     stands = h.fits.stands;
@@ -232,7 +275,8 @@ hole_behind at t s kids key lo hi stand ordered apart bounds is lo_s h = record 
   filled = h.filled;
   lower = up_to_up_to lo s h.low lo_s h.lower;
   higher = h.higher;
-  high_is = h.high_is ∙ sym (cond-false (is_below key s) (Some s) (bound_for (branches_of kids) key hi) is);
+  high_is = h.high_is
+      ∙ sym (cond-false (is_below key s) (Some s) (bound_for (branches_of kids) key hi) is);
   from = h.from;
   to = h.to;
   out = λ x i. elim (in_cases x (entries t) h.rest i) [
@@ -246,21 +290,13 @@ hole_behind at t s kids key lo hi stand ordered apart bounds is lo_s h = record 
   entries_are = joins_more (entries t) (kids_entries kids) (entries h.kid) h.rest h.entries_are;
   pages_are = joins_more (pages t) (kids_pages kids) (pages h.kid) h.others h.pages_are;
   one = λ new u same fit filled.
-      let below : IsFitting new (page_of h.kid) h.low h.high h.others u =
-      record {
-        page_is = fit.page_is;
-        stands = fit.stands;
-        ordered = fit.ordered;
-        apart = fit.apart;
-        bounds =
-            fit.bounds;
-        alone = λ q i j. fit.alone q i (in_right q (pages t) h.others j);
-      } in
+      let below = narrowed new (page_of h.kid) h.low h.high (pages t) h.others u fit in
       let r = h.one new u (λ q i. same q (in_right q (pages t) h.others i)) below filled in
       record {
         kids = more t s r.kids;
         first_is = refl;
-        branches_are = ap (λ f. branch s f ∷ branches_of r.kids) r.first_is ∙ ap (λ bs. branch s (first_of kids) ∷ bs) r.branches_are;
+        branches_are = ap (λ f. branch s f ∷ branches_of r.kids) r.first_is
+            ∙ ap (λ bs. branch s (first_of kids) ∷ bs) r.branches_are;
         stand = (stands_same at new t (λ q i. same q (in_left q (pages t) h.others i)) stand.0, r.stand);
         ordered = (
           ordered.0,
@@ -284,31 +320,17 @@ hole_behind at t s kids key lo hi stand ordered apart bounds is lo_s h = record 
         pages_are = joins_more (pages t) (kids_pages r.kids) (pages u) h.others r.pages_are;
       };
   two = λ new l r m same fit_l filled_l fit_r filled_r apart_lr below above.
-      let fit_l' : IsFitting new (page_of h.kid) h.low h.high h.others l =
-      record {
-        page_is = fit_l.page_is;
-        stands = fit_l.stands;
-        ordered = fit_l.ordered;
-        apart = fit_l.apart;
-        bounds = fit_l.bounds;
-        alone = λ q i j. fit_l.alone q i (in_right q (pages t) h.others j);
-      } in
-      let fit_r' : IsFitting new (page_of r) h.low h.high h.others r =
-      record {
-        page_is = fit_r.page_is;
-        stands = fit_r.stands;
-        ordered = fit_r.ordered;
-        apart = fit_r.apart;
-        bounds = fit_r.bounds;
-        alone = λ q i j. fit_r.alone q i (in_right q (pages t) h.others j);
-      } in
-      let w = h.two new l r m (λ q i. same q (in_right q (pages t) h.others i)) fit_l' filled_l fit_r' filled_r apart_lr below above in
+      let fits_l = narrowed new (page_of h.kid) h.low h.high (pages t) h.others l fit_l in
+      let fits_r = narrowed new (page_of r) h.low h.high (pages t) h.others r fit_r in
+      let w = h.two new l r m (λ q i. same q (in_right q (pages t) h.others i)) fits_l filled_l
+      fits_r filled_r apart_lr below above in
       record {
         kids = more t s w.kids;
         first_is = refl;
         branches_are =
             ap (λ f. branch s f ∷ branches_of w.kids) w.first_is
-            ∙ ap (λ bs. branch s (first_of kids) ∷ bs) w.branches_are ∙ sym (cond-false (is_below key s) _ _ is);
+            ∙ ap (λ bs. branch s (first_of kids) ∷ bs) w.branches_are
+            ∙ sym (cond-false (is_below key s) _ _ is);
         stand = (stands_same at new t (λ q i. same q (in_left q (pages t) h.others i)) stand.0, w.stand);
         ordered = (
           ordered.0,
@@ -334,20 +356,15 @@ hole_behind at t s kids key lo hi stand ordered apart bounds is lo_s h = record 
           ]),
           w.apart,
         );
-        entries_are = joins_more (entries t) (kids_entries w.kids) (entries l ++ entries r) h.rest w.entries_are;
-        pages_are = joins_more (pages t) (kids_pages w.kids) (pages l ++ pages r) h.others w.pages_are;
+        entries_are = joins_more (entries t) (kids_entries w.kids) (entries l ++ entries r) h.rest
+            w.entries_are;
+        pages_are =
+            joins_more (pages t) (kids_pages w.kids) (pages l ++ pages r) h.others w.pages_are;
       };
   gone = λ new same many.
-      let b : IsBefore new t s kids = record {
-        stands = stands_same at new t (λ q i. same q (in_left q (pages t) h.others i)) stand.0;
-        ordered = ordered.0;
-        filled = ordered.1;
-        apart = apart.0;
-        below = ordered.2;
-        above = ordered.3;
-        alone = apart.1;
-      } in
-      let r = h.gone_behind new t s (λ q i. same q (in_right q (pages t) h.others i)) b in
+      let first = first_before at new t s kids stand ordered apart
+          (λ q i. same q (in_left q (pages t) h.others i)) in
+      let r = h.gone_behind new t s (λ q i. same q (in_right q (pages t) h.others i)) first in
       record {
         kids = r.kids;
         first_is = r.first_is ∙ sym (cond-false (is_below key s) _ _ is);
@@ -359,22 +376,16 @@ hole_behind at t s kids key lo hi stand ordered apart bounds is lo_s h = record 
         pages_are = r.pages_are;
       };
   gone_behind = λ new f m same b.
-      let c : IsBefore new t s kids = record {
-        stands = stands_same at new t (λ q i. same q (in_left q (pages t) h.others i)) stand.0;
-        ordered = ordered.0;
-        filled = ordered.1;
-        apart = apart.0;
-        below = ordered.2;
-        above = ordered.3;
-        alone = apart.1;
-      } in
-      let r = h.gone_behind new t s (λ q i. same q (in_right q (pages t) h.others i)) c in
+      let first = first_before at new t s kids stand ordered apart
+          (λ q i. same q (in_left q (pages t) h.others i)) in
+      let r = h.gone_behind new t s (λ q i. same q (in_right q (pages t) h.others i)) first in
       record {
         kids = more f m r.kids;
         first_is = refl;
         branches_are =
             ap (λ n. branch m n ∷ branches_of r.kids) r.first_is
-            ∙ ap (λ bs. branch m (page_of t) ∷ bs) r.branches_are ∙ sym (cond-false (is_below key s) _ _ is);
+            ∙ ap (λ bs. branch m (page_of t) ∷ bs) r.branches_are
+            ∙ sym (cond-false (is_below key s) _ _ is);
         stand = (b.stands, r.stand);
         ordered = (
           b.ordered,
@@ -402,7 +413,8 @@ hole_behind at t s kids key lo hi stand ordered apart bounds is lo_s h = record 
           ])),
           r.apart,
         );
-        entries_are = joins_more_left (entries f) (kids_entries r.kids) (entries t ++ h.rest) r.entries_are;
+        entries_are =
+            joins_more_left (entries f) (kids_entries r.kids) (entries t ++ h.rest) r.entries_are;
         pages_are = joins_more_left (pages f) (kids_pages r.kids) (pages t ++ h.others) r.pages_are;
       };
 }
@@ -412,10 +424,13 @@ pub some_key : (kids : Kids) → AreOrdered kids → (x : Entry) × In x (kids_e
 some_key (last t) o = o.1
 some_key (more t s kids) o = (o.1.0, in_left o.1.0 (entries t) (kids_entries kids) o.1.1)
 
-pub kid_hole : (at : ℕ → List ℕ) (kids : Kids) (key lo : List ℕ) (hi : Option (List ℕ)) → AllStand at kids → AreOrdered kids → AreApart kids
-    → ((x : Entry) → In x (kids_entries kids) → IsUpTo lo x.key × IsUnder x.key hi) → IsUpTo lo key → IsUnder key hi
+pub kid_hole : (at : ℕ → List ℕ) (kids : Kids) (key lo : List ℕ) (hi : Option (List ℕ))
+    → AllStand at kids → AreOrdered kids → AreApart kids
+    → ((x : Entry) → In x (kids_entries kids) → IsUpTo lo x.key × IsUnder x.key hi) → IsUpTo lo key
+    → IsUnder key hi
     → KidHole at kids key lo hi
-kid_hole at (last t) key lo hi stand ordered apart bounds from to = hole_last at t key lo hi stand ordered apart bounds from to
+kid_hole at (last t) key lo hi stand ordered apart bounds from to =
+    hole_last at t key lo hi stand ordered apart bounds from to
 kid_hole at (more t s kids) key lo hi stand ordered apart bounds from to =
     let front = ordered.1 in
     let behind = some_key kids ordered.4 in
@@ -427,5 +442,6 @@ kid_hole at (more t s kids) key lo hi stand ordered apart bounds from to =
       | inl is ↦ hole_first at t s kids key lo hi stand ordered apart bounds from to is (within_bound s behind.0.key hi d c.1)
       | inr is ↦ hole_behind at t s kids key lo hi stand ordered apart bounds is (below_is_up_to lo s (up_to_below lo front.0.key s a.0 b))
           (kid_hole at kids key s hi stand.1 ordered.4 apart.2
-          (λ x i. (ordered.3 x i, (bounds x (in_right x (entries t) (kids_entries kids) i)).1)) (up_to_of key s is) to)
+          (λ x i. (ordered.3 x i, (bounds x (in_right x (entries t) (kids_entries kids) i)).1))
+          (up_to_of key s is) to)
     ]

@@ -21,10 +21,12 @@ pub joins_none : {A : Type 0} (xs : List A) → Joins xs xs []
 joins_none xs x = (inl, λ h. elim h [ inl a ↦ a | inr b ↦ absurd b ])
 
 pub joins_append : {A : Type 0} (xs ys : List A) → Joins (xs ++ ys) xs ys
-joins_append xs ys x = (in_cases x xs ys, λ h. elim h [ inl a ↦ in_left x xs ys a | inr b ↦ in_right x xs ys b ])
+joins_append xs ys x =
+    (in_cases x xs ys, λ h. elim h [ inl a ↦ in_left x xs ys a | inr b ↦ in_right x xs ys b ])
 
 -- a list goes to the front of what is left over
-pub joins_more : {A : Type 0} (zs xs ys rest : List A) → Joins xs ys rest → Joins (zs ++ xs) ys (zs ++ rest)
+pub joins_more : {A : Type 0} (zs xs ys rest : List A) → Joins xs ys rest
+    → Joins (zs ++ xs) ys (zs ++ rest)
 joins_more zs xs ys rest j x = (
   λ h. elim (in_cases x zs xs h) [
     | inl a ↦ inr (in_left x zs rest a)
@@ -48,7 +50,8 @@ joins_append_three xs ys zs x = (
   ],
 )
 
-pub joins_more_left : {A : Type 0} (zs xs ys : List A) → Joins xs ys [] → Joins (zs ++ xs) (zs ++ ys) []
+pub joins_more_left : {A : Type 0} (zs xs ys : List A) → Joins xs ys []
+    → Joins (zs ++ xs) (zs ++ ys) []
 joins_more_left zs xs ys j x = (
   λ h. elim (in_cases x zs xs h) [
     | inl a ↦ inl (in_left x zs ys a)
@@ -82,7 +85,8 @@ joins_below p all kid others rest xs j k x = (
 )
 
 -- parts of a part
-pub joins_through : {A : Type 0} (all kid beside rest xs : List A) → Joins all kid beside → Joins xs all rest
+pub joins_through : {A : Type 0} (all kid beside rest xs : List A) → Joins all kid beside
+    → Joins xs all rest
     → Joins xs kid (beside ++ rest)
 joins_through all kid beside rest xs j k x = (
   λ h. elim ((k x).0 h) [

@@ -30,7 +30,8 @@ up_to_cases a b h = go (cmp a b) refl h where
 -- a key stands before another, or the other one up to it
 pub below_or_not : (a b : List ℕ) → IsBelow a b ⊎ IsUpTo b a
 below_or_not a b = go (cmp a b) refl (nat_list_cmp_total.antisymm b a) where
-  go : (o : Ordering) → cmp a b ≡ o → cmp b a ≡ ordering_reverse (cmp a b) → IsBelow a b ⊎ IsUpTo b a
+  go : (o : Ordering) → cmp a b ≡ o → cmp b a ≡ ordering_reverse (cmp a b)
+      → IsBelow a b ⊎ IsUpTo b a
   go Less e turned = inl e
   go Equal e turned = inr (ap is_le (turned ∙ ap ordering_reverse e))
   go Greater e turned = inr (ap is_le (turned ∙ ap ordering_reverse e))
@@ -38,7 +39,8 @@ below_or_not a b = go (cmp a b) refl (nat_list_cmp_total.antisymm b a) where
 pub not_both : (a b : List ℕ) → IsBelow a b → IsUpTo b a → ⊥
 not_both a b h k =
     let turned : is_le (cmp b a) ≡ false =
-    ap is_le (nat_list_cmp_total.antisymm b a ∙ ap ordering_reverse h) in let clash : true ≡ false = sym k ∙ turned in cc
+    ap is_le (nat_list_cmp_total.antisymm b a ∙ ap ordering_reverse h) in let clash : true ≡ false =
+        sym k ∙ turned in cc
 
 pub not_itself : (a : List ℕ) → IsBelow a a → ⊥
 not_itself a h = not_both a a h (up_to_itself a)
@@ -108,7 +110,8 @@ not_under_over a None h k = k
 not_under_over a (Some c) h k = not_both a c h k
 
 -- a bound that stands at a key that is under another one
-pub under_within : (s x : List ℕ) (hi : Option (List ℕ)) → IsUpTo s x → IsUnder x hi → (y : List ℕ) → IsBelow y s → IsUnder y hi
+pub under_within : (s x : List ℕ) (hi : Option (List ℕ)) → IsUpTo s x → IsUnder x hi → (y : List ℕ)
+    → IsBelow y s → IsUnder y hi
 under_within s x hi h k y l = under_below y x hi (below_up_to y s x l h) k
 
 -- the empty key stands before all others

@@ -21,7 +21,8 @@ some_entry (e ∷ es) x i = omega arith
 
 mutual
   -- twice the entries are more than the pages
-  few_pages : (p : ℕ → List ℕ) (t : Tree) → Stands p t → Ordered t → IsFilled t → length (pages t) + 1 ≤ 2 * length (entries t)
+  few_pages : (p : ℕ → List ℕ) (t : Tree) → Stands p t → Ordered t → IsFilled t
+      → length (pages t) + 1 ≤ 2 * length (entries t)
   few_pages p (leaf q es) stands ordered filled = let o = some_entry es filled.0 filled.1 in omega (arith, o)
   few_pages p (node q (last t)) stands ordered filled = let s = stands.0.some in absurd (omega (arith, s))
   few_pages p (node q (more t s kids)) stands ordered filled =
@@ -41,20 +42,24 @@ mutual
       let n = length-append (pages t) (kids_pages kids) in
       omega (arith, a, b, k, n)
 
-pub tree_few : (p : ℕ → List ℕ) (t : Tree) → Stands p t → Ordered t → length (pages t) ≤ 1 + 2 * length (entries t)
+pub tree_few : (p : ℕ → List ℕ) (t : Tree) → Stands p t → Ordered t
+    → length (pages t) ≤ 1 + 2 * length (entries t)
 tree_few p (leaf q es) stands ordered = omega arith
 tree_few p (node q kids) stands ordered = let f = few_pages p (node q kids) stands ordered (some_key kids ordered) in omega (arith, f)
 
 pub contains_of : (x : ℕ) (xs : List ℕ) → In x xs → Contains xs x
 contains_of x xs i = let p = place_in x xs i in (p.place, p.below, p.is x)
 
-pub map_many : (ground : Ground) (place : Place) (s : Sheets) (m : LeafMap) (b : IsBplus ground place s m)
+pub map_many : (ground : Ground) (place : Place) (s : Sheets) (m : LeafMap)
+    (b : IsBplus ground place s m)
     → fin.len m ≡ length (entries b.tree)
 map_many ground place s m b =
-    fin.len-entries m ∙ ap length (map_entries m (entries b.tree) (tree_up b.tree b.whole.ordered) b.map_is)
+    fin.len-entries m
+    ∙ ap length (map_entries m (entries b.tree) (tree_up b.tree b.whole.ordered) b.map_is)
     ∙ length-map (entries b.tree) pair
 
-pub file_few : (ground : Ground) (place : Place) (s : Sheets) (m : LeafMap) → IsBplus ground place s m
+pub file_few : (ground : Ground) (place : Place) (s : Sheets) (m : LeafMap)
+    → IsBplus ground place s m
     → page_count place.owner s ≤ 1 + 2 * fin.len m
 file_few ground place s m b =
     let listed =

@@ -24,7 +24,8 @@ use Rattle.gx_btree.proofs.OrderLemmas.{below_or_not, not_itself, below_below, b
 -- ---- filtered lists
 
 filter_cases : (p : Entry → Bool) (y : Entry) (ys : List Entry) (x : Entry) (b : Bool) → p y ≡ b
-    → ((In x (filter p ys) → In x ys × (p x ≡ true)) × (In x ys × (p x ≡ true) → In x (filter p ys)))
+    → ((In x (filter p ys) → In x ys × (p x ≡ true))
+    × (In x ys × (p x ≡ true) → In x (filter p ys)))
     → (In x (cond b (y ∷ filter p ys) (filter p ys)) → In x (y ∷ ys) × (p x ≡ true))
     × (In x (y ∷ ys) × (p x ≡ true) → In x (cond b (y ∷ filter p ys) (filter p ys)))
 filter_cases p y ys x true e h = (
@@ -102,15 +103,19 @@ key_cmp = slice_cmp nat_cmp
 abbrev pub at : List ℕ → List ℕ → Entry
 at key body = record { key = key; body = body }
 
-below_pairs : (k : List ℕ) (es : List Entry) → ((y : Entry) → In y es → IsBelow k y.key) → T (below_all key_cmp k (map pair es))
+below_pairs : (k : List ℕ) (es : List Entry) → ((y : Entry) → In y es → IsBelow k y.key)
+    → T (below_all key_cmp k (map pair es))
 below_pairs k [] h = tt
-below_pairs k (e ∷ es) h = both_of _ _ (subst (λ r. T (is_lt r)) (sym (h e (inl refl))) tt) (below_pairs k es (λ y i. h y (inr i)))
+below_pairs k (e ∷ es) h =
+    both_of _ _ (subst (λ r. T (is_lt r)) (sym (h e (inl refl))) tt)
+    (below_pairs k es (λ y i. h y (inr i)))
 
 sorted_pairs : (es : List Entry) → Ascending es → T (fin.is_sorted key_cmp (map pair es))
 sorted_pairs [] up = tt
 sorted_pairs (e ∷ es) up = both_of _ _ (below_pairs e.key es up.0) (sorted_pairs es up.1)
 
-found_cases : (es : List Entry) (e : Entry) (q : List ℕ) (v : List ℕ) (b : Bool) → eq_by_cmp key_cmp q e.key ≡ b
+found_cases : (es : List Entry) (e : Entry) (q : List ℕ) (v : List ℕ) (b : Bool)
+    → eq_by_cmp key_cmp q e.key ≡ b
     → (fin.find key_cmp q (map pair es) ≡ Some v → In (at q v) es)
     → cond b (Some e.body) (fin.find key_cmp q (map pair es)) ≡ Some v → In (at q v) (e ∷ es)
 found_cases es e q v true is later h =
@@ -119,7 +124,8 @@ found_cases es e q v true is later h =
     inl (λ i. record { key = k i; body = sym w i })
 found_cases es e q v false is later h = inr (later h)
 
-pub found_in : (es : List Entry) (q v : List ℕ) → fin.find key_cmp q (map pair es) ≡ Some v → In (at q v) es
+pub found_in : (es : List Entry) (q v : List ℕ) → fin.find key_cmp q (map pair es) ≡ Some v
+    → In (at q v) es
 found_in [] q v h = let never : ⊥ = cc in absurd never
 found_in (e ∷ es) q v h = found_cases es e q v (eq_by_cmp key_cmp q e.key) refl (found_in es q v) h
 
@@ -129,26 +135,32 @@ unequal q k d = go (eq_by_cmp key_cmp q k) refl where
   go true e = absurd (d (same_key q k e))
   go false e = refl
 
-pub in_found : (es : List Entry) (q v : List ℕ) → Ascending es → In (at q v) es → fin.find key_cmp q (map pair es) ≡ Some v
+pub in_found : (es : List Entry) (q v : List ℕ) → Ascending es → In (at q v) es
+    → fin.find key_cmp q (map pair es) ≡ Some v
 in_found [] q v up i = absurd i
 in_found (e ∷ es) q v up (inl s) =
     let k : q ≡ e.key = ap (λ (w : Entry). w.key) s in
     ap (λ b. cond b (Some e.body) (fin.find key_cmp q (map pair es)))
-    (ap (λ z. eq_by_cmp key_cmp z e.key) k ∙ tied e.key) ∙ ap Some (sym (ap (λ (w : Entry). w.body) s))
+    (ap (λ z. eq_by_cmp key_cmp z e.key) k ∙ tied e.key)
+    ∙ ap Some (sym (ap (λ (w : Entry). w.body) s))
 in_found (e ∷ es) q v up (inr i) =
     ap (λ b. cond b (Some e.body) (fin.find key_cmp q (map pair es)))
     (unequal q e.key (λ s. differ e.key q (up.0 (at q v) i) (sym s))) ∙ in_found es q v up.1 i
 
-pub same_option : (a b : Option (List ℕ)) → ((v : List ℕ) → a ≡ Some v → b ≡ Some v) → ((v : List ℕ) → b ≡ Some v → a ≡ Some v) → a ≡ b
+pub same_option : (a b : Option (List ℕ)) → ((v : List ℕ) → a ≡ Some v → b ≡ Some v)
+    → ((v : List ℕ) → b ≡ Some v → a ≡ Some v) → a ≡ b
 same_option None None f h = refl
 same_option None (Some y) f h = h y refl
 same_option (Some x) b f h = sym (f x refl)
 
 pub map_entries : (m : LeafMap) (es : List Entry) → Ascending es
-    → ((k b : List ℕ) → (get m k ≡ Some b → In (at k b) es) × (In (at k b) es → get m k ≡ Some b)) → fin.entries m ≡ map pair es
+    → ((k b : List ℕ) → (get m k ≡ Some b → In (at k b) es) × (In (at k b) es → get m k ≡ Some b))
+    → fin.entries m ≡ map pair es
 map_entries m es up is =
-    ap fin.entries (fin.same_map nat_list_cmp_total only_equal m (fin.from_entries (map pair es)) (λ q.
-    same_option (get m q) (fin.find key_cmp q (map pair es)) (λ v h. in_found es q v up ((is q v).0 h))
+    ap fin.entries
+    (fin.same_map nat_list_cmp_total only_equal m (fin.from_entries (map pair es)) (λ q.
+    same_option (get m q) (fin.find key_cmp q (map pair es))
+    (λ v h. in_found es q v up ((is q v).0 h))
     (λ v h. (is q v).1 (found_in es q v h))
     ∙ sym (fin.get-from_entries nat_list_cmp_total (map pair es) q)))
     ∙ entries_of_sorted (map pair es) (sorted_pairs es up)
@@ -161,7 +173,8 @@ is_under key (Some b) = is_below key b
 
 -- the entries inside a span and under a bound
 abbrev pub given_under : List ℕ → List ℕ → Option (List ℕ) → List Entry → List LeafEntry
-given_under lo hi bound es = map given_entry (filter (λ e. is_inside lo hi e.key && is_under e.key bound) es)
+given_under lo hi bound es =
+    map given_entry (filter (λ e. is_inside lo hi e.key && is_under e.key bound) es)
 
 selected_cases : (lo hi : List ℕ) (e : Entry) (es : List Entry) (b : Bool)
     → map entry_of (cond b (pair e ∷ filter (λ f. is_inside lo hi f.0) (map pair es))
@@ -173,7 +186,8 @@ selected_cases lo hi e es false = refl
 
 given_cases : (lo hi : List ℕ) (e : Entry) (es : List Entry) (b : Bool)
     → map given_entry (cond (b && true) (e ∷ filter (λ f. is_inside lo hi f.key && true) es)
-    (filter (λ f. is_inside lo hi f.key && true) es)) ≡ cond b (given_entry e ∷ given_under lo hi None es) (given_under lo hi None es)
+    (filter (λ f. is_inside lo hi f.key && true) es)) ≡ cond b (given_entry e
+    ∷ given_under lo hi None es) (given_under lo hi None es)
 given_cases lo hi e es true = refl
 given_cases lo hi e es false = refl
 
@@ -187,7 +201,8 @@ selected_pairs lo hi (e ∷ es) =
 
 -- all that is inside
 pub given_all : (lo hi : List ℕ) (m : LeafMap) (t : Tree) → Ordered t
-    → ((k b : List ℕ) → (get m k ≡ Some b → In (at k b) (entries t)) × (In (at k b) (entries t) → get m k ≡ Some b))
+    → ((k b : List ℕ)
+    → (get m k ≡ Some b → In (at k b) (entries t)) × (In (at k b) (entries t) → get m k ≡ Some b))
     → given_under lo hi None (entries t) ≡ selected lo hi m
 given_all lo hi m t o is =
     sym (selected_pairs lo hi (entries t))
@@ -210,18 +225,22 @@ under_of : (key : List ℕ) (bound : Option (List ℕ)) → is_under key bound �
 under_of key None h = tt
 under_of key (Some b) h = below_of key b h
 
-is_under_of : (key : List ℕ) (bound : Option (List ℕ)) → IsUnder key bound → is_under key bound ≡ true
+is_under_of : (key : List ℕ) (bound : Option (List ℕ)) → IsUnder key bound
+    → is_under key bound ≡ true
 is_under_of key None h = refl
 is_under_of key (Some b) h = is_below_of key b h
 
-map_append : (xs ys : List Entry) → map given_entry (xs ++ ys) ≡ map given_entry xs ++ map given_entry ys
+map_append : (xs ys : List Entry)
+    → map given_entry (xs ++ ys) ≡ map given_entry xs ++ map given_entry ys
 map_append [] ys = refl
 map_append (x ∷ xs) ys = ap (λ (zs : List LeafEntry). given_entry x ∷ zs) (map_append xs ys)
 
 -- those of the page that was found come next
-pub given_next : (lo hi key : List ℕ) (bound : Option (List ℕ)) (t : Tree) (es : List Entry) → Ordered t
+pub given_next : (lo hi key : List ℕ) (bound : Option (List ℕ)) (t : Tree) (es : List Entry)
+    → Ordered t
     → Ascending es → IsFound t key bound es
-    → given_under lo hi bound (entries t) ≡ given_under lo hi (Some key) (entries t) ++ given_from key lo hi es
+    → given_under lo hi bound (entries t)
+    ≡ given_under lo hi (Some key) (entries t) ++ given_from key lo hi es
 given_next lo hi key bound t es o up found =
     let all = entries t in
     let p = λ (e : Entry). is_inside lo hi e.key && is_under e.key bound in
@@ -232,17 +251,21 @@ given_next lo hi key bound t es o up found =
     (append_up (filter q all) (filter r es) (filter_up q all (tree_up t o)) (filter_up r es up) (λ x y i j.
     let a = ((in_filter q all x).0 i).1 in
     let b = ((in_filter r es y).0 j).1 in
-    below_up_to x.key key y.key (below_of x.key key (second_of (is_inside lo hi x.key) (is_below x.key key) a))
+    below_up_to x.key key y.key
+    (below_of x.key key (second_of (is_inside lo hi x.key) (is_below x.key key) a))
     (first_of (is_le (slice_cmp nat_cmp key y.key)) (is_inside lo hi y.key) b)))
     (λ x i.
     let a = (in_filter p all x).0 i in
     let inside = first_of (is_inside lo hi x.key) (is_under x.key bound) a.1 in
-    let under = under_of x.key bound (second_of (is_inside lo hi x.key) (is_under x.key bound) a.1) in
+    let under =
+    under_of x.key bound (second_of (is_inside lo hi x.key) (is_under x.key bound) a.1) in
     elim (below_or_not x.key key) [
       | inl l ↦ in_left x (filter q all) (filter r es)
-          ((in_filter q all x).1 (a.0, both (is_inside lo hi x.key) (is_below x.key key) inside (is_below_of x.key key l)))
+          ((in_filter q all x).1
+          (a.0, both (is_inside lo hi x.key) (is_below x.key key) inside (is_below_of x.key key l)))
       | inr l ↦ in_right x (filter q all) (filter r es)
-          ((in_filter r es x).1 (found.all x a.0 l under, both (is_le (slice_cmp nat_cmp key x.key)) (is_inside lo hi x.key) l inside))
+          ((in_filter r es x).1 (found.all x a.0 l under,
+          both (is_le (slice_cmp nat_cmp key x.key)) (is_inside lo hi x.key) l inside))
     ])
     (λ x i. (in_filter p all x).1 (elim (in_cases x (filter q all) (filter r es) i) [
       | inl j ↦ (let a = (in_filter q all x).0 j in
@@ -255,7 +278,8 @@ given_next lo hi key bound t es o up found =
       | inr j ↦ (let a = (in_filter r es x).0 j in (
         found.among x a.0,
         both (is_inside lo hi x.key) (is_under x.key bound)
-            (second_of (is_le (slice_cmp nat_cmp key x.key)) (is_inside lo hi x.key) a.1) (is_under_of x.key bound (found.under x a.0)),
+            (second_of (is_le (slice_cmp nat_cmp key x.key)) (is_inside lo hi x.key) a.1)
+            (is_under_of x.key bound (found.under x a.0)),
       ))
     ])) in
     ap (map given_entry) lists ∙ map_append (filter q all) (filter r es)

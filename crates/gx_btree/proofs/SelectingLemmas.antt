@@ -34,14 +34,16 @@ use Rattle.gx_btree.proofs.SelectLemmas.{given_under, given_next, given_all}
 ext : (p q : Entry → Bool) (es : List Entry) → ((e : Entry) → p e ≡ q e) → filter p es ≡ filter q es
 ext p q [] same = refl
 ext p q (e ∷ es) same =
-    ap (λ b. cond b (e ∷ filter p es) (filter p es)) (same e) ∙ ap (λ (xs : List Entry). cond (q e) (e ∷ xs) xs) (ext p q es same)
+    ap (λ b. cond b (e ∷ filter p es) (filter p es)) (same e)
+    ∙ ap (λ (xs : List Entry). cond (q e) (e ∷ xs) xs) (ext p q es same)
 
 not_greater : (o : Ordering) → is_le o ≡ true → is_gt o ≡ true → ⊥
 not_greater Less h k = let never : ⊥ = cc in never
 not_greater Equal h k = let never : ⊥ = cc in never
 not_greater Greater h k = let never : ⊥ = cc in never
 
-fronts : (n : ℕ) (x y : List ℕ) → IsUpTo x y → is_le (slice_cmp nat_cmp (take n x) (take n y)) ≡ true
+fronts : (n : ℕ) (x y : List ℕ) → IsUpTo x y
+    → is_le (slice_cmp nat_cmp (take n x) (take n y)) ≡ true
 fronts n x y h =
     elim (up_to_cases x y h) [
       | inl l ↦ front_le n x y l
@@ -49,7 +51,8 @@ fronts n x y h =
           (λ z. is_le (slice_cmp nat_cmp (take n x) (take n z)) ≡ true) e (up_to_itself (take n x))
     ]
 
-past_cases : (lo hi b key : List ℕ) (low front : Bool) → is_le (slice_cmp nat_cmp (take (length hi) key) hi) ≡ front
+past_cases : (lo hi b key : List ℕ) (low front : Bool)
+    → is_le (slice_cmp nat_cmp (take (length hi) key) hi) ≡ front
     → is_gt (slice_cmp nat_cmp (take (length hi) b) hi) ≡ true
     → ((low && front) && is_below key b) ≡ ((low && front) && true)
 past_cases lo hi b key false front is past = refl
@@ -57,18 +60,21 @@ past_cases lo hi b key true false is past = refl
 past_cases lo hi b key true true is past = elim (below_or_not key b) [
   | inl l ↦ is_below_of key b l
   | inr l ↦ absurd (not_greater (slice_cmp nat_cmp (take (length hi) b) hi)
-      (le_trans (take (length hi) b) (take (length hi) key) hi (fronts (length hi) b key l) is) past)
+      (le_trans (take (length hi) b) (take (length hi) key) hi (fronts (length hi) b key l) is)
+      past)
 ]
 
 -- behind the span there is nothing more
-pub given_past : (lo hi b : List ℕ) (es : List Entry) → is_gt (slice_cmp nat_cmp (take (length hi) b) hi) ≡ true
+pub given_past : (lo hi b : List ℕ) (es : List Entry)
+    → is_gt (slice_cmp nat_cmp (take (length hi) b) hi) ≡ true
     → given_under lo hi (Some b) es ≡ given_under lo hi None es
 given_past lo hi b es past =
     ap (map given_entry) (ext _ _ es
     (λ e. past_cases lo hi b e.key (is_le (slice_cmp nat_cmp lo e.key))
     (is_le (slice_cmp nat_cmp (take (length hi) e.key) hi)) refl past))
 
-none_cases : (lo key : List ℕ) (low front : Bool) → is_le (slice_cmp nat_cmp lo key) ≡ low → ((low && front) && is_below key lo) ≡ false
+none_cases : (lo key : List ℕ) (low front : Bool) → is_le (slice_cmp nat_cmp lo key) ≡ low
+    → ((low && front) && is_below key lo) ≡ false
 none_cases lo key false front is = refl
 none_cases lo key true false is = refl
 none_cases lo key true true is = not_below_of key lo is
@@ -100,7 +106,8 @@ mutual
       let q = length-append (pages t) (kids_pages kids) in
       omega (arith, a, b, k, q)
 
-append_unique : (xs ys : List ℕ) → AreUnique xs → AreUnique ys → ((x : ℕ) → In x xs → In x ys → ⊥) → AreUnique (xs ++ ys)
+append_unique : (xs ys : List ℕ) → AreUnique xs → AreUnique ys → ((x : ℕ) → In x xs → In x ys → ⊥)
+    → AreUnique (xs ++ ys)
 append_unique [] ys u v d = v
 append_unique (x ∷ xs) ys u v d =
     ((λ i. elim (in_cases x xs ys i) [ inl a ↦ u.0 a | inr b ↦ d x (inl refl) b ]), append_unique xs ys u.1 v (λ y i j. d y (inr i) j))
@@ -112,7 +119,8 @@ mutual
 
   unique_kids : (kids : Kids) → AreApart kids → AreUnique (kids_pages kids)
   unique_kids (last t) a = unique_pages t a
-  unique_kids (more t s kids) a = append_unique (pages t) (kids_pages kids) (unique_pages t a.0) (unique_kids kids a.2) a.1
+  unique_kids (more t s kids) a =
+      append_unique (pages t) (kids_pages kids) (unique_pages t a.0) (unique_kids kids a.2) a.1
 
 -- no key stands twice
 abbrev pub AreDistinct : List (List ℕ) → Type 0
@@ -138,7 +146,8 @@ take_away x (y ∷ ys) (inr i) =
           λ z j. elim j [ inl s ↦ inr (inl s) | inr k ↦ elim (r.others z k) [ inl s ↦ inl s | inr l ↦ inr (inr l) ] ];
     }
 
-few_of : (xs ys : List (List ℕ)) → AreDistinct xs → ((x : List ℕ) → In x xs → In x ys) → length xs ≤ length ys
+few_of : (xs ys : List (List ℕ)) → AreDistinct xs → ((x : List ℕ) → In x xs → In x ys)
+    → length xs ≤ length ys
 few_of [] ys u h = omega arith
 few_of (x ∷ xs) ys u h =
     let r = take_away x ys (h x (inl refl)) in
@@ -155,17 +164,20 @@ pub record HasSeen (tree : Tree) (key : List ℕ) (steps : ℕ) : Type 0 where
   pub upto : (k : List ℕ) → In k keys → IsUpTo k key
 
 pub seen_ends : (ground : Ground) (place : Place) (sheets : Sheets) (m : LeafMap)
-    (b : IsBplus ground place sheets m) (key : List ℕ) (steps : ℕ) → HasSeen b.tree key steps → steps < ground.size
+    (b : IsBplus ground place sheets m) (key : List ℕ) (steps : ℕ) → HasSeen b.tree key steps
+    → steps < ground.size
 seen_ends ground place sheets m b key steps seen =
     let a = few_of seen.keys (separators b.tree) seen.distinct seen.among in
     let c = few_separators b.tree in
-    let d = few ground.size (pages b.tree) (unique_pages b.tree b.whole.apart) (λ q i. (b.past q i).below) in
+    let d = few ground.size (pages b.tree) (unique_pages b.tree b.whole.apart)
+    (λ q i. (b.past q i).below) in
     let n = seen.count in
     omega (arith, a, c, d, n)
 
 -- ---- the file after calls that read
 
-abbrev pub same_file : (place : Place) (m : LeafMap) (ground other : Ground) (a b : Sheets) → b ≡ a → other ≡ ground
+abbrev pub same_file : (place : Place) (m : LeafMap) (ground other : Ground) (a b : Sheets) → b ≡ a
+    → other ≡ ground
     → IsBplus ground place a m → IsBplus other place b m
 same_file place m ground other a b e h f = record {
   tree = f.tree;
@@ -183,13 +195,16 @@ pub record IsSelecting {S : Type 0} (g : Ghosts S) (place : Place) (lo hi : List
   pub front : Extends before out
   pub given : (m : LeafMap) (holds : Holds g (IsBplus (g.ground start) place) start m)
       → out ≡ before ++ given_under lo hi (Some key) (entries holds.file.tree)
-  pub seen : (m : LeafMap) (holds : Holds g (IsBplus (g.ground start) place) start m) → HasSeen holds.file.tree key steps
+  pub seen : (m : LeafMap) (holds : Holds g (IsBplus (g.ground start) place) start m)
+      → HasSeen holds.file.tree key steps
 
-module _ {S : Type 0} (g : Ghosts S) (place : Place) (lo hi : List ℕ) (start : S) (before : List LeafEntry) where
+module _ {S : Type 0} (g : Ghosts S) (place : Place) (lo hi : List ℕ) (start : S)
+    (before : List LeafEntry) where
   abbrev Whole : Type 0
   Whole = IsWhole g (IsBplus (g.ground start) place) start
 
-  pub selecting_starts : (key : List ℕ) → key ≡ lo → IsSelecting g place lo hi start start before before key 0
+  pub selecting_starts : (key : List ℕ) → key ≡ lo
+      → IsSelecting g place lo hi start start before before key 0
   selecting_starts key is = record {
     reads = pages_read_itself g start;
     faults = refl;
@@ -198,11 +213,14 @@ module _ {S : Type 0} (g : Ghosts S) (place : Place) (lo hi : List ℕ) (start :
         λ m holds. sym (append-nil before)
         ∙ ap (λ (xs : List LeafEntry). before ++ xs)
         (sym (ap (λ k. given_under lo hi (Some k) (entries holds.file.tree)) is ∙ given_none lo hi (entries holds.file.tree)));
-    seen = λ m holds. record { keys = []; count = refl; distinct = tt; among = λ k i. absurd i; upto = λ k i. absurd i };
+    seen = λ m holds. record
+        { keys = []; count = refl; distinct = tt; among = λ k i. absurd i; upto = λ k i. absurd i };
   }
 
-  module _ {steps : ℕ} (now : S) (out : List LeafEntry) (key : List ℕ) (s : IsSelecting g place lo hi start now before out key steps) where
-    abbrev pub holds_now : (m : LeafMap) → Holds g (IsBplus (g.ground start) place) start m → Holds g (IsBplus (g.ground now) place) now m
+  module _ {steps : ℕ} (now : S) (out : List LeafEntry) (key : List ℕ)
+      (s : IsSelecting g place lo hi start now before out key steps) where
+    abbrev pub holds_now : (m : LeafMap) → Holds g (IsBplus (g.ground start) place) start m
+        → Holds g (IsBplus (g.ground now) place) now m
     holds_now m holds =
         record {
           told = holds.told;
@@ -211,23 +229,31 @@ module _ {S : Type 0} (g : Ghosts S) (place : Place) (lo hi : List ℕ) (start :
         }
 
     pub selecting_ends : {T : Type 0} (b : S) (r : Result T Stop)
-        → EndsFile g (IsWhole g (IsBplus (g.ground now) place) now) now b r → EndsFile g Whole start b r
-    selecting_ends b r e = ends_after g Whole _ start now b r s.faults s.reads.keeps.ground (λ w. (w.0, holds_now w.0 w.1)) e
+        → EndsFile g (IsWhole g (IsBplus (g.ground now) place) now) now b r
+        → EndsFile g Whole start b r
+    selecting_ends b r e =
+        ends_after g Whole _ start now b r s.faults s.reads.keeps.ground
+        (λ w. (w.0, holds_now w.0 w.1)) e
 
-    next_out : (m : LeafMap) (holds : Holds g (IsBplus (g.ground start) place) start m) (es : List Entry)
-        (bound : Option (List ℕ)) (new : List LeafEntry) → Ascending es → IsFound holds.file.tree key bound es
+    next_out : (m : LeafMap) (holds : Holds g (IsBplus (g.ground start) place) start m)
+        (es : List Entry)
+        (bound : Option (List ℕ)) (new : List LeafEntry) → Ascending es
+        → IsFound holds.file.tree key bound es
         → new ≡ out ++ given_from key lo hi es
         → new ≡ before ++ given_under lo hi bound (entries holds.file.tree)
     next_out m holds es bound new up found is =
         let t = holds.file.tree in
         is ∙ ap (λ (xs : List LeafEntry). xs ++ given_from key lo hi es) (s.given m holds)
         ∙ append_assoc before (given_under lo hi (Some key) (entries t)) (given_from key lo hi es)
-        ∙ ap (λ (xs : List LeafEntry). before ++ xs) (sym (given_next lo hi key bound t es holds.file.whole.ordered up found))
+        ∙ ap (λ (xs : List LeafEntry). before ++ xs)
+        (sym (given_next lo hi key bound t es holds.file.whole.ordered up found))
 
-    pub selecting_goes : (b : S) (es : List Entry) (next : List ℕ) (new : List LeafEntry) → ReadsPages g now b
+    pub selecting_goes : (b : S) (es : List Entry) (next : List ℕ) (new : List LeafEntry)
+        → ReadsPages g now b
         → g.faults b ≡ g.faults now → Extends out new
         → ((m : LeafMap) (holds : Holds g (IsBplus (g.ground start) place) start m)
-        → Ascending es × (new ≡ out ++ given_from key lo hi es) × IsFound holds.file.tree key (Some next) es)
+        → Ascending es × (new ≡ out ++ given_from key lo hi es)
+        × IsFound holds.file.tree key (Some next) es)
         → IsSelecting g place lo hi start b before new next (steps + 1)
     selecting_goes b es next new reads faults longer found = record {
       reads = pages_read_joined g s.reads reads;
@@ -260,32 +286,45 @@ module _ {S : Type 0} (g : Ghosts S) (place : Place) (lo hi : List ℕ) (start :
           };
     }
 
-    pub selecting_all : (m : LeafMap) (holds : Holds g (IsBplus (g.ground start) place) start m) (es : List Entry)
-        (new : List LeafEntry) → Ascending es → IsFound holds.file.tree key None es → new ≡ out ++ given_from key lo hi es
+    pub selecting_all : (m : LeafMap) (holds : Holds g (IsBplus (g.ground start) place) start m)
+        (es : List Entry)
+        (new : List LeafEntry) → Ascending es → IsFound holds.file.tree key None es
+        → new ≡ out ++ given_from key lo hi es
         → new ≡ before ++ selected lo hi m
     selecting_all m holds es new up found is =
         next_out m holds es None new up found is
-        ∙ ap (λ (xs : List LeafEntry). before ++ xs) (given_all lo hi m holds.file.tree holds.file.whole.ordered holds.file.map_is)
+        ∙ ap (λ (xs : List LeafEntry). before ++ xs)
+        (given_all lo hi m holds.file.tree holds.file.whole.ordered holds.file.map_is)
 
-    pub selecting_past : (m : LeafMap) (holds : Holds g (IsBplus (g.ground start) place) start m) (es : List Entry)
-        (next : List ℕ) (new : List LeafEntry) → Ascending es → IsFound holds.file.tree key (Some next) es
+    pub selecting_past : (m : LeafMap) (holds : Holds g (IsBplus (g.ground start) place) start m)
+        (es : List Entry)
+        (next : List ℕ) (new : List LeafEntry) → Ascending es
+        → IsFound holds.file.tree key (Some next) es
         → new ≡ out ++ given_from key lo hi es
-        → is_gt (slice_cmp nat_cmp (take (length hi) next) hi) ≡ true → new ≡ before ++ selected lo hi m
+        → is_gt (slice_cmp nat_cmp (take (length hi) next) hi) ≡ true
+        → new ≡ before ++ selected lo hi m
     selecting_past m holds es next new up found is past =
         let t = holds.file.tree in
         next_out m holds es (Some next) new up found is
         ∙ ap (λ (xs : List LeafEntry). before ++ xs)
-        (given_past lo hi next (entries t) past ∙ given_all lo hi m t holds.file.whole.ordered holds.file.map_is)
+        (given_past lo hi next (entries t) past
+        ∙ given_all lo hi m t holds.file.whole.ordered holds.file.map_is)
 
     pub selecting_front : (new : List LeafEntry) → Extends out new → Extends before new
-    selecting_front new x = (s.front.0 ++ x.0, x.1 ∙ ap (λ (xs : List LeafEntry). xs ++ x.0) s.front.1 ∙ append_assoc before s.front.0 x.0)
+    selecting_front new x =
+        (s.front.0 ++ x.0,
+        x.1 ∙ ap (λ (xs : List LeafEntry). xs ++ x.0) s.front.1 ∙ append_assoc before s.front.0 x.0)
 
     -- a page shows that no tree stands there
-    pub selecting_torn : {T : Type 0} (b : S) (n : ℕ) → g.faults b ≡ g.faults now → n < (g.ground start).blocks
-        → ((m : LeafMap) → Holds g (IsBplus (g.ground start) place) start m → ⊥) → EndsFile {T = T} g Whole start b (Err (Damaged n))
-    selecting_torn b n faults block none = ends_shown g Whole start b n (faults ∙ s.faults) block (λ w. none w.0 w.1)
+    pub selecting_torn : {T : Type 0} (b : S) (n : ℕ) → g.faults b ≡ g.faults now
+        → n < (g.ground start).blocks
+        → ((m : LeafMap) → Holds g (IsBplus (g.ground start) place) start m → ⊥)
+        → EndsFile {T = T} g Whole start b (Err (Damaged n))
+    selecting_torn b n faults block none =
+        ends_shown g Whole start b n (faults ∙ s.faults) block (λ w. none w.0 w.1)
 
-    pub selecting_lost : {T : Type 0} (n : ℕ) → (g.ground start).size ≤ steps → n < (g.ground start).blocks
+    pub selecting_lost : {T : Type 0} (n : ℕ) → (g.ground start).size ≤ steps
+        → n < (g.ground start).blocks
         → EndsFile {T = T} g Whole start now (Err (Damaged n))
     selecting_lost n over block = record {
       cause = record {

@@ -11,7 +11,8 @@ use Rattle.gx_btree.proofs.PageLemmas.{one_list, one_inner, one_kind}
 use Rattle.gx_btree.proofs.KidLemmas.{some_key, kid_hole}
 
 -- at first it stands at the root
-pub at_root : (at : ℕ → List ℕ) (owned : ℕ → Type 0) (root : ℕ) (key : List ℕ) (t : Tree) → IsWhole at root t
+pub at_root : (at : ℕ → List ℕ) (owned : ℕ → Type 0) (root : ℕ) (key : List ℕ) (t : Tree)
+    → IsWhole at root t
     → Owns owned t → IsAtHand at owned root root key t 0
 at_root at owned root key t w owns = record {
   lo = [];
@@ -49,7 +50,8 @@ at_root at owned root key t w owns = record {
 }
 
 -- and nothing bounds it
-pub root_hi : (at : ℕ → List ℕ) (owned : ℕ → Type 0) (root : ℕ) (key : List ℕ) (t : Tree) (w : IsWhole at root t)
+pub root_hi : (at : ℕ → List ℕ) (owned : ℕ → Type 0) (root : ℕ) (key : List ℕ) (t : Tree)
+    (w : IsWhole at root t)
     (owns : Owns owned t) → (at_root at owned root key t w owns).hi ≡ None
 unfolding at_root
 root_hi at owned root key t w owns = refl
@@ -68,16 +70,19 @@ node_at at first branches (node p kids) e stands =
     let same = one_inner (at p) (first_of kids) first (branches_of kids) branches stands.0 e in
     record { kids = kids; is = refl; first_is = same.0; branches_are = same.1 }
 
-pub leaf_is : (at : ℕ → List ℕ) (t : Tree) (es : List Entry) → ShowsEntries (at (page_of t)) es → Stands at t → t ≡ leaf (page_of t) es
+pub leaf_is : (at : ℕ → List ℕ) (t : Tree) (es : List Entry) → ShowsEntries (at (page_of t)) es
+    → Stands at t → t ≡ leaf (page_of t) es
 leaf_is at (leaf p old) es e stands = ap (leaf p) (one_list (at p) old es stands e)
-leaf_is at (node p kids) es e stands = absurd (one_kind (at p) es (first_of kids) (branches_of kids) e stands.0)
+leaf_is at (node p kids) es e stands =
+    absurd (one_kind (at p) es (first_of kids) (branches_of kids) e stands.0)
 
 pub top_in : (t : Tree) → In (page_of t) (pages t)
 top_in (leaf p es) = inl refl
 top_in (node p kids) = inl refl
 
 -- The subtree at hand has children, of which one is on the way.
-pub record IsAtNode {steps : ℕ} (at : ℕ → List ℕ) (owned : ℕ → Type 0) (root p : ℕ) (key : List ℕ) (old : Tree)
+pub record IsAtNode {steps : ℕ} (at : ℕ → List ℕ) (owned : ℕ → Type 0) (root p : ℕ) (key : List ℕ)
+    (old : Tree)
     (first : ℕ) (branches : List Branch) (h : IsAtHand at owned root p key old steps) : Type 0 where
   pub kids : Kids
   pub is : h.subtree ≡ node p kids
@@ -100,11 +105,14 @@ pub record IsAtNode {steps : ℕ} (at : ℕ → List ℕ) (owned : ℕ → Type 
   pub in_kids : (x : ℕ) → In x (pages hole.kid) → In x (kids_pages kids)
   pub in_others : (x : ℕ) → In x hole.others → In x (kids_pages kids)
 
-pub at_node : {steps : ℕ} (at : ℕ → List ℕ) (owned : ℕ → Type 0) (root p : ℕ) (key : List ℕ) (old : Tree)
+pub at_node : {steps : ℕ} (at : ℕ → List ℕ) (owned : ℕ → Type 0) (root p : ℕ) (key : List ℕ)
+    (old : Tree)
     (first : ℕ) (branches : List Branch) → ShowsInner (at p) first branches
-    → (h : IsAtHand at owned root p key old steps) → IsAtNode at owned root p key old first branches h
+    → (h : IsAtHand at owned root p key old steps)
+    → IsAtNode at owned root p key old first branches h
 at_node at owned root p key old first branches e h =
-    let n = node_at at first branches h.subtree (subst (λ q. ShowsInner (at q) first branches) (sym h.fits.page_is) e) h.fits.stands in
+    let n = node_at at first branches h.subtree
+    (subst (λ q. ShowsInner (at q) first branches) (sym h.fits.page_is) e) h.fits.stands in
     let is : h.subtree ≡ node p n.kids = n.is ∙ ap (λ q. node q n.kids) h.fits.page_is in
     let stands : Stands at (node p n.kids) = subst (Stands at) is h.fits.stands in
     let ordered : AreOrdered n.kids = subst Ordered is h.fits.ordered in
@@ -133,16 +141,19 @@ at_node at owned root p key old first branches e h =
       top_owned = (h.owns p).1 (inl (subst (In p) (sym pages_is) (inl refl)));
       hole = k;
       goes =
-          ap (λ f. child_for f branches key) (sym n.first_is) ∙ ap (λ bs. child_for (first_of n.kids) bs key) (sym n.branches_are) ∙ k.way;
+          ap (λ f. child_for f branches key) (sym n.first_is)
+          ∙ ap (λ bs. child_for (first_of n.kids) bs key) (sym n.branches_are) ∙ k.way;
       in_kids = λ x i. (k.pages_are x).1 (inl i);
       in_others = λ x i. (k.pages_are x).1 (inr i);
     }
 
 -- one page down
-pub descend : {steps : ℕ} (at : ℕ → List ℕ) (owned : ℕ → Type 0) (root p : ℕ) (key : List ℕ) (old : Tree)
+pub descend : {steps : ℕ} (at : ℕ → List ℕ) (owned : ℕ → Type 0) (root p : ℕ) (key : List ℕ)
+    (old : Tree)
     (first : ℕ) (branches : List Branch) → ShowsInner (at p) first branches
     → (g : IsAtHand at owned root p key old steps)
-    → (h : IsAtHand at owned root (child_for first branches key) key old (steps + 1)) × IsFilled h.subtree
+    → (h : IsAtHand at owned root (child_for first branches key) key old (steps + 1))
+    × IsFilled h.subtree
     × (h.hi ≡ bound_for branches key g.hi)
 descend {steps = steps} at owned root p key old first branches e h =
     let n = at_node at owned root p key old first branches e h in
@@ -164,7 +175,8 @@ descend {steps = steps} at owned root p key old first branches e h =
             ]
           ];
           fill = λ new u same fit filled.
-              let beside : Same k.others at new = λ x i. same x (inr (in_left x k.others h.others i)) in
+              let beside : Same k.others at new =
+              λ x i. same x (inr (in_left x k.others h.others i)) in
               let fit_below : IsFitting new (page_of k.kid) k.low k.high k.others u =
               record {
                 page_is = fit.page_is;
@@ -176,9 +188,10 @@ descend {steps = steps} at owned root p key old first branches e h =
               } in
               let w = k.one new u beside fit_below filled in
               let at_p : ShowsInner (new p) (first_of w.kids) (branches_of w.kids) =
-              subst (λ b. ShowsInner b (first_of w.kids) (branches_of w.kids)) (sym (same p (inl refl)))
-              (subst (λ f. ShowsInner (at p) f (branches_of w.kids)) (sym w.first_is)
-              (subst (ShowsInner (at p) (first_of n.kids)) (sym w.branches_are) n.shows)) in
+              subst (λ b. ShowsInner b (first_of w.kids) (branches_of w.kids))
+                  (sym (same p (inl refl)))
+                  (subst (λ f. ShowsInner (at p) f (branches_of w.kids)) (sym w.first_is)
+                  (subst (ShowsInner (at p) (first_of n.kids)) (sym w.branches_are) n.shows)) in
               let inside : (x : Entry) → In x (kids_entries w.kids) → IsUpTo h.lo x.key × IsUnder x.key h.hi =
               λ x i. elim ((w.entries_are x).0 i) [
                 | inl a ↦ (let b = fit.bounds x a in (up_to_up_to h.lo k.low x.key k.lower b.0, k.higher.under x.key b.1))
@@ -206,13 +219,16 @@ descend {steps = steps} at owned root p key old first branches e h =
                 alone = apart_from;
               } in
               let v =
-              h.hole.fill new (node p w.kids) (λ x i. same x (inr (in_right x k.others h.others i))) whole
-              (some_key w.kids w.ordered) in
+              h.hole.fill new (node p w.kids) (λ x i. same x (inr (in_right x k.others h.others i)))
+              whole
+                  (some_key w.kids w.ordered) in
               record {
                 tree = v.tree;
                 whole = v.whole;
-                entries_are = joins_through (kids_entries w.kids) (entries u) k.rest h.rest (entries v.tree) w.entries_are v.entries_are;
-                pages_are = joins_below p (kids_pages w.kids) (pages u) k.others h.others (pages v.tree) w.pages_are v.pages_are;
+                entries_are = joins_through (kids_entries w.kids) (entries u) k.rest h.rest
+                    (entries v.tree) w.entries_are v.entries_are;
+                pages_are = joins_below p (kids_pages w.kids) (pages u) k.others h.others
+                    (pages v.tree) w.pages_are v.pages_are;
               };
         };
         fits = record {
@@ -232,7 +248,8 @@ descend {steps = steps} at owned root p key old first branches e h =
         from = k.from;
         to = k.to;
         entries_are =
-            joins_through (kids_entries n.kids) (entries k.kid) k.rest h.rest (entries old) k.entries_are
+            joins_through (kids_entries n.kids) (entries k.kid) k.rest h.rest (entries old)
+            k.entries_are
             (subst (λ xs. Joins (entries old) xs h.rest) n.entries_is h.entries_are);
         owns = λ x. (
           (λ o. elim ((h.owns x).0 o) [
@@ -253,7 +270,8 @@ descend {steps = steps} at owned root p key old first branches e h =
         path = p ∷ h.path;
         path_is = (let l = h.path_is in omega (arith, l));
         unique = ((λ i. n.top_alone (h.path_in p i)), h.unique);
-        path_in = λ x i. elim i [ inl e ↦ inl e | inr j ↦ inr (in_right x k.others h.others (h.path_in x j)) ];
+        path_in = λ x i. elim i
+            [ inl e ↦ inl e | inr j ↦ inr (in_right x k.others h.others (h.path_in x j)) ];
       },
       k.filled,
       k.high_is ∙ ap (λ bs. bound_for bs key h.hi) n.branches_are,

@@ -13,10 +13,13 @@ use Rattle.gx_btree.specs.Order.{is_below}
 use Rattle.gx_btree.specs.Tree.{child_for, bound_for}
 
 -- so many branches of an inner page were passed, and the way goes on from this child
-pub record IsOnWay (page body key : List ℕ) (hi : Option (List ℕ)) (place child : ℕ) (rest : List ℕ) : Type 0 where
+pub record IsOnWay (page body key : List ℕ) (hi : Option (List ℕ)) (place child : ℕ)
+    (rest : List ℕ) : Type 0 where
   pub passed : Passed branch_bytes IsFit (branches_of page) place body rest
-  pub child_is : child_for child (drop place (branches_of page)) key ≡ child_for (first_of page) (branches_of page) key
-  pub bound_is : bound_for (drop place (branches_of page)) key hi ≡ bound_for (branches_of page) key hi
+  pub child_is : child_for child (drop place (branches_of page)) key
+      ≡ child_for (first_of page) (branches_of page) key
+  pub bound_is : bound_for (drop place (branches_of page)) key hi
+      ≡ bound_for (branches_of page) key hi
 
 pub way_starts : (page body key : List ℕ) (hi : Option (List ℕ)) (first : ℕ) → body ≡ drop 8 page
     → first ≡ number_of page → IsInnerPage page → IsOnWay page (drop 8 page) key hi 0 first body
@@ -28,13 +31,17 @@ way_starts page body key hi first behind is inner = record {
   bound_is = refl;
 }
 
-module _ (page body key : List ℕ) (hi : Option (List ℕ)) (place child : ℕ) (rest : List ℕ) (count : ℕ)
-    (w : IsInnerPage page → IsOnWay page body key hi place child rest) (counted : count ≡ count_of page) where
+module _ (page body key : List ℕ) (hi : Option (List ℕ)) (place child : ℕ) (rest : List ℕ)
+    (count : ℕ)
+    (w : IsInnerPage page → IsOnWay page body key hi place child rest)
+    (counted : count ≡ count_of page) where
   inside : place < count → IsInnerPage page → place < length (branches_of page)
   inside below inner = omega (arith, below, counted, count_is page inner)
 
   -- a branch is ahead
-  pub way_cut : place < count → ((b : Branch) (tail : List ℕ) → IsFit b → rest ≢ branch_bytes b ++ tail) → IsInnerPage page → ⊥
+  pub way_cut : place < count
+      → ((b : Branch) (tail : List ℕ) → IsFit b → rest ≢ branch_bytes b ++ tail) → IsInnerPage page
+      → ⊥
   way_cut below none inner =
       holds_first branch_format (drop place (branches_of page)) rest (w inner).passed.ahead
       (omega (arith, inside below inner, length-drop place (branches_of page))) none
@@ -47,12 +54,14 @@ module _ (page body key : List ℕ) (hi : Option (List ℕ)) (place child : ℕ)
         let more = drop_more bs place b (inside below inner) in
         let same =
         first_same branch_format (get_or bs place b) b (drop (place + 1) bs) rest behind
-        (subst (λ xs. HoldsRecords branch_bytes IsFit xs rest) more (w inner).passed.ahead) fit is in
+        (subst (λ xs. HoldsRecords branch_bytes IsFit xs rest) more (w inner).passed.ahead) fit
+        is in
         more ∙ ap (λ (x : Branch). x ∷ drop (place + 1) bs) (sym same)
 
     -- the key is below the separator: the way ends
     pub way_found : is_below key b.separator ≡ true
-        → (child ≡ child_for (first_of page) (branches_of page) key) × (Some b.separator ≡ bound_for (branches_of page) key hi)
+        → (child ≡ child_for (first_of page) (branches_of page) key)
+        × (Some b.separator ≡ bound_for (branches_of page) key hi)
     way_found less =
         let bs = drop (place + 1) (branches_of page) in (
           sym (cond-true (is_below key b.separator) child (child_for b.child bs key) less)
@@ -61,21 +70,25 @@ module _ (page body key : List ℕ) (hi : Option (List ℕ)) (place child : ℕ)
               ∙ ap (λ xs. bound_for xs key hi) (sym next_is) ∙ (w inner).bound_is,
         )
 
-    pub way_more : is_below key b.separator ≡ false → IsOnWay page body key hi (place + 1) b.child behind
+    pub way_more : is_below key b.separator ≡ false
+        → IsOnWay page body key hi (place + 1) b.child behind
     way_more over =
         let bs = drop (place + 1) (branches_of page) in
         record {
-          passed = passed_more branch_format (branches_of page) place body rest b behind (w inner).passed (inside below inner) fit is;
+          passed = passed_more branch_format (branches_of page) place body rest b behind
+              (w inner).passed (inside below inner) fit is;
           child_is =
               sym (cond-false (is_below key b.separator) child (child_for b.child bs key) over)
               ∙ ap (λ xs. child_for child xs key) (sym next_is) ∙ (w inner).child_is;
           bound_is =
-              sym (cond-false (is_below key b.separator) (Some b.separator) (bound_for bs key hi) over)
+              sym
+              (cond-false (is_below key b.separator) (Some b.separator) (bound_for bs key hi) over)
               ∙ ap (λ xs. bound_for xs key hi) (sym next_is) ∙ (w inner).bound_is;
         }
 
   pub way_ended : count ≤ place → IsInnerPage page
-      → (child ≡ child_for (first_of page) (branches_of page) key) × (hi ≡ bound_for (branches_of page) key hi)
+      → (child ≡ child_for (first_of page) (branches_of page) key)
+      × (hi ≡ bound_for (branches_of page) key hi)
   way_ended over inner =
       let none = drop_all place (branches_of page) (omega (arith, over, counted, count_is page inner)) in (
         ap (λ xs. child_for child xs key) (sym none) ∙ (w inner).child_is,

@@ -29,7 +29,8 @@ low_of [] high = high
 low_of (part ∷ parts) high = Some part.low
 
 -- A tree stands at a part, with keys below a bound. None but the whole tree may be empty.
-pub record IsAtPart (at : ℕ → List ℕ) (part : Part) (high : Option (List ℕ)) (t : Tree) : Type 0 where
+pub record IsAtPart (at : ℕ → List ℕ) (part : Part) (high : Option (List ℕ)) (t : Tree) : Type 0
+    where
   pub page_is : page_of t ≡ part.page
   pub stands : Stands at t
   pub ordered : Ordered t
@@ -41,7 +42,8 @@ abbrev pub AreAtParts : (ℕ → List ℕ) → List Part → Option (List ℕ) �
 AreAtParts at [] high [] = ⊤
 AreAtParts at [] high (t ∷ ts) = ⊥
 AreAtParts at (part ∷ parts) high [] = ⊥
-AreAtParts at (part ∷ parts) high (t ∷ ts) = IsAtPart at part (low_of parts high) t × AreAtParts at parts high ts
+AreAtParts at (part ∷ parts) high (t ∷ ts) =
+    IsAtPart at part (low_of parts high) t × AreAtParts at parts high ts
 
 -- the pages of some trees
 abbrev pub pages_of : List Tree → List ℕ
@@ -49,7 +51,8 @@ pages_of [] = []
 pages_of (t ∷ ts) = pages t ++ pages_of ts
 
 -- these pages, each once, are those of the owner that weren't seen yet
-pub record AreLeft (ground : Ground) (owner : ℕ) (sheets : Sheets) (seen : List Bool) (ps : List ℕ) : Type 0 where
+pub record AreLeft (ground : Ground) (owner : ℕ) (sheets : Sheets) (seen : List Bool)
+    (ps : List ℕ) : Type 0 where
   pub unique : AreUnique ps
   pub unseen : (q : ℕ) → In q ps → slice_get seen q ≢ Some true
   pub owned : (q : ℕ) → In q ps → IsOwned owner sheets q
@@ -57,20 +60,24 @@ pub record AreLeft (ground : Ground) (owner : ℕ) (sheets : Sheets) (seen : Lis
   pub all : (q : ℕ) → IsOwned owner sheets q → (slice_get seen q ≡ Some true) ⊎ In q ps
 
 -- trees stand at the parts, with all pages of the owner that weren't seen yet
-pub record HasRest (ground : Ground) (owner : ℕ) (sheets : Sheets) (parts : List Part) (high : Option (List ℕ)) (seen : List Bool) : Type 0 where
+pub record HasRest (ground : Ground) (owner : ℕ) (sheets : Sheets) (parts : List Part)
+    (high : Option (List ℕ)) (seen : List Bool) : Type 0 where
   pub trees : List Tree
   pub stand : AreAtParts (bytes_at sheets) parts high trees
   pub left : AreLeft ground owner sheets seen (pages_of trees)
 
 -- the page at the top of a part may stand there
 abbrev pub IsInside : Shape → List ℕ → Part → Option (List ℕ) → Type 0
-IsInside shape.Entries bytes part high = (part.above ≢ part.page → IsSome (entries_of bytes)) × ((x : Entry) → In x (entries_of bytes) → IsUpTo part.low x.key × IsUnder x.key high)
+IsInside shape.Entries bytes part high =
+    (part.above ≢ part.page → IsSome (entries_of bytes))
+    × ((x : Entry) → In x (entries_of bytes) → IsUpTo part.low x.key × IsUnder x.key high)
 IsInside shape.Inner bytes part high = ⊤
 
 -- the parts and the bound behind the page of a part
 abbrev pub parts_behind : Shape → List ℕ → Part → List Part → List Part
 parts_behind shape.Entries bytes part parts = parts
-parts_behind shape.Inner bytes part parts = parts ++ child_parts part.page part.low (first_of bytes) (branches_of bytes)
+parts_behind shape.Inner bytes part parts =
+    parts ++ child_parts part.page part.low (first_of bytes) (branches_of bytes)
 
 abbrev pub high_behind : Shape → Part → Option (List ℕ) → Option (List ℕ)
 high_behind shape.Entries part high = Some part.low
@@ -81,9 +88,12 @@ pub record IsPassed (shape : Shape) (bytes : List ℕ) (part : Part) (old new : 
   pub parts : new.parts.items ≡ parts_behind shape bytes part old.parts.items
   pub high : new.high ≡ high_behind shape part old.high
 
--- The page of the part that came next is seen, and wasn't before. The rest is whole exactly where it was.
-pub record IsVisited (ground : Ground) (owner : ℕ) (sheets : Sheets) (part : Part) (old new : Visits) : Type 0 where
-  pub rest : HasRest ground owner sheets (old.parts.items ++ part ∷ []) old.high old.seen.items ↔ HasRest ground owner sheets new.parts.items new.high new.seen.items
+-- The page of the part that came next is seen, and wasn't before. The rest is whole exactly where
+-- it was.
+pub record IsVisited (ground : Ground) (owner : ℕ) (sheets : Sheets) (part : Part)
+    (old new : Visits) : Type 0 where
+  pub rest : HasRest ground owner sheets (old.parts.items ++ part ∷ []) old.high old.seen.items ↔
+      HasRest ground owner sheets new.parts.items new.high new.seen.items
   pub past : IsPast ground part.page
   pub unseen : slice_get old.seen.items part.page ≢ Some true
   pub seen : new.seen.items ≡ slice_set old.seen.items part.page true
@@ -94,4 +104,7 @@ AreBelow ground parts = (part : Part) → In part parts → part.above < ground.
 
 -- the pages tell what the device holds, and trees stand at the parts with this one behind them
 abbrev pub HasNext : {S : Type 0} → Ghosts S → S → ℕ → Part → Visits → Type 0
-HasNext g p owner part visits = IsTrue g.tells × HasRest (g.ground p) owner (g.working p) (visits.parts.items ++ part ∷ []) visits.high visits.seen.items
+HasNext g p owner part visits =
+    IsTrue g.tells
+    × HasRest (g.ground p) owner (g.working p) (visits.parts.items ++ part ∷ []) visits.high
+    visits.seen.items

@@ -7,7 +7,8 @@ use Rattle.gx_btree.specs.Order.{IsBelow, IsUpTo, IsUnder, IsOver, is_below}
 use Rattle.gx_btree.specs.Tree.{In, Tree, Kids, last, more, page_of, first_of, branches_of, entries, kids_entries, pages, kids_pages, Stands, AllStand, Ordered, AreOrdered, IsFilled, Apart, AreApart, IsWhole, child_for, bound_for, with_branch, without_from, without_branch, first_without}
 
 -- a tree that may stand where the keys from lo up to below hi belong, beside these pages
-pub record IsFitting (at : ℕ → List ℕ) (p : ℕ) (lo : List ℕ) (hi : Option (List ℕ)) (others : List ℕ) (t : Tree) : Type 0 where
+pub record IsFitting (at : ℕ → List ℕ) (p : ℕ) (lo : List ℕ) (hi : Option (List ℕ))
+    (others : List ℕ) (t : Tree) : Type 0 where
   pub page_is : page_of t ≡ p
   pub stands : Stands at t
   pub ordered : Ordered t
@@ -24,7 +25,8 @@ abbrev pub Joins : {A : Type 0} → List A → List A → List A → Type 0
 Joins {A} xs ys zs = (x : A) → (In x xs → In x ys ⊎ In x zs) × (In x ys ⊎ In x zs → In x xs)
 
 -- children with these entries and pages, under a page that holds this
-pub record Has (at : ℕ → List ℕ) (first : ℕ) (branches : List Branch) (es rest : List Entry) (ps others : List ℕ) : Type 0 where
+pub record Has (at : ℕ → List ℕ) (first : ℕ) (branches : List Branch) (es rest : List Entry)
+    (ps others : List ℕ) : Type 0 where
   pub kids : Kids
   pub first_is : first_of kids ≡ first
   pub branches_are : branches_of kids ≡ branches
@@ -54,8 +56,10 @@ pub record IsWithin (high hi : Option (List ℕ)) : Type 0 where
   pub under : (key : List ℕ) → IsUnder key high → IsUnder key hi
   pub over : (key : List ℕ) → IsOver key hi → IsOver key high
 
--- the child on the way to a key, what stands beside it, and what may take its place: one tree, or two with a separator between
-pub record KidHole (at : ℕ → List ℕ) (kids : Kids) (key lo : List ℕ) (hi : Option (List ℕ)) : Type 0 where
+-- the child on the way to a key, what stands beside it, and what may take its place: one tree, or
+-- two with a separator between
+pub record KidHole (at : ℕ → List ℕ) (kids : Kids) (key lo : List ℕ) (hi : Option (List ℕ)) : Type 0
+    where
   pub kid : Tree
   pub low : List ℕ
   pub high : Option (List ℕ)
@@ -71,42 +75,57 @@ pub record KidHole (at : ℕ → List ℕ) (kids : Kids) (key lo : List ℕ) (hi
   pub to : IsUnder key high
   pub out : (x : Entry) → In x rest → IsBelow x.key low ⊎ IsOver x.key high
   -- keys within its bounds go the same way
-  pub beside : (x : List ℕ) → IsUpTo low x → IsUnder x high → (s : List ℕ) → In s (separators_in (branches_of kids)) → is_below x s ≡ is_below key s
+  pub beside : (x : List ℕ) → IsUpTo low x → IsUnder x high → (s : List ℕ)
+      → In s (separators_in (branches_of kids)) → is_below x s ≡ is_below key s
   pub entries_are : Joins (kids_entries kids) (entries kid) rest
   pub pages_are : Joins (kids_pages kids) (pages kid) others
-  pub one : (new : ℕ → List ℕ) (t : Tree) → Same others at new → IsFitting new (page_of kid) low high others t → IsFilled t
+  pub one : (new : ℕ → List ℕ) (t : Tree) → Same others at new
+      → IsFitting new (page_of kid) low high others t → IsFilled t
       → Has new (first_of kids) (branches_of kids) (entries t) rest (pages t) others
   pub two : (new : ℕ → List ℕ) (l r : Tree) (s : List ℕ) → Same others at new
       → IsFitting new (page_of kid) low high others l → IsFilled l
       → IsFitting new (page_of r) low high others r → IsFilled r
       → ((q : ℕ) → In q (pages l) → In q (pages r) → ⊥)
-      → ((x : Entry) → In x (entries l) → IsBelow x.key s) → ((x : Entry) → In x (entries r) → IsUpTo s x.key)
-      → Has new (first_of kids) (with_branch (branches_of kids) key (record { separator = s; child = page_of r })) (entries l ++ entries r) rest (pages l ++ pages r) others
+      → ((x : Entry) → In x (entries l) → IsBelow x.key s)
+      → ((x : Entry) → In x (entries r) → IsUpTo s x.key)
+      → Has new (first_of kids)
+      (with_branch (branches_of kids) key (record { separator = s; child = page_of r }))
+      (entries l ++ entries r) rest (pages l ++ pages r) others
   -- and what is left without it
   pub gone : (new : ℕ → List ℕ) → Same others at new → AreMany kids
-      → Has new (first_without (first_of kids) (branches_of kids) key) (without_branch (branches_of kids) key) rest [] others []
-  pub gone_behind : (new : ℕ → List ℕ) (t : Tree) (s : List ℕ) → Same others at new → IsBefore new t s kids
-      → Has new (page_of t) (without_from (record { separator = s; child = first_of kids }) (branches_of kids) key) (entries t ++ rest) [] (pages t ++ others) []
+      → Has new (first_without (first_of kids) (branches_of kids) key)
+      (without_branch (branches_of kids) key) rest [] others []
+  pub gone_behind : (new : ℕ → List ℕ) (t : Tree) (s : List ℕ) → Same others at new
+      → IsBefore new t s kids
+      → Has new (page_of t)
+      (without_from (record { separator = s; child = first_of kids }) (branches_of kids) key)
+      (entries t ++ rest) [] (pages t ++ others) []
 
 -- a whole tree around a subtree with these entries and pages
-pub record Around (at : ℕ → List ℕ) (root : ℕ) (es rest : List Entry) (ps others : List ℕ) : Type 0 where
+pub record Around (at : ℕ → List ℕ) (root : ℕ) (es rest : List Entry) (ps others : List ℕ) : Type 0
+    where
   pub tree : Tree
   pub whole : IsWhole at root tree
   pub entries_are : Joins (entries tree) es rest
   pub pages_are : Joins (pages tree) ps others
 
--- What stands around page p: whatever fitting tree takes the place of the one at p, the whole is a tree again.
-pub record Hole (at : ℕ → List ℕ) (root p : ℕ) (lo : List ℕ) (hi : Option (List ℕ)) (rest : List Entry) (others : List ℕ) : Type 0 where
+-- What stands around page p: whatever fitting tree takes the place of the one at p, the whole is a
+-- tree again.
+pub record Hole (at : ℕ → List ℕ) (root p : ℕ) (lo : List ℕ) (hi : Option (List ℕ))
+    (rest : List Entry) (others : List ℕ) : Type 0 where
   pub out : (x : Entry) → In x rest → IsBelow x.key lo ⊎ IsOver x.key hi
-  pub fill : (new : ℕ → List ℕ) (t : Tree) → Same others at new → IsFitting new p lo hi others t → IsFilled t → Around new root (entries t) rest (pages t) others
+  pub fill : (new : ℕ → List ℕ) (t : Tree) → Same others at new → IsFitting new p lo hi others t
+      → IsFilled t → Around new root (entries t) rest (pages t) others
 
 -- no item stands twice
 abbrev pub AreUnique : List ℕ → Type 0
 AreUnique [] = ⊤
 AreUnique (x ∷ xs) = (In x xs → ⊥) × AreUnique xs
 
--- The search for a key has come to page p after so many steps, in a tree with the entries of the old one.
-pub record IsAtHand (at : ℕ → List ℕ) (owned : ℕ → Type 0) (root p : ℕ) (key : List ℕ) (old : Tree) (steps : ℕ) : Type 0 where
+-- The search for a key has come to page p after so many steps, in a tree with the entries of the
+-- old one.
+pub record IsAtHand (at : ℕ → List ℕ) (owned : ℕ → Type 0) (root p : ℕ) (key : List ℕ) (old : Tree)
+    (steps : ℕ) : Type 0 where
   pub lo : List ℕ
   pub hi : Option (List ℕ)
   pub rest : List Entry
@@ -117,7 +136,9 @@ pub record IsAtHand (at : ℕ → List ℕ) (owned : ℕ → Type 0) (root p : �
   pub from : IsUpTo lo key
   pub to : IsUnder key hi
   pub entries_are : Joins (entries old) (entries subtree) rest
-  pub owns : (q : ℕ) → (owned q → In q (pages subtree) ⊎ In q others) × (In q (pages subtree) ⊎ In q others → owned q)
+  pub owns : (q : ℕ)
+      → (owned q → In q (pages subtree) ⊎ In q others)
+      × (In q (pages subtree) ⊎ In q others → owned q)
   -- the pages that it came through
   pub path : List ℕ
   pub path_is : length path ≡ steps

@@ -10,10 +10,13 @@ use Rattle.gx_btree.specs.Bplus.{bytes_at}
 
 -- the owner has the page, and it begins as an entry page
 abbrev pub has_entries : ℕ → Sheets → ℕ → Bool
-has_entries owner sheets page = (slice_index_or sheets.owners page 0 == owner) && (slice_index_or (bytes_at sheets page) 0 0 == 0x44)
+has_entries owner sheets page =
+    (slice_index_or sheets.owners page 0 == owner) &&
+    (slice_index_or (bytes_at sheets page) 0 0 == 0x44)
 
 abbrev pub entries_if_owned : ℕ → Sheets → ℕ → List Entry
-entries_if_owned owner sheets page = if has_entries owner sheets page then entries_of (bytes_at sheets page) else []
+entries_if_owned owner sheets page =
+    if has_entries owner sheets page then entries_of (bytes_at sheets page) else []
 
 -- the entries on those of the first pages that are entry pages of the owner
 abbrev pub owned_entries : ℕ → Sheets → ℕ → List Entry
@@ -22,4 +25,6 @@ owned_entries owner sheets (suc n) = entries_if_owned owner sheets n ++ owned_en
 
 -- the entries on all entry pages of the owner
 abbrev pub bplus_map : Ground → Place → Sheets → LeafMap
-bplus_map base place sheets = from_entries (map (λ e. (e.key, e.body)) (owned_entries place.owner sheets (length sheets.owners)))
+bplus_map base place sheets =
+    from_entries
+    (map (λ e. (e.key, e.body)) (owned_entries place.owner sheets (length sheets.owners)))

@@ -12,7 +12,8 @@ given_entry e = record { key = e.key; body = e.body }
 
 -- those of some entries that lie inside a span, from a key on
 abbrev pub given_from : List ℕ → List ℕ → List ℕ → List Entry → List LeafEntry
-given_from from lo hi es = map given_entry (filter (λ e. is_le (slice_cmp nat_cmp from e.key) && is_inside lo hi e.key) es)
+given_from from lo hi es =
+    map given_entry (filter (λ e. is_le (slice_cmp nat_cmp from e.key) && is_inside lo hi e.key) es)
 
 -- a key stands behind the keys of a span with this upper bound
 abbrev pub IsPastSpan : List ℕ → List ℕ → Type 0

@@ -84,7 +84,8 @@ Ascending (x ∷ xs) = ((y : Entry) → In y xs → IsBelow x.key y.key) × Asce
 abbrev pub IsFilled : Tree → Type 0
 IsFilled t = (x : Entry) × In x (entries t)
 
--- the keys of each entry page ascend, each child has one, and the separators stand between those of the children
+-- the keys of each entry page ascend, each child has one, and the separators stand between those of
+-- the children
 abbrev mutual
   pub Ordered : Tree → Type 0
   Ordered (leaf p es) = Ascending es
@@ -92,7 +93,9 @@ abbrev mutual
 
   pub AreOrdered : Kids → Type 0
   AreOrdered (last t) = Ordered t × IsFilled t
-  AreOrdered (more t s kids) = Ordered t × IsFilled t × ((x : Entry) → In x (entries t) → IsBelow x.key s) × ((x : Entry) → In x (kids_entries kids) → IsUpTo s x.key) × AreOrdered kids
+  AreOrdered (more t s kids) =
+      Ordered t × IsFilled t × ((x : Entry) → In x (entries t) → IsBelow x.key s)
+      × ((x : Entry) → In x (kids_entries kids) → IsUpTo s x.key) × AreOrdered kids
 
 -- no page stands twice in the tree
 abbrev mutual
@@ -102,7 +105,8 @@ abbrev mutual
 
   pub AreApart : Kids → Type 0
   AreApart (last t) = Apart t
-  AreApart (more t s kids) = Apart t × ((q : ℕ) → In q (pages t) → In q (kids_pages kids) → ⊥) × AreApart kids
+  AreApart (more t s kids) =
+      Apart t × ((q : ℕ) → In q (pages t) → In q (kids_pages kids) → ⊥) × AreApart kids
 
 -- the pages hold this tree, with its top at the root, in order and each page once
 pub record IsWhole (at : ℕ → List ℕ) (root : ℕ) (t : Tree) : Type 0 where
@@ -123,14 +127,17 @@ child_for first (b ∷ bs) key = if is_below key b.separator then first else chi
 -- the nearest separator behind that child, and hi where there is none
 abbrev pub bound_for : List Branch → List ℕ → Option (List ℕ) → Option (List ℕ)
 bound_for [] key hi = hi
-bound_for (b ∷ bs) key hi = if is_below key b.separator then Some b.separator else bound_for bs key hi
+bound_for (b ∷ bs) key hi =
+    if is_below key b.separator then Some b.separator else bound_for bs key hi
 
 -- a branch put right behind that child
 abbrev pub with_branch : List Branch → List ℕ → Branch → List Branch
 with_branch [] key new = new ∷ []
-with_branch (b ∷ bs) key new = if is_below key b.separator then new ∷ b ∷ bs else b ∷ with_branch bs key new
+with_branch (b ∷ bs) key new =
+    if is_below key b.separator then new ∷ b ∷ bs else b ∷ with_branch bs key new
 
--- The branches without the child on the way to a key and the separator left of it, which is that of b where none is between.
+-- The branches without the child on the way to a key and the separator left of it, which is that of
+-- b where none is between.
 abbrev pub without_from : Branch → List Branch → List ℕ → List Branch
 without_from b [] key = []
 without_from b (c ∷ bs) key = if is_below key c.separator then c ∷ bs else b ∷ without_from c bs key

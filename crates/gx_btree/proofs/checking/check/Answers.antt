@@ -22,11 +22,14 @@ returns-clause-ends g c =
     let s = g.P.PageView.working p in
     let now = c.visit_tree.new.pages in
     let owner = c.args.place.now.owner in
-    ends_as g.P.PageView (IsWhole g.P.PageView (IsBplus (g.P.PageView.ground p) c.args.place.now) p) (HasAllSeen g.P.PageView now owner c.deref.result.now) p now c.seek_unseen.new.pages c.seek_unseen.result
+    ends_as g.P.PageView (IsWhole g.P.PageView (IsBplus (g.P.PageView.ground p) c.args.place.now) p)
+    (HasAllSeen g.P.PageView now owner c.deref.result.now) p now c.seek_unseen.new.pages
+    c.seek_unseen.result
     (c.in_ok-seen.ensures.ends.cause.counted refl) c.visit_tree.ensures.reads.keeps.ground
     (λ whole. (
       whole.1.told,
-      subst (λ (x : Sheets). AreAllSeen x owner c.deref.result.now) (sym c.visit_tree.ensures.reads.working)
+      subst (λ (x : Sheets). AreAllSeen x owner c.deref.result.now)
+      (sym c.visit_tree.ensures.reads.working)
           (subst (AreAllSeen s owner) (sym c.deref.ensures.value) ((c.in_ok-seen.ensures.seen whole.1.told).0 whole)),
     ))
     c.seek_unseen.ensures.ends

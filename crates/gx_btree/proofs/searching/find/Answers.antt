@@ -23,14 +23,16 @@ returns-in_err-read_kind-clause-ends g c =
 pub returns-in-Entries-clause-shown : goal.returns-in-Entries-clause-shown
 returns-in-Entries-clause-shown g c map holds =
     let e = c.in_ok-read_kind.ensures in
-    finding_shape g.P.PageView c.args.place.now c.args.key.now c.args.pages.now c.loop.pages c.loop.from c.loop.at
+    finding_shape g.P.PageView c.args.place.now c.args.key.now c.args.pages.now c.loop.pages
+    c.loop.from c.loop.at
     c.loop.bound c.loop.invariant.1 c.read_kind.new.into shapes.Entries
     (subst (λ s. Seems s c.read_kind.new.into) c.in-Entries.is e.kind) e.read map holds
 
 pub returns-in-Entries-clause-found : goal.returns-in-Entries-clause-found
 returns-in-Entries-clause-found g c map holds =
     let e = c.in_ok-read_kind.ensures in
-    finding_found g.P.PageView c.args.place.now c.args.key.now c.args.pages.now c.loop.pages c.loop.from c.loop.at
+    finding_found g.P.PageView c.args.place.now c.args.key.now c.args.pages.now c.loop.pages
+    c.loop.from c.loop.at
     c.loop.bound c.loop.invariant.1 c.read_kind.new.into
     (subst (λ s. Seems s c.read_kind.new.into) c.in-Entries.is e.kind) e.read map holds
 
@@ -38,7 +40,8 @@ pub returns-in_default-clause-ends : goal.returns-in_default-clause-ends
 returns-in_default-clause-ends g c =
     let e = c.in_ok-read_kind.ensures in
     let i = c.loop.invariant.1 in
-    finding_torn g.P.PageView c.args.place.now c.args.key.now c.args.pages.now c.loop.pages c.loop.from c.loop.at
+    finding_torn g.P.PageView c.args.place.now c.args.key.now c.args.pages.now c.loop.pages
+    c.loop.from c.loop.at
     c.loop.bound i c.read_kind.new.pages c.read_kind.new.into c.block.result
     (e.ends.cause.counted refl)
     (let b = c.block.ensures.below in let s = ap (λ x. x.blocks) i.reads.keeps.ground in
@@ -49,15 +52,20 @@ pub loop-preserved : goal.loop-preserved
 loop-preserved g c =
     let e = c.in_ok-read_kind.ensures in (
       e.bytes,
-      finding_goes g.P.PageView c.args.place.now c.args.key.now c.args.pages.now c.loop.pages c.loop.from c.loop.at
-          c.loop.bound c.loop.invariant.1 c.read_kind.new.pages c.read_kind.new.into c.in-Some.way.page c.in-Some.way.bound e.reads
-          (e.ends.cause.counted refl) e.past (subst (λ s. Seems s c.read_kind.new.into) c.in-Inner.is e.kind) e.read c.in-Some.ensures,
+      finding_goes g.P.PageView c.args.place.now c.args.key.now c.args.pages.now c.loop.pages
+      c.loop.from c.loop.at
+          c.loop.bound c.loop.invariant.1 c.read_kind.new.pages c.read_kind.new.into
+          c.in-Some.way.page c.in-Some.way.bound e.reads
+          (e.ends.cause.counted refl) e.past
+          (subst (λ s. Seems s c.read_kind.new.into) c.in-Inner.is e.kind) e.read c.in-Some.ensures,
     )
 
 pub returns-clause-ends : goal.returns-clause-ends
 returns-clause-ends g c =
     let i = c.loop.invariant.1 in
-    finding_lost g.P.PageView c.args.place.now c.args.key.now c.args.pages.now c.loop.pages c.loop.from c.loop.at
+    finding_lost g.P.PageView c.args.place.now c.args.key.now c.args.pages.now c.loop.pages
+    c.loop.from c.loop.at
     c.loop.bound i c.block-2.result
     (let n = c.pages-end.ensures in let o = c.loop-test.false in omega (arith, n, o))
-    (let b = c.block-2.ensures.below in let s = ap (λ e. e.blocks) i.reads.keeps.ground in omega (arith, b, s))
+    (let b = c.block-2.ensures.below in let s = ap (λ e. e.blocks) i.reads.keeps.ground in omega
+    (arith, b, s))

@@ -5,35 +5,41 @@ use Rattle.gx_btree.proofs.searching.way_on.Goals as goal
 
 pub loop-init : goal.loop-init
 loop-init c inner =
-    way_starts c.args.page.now c.page_body-rest.result.now c.args.key.now c.args.bound c.page_number-child.result
+    way_starts c.args.page.now c.page_body-rest.result.now c.args.key.now c.args.bound
+    c.page_number-child.result
     c.page_body-rest.ensures c.page_number-child.ensures inner
 
 pub returns-in_err-separator : goal.returns-in_err-separator
 returns-in_err-separator c inner =
     absurd (way_cut c.args.page.now
     (drop 8 c.args.page.now) c.args.key.now c.args.bound c.loop.counter c.loop.child c.loop.rest.now
-    c.record_count-end.result c.loop.invariant c.record_count-end.ensures c.loop-test.true c.in_err-separator.ensures inner)
+    c.record_count-end.result c.loop.invariant c.record_count-end.ensures c.loop-test.true
+    c.in_err-separator.ensures inner)
 
 pub returns-then-is_below : goal.returns-then-is_below
 returns-then-is_below c inner =
     let found = c.in_ok-separator.ensures in
     let way =
-    way_found c.args.page.now (drop 8 c.args.page.now) c.args.key.now c.args.bound c.loop.counter c.loop.child
+    way_found c.args.page.now (drop 8 c.args.page.now) c.args.key.now c.args.bound c.loop.counter
+    c.loop.child
     c.loop.rest.now c.record_count-end.result c.loop.invariant c.record_count-end.ensures
     (lent (c.in_ok-separator.separator, c.in_ok-separator.right))
-    c.in_ok-separator.behind.now c.loop-test.true found.0 found.1 inner (sym c.is_below.ensures ∙ c.if-is_below.true) in
+    c.in_ok-separator.behind.now c.loop-test.true found.0 found.1 inner
+    (sym c.is_below.ensures ∙ c.if-is_below.true) in
     (way.0, ap Some c.from_slice.ensures ∙ way.1)
 
 pub loop-preserved : goal.loop-preserved
 loop-preserved c inner =
     let found = c.in_ok-separator.ensures in
-    way_more c.args.page.now (drop 8 c.args.page.now) c.args.key.now c.args.bound c.loop.counter c.loop.child
+    way_more c.args.page.now (drop 8 c.args.page.now) c.args.key.now c.args.bound c.loop.counter
+    c.loop.child
     c.loop.rest.now c.record_count-end.result c.loop.invariant c.record_count-end.ensures
     (lent (c.in_ok-separator.separator, c.in_ok-separator.right)) c.in_ok-separator.behind.now
     c.loop-test.true found.0 found.1 inner (sym c.is_below.ensures ∙ c.if-is_below.false)
 
 pub returns : goal.returns
 returns c inner =
-    way_ended c.args.page.now (drop 8 c.args.page.now) c.args.key.now c.args.bound c.loop.counter c.loop.child
+    way_ended c.args.page.now (drop 8 c.args.page.now) c.args.key.now c.args.bound c.loop.counter
+    c.loop.child
     c.loop.rest.now c.record_count-end.result c.loop.invariant c.record_count-end.ensures
     (let over = c.loop-test.false in omega (arith, over)) inner

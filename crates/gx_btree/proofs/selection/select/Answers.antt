@@ -10,22 +10,26 @@ use Rattle.gx_btree.proofs.selection.select.Goals as goal
 
 pub loop-init : goal.loop-init
 loop-init g c =
-    selecting_starts g.P.PageView c.args.place.now c.args.span.now.lo c.args.span.now.hi c.args.pages.now
+    selecting_starts g.P.PageView c.args.place.now c.args.span.now.lo c.args.span.now.hi
+    c.args.pages.now
     c.args.out.now c.from_slice-key.result (c.from_slice-key.ensures ∙ c.as_slice.ensures.value)
 
 pub returns-in_err-way-clause-ends : goal.returns-in_err-way-clause-ends
 returns-in_err-way-clause-ends g c =
     ends_handed g.P.PageView _ _ _ c.args.pages.now c.find.new.pages _ c.from_residual.result
     (selecting_ends g.P.PageView c.args.place.now c.args.span.now.lo c.args.span.now.hi c.args.pages.now
-    c.args.out.now c.loop.pages c.loop.out c.loop.key c.loop.invariant c.find.new.pages _ c.in_err-way.ensures.ends)
+    c.args.out.now c.loop.pages c.loop.out c.loop.key c.loop.invariant c.find.new.pages _
+    c.in_err-way.ensures.ends)
     c.from_residual.ensures.1
 
 pub returns-then-not-branch-clause-ends : goal.returns-then-not-branch-clause-ends
 returns-then-not-branch-clause-ends g c =
     let i = c.loop.invariant in
     let e = c.in_ok-way.ensures in
-    selecting_torn g.P.PageView c.args.place.now c.args.span.now.lo c.args.span.now.hi c.args.pages.now
-    c.args.out.now c.loop.pages c.loop.out c.loop.key i c.find.new.pages c.block.result (e.ends.cause.counted refl)
+    selecting_torn g.P.PageView c.args.place.now c.args.span.now.lo c.args.span.now.hi
+    c.args.pages.now
+    c.args.out.now c.loop.pages c.loop.out c.loop.key i c.find.new.pages c.block.result
+    (e.ends.cause.counted refl)
     (let b = c.block.ensures.below in let s = ap (λ x. x.blocks) i.reads.keeps.ground in
     let t = ap (λ x. x.blocks) e.reads.keeps.ground in omega (arith, b, s, t))
     (λ m holds.
@@ -42,15 +46,18 @@ returns-in_default-clause-ok g c m holds =
     let i = c.loop.invariant in
     let page = c.find.new.page in
     let es = entries_of page in
-    let here = holds_now g.P.PageView c.args.place.now lo hi c.args.pages.now c.args.out.now c.loop.pages c.loop.out key i m holds in
+    let here = holds_now g.P.PageView c.args.place.now lo hi c.args.pages.now c.args.out.now
+    c.loop.pages c.loop.out key i m holds in
     let shown = c.in_ok-way.ensures.shown m here in
     let found =
     subst (λ b. IsFound holds.file.tree key b es) c.in_default.is
     (subst (λ k. IsFound holds.file.tree k c.in_ok-way.way.bound es) c.as_slice-in-loop.ensures.value
     (c.in_ok-way.ensures.found m here)) in
-    selecting_all g.P.PageView c.args.place.now lo hi c.args.pages.now c.args.out.now c.loop.pages c.loop.out key i
+    selecting_all g.P.PageView c.args.place.now lo hi c.args.pages.now c.args.out.now c.loop.pages
+    c.loop.out key i
     m holds es c.give.new.out (entries_up page shown) found
-    (subst (λ k. c.give.new.out ≡ c.loop.out ++ given_from k lo hi es) c.as_slice-in-loop-2.ensures.value (c.in_ok-give.ensures.ok shown.0))
+    (subst (λ k. c.give.new.out ≡ c.loop.out ++ given_from k lo hi es)
+    c.as_slice-in-loop-2.ensures.value (c.in_ok-give.ensures.ok shown.0))
 
 pub returns-then-is_past-clause-ok : goal.returns-then-is_past-clause-ok
 returns-then-is_past-clause-ok g c m holds =
@@ -61,15 +68,18 @@ returns-then-is_past-clause-ok g c m holds =
     let page = c.find.new.page in
     let es = entries_of page in
     let next = c.in-Some.next in
-    let here = holds_now g.P.PageView c.args.place.now lo hi c.args.pages.now c.args.out.now c.loop.pages c.loop.out key i m holds in
+    let here = holds_now g.P.PageView c.args.place.now lo hi c.args.pages.now c.args.out.now
+    c.loop.pages c.loop.out key i m holds in
     let shown = c.in_ok-way.ensures.shown m here in
     let found =
     subst (λ b. IsFound holds.file.tree key b es) c.in-Some.is
     (subst (λ k. IsFound holds.file.tree k c.in_ok-way.way.bound es) c.as_slice-in-loop.ensures.value
     (c.in_ok-way.ensures.found m here)) in
-    selecting_past g.P.PageView c.args.place.now lo hi c.args.pages.now c.args.out.now c.loop.pages c.loop.out key i
+    selecting_past g.P.PageView c.args.place.now lo hi c.args.pages.now c.args.out.now c.loop.pages
+    c.loop.out key i
     m holds es next c.give.new.out (entries_up page shown) found
-    (subst (λ k. c.give.new.out ≡ c.loop.out ++ given_from k lo hi es) c.as_slice-in-loop-2.ensures.value (c.in_ok-give.ensures.ok shown.0))
+    (subst (λ k. c.give.new.out ≡ c.loop.out ++ given_from k lo hi es)
+    c.as_slice-in-loop-2.ensures.value (c.in_ok-give.ensures.ok shown.0))
     (rw (sym c.as_slice-in-loop-3.ensures.value) (sym c.is_past.ensures ∙ c.if-is_past.true))
 
 pub loop-preserved : goal.loop-preserved
@@ -82,13 +92,17 @@ loop-preserved g c =
     let es = entries_of page in
     let next = c.in-Some.next in
     let e = c.in_ok-way.ensures in
-    selecting_goes g.P.PageView c.args.place.now lo hi c.args.pages.now c.args.out.now c.loop.pages c.loop.out key i
-    c.find.new.pages es next c.give.new.out e.reads (e.ends.cause.counted refl) c.give.ensures.extends
+    selecting_goes g.P.PageView c.args.place.now lo hi c.args.pages.now c.args.out.now c.loop.pages
+    c.loop.out key i
+    c.find.new.pages es next c.give.new.out e.reads (e.ends.cause.counted refl)
+    c.give.ensures.extends
     (λ m holds.
-    let here = holds_now g.P.PageView c.args.place.now lo hi c.args.pages.now c.args.out.now c.loop.pages c.loop.out key i m holds in
+    let here = holds_now g.P.PageView c.args.place.now lo hi c.args.pages.now c.args.out.now
+    c.loop.pages c.loop.out key i m holds in
     let shown = e.shown m here in (
       entries_up page shown,
-      subst (λ k. c.give.new.out ≡ c.loop.out ++ given_from k lo hi es) c.as_slice-in-loop-2.ensures.value
+      subst (λ k. c.give.new.out ≡ c.loop.out ++ given_from k lo hi es)
+      c.as_slice-in-loop-2.ensures.value
           (c.in_ok-give.ensures.ok shown.0),
       subst (λ b. IsFound holds.file.tree key b es) c.in-Some.is
           (subst (λ k. IsFound holds.file.tree k c.in_ok-way.way.bound es) c.as_slice-in-loop.ensures.value (e.found m here)),
@@ -97,7 +111,9 @@ loop-preserved g c =
 pub returns-clause-ends : goal.returns-clause-ends
 returns-clause-ends g c =
     let i = c.loop.invariant in
-    selecting_lost g.P.PageView c.args.place.now c.args.span.now.lo c.args.span.now.hi c.args.pages.now
+    selecting_lost g.P.PageView c.args.place.now c.args.span.now.lo c.args.span.now.hi
+    c.args.pages.now
     c.args.out.now c.loop.pages c.loop.out c.loop.key i c.block-2.result
     (let n = c.pages-end.ensures in let o = c.loop-test.false in omega (arith, n, o))
-    (let b = c.block-2.ensures.below in let s = ap (λ e. e.blocks) i.reads.keeps.ground in omega (arith, b, s))
+    (let b = c.block-2.ensures.below in let s = ap (λ e. e.blocks) i.reads.keeps.ground in omega
+    (arith, b, s))
