@@ -64,10 +64,11 @@ length_written branch rest bytes tail len is fits fit begins =
     let separator = branch.separator in
     let behind = separator ++ (to_be_bytes w32 branch.child ++ rest) in
     let same : to_be_bytes w16 len ++ tail ≡ to_be_bytes w16 (length separator) ++ behind =
-    sym is ∙ begins ∙ written_parts branch rest in
-    (sym (from_be_bytes-front_2 len tail fits) ∙ ap (from_be_bytes w16) same
-    ∙ from_be_bytes-front_2 (length separator) behind (omega (arith, fit.separator)),
-    ap (λ (xs : List ℕ). drop 2 xs) same)
+    sym is ∙ begins ∙ written_parts branch rest in (
+      sym (from_be_bytes-front_2 len tail fits) ∙ ap (from_be_bytes w16) same
+          ∙ from_be_bytes-front_2 (length separator) behind (omega (arith, fit.separator)),
+      ap (λ (xs : List ℕ). drop 2 xs) same,
+    )
 
 -- bytes too short for a length begin with no branch
 pub none_short : (bytes : List ℕ) → length bytes < 2 → (branch : Branch) (rest : List ℕ)
@@ -101,9 +102,10 @@ branch_split bytes tail separator behind rest len child is len_fits within child
     ap₂ (λ (xs ys : List ℕ). xs ++ ys) separator_is (sym rest_is ∙ behind_is)
     ∙ take-append-drop len tail in
     let top : to_be_bytes w16 len ++ tail ≡ to_be_bytes w16 (length separator) ++ (separator ++ (to_be_bytes w32 child ++ rest)) =
-    ap₂ (λ (n : ℕ) (xs : List ℕ). to_be_bytes w16 n ++ xs) (sym size) (sym whole) in
-    (record { separator = omega arith; child = child_fits },
-    is ∙ top ∙ sym (written_parts (record { separator = separator; child = child }) rest))
+    ap₂ (λ (n : ℕ) (xs : List ℕ). to_be_bytes w16 n ++ xs) (sym size) (sym whole) in (
+      record { separator = omega arith; child = child_fits },
+      is ∙ top ∙ sym (written_parts (record { separator = separator; child = child }) rest),
+    )
 
 -- the three parts of a branch, each written behind the one before it, are the branch
 pub branch_written : (bytes : List ℕ) (at : ℕ) (branch : Branch) (one two three : List ℕ)

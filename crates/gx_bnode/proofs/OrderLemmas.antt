@@ -24,16 +24,16 @@ pub all_behind : (separators : List (List ℕ)) (i : ℕ) (key : List ℕ) → A
     → All (λ separator. cmp key separator ≡ Less) (drop i separators)
 all_behind separators i key ascending below less k d in' =
     subst (λ (s : List ℕ). cmp key s ≡ Less) (sym (get_or-drop i separators k d)) (go k in') where
-  here : cmp key (get_or separators i d) ≡ Less
-  here = subst (λ (s : List ℕ). cmp key s ≡ Less) (get_or_default separators i [] d below) less
+      here : cmp key (get_or separators i d) ≡ Less
+      here = subst (λ (s : List ℕ). cmp key s ≡ Less) (get_or_default separators i [] d below) less
 
-  go : (k : ℕ) → k < length (drop i separators) → cmp key (get_or separators (i + k) d) ≡ Less
-  go zero in' =
-      subst (λ (n : ℕ). cmp key (get_or separators n d) ≡ Less)
-      (let n : i ≡ i + 0 = omega arith in n) here
-  go (suc k) in' =
-      nat_list_cmp_total.trans key (get_or separators i d) (get_or separators (i + suc k) d) here
-      (ascending i (i + suc k) d (omega arith) (omega (arith, length-drop i separators)))
+      go : (k : ℕ) → k < length (drop i separators) → cmp key (get_or separators (i + k) d) ≡ Less
+      go zero in' =
+          subst (λ (n : ℕ). cmp key (get_or separators n d) ≡ Less)
+          (let n : i ≡ i + 0 = omega arith in n) here
+      go (suc k) in' =
+          nat_list_cmp_total.trans key (get_or separators i d) (get_or separators (i + suc k) d) here
+          (ascending i (i + suc k) d (omega arith) (omega (arith, length-drop i separators)))
 
 -- a count of those that pass a test
 abbrev tick : Bool → ℕ
@@ -44,16 +44,24 @@ count_all : (p : List ℕ → Bool) (xs : List (List ℕ)) → All (λ x. p x �
 count_all p [] all = refl
 count_all p (x ∷ xs) all =
     let one : tick (p x) ≡ 1 = ap tick (All-head (λ y. p y ≡ true) x xs all) in
-    omega (arith, sum_by-cons (λ y. tick (p y)) x xs, one,
-    count_all p xs (All-tail (λ y. p y ≡ true) x xs all))
+    omega (
+      arith,
+      sum_by-cons (λ y. tick (p y)) x xs,
+      one,
+      count_all p xs (All-tail (λ y. p y ≡ true) x xs all),
+    )
 
 count_none : (p : List ℕ → Bool) (xs : List (List ℕ)) → All (λ x. p x ≡ false) xs
     → count_by p xs ≡ 0
 count_none p [] none = refl
 count_none p (x ∷ xs) none =
     let one : tick (p x) ≡ 0 = ap tick (All-head (λ y. p y ≡ false) x xs none) in
-    omega (arith, sum_by-cons (λ y. tick (p y)) x xs, one,
-    count_none p xs (All-tail (λ y. p y ≡ false) x xs none))
+    omega (
+      arith,
+      sum_by-cons (λ y. tick (p y)) x xs,
+      one,
+      count_none p xs (All-tail (λ y. p y ≡ false) x xs none),
+    )
 
 -- separators ascend with another one put behind those before it and before those behind it
 pub ascending-insert : (separators : List (List ℕ)) (i : ℕ) (key : List ℕ) → AreAscending separators
@@ -78,8 +86,13 @@ count-is separators i key within before behind =
     let front = count_all p (take i separators) before in
     let back = count_none p (drop i separators)
     (All-weaker (λ s. cmp key s ≡ Less) (λ s. p s ≡ false) (λ s less. less_is_not_le key s less) (drop i separators) behind) in
-    omega (arith, front, back, length-take-le i separators within,
-    sum_by-take-drop (λ s. tick (p s)) separators i)
+    omega (
+      arith,
+      front,
+      back,
+      length-take-le i separators within,
+      sum_by-take-drop (λ s. tick (p s)) separators i,
+    )
 
 -- the separator of a branch is at or below a key
 abbrev pub IsUpTo : List ℕ → Branch → Type 0

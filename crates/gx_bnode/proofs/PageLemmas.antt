@@ -71,9 +71,10 @@ branches_of-page first branches bytes is =
 pub one_meaning : (first other : ℕ) (branches others : List Branch) (bytes : List ℕ)
     → IsPageOf first branches bytes → IsPageOf other others bytes
     → (first ≡ other) × (branches ≡ others)
-one_meaning first other branches others bytes is same =
-    (sym (first_of-page first branches bytes is) ∙ first_of-page other others bytes same,
-    sym (branches_of-page first branches bytes is) ∙ branches_of-page other others bytes same)
+one_meaning first other branches others bytes is same = (
+  sym (first_of-page first branches bytes is) ∙ first_of-page other others bytes same,
+  sym (branches_of-page first branches bytes is) ∙ branches_of-page other others bytes same,
+)
 
 -- bytes that are an inner page are one of what is read of them
 pub page_of : (bytes : List ℕ) → IsInnerPage bytes

@@ -42,9 +42,10 @@ page_scanned bytes body count behind counted page = record {
 -- it begins with its kind and a 0, and counts one branch at least
 pub page_kind : (bytes : List ℕ) → IsInnerPage bytes
     → (get_or bytes 0 0 ≡ 0x49) × (get_or bytes 1 0 ≡ 0)
-page_kind bytes page =
-    (ap (λ (b : List ℕ). get_or b 0 0) page.is.page.is,
-    ap (λ (b : List ℕ). get_or b 1 0) page.is.page.is)
+page_kind bytes page = (
+  ap (λ (b : List ℕ). get_or b 0 0) page.is.page.is,
+  ap (λ (b : List ℕ). get_or b 1 0) page.is.page.is,
+)
 
 pub page_some : (bytes : List ℕ) (count : ℕ) → IsInnerPage bytes → count ≡ count_of bytes
     → 0 < count

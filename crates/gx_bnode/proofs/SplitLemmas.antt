@@ -111,8 +111,12 @@ pub others_fit : (branches : List Branch) (place : ℕ) (found : Branch) (rest b
 others_fit branches place found rest behind holds below fit is =
     let more = drop (place + 1) branches in
     let ahead = others_hold branches place found rest behind holds below fit is in
-    omega (arith, ap length ahead.is, length-append (flat_map branch_bytes more) ahead.rest,
-    length-flat_map branch_format more)
+    omega (
+      arith,
+      ap length ahead.is,
+      length-append (flat_map branch_bytes more) ahead.rest,
+      length-flat_map branch_format more,
+    )
 
 -- how many bytes they take
 pub others_len : (branches : List Branch) (place : ℕ) (found : Branch) (rest behind : List ℕ)
@@ -123,8 +127,12 @@ pub others_len : (branches : List Branch) (place : ℕ) (found : Branch) (rest b
 others_len branches place found rest behind at end len holds below fit is at_is end_is len_is =
     let same =
     ap branch_len (next_same branch_format found place branches rest behind holds below fit is) in
-    omega (arith, same, sum_by-take-drop branch_len branches place,
-    sum_by-drop_more branch_len branches place found below)
+    omega (
+      arith,
+      same,
+      sum_by-take-drop branch_len branches place,
+      sum_by-drop_more branch_len branches place found below,
+    )
 
 -- the branches of a page around the one at a place
 around : (branches : List Branch) (place : ℕ) (branch : Branch) → place < length branches

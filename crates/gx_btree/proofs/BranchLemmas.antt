@@ -161,7 +161,7 @@ without_is old new key i at some seps kids = go (branches_of old) i at some seps
       let t = tops (first_of new) b.child (map (λ (c : Branch). c.child) (branches_of new)) (map (λ (c : Branch). c.child) bs) kids in (
         t.0 ∙ sym (cond-true (is_below key b.separator) b.child (first_of old) is),
         same_branches (branches_of new) bs seps t.1
-        ∙ sym (cond-true (is_below key b.separator) bs (without_from b bs key) is),
+            ∙ sym (cond-true (is_below key b.separator) bs (without_from b bs key) is),
       )
   go (b ∷ bs) (suc i) at some seps kids =
       let is = first_before b bs key i at in

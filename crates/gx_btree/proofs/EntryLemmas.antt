@@ -35,7 +35,7 @@ ascending_of (x ∷ xs) up = (
       subst (λ (e : Entry). IsBelow x.key e.key) (p.is x)
       (up 0 (suc p.place) x (omega arith) (let b = p.below in omega (arith, b)))),
   ascending_of xs
-  (λ i j d lt below. up (suc i) (suc j) d (omega (arith, lt)) (omega (arith, below))),
+      (λ i j d lt below. up (suc i) (suc j) d (omega (arith, lt)) (omega (arith, below))),
 )
 
 pub ascending_from : (es : List Entry) → Ascending es → AreAscending es

@@ -60,9 +60,9 @@ mutual
       page_separators at t q f bs s stand i shows j
   kids_page_separators at (more t m kids) q f bs s stand i shows j =
       inr (elim (in_cases q (pages t) (kids_pages kids) i) [
-    | inl a ↦ in_left s (separators t) (kids_separators kids) (page_separators at t q f bs s stand.0 a shows j)
-    | inr b ↦ in_right s (separators t) (kids_separators kids) (kids_page_separators at kids q f bs s stand.1 b shows j)
-  ])
+        | inl a ↦ in_left s (separators t) (kids_separators kids) (page_separators at t q f bs s stand.0 a shows j)
+        | inr b ↦ in_right s (separators t) (kids_separators kids) (kids_page_separators at kids q f bs s stand.1 b shows j)
+      ])
 
 -- The search has come to a page that is yet to be read, with the nearest separator behind it.
 pub record IsWay (sheets : Sheets) (owner root at : ℕ) (key : List ℕ) (bound : Option (List ℕ))

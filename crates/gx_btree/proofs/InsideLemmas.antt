@@ -82,10 +82,10 @@ some_inside bytes part high first last n low under shown len at_first at_last is
         (λ d. some_of es (omega (arith, len))),
         (λ x i. (
           up_to_up_to part.low first.key x.key (is_low.0 (first_true low under is))
-          (subst (λ (e : Entry). IsUpTo e.key x.key) first_is (first_up_to es first x up i)),
+              (subst (λ (e : Entry). IsUpTo e.key x.key) first_is (first_up_to es first x up i)),
           under_up_to x.key last.key high
-          (subst (λ (e : Entry). IsUpTo x.key e.key) last_is (last_above es last x n len up i))
-          (is_under.0 (second_true low under is)),
+              (subst (λ (e : Entry). IsUpTo x.key e.key) last_is (last_above es last x n len up i))
+              (is_under.0 (second_true low under is)),
         )),
       ),
       λ inside. both_true low under

@@ -173,18 +173,18 @@ hole_first at t s kids key lo hi stand ordered apart bounds from to is s_hi = re
       fit_l.ordered,
       filled_l,
       below,
-          (λ x i. elim (in_cases x (entries r) (kids_entries kids) i) [
+      (λ x i. elim (in_cases x (entries r) (kids_entries kids) i) [
         | inl a ↦ above x a
         | inr b ↦ up_to_up_to m s x.key
             (below_is_up_to m s (up_to_below m filled_r.0.key s (above filled_r.0 filled_r.1)
             (fit_r.bounds filled_r.0 filled_r.1).1)) (ordered.3 x b)
       ]),
-          (fit_r.ordered, filled_r, (λ x i. (fit_r.bounds x i).1), ordered.3, ordered.4),
+      (fit_r.ordered, filled_r, (λ x i. (fit_r.bounds x i).1), ordered.3, ordered.4),
     );
     apart = (
       fit_l.apart,
-          (λ q i j. elim (in_cases q (pages r) (kids_pages kids) j) [ inl a ↦ apart_lr q i a | inr b ↦ fit_l.alone q i b ]),
-          (fit_r.apart, fit_r.alone, apart.2),
+      (λ q i j. elim (in_cases q (pages r) (kids_pages kids) j) [ inl a ↦ apart_lr q i a | inr b ↦ fit_l.alone q i b ]),
+      (fit_r.apart, fit_r.alone, apart.2),
     );
     entries_are = joins_append_three (entries l) (entries r) (kids_entries kids);
     pages_are = joins_append_three (pages l) (pages r) (kids_pages kids);
@@ -207,7 +207,7 @@ hole_first at t s kids key lo hi stand ordered apart bounds from to is s_hi = re
     ordered = (
       b.ordered,
       b.filled,
-          (λ x i. below_below x.key m s (b.below x i)
+      (λ x i. below_below x.key m s (b.below x i)
           (up_to_below m ordered.1.0.key s
           (b.above ordered.1.0 (in_left ordered.1.0 (entries t) (kids_entries kids) ordered.1.1))
           (ordered.2 ordered.1.0 ordered.1.1))),
@@ -363,7 +363,7 @@ hole_behind at t s kids key lo hi stand ordered apart bounds is lo_s h = record 
       };
   gone = λ new same many.
       let first = first_before at new t s kids stand ordered apart
-          (λ q i. same q (in_left q (pages t) h.others i)) in
+      (λ q i. same q (in_left q (pages t) h.others i)) in
       let r = h.gone_behind new t s (λ q i. same q (in_right q (pages t) h.others i)) first in
       record {
         kids = r.kids;
@@ -377,7 +377,7 @@ hole_behind at t s kids key lo hi stand ordered apart bounds is lo_s h = record 
       };
   gone_behind = λ new f m same b.
       let first = first_before at new t s kids stand ordered apart
-          (λ q i. same q (in_left q (pages t) h.others i)) in
+      (λ q i. same q (in_left q (pages t) h.others i)) in
       let r = h.gone_behind new t s (λ q i. same q (in_right q (pages t) h.others i)) first in
       record {
         kids = more f m r.kids;

@@ -40,7 +40,7 @@ pub not_both : (a b : List ℕ) → IsBelow a b → IsUpTo b a → ⊥
 not_both a b h k =
     let turned : is_le (cmp b a) ≡ false =
     ap is_le (nat_list_cmp_total.antisymm b a ∙ ap ordering_reverse h) in let clash : true ≡ false =
-        sym k ∙ turned in cc
+    sym k ∙ turned in cc
 
 pub not_itself : (a : List ℕ) → IsBelow a a → ⊥
 not_itself a h = not_both a a h (up_to_itself a)

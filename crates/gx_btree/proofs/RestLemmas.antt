@@ -51,9 +51,10 @@ module _ (p : ℕ) where
   unique_more : (xs ys : List ℕ) → AreUnique (xs ++ ys) → (In p (xs ++ ys) → ⊥)
       → AreUnique (xs ++ p ∷ ys)
   unique_more [] ys u out = (out, u)
-  unique_more (x ∷ xs) ys u out =
-      ((λ i. elim (in_less xs ys x i) [ inl e ↦ out (inl (sym e)) | inr j ↦ u.0 j ]),
-      unique_more xs ys u.1 (λ i. out (inr i)))
+  unique_more (x ∷ xs) ys u out = (
+    (λ i. elim (in_less xs ys x i) [ inl e ↦ out (inl (sym e)) | inr j ↦ u.0 j ]),
+    unique_more xs ys u.1 (λ i. out (inr i)),
+  )
 
 unique_left : (xs ys : List ℕ) → AreUnique (xs ++ ys) → AreUnique xs
 unique_left [] ys u = tt
@@ -70,9 +71,10 @@ unique_apart (x ∷ xs) ys u q i j = elim i [ inl e ↦ u.0 (in_right x xs ys (s
 unique_both : (xs ys : List ℕ) → AreUnique xs → AreUnique ys → ((q : ℕ) → In q xs → In q ys → ⊥)
     → AreUnique (xs ++ ys)
 unique_both [] ys u v d = v
-unique_both (x ∷ xs) ys u v d =
-    ((λ i. elim (in_cases x xs ys i) [ inl a ↦ u.0 a | inr b ↦ d x (inl refl) b ]),
-    unique_both xs ys u.1 v (λ q i j. d q (inr i) j))
+unique_both (x ∷ xs) ys u v d = (
+  (λ i. elim (in_cases x xs ys i) [ inl a ↦ u.0 a | inr b ↦ d x (inl refl) b ]),
+  unique_both xs ys u.1 v (λ q i j. d q (inr i) j),
+)
 
 mutual
   tree_unique : (t : Tree) → Apart t → AreUnique (pages t)
@@ -91,10 +93,11 @@ mutual
 
   kids_apart : (kids : Kids) → AreUnique (kids_pages kids) → AreApart kids
   kids_apart (last t) u = tree_apart t u
-  kids_apart (more t s kids) u =
-      (tree_apart t (unique_left (pages t) (kids_pages kids) u),
-      unique_apart (pages t) (kids_pages kids) u,
-      kids_apart kids (unique_right (pages t) (kids_pages kids) u))
+  kids_apart (more t s kids) u = (
+    tree_apart t (unique_left (pages t) (kids_pages kids) u),
+    unique_apart (pages t) (kids_pages kids) u,
+    kids_apart kids (unique_right (pages t) (kids_pages kids) u),
+  )
 
 -- ---- a page is seen
 
@@ -186,9 +189,10 @@ at_both : (p : ℕ → List ℕ) (parts others : List Part) (high : Option (List
 at_both p [] others high [] vs a b = b
 at_both p [] others high (u ∷ us) vs a b = absurd a
 at_both p (w ∷ parts) others high [] vs a b = absurd a
-at_both p (w ∷ parts) others high (u ∷ us) vs a b =
-    (subst (λ x. IsAtPart p w x u) (sym (low_append parts others high)) a.0,
-    at_both p parts others high us vs a.1 b)
+at_both p (w ∷ parts) others high (u ∷ us) vs a b = (
+  subst (λ x. IsAtPart p w x u) (sym (low_append parts others high)) a.0,
+  at_both p parts others high us vs a.1 b,
+)
 
 one_at : (p : ℕ → List ℕ) (part : Part) (high : Option (List ℕ)) (ts : List Tree)
     → AreAtParts p (part ∷ []) high ts → (t : Tree) × (ts ≡ t ∷ []) × IsAtPart p part high t
@@ -210,10 +214,11 @@ kids_at : (p : ℕ → List ℕ) (above : ℕ) (low : List ℕ) (high : Option (
     → AllStand p kids → AreOrdered kids
     → ((x : Entry) → In x (kids_entries kids) → IsUpTo low x.key × IsUnder x.key high)
     → AreAtParts p (child_parts above low (first_of kids) (branches_of kids)) high (kid_list kids)
-kids_at p above low high (last t) stand ordered bounds =
-    (record
-    { page_is = refl; stands = stand; ordered = ordered.0; filled = λ _. ordered.1; bounds = bounds },
-    tt)
+kids_at p above low high (last t) stand ordered bounds = (
+  record
+      { page_is = refl; stands = stand; ordered = ordered.0; filled = λ _. ordered.1; bounds = bounds },
+  tt,
+)
 kids_at p above low high (more t s kids) stand ordered bounds = (
   record {
     page_is = refl;
@@ -258,9 +263,9 @@ at_kids p above low high first [] (t ∷ []) a out =
 at_kids p above low high first (b ∷ bs) (t ∷ ts) a out =
     let h = a.0 in
     let filled : IsFilled t = h.filled
-        (λ e. out (in_left above (pages t) (pages_of ts) (subst (λ q. In q (pages t)) (h.page_is ∙ sym e) (top_in t)))) in
+    (λ e. out (in_left above (pages t) (pages_of ts) (subst (λ q. In q (pages t)) (h.page_is ∙ sym e) (top_in t)))) in
     let k = at_kids p above b.separator high b.child bs ts a.1
-        (λ i. out (in_right above (pages t) (pages_of ts) i)) in
+    (λ i. out (in_right above (pages t) (pages_of ts) i)) in
     let some = some_key k.kids k.ordered in
     record {
       kids = more t b.separator k.kids;
@@ -275,7 +280,7 @@ at_kids p above low high first (b ∷ bs) (t ∷ ts) a out =
         | inl j ↦ ((h.bounds x j).0, under_below x.key some.0.key high (below_up_to x.key b.separator some.0.key (h.bounds x j).1 (k.bounds some.0 some.1).0) (k.bounds some.0 some.1).1)
         | inr j ↦ (
           below_is_up_to low x.key
-          (below_up_to low b.separator x.key (up_to_below low filled.0.key b.separator (h.bounds filled.0 filled.1).0 (h.bounds filled.0 filled.1).1) (k.bounds x j).0),
+              (below_up_to low b.separator x.key (up_to_below low filled.0.key b.separator (h.bounds filled.0 filled.1).0 (h.bounds filled.0 filled.1).1) (k.bounds x j).0),
           (k.bounds x j).1,
         )
       ];
@@ -400,7 +405,7 @@ module _ (ground : Ground) (owner : ℕ) (sheets : Sheets) (parts : List Part) (
       let left = subst (AreLeft ground owner sheets seen) pages_are rest.left in
       let here = in_here part.page (pages_of b.before) (kids_pages kids) in (
         record
-        { owned = left.owned part.page here; past = left.past part.page here; unseen = left.unseen part.page here; inside = tt },
+            { owned = left.owned part.page here; past = left.past part.page here; unseen = left.unseen part.page here; inside = tt },
         record {
           trees = b.before ++ kid_list kids;
           stand = at_both p parts (child_parts part.page part.low first bs) high b.before
@@ -462,9 +467,10 @@ map_of es = fin.from_entries (map pair es)
 map_found : (t : Tree) → Ordered t → (k b : List ℕ)
     → (fin.get (map_of (entries t)) k ≡ Some b) ↔ In (at k b) (entries t)
 map_found t ordered k b =
-    let get = fin.get-from_entries nat_list_cmp_total (map pair (entries t)) k in
-    ((λ is. found_in (entries t) k b (sym get ∙ is)),
-    (λ i. get ∙ in_found (entries t) k b (tree_up t ordered) i))
+    let get = fin.get-from_entries nat_list_cmp_total (map pair (entries t)) k in (
+      (λ is. found_in (entries t) k b (sym get ∙ is)),
+      (λ i. get ∙ in_found (entries t) k b (tree_up t ordered) i),
+    )
 
 module _ (ground : Ground) (place : Place) (sheets : Sheets) (seen : List Bool)
     (none : (q : ℕ) → slice_get seen q ≢ Some true) where
@@ -506,21 +512,21 @@ no_trees p high [] a = refl
 no_trees p high (t ∷ ts) a = absurd a
 
 module _ (ground : Ground) (owner : ℕ) (sheets : Sheets) (high : Option (List ℕ)) (seen : List Bool)
-    where
-  pub rest_seen : HasRest ground owner sheets [] high seen → (q : ℕ) → IsOwned owner sheets q
-      → slice_get seen q ≡ Some true
-  rest_seen rest q o = elim (rest.left.all q o) [
-    | inl is ↦ is
-    | inr i ↦ absurd (subst (λ (ts : List Tree). In q (pages_of ts)) (no_trees (bytes_at sheets) high rest.trees rest.stand) i)
-  ]
+  where
+    pub rest_seen : HasRest ground owner sheets [] high seen → (q : ℕ) → IsOwned owner sheets q
+        → slice_get seen q ≡ Some true
+    rest_seen rest q o = elim (rest.left.all q o) [
+      | inl is ↦ is
+      | inr i ↦ absurd (subst (λ (ts : List Tree). In q (pages_of ts)) (no_trees (bytes_at sheets) high rest.trees rest.stand) i)
+    ]
 
-  pub seen_rest : ((q : ℕ) → IsOwned owner sheets q → slice_get seen q ≡ Some true)
-      → HasRest ground owner sheets [] high seen
-  seen_rest all = record {
-    trees = [];
-    stand = tt;
-    left = record { unique = tt; unseen = λ q i. absurd i; owned = λ q i. absurd i; past = λ q i. absurd i; all = λ q o. inl (all q o) };
-  }
+    pub seen_rest : ((q : ℕ) → IsOwned owner sheets q → slice_get seen q ≡ Some true)
+        → HasRest ground owner sheets [] high seen
+    seen_rest all = record {
+      trees = [];
+      stand = tt;
+      left = record { unique = tt; unseen = λ q i. absurd i; owned = λ q i. absurd i; past = λ q i. absurd i; all = λ q o. inl (all q o) };
+    }
 
 -- ---- the visits end
 

@@ -264,8 +264,10 @@ given_next lo hi key bound t es o up found =
           ((in_filter q all x).1
           (a.0, both (is_inside lo hi x.key) (is_below x.key key) inside (is_below_of x.key key l)))
       | inr l ↦ in_right x (filter q all) (filter r es)
-          ((in_filter r es x).1 (found.all x a.0 l under,
-          both (is_le (slice_cmp nat_cmp key x.key)) (is_inside lo hi x.key) l inside))
+          ((in_filter r es x).1 (
+            found.all x a.0 l under,
+            both (is_le (slice_cmp nat_cmp key x.key)) (is_inside lo hi x.key) l inside,
+          ))
     ])
     (λ x i. (in_filter p all x).1 (elim (in_cases x (filter q all) (filter r es) i) [
       | inl j ↦ (let a = (in_filter q all x).0 j in

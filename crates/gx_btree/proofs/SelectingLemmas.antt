@@ -311,9 +311,10 @@ module _ {S : Type 0} (g : Ghosts S) (place : Place) (lo hi : List ℕ) (start :
         ∙ given_all lo hi m t holds.file.whole.ordered holds.file.map_is)
 
     pub selecting_front : (new : List LeafEntry) → Extends out new → Extends before new
-    selecting_front new x =
-        (s.front.0 ++ x.0,
-        x.1 ∙ ap (λ (xs : List LeafEntry). xs ++ x.0) s.front.1 ∙ append_assoc before s.front.0 x.0)
+    selecting_front new x = (
+      s.front.0 ++ x.0,
+      x.1 ∙ ap (λ (xs : List LeafEntry). xs ++ x.0) s.front.1 ∙ append_assoc before s.front.0 x.0,
+    )
 
     -- a page shows that no tree stands there
     pub selecting_torn : {T : Type 0} (b : S) (n : ℕ) → g.faults b ≡ g.faults now

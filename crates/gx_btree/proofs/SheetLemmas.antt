@@ -72,9 +72,10 @@ pub written_owned : (page : ℕ) (bytes : List ℕ) (old new : Sheets) → IsWri
     → (owner q : ℕ)
     → (IsOwned owner new q → IsOwned owner old q) × (IsOwned owner old q → IsOwned owner new q)
 written_owned page bytes old new w owner q =
-    let e = written_owners page bytes old new w in
-    (λ h. subst (λ (os : List ℕ). slice_get os q ≡ Some owner) e h,
-    λ h. subst (λ (os : List ℕ). slice_get os q ≡ Some owner) (sym e) h)
+    let e = written_owners page bytes old new w in (
+      λ h. subst (λ (os : List ℕ). slice_get os q ≡ Some owner) e h,
+      λ h. subst (λ (os : List ℕ). slice_get os q ≡ Some owner) (sym e) h,
+    )
 
 written_get : (page : ℕ) (bytes : List ℕ) (old new : Sheets) → IsWritten page bytes old new
     → (q : ℕ) → q ≢ page

@@ -189,9 +189,9 @@ descend {steps = steps} at owned root p key old first branches e h =
               let w = k.one new u beside fit_below filled in
               let at_p : ShowsInner (new p) (first_of w.kids) (branches_of w.kids) =
               subst (λ b. ShowsInner b (first_of w.kids) (branches_of w.kids))
-                  (sym (same p (inl refl)))
-                  (subst (λ f. ShowsInner (at p) f (branches_of w.kids)) (sym w.first_is)
-                  (subst (ShowsInner (at p) (first_of n.kids)) (sym w.branches_are) n.shows)) in
+              (sym (same p (inl refl)))
+              (subst (λ f. ShowsInner (at p) f (branches_of w.kids)) (sym w.first_is)
+              (subst (ShowsInner (at p) (first_of n.kids)) (sym w.branches_are) n.shows)) in
               let inside : (x : Entry) → In x (kids_entries w.kids) → IsUpTo h.lo x.key × IsUnder x.key h.hi =
               λ x i. elim ((w.entries_are x).0 i) [
                 | inl a ↦ (let b = fit.bounds x a in (up_to_up_to h.lo k.low x.key k.lower b.0, k.higher.under x.key b.1))
@@ -221,7 +221,7 @@ descend {steps = steps} at owned root p key old first branches e h =
               let v =
               h.hole.fill new (node p w.kids) (λ x i. same x (inr (in_right x k.others h.others i)))
               whole
-                  (some_key w.kids w.ordered) in
+              (some_key w.kids w.ordered) in
               record {
                 tree = v.tree;
                 whole = v.whole;

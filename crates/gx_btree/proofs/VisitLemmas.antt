@@ -43,20 +43,21 @@ next_page : (ground : Ground) (owner : ℕ) (sheets : Sheets) (parts : List Part
     → IsTreePage ground sheets part.page × IsUnseen sheets owner seen part.page
 next_page ground owner sheets parts part high seen rest =
     go parts rest.trees rest.stand (λ q i. i) where
-  go : (ws : List Part) (ts : List Tree) → AreAtParts (bytes_at sheets) (ws ++ part ∷ []) high ts
-      → ((q : ℕ) → In q (pages_of ts) → In q (pages_of rest.trees))
-      → IsTreePage ground sheets part.page × IsUnseen sheets owner seen part.page
-  go [] [] a among = absurd a
-  go [] (t ∷ ts) a among =
-      let h = a.0 in
-      let top : In part.page (pages t) = subst (λ q. In q (pages t)) h.page_is (top_in t) in
-      let here = among part.page (in_left part.page (pages t) (pages_of ts) top) in
-      let shape = tree_shape (bytes_at sheets) t part.page h.stands h.ordered top in
-      (record { past = rest.left.past part.page here; shape = shape.shape; shows = shape.shows },
-      (rest.left.owned part.page here, rest.left.unseen part.page here))
-  go (w ∷ ws) [] a among = absurd a
-  go (w ∷ ws) (t ∷ ts) a among =
-      go ws ts a.1 (λ q i. among q (in_right q (pages t) (pages_of ts) i))
+      go : (ws : List Part) (ts : List Tree) → AreAtParts (bytes_at sheets) (ws ++ part ∷ []) high ts
+          → ((q : ℕ) → In q (pages_of ts) → In q (pages_of rest.trees))
+          → IsTreePage ground sheets part.page × IsUnseen sheets owner seen part.page
+      go [] [] a among = absurd a
+      go [] (t ∷ ts) a among =
+          let h = a.0 in
+          let top : In part.page (pages t) = subst (λ q. In q (pages t)) h.page_is (top_in t) in
+          let here = among part.page (in_left part.page (pages t) (pages_of ts) top) in
+          let shape = tree_shape (bytes_at sheets) t part.page h.stands h.ordered top in (
+            record { past = rest.left.past part.page here; shape = shape.shape; shows = shape.shows },
+            (rest.left.owned part.page here, rest.left.unseen part.page here),
+          )
+      go (w ∷ ws) [] a among = absurd a
+      go (w ∷ ws) (t ∷ ts) a among =
+          go ws ts a.1 (λ q i. among q (in_right q (pages t) (pages_of ts) i))
 
 rest_same : (ground : Ground) (owner : ℕ) (sheets : Sheets) (parts others : List Part)
     (high bound : Option (List ℕ)) (seen marks : List Bool) → parts ≡ others → high ≡ bound
@@ -171,91 +172,91 @@ module _ {S : Type 0} (g : Ghosts S) (place : Place) (start : S) where
       }
 
   module _ {steps : ℕ} (now : S) (visits : Visits) (v : IsVisiting g place start now visits steps)
-      where
-    module _ (part : Part) (old : Visits)
-        (parts : visits.parts.items ≡ old.parts.items ++ part ∷ []) (high : old.high ≡ visits.high)
-        (seen : old.seen.items ≡ visits.seen.items) where
-      next_there : IsTrue g.tells → Whole
-          → HasRest (g.ground start) place.owner (g.working start) (old.parts.items ++ part ∷ [])
-          old.high old.seen.items
-      next_there told whole =
-          rest_same (g.ground start) place.owner (g.working start) visits.parts.items _ visits.high
-          _ visits.seen.items _ parts (sym high) (sym seen) ((v.rest told).0 whole)
+    where
+      module _ (part : Part) (old : Visits)
+          (parts : visits.parts.items ≡ old.parts.items ++ part ∷ []) (high : old.high ≡ visits.high)
+          (seen : old.seen.items ≡ visits.seen.items) where
+        next_there : IsTrue g.tells → Whole
+            → HasRest (g.ground start) place.owner (g.working start) (old.parts.items ++ part ∷ [])
+            old.high old.seen.items
+        next_there told whole =
+            rest_same (g.ground start) place.owner (g.working start) visits.parts.items _ visits.high
+            _ visits.seen.items _ parts (sym high) (sym seen) ((v.rest told).0 whole)
 
-      pub visiting_ends : {T : Type 0} (b : S) (r : Result T Stop)
-          → EndsFile g (HasNext g now place.owner part old) now b r → EndsFile g Whole start b r
-      visiting_ends b r e =
-          ends_after g Whole (HasNext g now place.owner part old) start now b r v.faults
-          v.reads.keeps.ground
-          (λ w. (
-            w.1.told,
-            subst (λ (x : Ground). HasRest x place.owner (g.working now)
-            (old.parts.items ++ part ∷ []) old.high old.seen.items) (sym v.reads.keeps.ground)
-                (subst (λ (s : Sheets). HasRest (g.ground start) place.owner s (old.parts.items ++ part ∷ []) old.high old.seen.items) (sym v.reads.working) (next_there w.1.told w)),
-          )) e
+        pub visiting_ends : {T : Type 0} (b : S) (r : Result T Stop)
+            → EndsFile g (HasNext g now place.owner part old) now b r → EndsFile g Whole start b r
+        visiting_ends b r e =
+            ends_after g Whole (HasNext g now place.owner part old) start now b r v.faults
+            v.reads.keeps.ground
+            (λ w. (
+              w.1.told,
+              subst (λ (x : Ground). HasRest x place.owner (g.working now)
+                  (old.parts.items ++ part ∷ []) old.high old.seen.items) (sym v.reads.keeps.ground)
+                  (subst (λ (s : Sheets). HasRest (g.ground start) place.owner s (old.parts.items ++ part ∷ []) old.high old.seen.items) (sym v.reads.working) (next_there w.1.told w)),
+            )) e
 
-      pub part_below : part.above < (g.ground now).size
-      part_below =
-          let b = v.below part
-          (subst (In part) (sym parts) (in_right part old.parts.items (part ∷ []) (inl refl))) in
-          let e = ap (λ (x : Ground). x.size) v.reads.keeps.ground in
-          omega (arith, b, e)
+        pub part_below : part.above < (g.ground now).size
+        part_below =
+            let b = v.below part
+            (subst (In part) (sym parts) (in_right part old.parts.items (part ∷ []) (inl refl))) in
+            let e = ap (λ (x : Ground). x.size) v.reads.keeps.ground in
+            omega (arith, b, e)
 
-      pub old_below : AreBelow (g.ground now) old.parts.items
-      old_below w i =
-          let b = v.below w (subst (In w) (sym parts) (in_left w old.parts.items (part ∷ []) i)) in
-          let e = ap (λ (x : Ground). x.size) v.reads.keeps.ground in
-          omega (arith, b, e)
+        pub old_below : AreBelow (g.ground now) old.parts.items
+        old_below w i =
+            let b = v.below w (subst (In w) (sym parts) (in_left w old.parts.items (part ∷ []) i)) in
+            let e = ap (λ (x : Ground). x.size) v.reads.keeps.ground in
+            omega (arith, b, e)
 
-      pub visiting_goes : (b : S) (new : Visits) → ReadsPages g now b → g.faults b ≡ g.faults now
-          → (IsTrue g.tells → IsVisited (g.ground now) place.owner (g.working now) part old new)
-          → AreBelow (g.ground now) new.parts.items
-          → length new.seen.items ≡ (g.ground now).size → IsVisiting g place start b new (steps + 1)
-      visiting_goes b new reads faults visited below marks =
-          let ground = v.reads.keeps.ground in
-          let there = λ (told : IsTrue g.tells). subst
-          (λ (x : Ground). IsVisited x place.owner (g.working start) part old new) ground
-          (subst (λ (s : Sheets). IsVisited (g.ground now) place.owner s part old new) v.reads.working (visited told)) in
-          let size = ap (λ (x : Ground). x.size) ground in
-          record {
-            reads = pages_read_joined g v.reads reads;
-            faults = faults ∙ v.faults;
-            marks = marks ∙ size;
-            below = λ w i. let k = below w i in omega (arith, k, size);
-            rest = λ told. (
-              (λ whole. (there told).rest.0 (next_there told whole)),
-              (λ r. (v.rest told).1 (rest_same (g.ground start) place.owner (g.working start) _ visits.parts.items _ visits.high _ visits.seen.items (sym parts) high seen ((there told).rest.1 r))),
-            );
-            seen = λ told.
-                let t = there told in
-                let less = t.past.below in
-                let many = v.marks in
-                subst (λ (s : List Bool). AreSeen (g.ground start).size s (steps + 1)) (sym t.seen)
-                (seen_more (g.ground start).size old.seen.items steps part.page (subst (λ (s : List Bool). AreSeen (g.ground start).size s steps) (sym seen) (v.seen told)) t.unseen less
-                (subst (λ (s : List Bool). part.page < length s) (sym seen) (omega (arith, less, many))));
-          }
+        pub visiting_goes : (b : S) (new : Visits) → ReadsPages g now b → g.faults b ≡ g.faults now
+            → (IsTrue g.tells → IsVisited (g.ground now) place.owner (g.working now) part old new)
+            → AreBelow (g.ground now) new.parts.items
+            → length new.seen.items ≡ (g.ground now).size → IsVisiting g place start b new (steps + 1)
+        visiting_goes b new reads faults visited below marks =
+            let ground = v.reads.keeps.ground in
+            let there = λ (told : IsTrue g.tells). subst
+            (λ (x : Ground). IsVisited x place.owner (g.working start) part old new) ground
+            (subst (λ (s : Sheets). IsVisited (g.ground now) place.owner s part old new) v.reads.working (visited told)) in
+            let size = ap (λ (x : Ground). x.size) ground in
+            record {
+              reads = pages_read_joined g v.reads reads;
+              faults = faults ∙ v.faults;
+              marks = marks ∙ size;
+              below = λ w i. let k = below w i in omega (arith, k, size);
+              rest = λ told. (
+                (λ whole. (there told).rest.0 (next_there told whole)),
+                (λ r. (v.rest told).1 (rest_same (g.ground start) place.owner (g.working start) _ visits.parts.items _ visits.high _ visits.seen.items (sym parts) high seen ((there told).rest.1 r))),
+              );
+              seen = λ told.
+                  let t = there told in
+                  let less = t.past.below in
+                  let many = v.marks in
+                  subst (λ (s : List Bool). AreSeen (g.ground start).size s (steps + 1)) (sym t.seen)
+                  (seen_more (g.ground start).size old.seen.items steps part.page (subst (λ (s : List Bool). AreSeen (g.ground start).size s steps) (sym seen) (v.seen told)) t.unseen less
+                  (subst (λ (s : List Bool). part.page < length s) (sym seen) (omega (arith, less, many))));
+            }
 
-    pub visiting_all : visits.parts.items ≡ [] → IsTrue g.tells
-        → Whole ↔ AreAllSeen (g.working start) place.owner visits.seen.items
-    visiting_all none told =
-        let ground = g.ground start in
-        let sheets = g.working start in (
-          (λ whole. rest_seen ground place.owner sheets visits.high visits.seen.items (subst (λ (ws : List Part). HasRest ground place.owner sheets ws visits.high visits.seen.items) none ((v.rest told).0 whole))),
-          (λ all. (v.rest told).1 (subst (λ (ws : List Part). HasRest ground place.owner sheets ws visits.high visits.seen.items) (sym none) (seen_rest ground place.owner sheets visits.high visits.seen.items all))),
-        )
+      pub visiting_all : visits.parts.items ≡ [] → IsTrue g.tells
+          → Whole ↔ AreAllSeen (g.working start) place.owner visits.seen.items
+      visiting_all none told =
+          let ground = g.ground start in
+          let sheets = g.working start in (
+            (λ whole. rest_seen ground place.owner sheets visits.high visits.seen.items (subst (λ (ws : List Part). HasRest ground place.owner sheets ws visits.high visits.seen.items) none ((v.rest told).0 whole))),
+            (λ all. (v.rest told).1 (subst (λ (ws : List Part). HasRest ground place.owner sheets ws visits.high visits.seen.items) (sym none) (seen_rest ground place.owner sheets visits.high visits.seen.items all))),
+          )
 
-    rest_steps : (parts : List Part) → visits.parts.items ≡ parts → (parts ≢ []) → IsTrue g.tells
-        → Whole → steps < (g.ground start).size
-    rest_steps [] is some told whole = absurd (some refl)
-    rest_steps (w ∷ ws) is some told whole =
-        seen_few (g.ground start) place.owner (g.working start) w ws visits.high visits.seen.items
-        steps (v.seen told)
-        (subst (λ (ps : List Part). HasRest (g.ground start) place.owner (g.working start) ps
-        visits.high visits.seen.items) is ((v.rest told).0 whole))
+      rest_steps : (parts : List Part) → visits.parts.items ≡ parts → (parts ≢ []) → IsTrue g.tells
+          → Whole → steps < (g.ground start).size
+      rest_steps [] is some told whole = absurd (some refl)
+      rest_steps (w ∷ ws) is some told whole =
+          seen_few (g.ground start) place.owner (g.working start) w ws visits.high visits.seen.items
+          steps (v.seen told)
+          (subst (λ (ps : List Part). HasRest (g.ground start) place.owner (g.working start) ps
+          visits.high visits.seen.items) is ((v.rest told).0 whole))
 
-    pub visiting_lost : {T : Type 0} (n : ℕ) → (g.ground start).size ≤ steps
-        → visits.parts.items ≢ [] → n < (g.ground start).blocks
-        → EndsFile {T = T} g Whole start now (Err (Damaged n))
-    visiting_lost n over some block =
-        ends_shown g Whole start now n v.faults block
-        (λ w. let s = rest_steps visits.parts.items refl some w.1.told w in omega (arith, s, over))
+      pub visiting_lost : {T : Type 0} (n : ℕ) → (g.ground start).size ≤ steps
+          → visits.parts.items ≢ [] → n < (g.ground start).blocks
+          → EndsFile {T = T} g Whole start now (Err (Damaged n))
+      visiting_lost n over some block =
+          ends_shown g Whole start now n v.faults block
+          (λ w. let s = rest_steps visits.parts.items refl some w.1.told w in omega (arith, s, over))

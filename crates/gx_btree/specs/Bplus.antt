@@ -30,13 +30,13 @@ ArePast ground owner sheets = (page : ℕ) → IsOwned owner sheets page → IsP
 -- The pages of the owner are those of one tree, whose top is the root, and the map is that of the
 -- entries on them.
 pub record IsBplus (ground : Ground) (place : Place) (sheets : Sheets) (map : LeafMap) : Type 0
-    where
-  pub tree : Tree
-  pub whole : IsWhole (bytes_at sheets) place.root tree
-  pub past : (page : ℕ) → In page (pages tree) → IsPast ground page
-  pub owned : (page : ℕ) → IsOwned place.owner sheets page ↔ In page (pages tree)
-  pub map_is : (key body : List ℕ)
-      → (get map key ≡ Some body) ↔ In (record { key = key; body = body }) (entries tree)
+  where
+    pub tree : Tree
+    pub whole : IsWhole (bytes_at sheets) place.root tree
+    pub past : (page : ℕ) → In page (pages tree) → IsPast ground page
+    pub owned : (page : ℕ) → IsOwned place.owner sheets page ↔ In page (pages tree)
+    pub map_is : (key body : List ℕ)
+        → (get map key ≡ Some body) ↔ In (record { key = key; body = body }) (entries tree)
 
 -- the bytes are a page of a tree: an entry page with ascending keys and no next page, or an inner
 -- page

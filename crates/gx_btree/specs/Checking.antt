@@ -30,12 +30,12 @@ low_of (part ∷ parts) high = Some part.low
 
 -- A tree stands at a part, with keys below a bound. None but the whole tree may be empty.
 pub record IsAtPart (at : ℕ → List ℕ) (part : Part) (high : Option (List ℕ)) (t : Tree) : Type 0
-    where
-  pub page_is : page_of t ≡ part.page
-  pub stands : Stands at t
-  pub ordered : Ordered t
-  pub filled : part.above ≢ part.page → IsFilled t
-  pub bounds : (x : Entry) → In x (entries t) → IsUpTo part.low x.key × IsUnder x.key high
+  where
+    pub page_is : page_of t ≡ part.page
+    pub stands : Stands at t
+    pub ordered : Ordered t
+    pub filled : part.above ≢ part.page → IsFilled t
+    pub bounds : (x : Entry) → In x (entries t) → IsUpTo part.low x.key × IsUnder x.key high
 
 -- trees stand at the parts, the keys of each before those of the next one
 abbrev pub AreAtParts : (ℕ → List ℕ) → List Part → Option (List ℕ) → List Tree → Type 0

@@ -59,55 +59,55 @@ pub record IsWithin (high hi : Option (List ℕ)) : Type 0 where
 -- the child on the way to a key, what stands beside it, and what may take its place: one tree, or
 -- two with a separator between
 pub record KidHole (at : ℕ → List ℕ) (kids : Kids) (key lo : List ℕ) (hi : Option (List ℕ)) : Type 0
-    where
-  pub kid : Tree
-  pub low : List ℕ
-  pub high : Option (List ℕ)
-  pub rest : List Entry
-  pub others : List ℕ
-  pub way : child_for (first_of kids) (branches_of kids) key ≡ page_of kid
-  pub fits : IsFitting at (page_of kid) low high others kid
-  pub filled : IsFilled kid
-  pub lower : IsUpTo lo low
-  pub higher : IsWithin high hi
-  pub high_is : high ≡ bound_for (branches_of kids) key hi
-  pub from : IsUpTo low key
-  pub to : IsUnder key high
-  pub out : (x : Entry) → In x rest → IsBelow x.key low ⊎ IsOver x.key high
-  -- keys within its bounds go the same way
-  pub beside : (x : List ℕ) → IsUpTo low x → IsUnder x high → (s : List ℕ)
-      → In s (separators_in (branches_of kids)) → is_below x s ≡ is_below key s
-  pub entries_are : Joins (kids_entries kids) (entries kid) rest
-  pub pages_are : Joins (kids_pages kids) (pages kid) others
-  pub one : (new : ℕ → List ℕ) (t : Tree) → Same others at new
-      → IsFitting new (page_of kid) low high others t → IsFilled t
-      → Has new (first_of kids) (branches_of kids) (entries t) rest (pages t) others
-  pub two : (new : ℕ → List ℕ) (l r : Tree) (s : List ℕ) → Same others at new
-      → IsFitting new (page_of kid) low high others l → IsFilled l
-      → IsFitting new (page_of r) low high others r → IsFilled r
-      → ((q : ℕ) → In q (pages l) → In q (pages r) → ⊥)
-      → ((x : Entry) → In x (entries l) → IsBelow x.key s)
-      → ((x : Entry) → In x (entries r) → IsUpTo s x.key)
-      → Has new (first_of kids)
-      (with_branch (branches_of kids) key (record { separator = s; child = page_of r }))
-      (entries l ++ entries r) rest (pages l ++ pages r) others
-  -- and what is left without it
-  pub gone : (new : ℕ → List ℕ) → Same others at new → AreMany kids
-      → Has new (first_without (first_of kids) (branches_of kids) key)
-      (without_branch (branches_of kids) key) rest [] others []
-  pub gone_behind : (new : ℕ → List ℕ) (t : Tree) (s : List ℕ) → Same others at new
-      → IsBefore new t s kids
-      → Has new (page_of t)
-      (without_from (record { separator = s; child = first_of kids }) (branches_of kids) key)
-      (entries t ++ rest) [] (pages t ++ others) []
+  where
+    pub kid : Tree
+    pub low : List ℕ
+    pub high : Option (List ℕ)
+    pub rest : List Entry
+    pub others : List ℕ
+    pub way : child_for (first_of kids) (branches_of kids) key ≡ page_of kid
+    pub fits : IsFitting at (page_of kid) low high others kid
+    pub filled : IsFilled kid
+    pub lower : IsUpTo lo low
+    pub higher : IsWithin high hi
+    pub high_is : high ≡ bound_for (branches_of kids) key hi
+    pub from : IsUpTo low key
+    pub to : IsUnder key high
+    pub out : (x : Entry) → In x rest → IsBelow x.key low ⊎ IsOver x.key high
+    -- keys within its bounds go the same way
+    pub beside : (x : List ℕ) → IsUpTo low x → IsUnder x high → (s : List ℕ)
+        → In s (separators_in (branches_of kids)) → is_below x s ≡ is_below key s
+    pub entries_are : Joins (kids_entries kids) (entries kid) rest
+    pub pages_are : Joins (kids_pages kids) (pages kid) others
+    pub one : (new : ℕ → List ℕ) (t : Tree) → Same others at new
+        → IsFitting new (page_of kid) low high others t → IsFilled t
+        → Has new (first_of kids) (branches_of kids) (entries t) rest (pages t) others
+    pub two : (new : ℕ → List ℕ) (l r : Tree) (s : List ℕ) → Same others at new
+        → IsFitting new (page_of kid) low high others l → IsFilled l
+        → IsFitting new (page_of r) low high others r → IsFilled r
+        → ((q : ℕ) → In q (pages l) → In q (pages r) → ⊥)
+        → ((x : Entry) → In x (entries l) → IsBelow x.key s)
+        → ((x : Entry) → In x (entries r) → IsUpTo s x.key)
+        → Has new (first_of kids)
+        (with_branch (branches_of kids) key (record { separator = s; child = page_of r }))
+        (entries l ++ entries r) rest (pages l ++ pages r) others
+    -- and what is left without it
+    pub gone : (new : ℕ → List ℕ) → Same others at new → AreMany kids
+        → Has new (first_without (first_of kids) (branches_of kids) key)
+        (without_branch (branches_of kids) key) rest [] others []
+    pub gone_behind : (new : ℕ → List ℕ) (t : Tree) (s : List ℕ) → Same others at new
+        → IsBefore new t s kids
+        → Has new (page_of t)
+        (without_from (record { separator = s; child = first_of kids }) (branches_of kids) key)
+        (entries t ++ rest) [] (pages t ++ others) []
 
 -- a whole tree around a subtree with these entries and pages
 pub record Around (at : ℕ → List ℕ) (root : ℕ) (es rest : List Entry) (ps others : List ℕ) : Type 0
-    where
-  pub tree : Tree
-  pub whole : IsWhole at root tree
-  pub entries_are : Joins (entries tree) es rest
-  pub pages_are : Joins (pages tree) ps others
+  where
+    pub tree : Tree
+    pub whole : IsWhole at root tree
+    pub entries_are : Joins (entries tree) es rest
+    pub pages_are : Joins (pages tree) ps others
 
 -- What stands around page p: whatever fitting tree takes the place of the one at p, the whole is a
 -- tree again.

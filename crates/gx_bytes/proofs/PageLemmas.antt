@@ -118,8 +118,14 @@ module _ {R : Type 0} {written : R → List ℕ} {first : List ℕ → R} {Fits 
   pub start_within : (rs : List R) (body : List ℕ) (i start : ℕ) → HoldsRecords written Fits rs body
       → i ≤ length rs → start ≡ sum_by size (records written first i body) → start ≤ length body
   start_within rs body i start holds within is =
-      omega (arith, passed_start rs body i start holds within is, sum_by-take-le size rs i,
-      ap length holds.is, length-append (flat_map written rs) holds.rest, length-flat_map format rs)
+      omega (
+        arith,
+        passed_start rs body i start holds within is,
+        sum_by-take-le size rs i,
+        ap length holds.is,
+        length-append (flat_map written rs) holds.rest,
+        length-flat_map format rs,
+      )
 
   rest_holds : (rs : List R) (body rest : List ℕ) (i start : ℕ) → HoldsRecords written Fits rs body
       → start ≡ sum_by size (take i rs) → rest ≡ drop start body
@@ -227,8 +233,11 @@ module _ {R : Type 0} {written : R → List ℕ} {first : List ℕ → R} {Fits 
       → length (header kind (length rs) number ++ flat_map written (take i rs))
       ≡ used size (take i rs)
   length-front kind rs number i =
-      omega (arith, length-append (header kind (length rs) number) (flat_map written (take i rs)),
-      length-flat_map format (take i rs))
+      omega (
+        arith,
+        length-append (header kind (length rs) number) (flat_map written (take i rs)),
+        length-flat_map format (take i rs),
+      )
 
   -- a record put at a place
   pub page_added : (kind : ℕ) (rs : List R) (number : ℕ) (bytes : List ℕ)

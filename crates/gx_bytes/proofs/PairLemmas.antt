@@ -12,40 +12,40 @@ pub all_pairs_insert : {X : Type 0} (R : X → X → Type 0) (xs : List X) (i : 
     → ((k : ℕ) (d : X) → i ≤ k → k < length xs → R y (get_or xs k d)) → AllPairs R (insert xs i y)
 all_pairs_insert {X} R xs i y in' pairs above under j k d lt below =
     cases (cases_lt k i) (cases_lt i k) (cases_lt j i) (cases_lt i j) where
-  len : length (insert xs i y) ≡ length xs + 1
-  len = length-insert xs i y in'
+      len : length (insert xs i y) ≡ length xs + 1
+      len = length-insert xs i y in'
 
-  both : (a b : X) → get_or (insert xs i y) j d ≡ a → get_or (insert xs i y) k d ≡ b → R a b
-      → R (get_or (insert xs i y) j d) (get_or (insert xs i y) k d)
-  both a b j_is k_is r =
-      subst (λ (x : X). R x (get_or (insert xs i y) k d)) (sym j_is) (subst (R a) (sym k_is) r)
+      both : (a b : X) → get_or (insert xs i y) j d ≡ a → get_or (insert xs i y) k d ≡ b → R a b
+          → R (get_or (insert xs i y) j d) (get_or (insert xs i y) k d)
+      both a b j_is k_is r =
+          subst (λ (x : X). R x (get_or (insert xs i y) k d)) (sym j_is) (subst (R a) (sym k_is) r)
 
-  before : (n : ℕ) → n < i → get_or (insert xs i y) n d ≡ get_or xs n d
-  before n h = get_or-insert_below xs i y d n h in'
+      before : (n : ℕ) → n < i → get_or (insert xs i y) n d ≡ get_or xs n d
+      before n h = get_or-insert_below xs i y d n h in'
 
-  here : (n : ℕ) → n ≡ i → get_or (insert xs i y) n d ≡ y
-  here n same = ap (λ (m : ℕ). get_or (insert xs i y) m d) same ∙ get_or-insert_at xs i y d in'
+      here : (n : ℕ) → n ≡ i → get_or (insert xs i y) n d ≡ y
+      here n same = ap (λ (m : ℕ). get_or (insert xs i y) m d) same ∙ get_or-insert_at xs i y d in'
 
-  behind : (n : ℕ) → i < n → get_or (insert xs i y) n d ≡ get_or xs (n - 1) d
-  behind n h =
-      ap (λ (m : ℕ). get_or (insert xs i y) m d) (let e : n ≡ n - 1 + 1 = omega arith in e)
-      ∙ get_or-insert_above xs i y d (n - 1) (omega arith) in'
+      behind : (n : ℕ) → i < n → get_or (insert xs i y) n d ≡ get_or xs (n - 1) d
+      behind n h =
+          ap (λ (m : ℕ). get_or (insert xs i y) m d) (let e : n ≡ n - 1 + 1 = omega arith in e)
+          ∙ get_or-insert_above xs i y d (n - 1) (omega arith) in'
 
-  cases : ((k < i) ⊎ (i ≤ k)) → ((i < k) ⊎ (k ≤ i)) → ((j < i) ⊎ (i ≤ j)) → ((i < j) ⊎ (j ≤ i))
-      → R (get_or (insert xs i y) j d) (get_or (insert xs i y) k d)
-  cases (inl k_low) k_high j_low j_high =
-      both _ _ (before j (omega arith)) (before k k_low) (pairs j k d lt (omega arith))
-  cases (inr k_ge) (inr k_le) j_low j_high =
-      both _ _ (before j (omega arith)) (here k (omega arith)) (above j d (omega arith))
-  cases (inr k_ge) (inl k_high) (inl j_low) j_high =
-      both _ _ (before j j_low) (behind k k_high)
-      (pairs j (k - 1) d (omega arith) (omega (arith, len)))
-  cases (inr k_ge) (inl k_high) (inr j_ge) (inl j_high) =
-      both _ _ (behind j j_high) (behind k k_high)
-      (pairs (j - 1) (k - 1) d (omega arith) (omega (arith, len)))
-  cases (inr k_ge) (inl k_high) (inr j_ge) (inr j_le) =
-      both _ _ (here j (omega arith)) (behind k k_high)
-      (under (k - 1) d (omega arith) (omega (arith, len)))
+      cases : ((k < i) ⊎ (i ≤ k)) → ((i < k) ⊎ (k ≤ i)) → ((j < i) ⊎ (i ≤ j)) → ((i < j) ⊎ (j ≤ i))
+          → R (get_or (insert xs i y) j d) (get_or (insert xs i y) k d)
+      cases (inl k_low) k_high j_low j_high =
+          both _ _ (before j (omega arith)) (before k k_low) (pairs j k d lt (omega arith))
+      cases (inr k_ge) (inr k_le) j_low j_high =
+          both _ _ (before j (omega arith)) (here k (omega arith)) (above j d (omega arith))
+      cases (inr k_ge) (inl k_high) (inl j_low) j_high =
+          both _ _ (before j j_low) (behind k k_high)
+          (pairs j (k - 1) d (omega arith) (omega (arith, len)))
+      cases (inr k_ge) (inl k_high) (inr j_ge) (inl j_high) =
+          both _ _ (behind j j_high) (behind k k_high)
+          (pairs (j - 1) (k - 1) d (omega arith) (omega (arith, len)))
+      cases (inr k_ge) (inl k_high) (inr j_ge) (inr j_le) =
+          both _ _ (here j (omega arith)) (behind k k_high)
+          (under (k - 1) d (omega arith) (omega (arith, len)))
 
 -- the parts of such a list
 pub all_pairs_take : {X : Type 0} (R : X → X → Type 0) (xs : List X) (n : ℕ) → AllPairs R xs

@@ -14,9 +14,11 @@ use Rattle.gx_bytes.specs.Records.{records, HoldsRecords, HoldsRecordCount, Spli
 pub drop-is_cons : {X : Type 0} (xs : List X) (i : ℕ) (x : X) (rest : List X) → drop i xs ≡ x ∷ rest
     → (i < length xs) × ((d : X) → get_or xs i d ≡ x) × (drop (i + 1) xs ≡ rest)
 drop-is_cons {X} xs i x rest is =
-    let within : i < length xs = omega (arith, ap length is, length-drop i xs) in
-    (within, λ d. at_head d (sym (drop_more xs i d within) ∙ is),
-    sym (drop-drop 1 i xs) ∙ ap (drop 1) is) where
+    let within : i < length xs = omega (arith, ap length is, length-drop i xs) in (
+      within,
+      λ d. at_head d (sym (drop_more xs i d within) ∙ is),
+      sym (drop-drop 1 i xs) ∙ ap (drop 1) is,
+    ) where
       at_head : (d : X) → get_or xs i d ∷ drop (i + 1) xs ≡ x ∷ rest → get_or xs i d ≡ x
       at_head d same = cc
 

@@ -26,10 +26,12 @@ pub relink : (s t : Sheets) (first : ℕ) (pages : List ℕ)
     → AreLinked s first pages → AreLinked t first pages
 relink s t first [] each l = l
 relink s t first (q ∷ qs) each l =
-    let here = each q (contains_here q qs) l.1 in
-    (l.0, here.0,
-    subst (λ n. AreLinked t n qs) (sym here.1)
-    (relink s t (next_at s q) qs (λ r c. each r (contains_later q r qs c)) l.2))
+    let here = each q (contains_here q qs) l.1 in (
+      l.0,
+      here.0,
+      subst (λ n. AreLinked t n qs) (sym here.1)
+          (relink s t (next_at s q) qs (λ r c. each r (contains_later q r qs c)) l.2),
+    )
 
 pub linked_page : (s : Sheets) (first : ℕ) (pages : List ℕ) (q : ℕ) → AreLinked s first pages
     → Contains pages q → IsEntryPage (bytes_at s q)

@@ -112,7 +112,7 @@ keys_apart (e ∷ es) once = (
       (All-map (λ (x : LeafEntry). eq_by_cmp key_cmp e.key x.key ≡ false) leaf_entry es
       (λ i d below. different e.key (get_or es i d).key (once 0 (suc i) d (omega arith) (omega (arith, below)))))),
   keys_apart es
-  (λ i j d less below. once (suc i) (suc j) d (omega (arith, less)) (omega (arith, below))),
+      (λ i j d less below. once (suc i) (suc j) d (omega (arith, less)) (omega (arith, below))),
 )
 
 apart_joined : (ks qs : List (List ℕ)) → Apart ks → Apart qs
@@ -209,8 +209,8 @@ collected s pages lo hi found entries h is moved up =
           (IsDistinct-IsPermutation (eq_by_cmp key_cmp) (eq_by_cmp_equiv nat_list_cmp_total).symm (map key_of (inside_on s lo hi pages)) (map key_of entries) (IsPermutation-map key_of (inside_on s lo hi pages) entries those) apart);
       those = λ k b. (
         λ c. to_pages lo hi s pages k b
-        (Contains-permutation entries (inside_on s lo hi pages) (listed k b) (IsPermutation-sym (inside_on s lo hi pages) entries those) c),
+            (Contains-permutation entries (inside_on s lo hi pages) (listed k b) (IsPermutation-sym (inside_on s lo hi pages) entries those) c),
         λ on. Contains-permutation (inside_on s lo hi pages) entries (listed k b) those
-        (from_pages lo hi s pages k b on.1.page on.0 on.1.among on.1.here),
+            (from_pages lo hi s pages k b on.1.page on.0 on.1.among on.1.here),
       );
     }

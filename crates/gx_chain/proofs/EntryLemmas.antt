@@ -60,9 +60,9 @@ pub more_from : (es : List Entry) (i : ℕ) (x e : Entry) → (x ≡ e) ⊎ Cont
     → Contains (insert es i x) e
 more_from es i x e c =
     Contains-permutation (x ∷ es) (insert es i x) e (IsPermutation-insert es i x) (elim c [
-  | inl same ↦ subst (Contains (x ∷ es)) same (contains_here x es)
-  | inr among ↦ contains_later x e es among
-])
+      | inl same ↦ subst (Contains (x ∷ es)) same (contains_here x es)
+      | inr among ↦ contains_later x e es among
+    ])
 
 -- the key of no entry
 pub no_entry : (es : List Entry) (key body : List ℕ) → All (λ entry. entry.key ≢ key) es

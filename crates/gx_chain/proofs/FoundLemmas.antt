@@ -20,7 +20,7 @@ module _ {X : Type 0} (key body : X → List ℕ) where
   found_from (e ∷ es) k b is =
       elim (eq_by_cmp key_cmp k (key e)) as
       (λ t. eq_by_cmp key_cmp k (key e) ≡ t → cond t (Some (body e)) (fin.find key_cmp k (pairs es)) ≡ Some b
-          → (x : X) × Contains (e ∷ es) x × (key x ≡ k) × (body x ≡ b)) [
+      → (x : X) × Contains (e ∷ es) x × (key x ≡ k) × (body x ≡ b)) [
         | true ↦ λ same at. (e, contains_here e es, sym (same_key k (key e) same), same_Some (body e) b at)
         | false ↦ λ _ at. (let f = found_from es k b at in (f.0, contains_later e f.0 es f.1, f.2, f.3))
       ] refl is
@@ -32,8 +32,8 @@ module _ {X : Type 0} (key body : X → List ℕ) where
   found_some (e ∷ es) x c =
       elim (eq_by_cmp key_cmp (key x) (key e)) as
       (λ t. eq_by_cmp key_cmp (key x) (key e) ≡ t
-          → (b : List ℕ)
-          × (cond t (Some (body e)) (fin.find key_cmp (key x) (pairs es)) ≡ Some b)) [
+      → (b : List ℕ)
+      × (cond t (Some (body e)) (fin.find key_cmp (key x) (pairs es)) ≡ Some b)) [
         | true ↦ λ _. (body e, refl)
         | false ↦ λ other. elim (contains_cases e x es c) [
           | inl is ↦ absurd (true≢false (sym (tied (key x))

@@ -169,15 +169,15 @@ module _ (owner : ℕ) (s : Sheets) (pages : List ℕ) (some : 1 ≤ owner) (h :
   )
 
   module _ (here : LeafMap) (map_is : (k b : List ℕ) → (fin.get here k ≡ Some b) ↔ IsOn s pages k b)
-      where
-    both : (k : List ℕ) (read there : Option (List ℕ)) → fin.get (owned_map owner s) k ≡ read
-        → fin.get here k ≡ there → fin.get (owned_map owner s) k ≡ fin.get here k
-    both k None None r t = r ∙ sym t
-    both k None (Some b) r t =
-        (let c = on_read k b ((map_is k b).0 t) in absurd (none-some c.0 (sym r ∙ c.1)))
-    both k (Some b) there r t = r ∙ sym ((map_is k b).1 (read_on k b r))
+    where
+      both : (k : List ℕ) (read there : Option (List ℕ)) → fin.get (owned_map owner s) k ≡ read
+          → fin.get here k ≡ there → fin.get (owned_map owner s) k ≡ fin.get here k
+      both k None None r t = r ∙ sym t
+      both k None (Some b) r t =
+          (let c = on_read k b ((map_is k b).0 t) in absurd (none-some c.0 (sym r ∙ c.1)))
+      both k (Some b) there r t = r ∙ sym ((map_is k b).1 (read_on k b r))
 
-    pub one_map : owned_map owner s ≡ here
-    one_map =
-        fin.same_map nat_list_cmp_total only_equal (owned_map owner s) here
-        (λ k. both k (fin.get (owned_map owner s) k) (fin.get here k) refl refl)
+      pub one_map : owned_map owner s ≡ here
+      one_map =
+          fin.same_map nat_list_cmp_total only_equal (owned_map owner s) here
+          (λ k. both k (fin.get (owned_map owner s) k) (fin.get here k) refl refl)

@@ -233,9 +233,10 @@ module _ (ground : Ground) (owner first : ℕ) (s u : Sheets) (pages : List ℕ)
   claimed_old key None lack =
       λ q c. subst (λ (x : List ℕ). All (λ (e : Entry). e.key ≢ key) (entries_of x))
       (sym (claimed_same q c)) (lack q c)
-  claimed_old key (Some p) old =
-      (old.0,
-      subst (λ (x : List ℕ). IsCrowded (entries_of x) key) (sym (claimed_same p old.0)) old.1)
+  claimed_old key (Some p) old = (
+    old.0,
+    subst (λ (x : List ℕ). IsCrowded (entries_of x) key) (sym (claimed_same p old.0)) old.1,
+  )
 
   module _ (key body : List ℕ) (v t : Sheets) (d : IsDropped ground owner first key u v pages)
       (front : List ℕ) (last : ℕ) (ended : pages ≡ front ++ last ∷ [])
@@ -304,9 +305,9 @@ module _ (ground : Ground) (owner first : ℕ) (s u : Sheets) (pages : List ℕ)
       owned =
           λ q c. ap (λ (o : List ℕ). slice_get o q) (a.hung.owners ∙ a.begun.owners)
           ∙ elim (Contains-push_cases pages fresh q c) [
-        | inl old ↦ d.chain.owned q old
-        | inr e ↦ subst (λ n. slice_get v.owners n ≡ Some owner) e (ap (λ (o : List ℕ). slice_get o fresh) (d.owners ∙ claimed.owned.owners) ∙ slice_get_set_same s.owners fresh owner 0 claimed.was_free)
-      ];
+            | inl old ↦ d.chain.owned q old
+            | inr e ↦ subst (λ n. slice_get v.owners n ≡ Some owner) e (ap (λ (o : List ℕ). slice_get o fresh) (d.owners ∙ claimed.owned.owners) ∙ slice_get_set_same s.owners fresh owner 0 claimed.was_free)
+          ];
       filled = λ q c f none. elim (Contains-push_cases pages fresh q c) [
         | inl old ↦ d.chain.filled q old f (sym (at_page q old) ∙ none)
         | inr e ↦ not_empty (record { key = key; body = body } ∷ []) (omega arith) (sym at_fresh ∙ ap (entries_at t) e ∙ none)

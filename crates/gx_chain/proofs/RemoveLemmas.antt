@@ -41,9 +41,11 @@ linked_past : (s t : Sheets) (first : ℕ) (others : List ℕ) (q p : ℕ) (rest
     → IsEntryPage (bytes_at t r) × (next_at t r ≡ next_at s r))
     → AreLinked s first ((others ++ q ∷ []) ++ p ∷ rest)
     → AreLinked t first ((others ++ q ∷ []) ++ rest)
-linked_past s t first [] q p rest each page next later l =
-    (l.0, page,
-    subst (λ n. AreLinked t n rest) (sym next) (relink s t (next_at s p) rest later l.2.2))
+linked_past s t first [] q p rest each page next later l = (
+  l.0,
+  page,
+  subst (λ n. AreLinked t n rest) (sym next) (relink s t (next_at s p) rest later l.2.2),
+)
 linked_past s t first (r ∷ rs) q p rest each page next later l =
     let here = each r (contains_here r rs) l.1 in (
       l.0,
@@ -145,7 +147,7 @@ module _ (ground : Ground) (owner first : ℕ) (key : List ℕ) (s t : Sheets)
     entries = λ k b. (
       λ on. (let here = subst (λ (x : List Entry). Contains x (record { key = k; body = b })) (at_page on.page on.among) on.here in (
         λ e. p_off on.page on.among
-        (chain.apart on.page p key b held.0 (old_in on.page on.among) p_in (subst (λ (x : List ℕ). Contains (entries_at s on.page) (record { key = x; body = b })) e here) held.1),
+            (chain.apart on.page p key b held.0 (old_in on.page on.among) p_in (subst (λ (x : List ℕ). Contains (entries_at s on.page) (record { key = x; body = b })) e here) held.1),
         record { page = on.page; among = old_in on.page on.among; here = here },
       )),
       λ o. elim (cases_eq o.1.page p) [

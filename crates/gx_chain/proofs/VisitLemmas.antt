@@ -180,10 +180,15 @@ goes_on : (sheets : Sheets) (first : ℕ) (front : List ℕ) (number : ℕ) (all
     → ((q : ℕ) → Contains front q → q ≢ NONE) → GoesOn sheets front number all
 goes_on sheets first [] number [] l linked some each = absurd (some (sym l ∙ linked))
 goes_on sheets first [] number (r ∷ rs) l linked some each =
-    let same = sym linked.0 ∙ l in
-    (rs, ap (λ n. n ∷ rs) same,
-    (refl, subst (λ n. IsEntryPage (bytes_at sheets n)) same linked.1,
-    subst (λ n. AreLinked sheets (next_at sheets n) rs) same linked.2))
+    let same = sym linked.0 ∙ l in (
+      rs,
+      ap (λ n. n ∷ rs) same,
+      (
+        refl,
+        subst (λ n. IsEntryPage (bytes_at sheets n)) same linked.1,
+        subst (λ n. AreLinked sheets (next_at sheets n) rs) same linked.2,
+      ),
+    )
 goes_on sheets first (q ∷ qs) number [] l linked some each =
     absurd (each q (contains_here q qs) (sym l.0 ∙ linked))
 goes_on sheets first (q ∷ qs) number (r ∷ rs) l linked some each =

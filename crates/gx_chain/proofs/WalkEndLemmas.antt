@@ -31,8 +31,11 @@ module _ {S : Type 0} (g : Ghosts S) (first : ℕ) (start now : S) (done number 
   walk_unread {T = T} new why result ends same =
       ends_handed_on {T = T} g (HasChain g start first) (IsEntryAt g now number) start now new why
       result walk.faults walk.reads.keeps.ground
-      (λ has. (has.0, subst (λ x. IsEntryPage (bytes_at x number)) (sym walk.reads.working)
-      (walk.hand has.0 has.1 has.2 has.3).linked.1))
+      (λ has. (
+        has.0,
+        subst (λ x. IsEntryPage (bytes_at x number)) (sym walk.reads.working)
+            (walk.hand has.0 has.1 has.2 has.3).linked.1,
+      ))
       ends same
 
   -- its page was read, and doesn't lead on

@@ -17,10 +17,10 @@ pub record IsOfChain (pages : ℕ → List ℕ) (count page : ℕ) : Type 0 wher
 
 -- an entry stands on one of the first chains
 pub record IsOnChain (sheets : Sheets) (pages : ℕ → List ℕ) (count : ℕ) (key body : List ℕ) : Type 0
-    where
-  pub bucket : ℕ
-  pub below : bucket < count
-  pub on : IsOn sheets (pages bucket) key body
+  where
+    pub bucket : ℕ
+    pub below : bucket < count
+    pub on : IsOn sheets (pages bucket) key body
 
 -- the pages of so many chains, one chain after the other
 abbrev pub pages_below : (ℕ → List ℕ) → ℕ → List ℕ

@@ -56,10 +56,10 @@ pub record AreNoted (sheets : Sheets) (key body : List ℕ) (pages : List ℕ) (
 
 -- the bytes of a page with the entry in the place of the old one
 pub record IsReplacing (sheets : Sheets) (key body : List ℕ) (page : ℕ) (bytes : List ℕ) : Type 0
-    where
-  pub is_page : IsEntryPage bytes
-  pub entries_are : IsExchanged (entries_at sheets page) (entries_of bytes) key body
-  pub next_is : next_of bytes ≡ next_at sheets page
+  where
+    pub is_page : IsEntryPage bytes
+    pub entries_are : IsExchanged (entries_at sheets page) (entries_of bytes) key body
+    pub next_is : next_of bytes ≡ next_at sheets page
 
 -- where the entry is to be put on a chain of these pages
 abbrev pub IsSpot : Sheets → List ℕ → List ℕ → List ℕ → List ℕ → Spot → Type 0

@@ -23,7 +23,7 @@ pub not_below_is_le : (a b : List ℕ) (answer : Bool) → answer ≡ is_lt (cmp
     → is_le (cmp b a) ≡ true
 not_below_is_le a b answer is fails =
     go (cmp a b) (sym is ∙ fails) (nat_list_cmp_total.antisymm b a) where
-  go : (o : Ordering) → is_lt o ≡ false → cmp b a ≡ ordering_reverse o → is_le (cmp b a) ≡ true
-  go Less bad turned = absurd cc
-  go Equal fails turned = ap is_le turned
-  go Greater fails turned = ap is_le turned
+      go : (o : Ordering) → is_lt o ≡ false → cmp b a ≡ ordering_reverse o → is_le (cmp b a) ≡ true
+      go Less bad turned = absurd cc
+      go Equal fails turned = ap is_le turned
+      go Greater fails turned = ap is_le turned

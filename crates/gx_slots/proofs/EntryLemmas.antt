@@ -107,9 +107,10 @@ entry_split bytes tail key middle body rest key_len body_len is key_fits fits wi
     ap₂ (λ (k b : ℕ). to_be_bytes w16 k ++ (to_be_bytes w16 b ++ tail)) (sym key_size)
     (sym body_size)
     ∙ ap (λ (xs : List ℕ). to_be_bytes w16 (length key) ++ (to_be_bytes w16 (length body) ++ xs))
-    (sym whole) in
-    (record { key = omega arith; whole = omega arith },
-    is ∙ lengths ∙ sym (written_parts (record { key = key; body = body }) rest))
+    (sym whole) in (
+      record { key = omega arith; whole = omega arith },
+      is ∙ lengths ∙ sym (written_parts (record { key = key; body = body }) rest),
+    )
 
 -- the four parts of an entry, each written behind the one before it, are the entry
 pub entry_written : (bytes : List ℕ) (at : ℕ) (entry : Entry) (one two three four : List ℕ)

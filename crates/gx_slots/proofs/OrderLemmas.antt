@@ -27,17 +27,17 @@ pub all_behind : (entries : List Entry) (i : ℕ) (key : List ℕ) (entry : Entr
     → All (λ e. is_le (cmp key e.key) ≡ true) (drop i entries)
 all_behind entries i key entry ascending below at le k d in' =
     subst (λ (e : Entry). is_le (cmp key e.key) ≡ true) (sym (get_or-drop i entries k d)) (go k in')
-    where
-  here : is_le (cmp key (get_or entries i d).key) ≡ true
-  here = subst (λ (e : Entry). is_le (cmp key e.key) ≡ true) (sym (at d)) le
+  where
+    here : is_le (cmp key (get_or entries i d).key) ≡ true
+    here = subst (λ (e : Entry). is_le (cmp key e.key) ≡ true) (sym (at d)) le
 
-  go : (k : ℕ) → k < length (drop i entries) → is_le (cmp key (get_or entries (i + k) d).key) ≡ true
-  go zero in' =
-      subst (λ (n : ℕ). is_le (cmp key (get_or entries n d).key) ≡ true)
-      (let n : i ≡ i + 0 = omega arith in n) here
-  go (suc k) in' =
-      le_less key (get_or entries i d).key (get_or entries (i + suc k) d).key here
-      (ascending i (i + suc k) d (omega arith) (omega (arith, length-drop i entries)))
+    go : (k : ℕ) → k < length (drop i entries) → is_le (cmp key (get_or entries (i + k) d).key) ≡ true
+    go zero in' =
+        subst (λ (n : ℕ). is_le (cmp key (get_or entries n d).key) ≡ true)
+        (let n : i ≡ i + 0 = omega arith in n) here
+    go (suc k) in' =
+        le_less key (get_or entries i d).key (get_or entries (i + suc k) d).key here
+        (ascending i (i + suc k) d (omega arith) (omega (arith, length-drop i entries)))
 
 -- the key of an entry stands before one
 abbrev pub IsBefore : List ℕ → Entry → Type 0

@@ -41,9 +41,10 @@ next_of-page entries next bytes is =
 pub one_meaning : (entries others : List Entry) (next other : ℕ) (bytes : List ℕ)
     → IsPageOf entries next bytes → IsPageOf others other bytes
     → (entries ≡ others) × (next ≡ other)
-one_meaning entries others next other bytes is same =
-    (sym (entries_of-page entries next bytes is) ∙ entries_of-page others other bytes same,
-    sym (next_of-page entries next bytes is) ∙ next_of-page others other bytes same)
+one_meaning entries others next other bytes is same = (
+  sym (entries_of-page entries next bytes is) ∙ entries_of-page others other bytes same,
+  sym (next_of-page entries next bytes is) ∙ next_of-page others other bytes same,
+)
 
 -- bytes that are an entry page are one of what is read of them
 pub page_of : (bytes : List ℕ) → IsEntryPage bytes

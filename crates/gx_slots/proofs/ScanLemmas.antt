@@ -102,9 +102,9 @@ held_same bytes place rest seen scan entries holds within =
     scan.count ∙ sym (length-take-le place entries within) in
     let fits = All-take IsFit place entries holds.fit in (
       same_records entry_format scan.entries front rest (flat_map entry_bytes back ++ holds.rest)
-      scan.fit fits counts joined,
+          scan.fit fits counts joined,
       record
-      { fit = All-drop IsFit place entries holds.fit; rest = holds.rest; is = same_tails entry_format scan.entries front rest (flat_map entry_bytes back ++ holds.rest) scan.fit fits counts joined },
+          { fit = All-drop IsFit place entries holds.fit; rest = holds.rest; is = same_tails entry_format scan.entries front rest (flat_map entry_bytes back ++ holds.rest) scan.fit fits counts joined },
     )
 
 -- where no entry is ahead, there are no more entries
@@ -156,9 +156,10 @@ scanned_page bytes body count size kind blank small behind counted held = record
 -- an entry page begins with its kind and a 0
 pub page_kind : (bytes : List ℕ) → IsEntryPage bytes
     → (get_or bytes 0 0 ≡ 0x44) × (get_or bytes 1 0 ≡ 0)
-page_kind bytes page =
-    (ap (λ (b : List ℕ). get_or b 0 0) page.is.page.is,
-    ap (λ (b : List ℕ). get_or b 1 0) page.is.page.is)
+page_kind bytes page = (
+  ap (λ (b : List ℕ). get_or b 0 0) page.is.page.is,
+  ap (λ (b : List ℕ). get_or b 1 0) page.is.page.is,
+)
 
 -- and has entries of different keys behind its header, as many as it counts
 pub page_scanned : (bytes body : List ℕ) (count : ℕ) → body ≡ drop 8 bytes → count ≡ count_of bytes

@@ -25,7 +25,8 @@ none_found None true entries same key is found missing equal =
     (λ _. subst (All (λ entry. entry.key ≢ key)) equal missing, λ _. refl)
 none_found (Some i) true entries same key is found missing equal = absurd (false≢true (sym is))
 none_found None false entries same key is found missing equal = absurd (false≢true is)
-none_found (Some i) false entries same key is found missing equal =
-    (λ bad. absurd (false≢true bad),
-    λ all. absurd (subst (All (λ entry. entry.key ≢ key)) (sym equal) all i
-    (record { key = []; body = [] }) found.0 (found.1 (record { key = []; body = [] }))))
+none_found (Some i) false entries same key is found missing equal = (
+  λ bad. absurd (false≢true bad),
+  λ all. absurd (subst (All (λ entry. entry.key ≢ key)) (sym equal) all i
+      (record { key = []; body = [] }) found.0 (found.1 (record { key = []; body = [] }))),
+)

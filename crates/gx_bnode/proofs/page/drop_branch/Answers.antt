@@ -16,8 +16,13 @@ no_branch = record { separator = []; child = 0 }
 pub split_at-requires : goal.split_at-requires
 split_at-requires c =
     let page = c.args.page.now in
-    omega (arith, page_size page c.requires.page, used_most page c.requires.page,
-    sum_by-take-le branch_len (branches_of page) c.args.i, c.offsets-at.ensures.start)
+    omega (
+      arith,
+      page_size page c.requires.page,
+      used_most page c.requires.page,
+      sum_by-take-le branch_len (branches_of page) c.args.i,
+      c.offsets-at.ensures.start,
+    )
 
 pub branches_len-requires : goal.branches_len-requires
 branches_len-requires c =

@@ -10,8 +10,13 @@ use Rattle.gx_bnode.proofs.page.insert.Goals as goal
 pub overflow_add-count : goal.overflow_add-count
 overflow_add-count c =
     let page = c.args.page.now in
-    omega (arith, c.separators-count.ensures, separators_count (branches_of page),
-    six_each (branches_of page), used_most page c.requires.page)
+    omega (
+      arith,
+      c.separators-count.ensures,
+      separators_count (branches_of page),
+      six_each (branches_of page),
+      used_most page c.requires.page,
+    )
 
 pub returns : goal.returns
 returns c =

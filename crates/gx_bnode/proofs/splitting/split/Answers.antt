@@ -37,8 +37,11 @@ split_at-requires-2 c =
     let len = others_len branches place branch rest behind c.offsets-at.result.0
     c.offsets-at.result.1 c.branch_len.result holds c.middle-place.ensures.place found.0 found.1
     c.offsets-at.ensures.start c.offsets-at.ensures.end c.branch_len.ensures in
-    omega (arith, len,
-    others_fit branches place branch rest behind holds c.middle-place.ensures.place found.0 found.1)
+    omega (
+      arith,
+      len,
+      others_fit branches place branch rest behind holds c.middle-place.ensures.place found.0 found.1,
+    )
 
 pub returns : goal.returns
 returns c =

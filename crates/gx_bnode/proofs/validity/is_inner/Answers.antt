@@ -20,8 +20,8 @@ returns c =
     let count = c.record_count-count.result in
     let kind = c.has_kind.ensures.0 c.if-not-has_kind.false in (
       λ held. scanned_page page body count c.requires kind.0 kind.1
-      (λ i. omega (arith, c.type_inv.page i)) c.page_body.ensures c.record_count-count.ensures
-      (omega arith) (c.are_branches.ensures.0 held),
+          (λ i. omega (arith, c.type_inv.page i)) c.page_body.ensures c.record_count-count.ensures
+          (omega arith) (c.are_branches.ensures.0 held),
       λ is. c.are_branches.ensures.1
-      (page_scanned page body count c.page_body.ensures c.record_count-count.ensures is),
+          (page_scanned page body count c.page_body.ensures c.record_count-count.ensures is),
     )

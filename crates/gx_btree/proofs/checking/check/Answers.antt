@@ -29,7 +29,7 @@ returns-clause-ends g c =
     (λ whole. (
       whole.1.told,
       subst (λ (x : Sheets). AreAllSeen x owner c.deref.result.now)
-      (sym c.visit_tree.ensures.reads.working)
+          (sym c.visit_tree.ensures.reads.working)
           (subst (AreAllSeen s owner) (sym c.deref.ensures.value) ((c.in_ok-seen.ensures.seen whole.1.told).0 whole)),
     ))
     c.seek_unseen.ensures.ends

@@ -53,7 +53,7 @@ loop-preserved g c =
     let e = c.in_ok-read_kind.ensures in (
       e.bytes,
       finding_goes g.P.PageView c.args.place.now c.args.key.now c.args.pages.now c.loop.pages
-      c.loop.from c.loop.at
+          c.loop.from c.loop.at
           c.loop.bound c.loop.invariant.1 c.read_kind.new.pages c.read_kind.new.into
           c.in-Some.way.page c.in-Some.way.bound e.reads
           (e.ends.cause.counted refl) e.past

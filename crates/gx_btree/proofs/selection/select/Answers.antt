@@ -102,7 +102,7 @@ loop-preserved g c =
     let shown = e.shown m here in (
       entries_up page shown,
       subst (λ k. c.give.new.out ≡ c.loop.out ++ given_from k lo hi es)
-      c.as_slice-in-loop-2.ensures.value
+          c.as_slice-in-loop-2.ensures.value
           (c.in_ok-give.ensures.ok shown.0),
       subst (λ b. IsFound holds.file.tree key b es) c.in-Some.is
           (subst (λ k. IsFound holds.file.tree k c.in_ok-way.way.bound es) c.as_slice-in-loop.ensures.value (e.found m here)),

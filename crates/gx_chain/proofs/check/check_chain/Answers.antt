@@ -38,7 +38,7 @@ returns-clause-ends g c =
     (λ has. (
       has.told,
       subst (λ (x : Sheets). AreAllSeen x c.args.owner c.deref.result.now)
-      (sym c.visit_chain.ensures.reads.working)
+          (sym c.visit_chain.ensures.reads.working)
           (subst (λ (x : List Bool). AreAllSeen s c.args.owner x) (sym c.deref.ensures.value)
           (whole_seen ground c.args.owner s c.args.first c.pages-count.result c.in_ok-visits.visits.seen.items c.visit_chain.new.visits c.in_ok-visits.ensures.seen (c.in_ok-visit_chain.ensures.visited has.told) has.whole)),
     ))

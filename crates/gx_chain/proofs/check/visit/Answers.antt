@@ -34,10 +34,12 @@ returns-in_err-read_entries-clause-ends g c =
     (IsEntryAt g.P.PageView now c.args.number) p now c.read_entries.new.pages _
     c.from_residual-in_err-read_entries.result
     c.in_ok-is_unseen.ensures.faults.counted c.is_unseen.ensures.reads.keeps.ground
-    (λ n. (n.told,
-    subst (λ (x : Sheets). IsEntryPage (bytes_at x c.args.number))
-    (sym c.is_unseen.ensures.reads.working)
-    (next_page g.P.PageView p c.args.owner c.args.first visits c.args.number n)))
+    (λ n. (
+      n.told,
+      subst (λ (x : Sheets). IsEntryPage (bytes_at x c.args.number))
+          (sym c.is_unseen.ensures.reads.working)
+          (next_page g.P.PageView p c.args.owner c.args.first visits c.args.number n),
+    ))
     c.in_err-read_entries.ensures.ends c.from_residual-in_err-read_entries.ensures.1
 
 pub returns-then-count-eq0-clause-ends : goal.returns-then-count-eq0-clause-ends

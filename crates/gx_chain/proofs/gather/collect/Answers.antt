@@ -19,6 +19,6 @@ returns-clause-collected g c told owner all chain =
       has.more,
       has.appended,
       collected s all lo hi c.gather_from.new.found.items has.more
-      (chain_apart (g.P.PageView.ground p) owner c.args.first s all chain) found has.those
-      has.in_order,
+          (chain_apart (g.P.PageView.ground p) owner c.args.first s all chain) found has.those
+          has.in_order,
     )

@@ -16,9 +16,11 @@ returns-in_err-take_from-clause-ends g c =
     (HasKeyAt g.P.PageView p c.in-Some.number c.args.key.now) p p c.take_from.new.pages _
     c.from_residual.result
     refl refl
-    (λ r. (r.told,
-    has_key (g.P.PageView.ground p) r.owner r.first c.args.key.now (g.P.PageView.working p) r.pages
-    r.chain c.in-Some.number c.args.old c.in-Some.is r.has))
+    (λ r. (
+      r.told,
+      has_key (g.P.PageView.ground p) r.owner r.first c.args.key.now (g.P.PageView.working p) r.pages
+          r.chain c.in-Some.number c.args.old c.in-Some.is r.has,
+    ))
     c.in_err-take_from.ensures.ends c.from_residual.ensures.1
 
 pub returns-in_ok-take_from-clause-dropped : goal.returns-in_ok-take_from-clause-dropped

@@ -40,13 +40,13 @@ returns-in-Away-clause-put g c told before chain =
     let ready : IsReady (g.P.PageView.ground p) c.args.owner s c.args.first c.args.key.now c.args.body.now c.in-Away.away before =
     record { chain = chain; noted = spot.0; front = spot.1.0; ended = spot.1.1 } in
     subst (λ (x : Ground). OnOk c.put_away.result
-        (IsPutIn x c.args.owner c.args.first c.args.key.now c.args.body.now s t before))
+    (IsPutIn x c.args.owner c.args.first c.args.key.now c.args.body.now s t before))
     reads.keeps.ground
-        (subst (λ (x : Sheets). OnOk c.put_away.result (IsPutIn (g.P.PageView.ground q) c.args.owner c.args.first c.args.key.now c.args.body.now x t before)) reads.working
-        (c.put_away.ensures.put told c.args.first before
-        (subst (λ (x : Sheets). IsReady (g.P.PageView.ground q) c.args.owner x c.args.first
+    (subst (λ (x : Sheets). OnOk c.put_away.result (IsPutIn (g.P.PageView.ground q) c.args.owner c.args.first c.args.key.now c.args.body.now x t before)) reads.working
+    (c.put_away.ensures.put told c.args.first before
+    (subst (λ (x : Sheets). IsReady (g.P.PageView.ground q) c.args.owner x c.args.first
     c.args.key.now c.args.body.now c.in-Away.away before) (sym reads.working)
-        (subst (λ (x : Ground). IsReady x c.args.owner s c.args.first c.args.key.now c.args.body.now c.in-Away.away before) (sym reads.keeps.ground) ready))))
+    (subst (λ (x : Ground). IsReady x c.args.owner s c.args.first c.args.key.now c.args.body.now c.in-Away.away before) (sym reads.keeps.ground) ready))))
 
 pub returns-in-Away-clause-ends : goal.returns-in-Away-clause-ends
 returns-in-Away-clause-ends g c =

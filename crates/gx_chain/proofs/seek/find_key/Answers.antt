@@ -24,11 +24,11 @@ loop-init g c =
       past_before = tt;
       way =
           λ told owner all chain. (let h = hand_first s c.args.first all (is_some_page ground c.args.first few_pages c.requires.first) chain.linked in record {
-        hand = h.0;
-        lacks = subst (λ (f : List ℕ). LackKey s f c.args.key.now) (sym h.1)
-            (lack_none s c.args.key.now);
-        before = h.1;
-      });
+            hand = h.0;
+            lacks = subst (λ (f : List ℕ). LackKey s f c.args.key.now) (sym h.1)
+                (lack_none s c.args.key.now);
+            before = h.1;
+          });
     }
 
 pub returns-in_err-read_entries-clause-ends : goal.returns-in_err-read_entries-clause-ends

@@ -22,10 +22,10 @@ loop-init g c =
       past = record { old = tt; room = tt; last = c.requires.first };
       way =
           λ told owner all chain. (let h = hand_first s c.args.first all (is_some_page ground c.args.first few_pages c.requires.first) chain.linked in record {
-        hand = h.0;
-        noted = subst (λ (f : List ℕ). AreNoted s c.args.key.now c.args.body.now f None None)
-            (sym h.1) (none_noted s c.args.key.now c.args.body.now);
-      });
+            hand = h.0;
+            noted = subst (λ (f : List ℕ). AreNoted s c.args.key.now c.args.body.now f None None)
+                (sym h.1) (none_noted s c.args.key.now c.args.body.now);
+          });
     }
 
 pub returns-in_err-read_entries-clause-ends : goal.returns-in_err-read_entries-clause-ends
@@ -94,7 +94,7 @@ returns-in-None-clause-found g c told owner all chain =
     c.try_entry-trial.ensures.trial in
     let more = noted_more s c.args.key.now c.args.body.now n.hand.front c.loop.away.last c.loop.away c.try_entry-trial.result (entries_of c.try_entry-trial.new.page) refl c.in_default.not-Replaced trial n.noted in (
       subst (λ (a : Away). AreNoted s c.args.key.now c.args.body.now all a.old a.room)
-      (sym c.note-away.ensures)
+          (sym c.note-away.ensures)
           (subst (λ (x : List ℕ). AreNoted s c.args.key.now c.args.body.now x (noted c.loop.away c.try_entry-trial.result).old (noted c.loop.away c.try_entry-trial.result).room) (sym all_is) more),
       (n.hand.front, all_is ∙ ap (λ q. n.hand.front ++ q ∷ []) (sym (ap (λ (a : Away). a.last) c.note-away.ensures ∙ noted_last c.loop.away c.try_entry-trial.result))),
     )

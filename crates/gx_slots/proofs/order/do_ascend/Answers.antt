@@ -11,10 +11,11 @@ abbrev key_of : Entry → List ℕ
 key_of entry = entry.key
 
 pub returns-in_default : goal.returns-in_default
-returns-in_default c =
-    (λ bad. absurd (false≢true bad),
-    λ held. absurd (none_first entry_format key_of c.args.bytes.now c.args.count c.requires
-    c.in_default.ensures held))
+returns-in_default c = (
+  λ bad. absurd (false≢true bad),
+  λ held. absurd (none_first entry_format key_of c.args.bytes.now c.args.count c.requires
+      c.in_default.ensures held),
+)
 
 pub loop-init : goal.loop-init
 loop-init c =
@@ -26,7 +27,7 @@ pub returns-in_default-split_entry : goal.returns-in_default-split_entry
 returns-in_default-split_entry c = (
   λ bad. absurd (false≢true bad),
   λ held. absurd
-  (no_more entry_format key_of c.args.bytes.now c.loop.counter c.loop.rest.now c.loop.last.now c.args.count c.loop.invariant c.loop-test.true c.in_default-split_entry.ensures held),
+      (no_more entry_format key_of c.args.bytes.now c.loop.counter c.loop.rest.now c.loop.last.now c.args.count c.loop.invariant c.loop-test.true c.in_default-split_entry.ensures held),
 )
 
 pub returns-then-not-is_below : goal.returns-then-not-is_below
@@ -34,7 +35,7 @@ returns-then-not-is_below c =
     let found = c.in-Some-split_entry.ensures in (
       λ bad. absurd (false≢true bad),
       λ held. absurd
-      (not_ascending entry_format key_of c.args.bytes.now c.loop.counter c.loop.rest.now c.loop.last.now c.args.count (lent (c.in-Some-split_entry.key, c.in-Some-split_entry.field-0-0-1)) c.in-Some-split_entry.behind.now
+          (not_ascending entry_format key_of c.args.bytes.now c.loop.counter c.loop.rest.now c.loop.last.now c.args.count (lent (c.in-Some-split_entry.key, c.in-Some-split_entry.field-0-0-1)) c.in-Some-split_entry.behind.now
           c.loop.invariant c.loop-test.true found.0 found.1 (sym c.if-not-is_below.ensures) held),
     )
 
@@ -50,7 +51,8 @@ loop-preserved c =
 pub returns : goal.returns
 returns c =
     let end : c.loop.counter ≡ c.args.count =
-    omega (arith, c.loop-test.false, c.loop.auto.counter-end c.requires) in
-    (λ _. subst (λ (n : ℕ). HoldsAscending n c.args.bytes.now) end
-    (scanned_all entry_format key_of c.args.bytes.now c.loop.counter c.loop.rest.now c.loop.last.now c.loop.invariant),
-    λ _. refl)
+    omega (arith, c.loop-test.false, c.loop.auto.counter-end c.requires) in (
+      λ _. subst (λ (n : ℕ). HoldsAscending n c.args.bytes.now) end
+          (scanned_all entry_format key_of c.args.bytes.now c.loop.counter c.loop.rest.now c.loop.last.now c.loop.invariant),
+      λ _. refl,
+    )

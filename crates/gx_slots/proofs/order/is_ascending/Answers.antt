@@ -8,7 +8,7 @@ pub returns-then-not-has_kind : goal.returns-then-not-has_kind
 returns-then-not-has_kind c = (
   λ bad. absurd (false≢true bad),
   λ is. absurd
-  (false≢true (sym c.if-not-has_kind.true ∙ c.has_kind.ensures.1 (page_kind c.args.page.now is.page))),
+      (false≢true (sym c.if-not-has_kind.true ∙ c.has_kind.ensures.1 (page_kind c.args.page.now is.page))),
 )
 
 pub returns-then-count-eq0 : goal.returns-then-count-eq0
@@ -17,8 +17,8 @@ returns-then-count-eq0 c =
     let count = c.record_count-count.result in
     let kind = c.has_kind.ensures.0 c.if-not-has_kind.false in (
       λ _. scanned_page page (drop 8 page) count c.requires kind.0 kind.1
-      (λ i. omega (arith, c.type_inv.page i)) refl c.record_count-count.ensures
-      (none_ascend (drop 8 page) count (omega (arith, c.if-count-eq0.true))),
+          (λ i. omega (arith, c.type_inv.page i)) refl c.record_count-count.ensures
+          (none_ascend (drop 8 page) count (omega (arith, c.if-count-eq0.true))),
       λ _. eq-eqb count 0 c.if-count-eq0.true,
     )
 
@@ -29,8 +29,8 @@ returns-else-count-eq0 c =
     let count = c.record_count-count.result in
     let kind = c.has_kind.ensures.0 c.if-not-has_kind.false in (
       λ held. scanned_page page body count c.requires kind.0 kind.1
-      (λ i. omega (arith, c.type_inv.page i)) c.page_body.ensures c.record_count-count.ensures
-      (c.do_ascend.ensures.0 held),
+          (λ i. omega (arith, c.type_inv.page i)) c.page_body.ensures c.record_count-count.ensures
+          (c.do_ascend.ensures.0 held),
       λ is. c.do_ascend.ensures.1
-      (page_scanned page body count c.page_body.ensures c.record_count-count.ensures is),
+          (page_scanned page body count c.page_body.ensures c.record_count-count.ensures is),
     )

@@ -53,5 +53,10 @@ returns-then-len-end-clause-few c = λ few.
     let entry : Entry = record { key = c.args.key.now; body = c.args.body.now } in
     let room = three_leave_room entries c.args.i entry (page_of page c.requires.page).page.holds.fit
     few c.requires.fit in
-    absurd (omega (arith, room, sum_by-insert entry_len entries c.args.i entry,
-    c.offsets-at.ensures.end, c.entry_len-len.ensures))
+    absurd (omega (
+      arith,
+      room,
+      sum_by-insert entry_len entries c.args.i entry,
+      c.offsets-at.ensures.end,
+      c.entry_len-len.ensures,
+    ))

@@ -16,8 +16,13 @@ no_entry = record { key = []; body = [] }
 pub split_at-requires : goal.split_at-requires
 split_at-requires c =
     let page = c.args.page.now in
-    omega (arith, page_size page c.requires.page, used_most page c.requires.page,
-    sum_by-take-le entry_len (entries_of page) c.args.i, c.offsets-at.ensures.start)
+    omega (
+      arith,
+      page_size page c.requires.page,
+      used_most page c.requires.page,
+      sum_by-take-le entry_len (entries_of page) c.args.i,
+      c.offsets-at.ensures.start,
+    )
 
 pub entries_len-requires : goal.entries_len-requires
 entries_len-requires c =

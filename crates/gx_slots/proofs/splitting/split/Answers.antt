@@ -16,8 +16,13 @@ split_at-requires c =
     let page = c.args.page.now in
     let len = back_len (entries_of page) c.args.i c.offsets-at.result.0 c.offsets-at.result.1
     c.offsets-at.ensures.start c.offsets-at.ensures.end in
-    omega (arith, len.0, used_most page c.requires.page, c.offsets-at.ensures.end,
-    (page_of page c.requires.page).page.size)
+    omega (
+      arith,
+      len.0,
+      used_most page c.requires.page,
+      c.offsets-at.ensures.end,
+      (page_of page c.requires.page).page.size,
+    )
 
 pub split_at-requires-2 : goal.split_at-requires-2
 split_at-requires-2 c =
@@ -27,8 +32,13 @@ split_at-requires-2 c =
     c.offsets-at.ensures.start c.offsets-at.ensures.end in
     let holds = back_holds page c.split_at.result.1.now c.args.i c.offsets-at.result.0
     c.requires.page c.offsets-at.ensures.start c.split_at.ensures.back in
-    omega (arith, len.1, ap length holds.is, length-append (flat_map entry_bytes es) holds.rest,
-    length-flat_map entry_format es)
+    omega (
+      arith,
+      len.1,
+      ap length holds.is,
+      length-append (flat_map entry_bytes es) holds.rest,
+      length-flat_map entry_format es,
+    )
 
 pub returns : goal.returns
 returns c =

@@ -9,8 +9,8 @@ returns-then-has_kind c =
     let count = c.record_count.result in
     let kind = c.has_kind.ensures.0 c.if-has_kind.true in (
       λ held. scanned_page page body count c.requires kind.0 kind.1
-      (λ i. omega (arith, c.type_inv.page i)) c.page_body.ensures c.record_count.ensures
-      (c.are_entries.ensures.0 held),
+          (λ i. omega (arith, c.type_inv.page i)) c.page_body.ensures c.record_count.ensures
+          (c.are_entries.ensures.0 held),
       λ is. c.are_entries.ensures.1
-      (page_scanned page body count c.page_body.ensures c.record_count.ensures is),
+          (page_scanned page body count c.page_body.ensures c.record_count.ensures is),
     )
