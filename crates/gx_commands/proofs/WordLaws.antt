@@ -3,6 +3,7 @@ use Rattle.std.proofs.Common.{◌≡◌, ℕ, suc, ◌+◌, ◌<◌, Bool, true,
 use Rattle.std.specs.List.{prefix_len, AllByRecursion}
 use Rattle.std.proofs.lemmas.Bool.{cond_both, eqb-true, eqb-false, ne_eqb}
 use Rattle.std.proofs.lemmas.List.{take_at, drop_at, take-append-drop, length-append}
+use Rattle.std.proofs.lemmas.Option.{same_Some}
 use Rattle.gx_tokens.specs.declared.fault.Fault.{Fault}
 use Rattle.gx_tokens.specs.Lexemes.{Lexeme, split_quoted, token_or, token_here}
 use Rattle.gx_tokens.specs.Lexemes as lexemes
@@ -14,9 +15,6 @@ use Rattle.gx_commands.specs.Cutting.{ends_word, quoted_word, split_word, first_
 
 abbrev pub is_inside : ℕ → Bool
 is_inside b = not (is_blank b)
-
-some_is : {A : Type 0} (x y : A) → Some x ≡ Some y → x ≡ y
-some_is x y e = cc
 
 -- ---- blanks
 
@@ -144,7 +142,7 @@ quoted_split b bs (Some y) x is e h =
     cond_both (ends_word y.1) (Some (Quoted y.0, y.1)) None (λ (r : Option (Word × List ℕ)). r ≡ Some x → Splits (b ∷ bs) x)
     (λ ends k.
     let q = quoted_found bs y.0 y.1 e in
-    subst (Splits (b ∷ bs)) (some_is (Quoted y.0, y.1) x k) (record { parts = ap (λ (n : ℕ). n ∷ bs) is ∙ q.parts; is_word = q.is_token; ends = ends_is y.1 ends }))
+    subst (Splits (b ∷ bs)) (same_Some (Quoted y.0, y.1) x k) (record { parts = ap (λ (n : ℕ). n ∷ bs) is ∙ q.parts; is_word = q.is_token; ends = ends_is y.1 ends }))
     (λ _ k. absurd cc)
     h
 
@@ -154,7 +152,7 @@ split_found (b ∷ bs) x free e =
     let bare : Word × List ℕ = (Bare (take (prefix_len is_inside (b ∷ bs)) (b ∷ bs)), drop (prefix_len is_inside (b ∷ bs)) (b ∷ bs)) in
     cond_both (eqb b 34) (quoted_word (split_quoted bs)) (Some bare) (λ (r : Option (Word × List ℕ)). r ≡ Some x → Splits (b ∷ bs) x)
     (λ is h. quoted_split b bs (split_quoted bs) x (eqb-true b 34 is) refl h)
-    (λ other h. subst (Splits (b ∷ bs)) (some_is bare x h) (bare_split b bs other free))
+    (λ other h. subst (Splits (b ∷ bs)) (same_Some bare x h) (bare_split b bs other free))
     e
 
 pub first_found : (line : List ℕ) (x : Word × List ℕ) → first_word line ≡ Some x → FirstWord line x.0 x.1

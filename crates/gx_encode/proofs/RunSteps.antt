@@ -5,6 +5,7 @@ use Rattle.std.specs.List.{list_all}
 use Rattle.std.proofs.Math.ListN.{replicate}
 use Rattle.std.proofs.lemmas.List.{length-replicate}
 use Rattle.std.proofs.lemmas.Bool.Decides.{nat_tests}
+use Rattle.std.proofs.lemmas.Bool.{and_parts}
 use Rattle.gx_values.specs.Values.{is_printable}
 use Rattle.gx_encode.specs.Runs.{runs_of, pairs_of, rle, joined, AreShort, AreLongest, IsUnrle, is_same, is_next, last_from, repeats}
 use Rattle.gx_encode.specs.RunLaws.{runs_joined, runs_longest, BeginWith, pairs_cut, last_more, run_behind, pairs_behind, short_behind, longest_at, short_at, joined_at, printable_append, printable_run, first_run}
@@ -124,13 +125,8 @@ has_run done runs count b rest begins = by_more begins.more begins.is begins.pai
         let second : r.1 ≡ b = ap (λ (l : List ℕ). get_or l 1 0) pairs in
         record { more = more; is = is ∙ (λ i. done ++ (first i, second i) ∷ more) }
 
-both : (a b : Bool) → a && b ≡ true → (a ≡ true) × (b ≡ true)
-both true true e = (refl, refl)
-both true false e = cc
-both false b e = cc
-
 first_of_run : (k b : ℕ) (rest : List ℕ) → list_all is_printable (replicate (suc k) b ++ rest) ≡ true → is_printable b ≡ true
-first_of_run k b rest e = (both (is_printable b) (list_all is_printable (replicate k b ++ rest)) e).0
+first_of_run k b rest e = (and_parts (is_printable b) (list_all is_printable (replicate k b ++ rest)) e).0
 
 pub not_next : (longest : ℕ) (bytes : List ℕ) (previous : Option ℕ) (text more : List ℕ) (count b : ℕ) → IsReading longest bytes previous text (count ∷ b ∷ more) → is_next previous count b (longest - length text) ≡ false → IsUnrle longest bytes None
 not_next longest bytes previous text more count b now e other coded same =
@@ -142,7 +138,7 @@ not_next longest bytes previous text more count b now e other coded same =
     let few = coded.fits.0 in
     let sizes = ap length whole in
     let room : count ≤ longest - length text = omega (arith, few, sizes, length-append text (replicate count b ++ joined run.more), length-append (replicate count b) (joined run.more), length-replicate count b) in
-    let printable = both (list_all is_printable text) (list_all is_printable (replicate count b ++ joined run.more)) (sym (ap (list_all is_printable) whole ∙ printable_append text (replicate count b ++ joined run.more)) ∙ coded.fits.1) in
+    let printable = and_parts (list_all is_printable text) (list_all is_printable (replicate count b ++ joined run.more)) (sym (ap (list_all is_printable) whole ∙ printable_append text (replicate count b ++ joined run.more)) ∙ coded.fits.1) in
     let b_printable = first_of_run k.0 b (joined run.more) (ap (λ (c : ℕ). list_all is_printable (replicate c b ++ joined run.more)) (sym k.1) ∙ printable.1) in
     let next : IsNext previous count b (longest - length text) =
     record { apart = λ p. at.1 (sym now.last ∙ p); some = at.0; short = short_at (runs_of text) run.more (count, b) (subst AreShort run.is coded.short); few = room; printable = b_printable } in

@@ -8,7 +8,7 @@ use Rattle.gx_ports.specs.PageCalls.{ReadsPages}
 use Rattle.gx_ports.specs.Sheets.{Sheets, Ground, AreOwnersOn}
 use Rattle.gx_leaves.specs.Checks.{IsDueOwner}
 use Rattle.gx_leaves.specs.Wholeness.{IsTable, table_owner}
-use Rattle.gx_leaves.proofs.SumLemmas.{some_same}
+use Rattle.std.proofs.lemmas.Option.{same_Some}
 
 -- the owners of the pages before this one are such as they may have
 abbrev pub AreDue : Ground → ℕ → Sheets → ℕ → Type 0
@@ -41,7 +41,7 @@ module _ (base : Ground) (leaves : ℕ) (sheets : Sheets) (many : length sheets.
         let at_all : slice_get sheets.owners (first + i) ≡ Some owner =
         ap (λ (n : ℕ). slice_get sheets.owners (n + i)) first_is ∙ sym (on i low (omega (arith, below, many, first_is))) ∙ at in
         record {
-          own = λ less. some_same owner table_owner (sym at_all ∙ whole.own (first + i) less);
+          own = λ less. same_Some owner table_owner (sym at_all ∙ whole.own (first + i) less);
           owned = λ past. whole.owned (first + i) owner (record { past = past; below = below }) at_all;
         }
 

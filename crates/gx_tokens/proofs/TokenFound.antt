@@ -10,6 +10,7 @@ use Rattle.gx_tokens.specs.declared.why.Why.TheVariants as why
 use Rattle.gx_tokens.specs.Lexemes.{Lexeme, Word, Number, Quoted, Open, Close, Comma, Equals, End, is_blank, after_blanks, is_digit, is_word_start, is_word_byte, continues_run, is_printable, after_quoted, split_word, split_number, split_quoted, token_or, token_here, next_token}
 use Rattle.gx_tokens.specs.Reading.{map_ok}
 use Rattle.std.specs.Result.{IfOk}
+use Rattle.std.proofs.lemmas.Option.{same_Some}
 use Rattle.gx_tokens.specs.Spelling.{spelling, StartsWord, IsWord, AreDigits, IsNumber, IsQuoted, IsToken, NoQuote, MayFollow, AreBlanks, Begins, FirstToken}
 
 abbrev done : {A : Type 0} → A → Result A Fault
@@ -98,16 +99,13 @@ abbrev Closes : Bool → List ℕ → List ℕ → Type 0
 Closes false bs rest = UpToQuote false bs rest × NoQuote rest
 Closes true bs rest = ((bs ≡ rest) ⊎ UpToQuote true bs rest) × NoQuote rest
 
-some_is : {A : Type 0} (x y : A) → Some x ≡ Some y → x ≡ y
-some_is x y e = cc
-
 closes : (flag : Bool) (bs rest : List ℕ) → after_quoted flag bs ≡ Some rest → Closes flag bs rest
-closes true [] rest e = subst (λ (r : List ℕ). Closes true [] r) (some_is [] rest e) (inl refl, tt)
+closes true [] rest e = subst (λ (r : List ℕ). Closes true [] r) (same_Some [] rest e) (inl refl, tt)
 closes false [] rest e = absurd cc
 closes true (b ∷ bs) rest e =
     cond_both (eqb b 34) (after_quoted false bs) (Some (b ∷ bs)) (λ (r : Option (List ℕ)). r ≡ Some rest → Closes true (b ∷ bs) rest)
     (λ is h. let c = closes false bs rest h in (inr (b ∷ c.0.0, ap (λ (ys : List ℕ). b ∷ ys) c.0.1, (eqb-true _ _ is, c.0.2)), c.1))
-    (λ no h. subst (λ (r : List ℕ). Closes true (b ∷ bs) r) (some_is (b ∷ bs) rest h) (inl refl, eqb-false _ _ no))
+    (λ no h. subst (λ (r : List ℕ). Closes true (b ∷ bs) r) (same_Some (b ∷ bs) rest h) (inl refl, eqb-false _ _ no))
     e
 closes false (b ∷ bs) rest e =
     cond_both (eqb b 34) (after_quoted true bs) (cond (is_printable b) (after_quoted false bs) None) (λ (r : Option (List ℕ)). r ≡ Some rest → Closes false (b ∷ bs) rest)
@@ -133,7 +131,7 @@ quoted_by bs y (Some rest) is e =
     let front : take (length bs - length rest - 1) bs ≡ text = rw len (ap (take (length text)) c.0.1 ∙ take_at text (34 ∷ rest) (length text) refl) in
     let whole : 34 ∷ bs ≡ (34 ∷ text ++ 34 ∷ []) ++ rest = ap (λ (ys : List ℕ). 34 ∷ ys) (c.0.1 ∙ sym (append_assoc text (34 ∷ []) rest)) in
     let at_text : IsQuoted false text × (34 ∷ bs ≡ (34 ∷ text ++ 34 ∷ []) ++ rest) × NoQuote rest = (c.0.2, whole, c.1) in
-    subst (λ (z : List ℕ × List ℕ). IsQuoted false z.0 × (34 ∷ bs ≡ (34 ∷ z.0 ++ 34 ∷ []) ++ z.1) × NoQuote z.1) (some_is (take (length bs - length rest - 1) bs, rest) y e) (rw front at_text)
+    subst (λ (z : List ℕ × List ℕ). IsQuoted false z.0 × (34 ∷ bs ≡ (34 ∷ z.0 ++ 34 ∷ []) ++ z.1) × NoQuote z.1) (same_Some (take (length bs - length rest - 1) bs, rest) y e) (rw front at_text)
 
 quoted_found : (bs : List ℕ) (y : List ℕ × List ℕ) → split_quoted bs ≡ Some y → IsQuoted false y.0 × (34 ∷ bs ≡ (34 ∷ y.0 ++ 34 ∷ []) ++ y.1) × NoQuote y.1
 quoted_found bs y e = quoted_by bs y (after_quoted false bs) refl e

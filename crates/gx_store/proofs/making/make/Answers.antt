@@ -7,7 +7,7 @@ use Rattle.gx_layout.specs.Head.{HasMagic}
 use Rattle.gx_store.specs.Device.{IsMadeOn, IsNoneOrEmpty}
 use Rattle.gx_store.specs.Making.{IsUnmade, IsUnmadeOn}
 use Rattle.gx_store.proofs.ShelfLemmas.{attached_at, attached_named, attached_rest, refused_rest}
-use Rattle.gx_store.proofs.AttachLemmas.{some_same}
+use Rattle.std.proofs.lemmas.Option.{same_Some}
 use Rattle.gx_store.proofs.MakeLemmas.{unmade_by, unmade_on, unmade_touched, on_ok_always, none_made}
 use Rattle.gx_store.proofs.making.make.Goals as goal
 
@@ -75,7 +75,7 @@ returns-clause-left g c = λ can none blocks is.
     let mid = g.M.Device.content c.attach.new.self in
     let last = g.M.Device.content c.make_attached.result.1 in
     let at = attached_at c.args.name.now (zero_blocks c.args.blocks) (g.M.Device.content c.args.machine) mid last can.free m.attached c.make_attached.ensures.silent in
-    subst (λ (bs : List (List ℕ)). IsNoneOrEmpty c.args.schema.now c.args.equation.now c.args.specs.now bs) (some_same last.now.blocks blocks (sym at ∙ is))
+    subst (λ (bs : List (List ℕ)). IsNoneOrEmpty c.args.schema.now c.args.equation.now c.args.specs.now bs) (same_Some last.now.blocks blocks (sym at ∙ is))
     (c.make_attached.ensures.left can.told (λ has. none_made c.args.blocks (subst (λ (bs : List (List ℕ)). HasMagic (get_or bs 0 [])) m.attached.blocks_are has)))
 
 pub returns-clause-attaches : goal.returns-clause-attaches
