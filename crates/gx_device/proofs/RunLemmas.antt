@@ -75,7 +75,6 @@ no_more old m count said shelf blocks pending P leaves image is = leaves image (
   said = is.said ∙ said;
   shelf = is.shelf ∙ shelf;
   count = is.count ∙ count;
-  whole = λ n below. is.whole n (subst (λ (k : ℕ). n < k) (sym count) below);
   same = λ n below firm. is.same n (subst (λ (k : ℕ). n < k) (sym count) below) (pending n firm) ∙ blocks n;
 })
 

@@ -1,6 +1,6 @@
 // What stood on a device at each moment, kept as the devices at its start and a log of calls.
 ghost use Rattle.std.specs.Prelude.{◌≡◌, ◌≤◌, ◌<◌, ◌+◌, ◌^◌, ◌++◌, ◌∷◌, [], ℕ, length, replicate, slice_index_or, vec_len, vec_capacity, None, IfOk, OnOk, OnErr, is_some, false};
-ghost use Rattle.gx_device.specs.Content.{nothing_told, zero_blocks, block_of};
+ghost use Rattle.gx_device.specs.Content.{nothing_told, zero_blocks, block_of, HasWholeBlocks};
 ghost use Rattle.gx_memory_machine.specs.Log.{with_block, all_synced, with_said, with_device};
 ghost use Rattle.gx_memory_machine.specs.Names.{by_name};
 ghost use Rattle.gx_memory_machine.specs.Trace.{Adds, AreFew, HasAttachCause, blocks_given, attaching};
@@ -126,10 +126,12 @@ impl Trace {
         Ok(())
     }
 
-    /// The number of blocks.
+    /// The number of blocks, of which each has its size.
     pub fn blocks(&self) -> u32
-        ensures { result ≡ length self.now.now.blocks }
+        ensures count { result ≡ length self.now.now.blocks }
+        ensures whole { HasWholeBlocks self.now.now }
     {
+        are_whole(&self.blocks);
         self.blocks.len() as u32
     }
 
@@ -151,7 +153,7 @@ impl Trace {
 
     /// Each block has its size.
     pub fn are_whole(&self)
-        ensures { (n : ℕ) → n < length self.now.now.blocks → length (block_of self.now.now n) ≡ 4096 }
+        ensures { HasWholeBlocks self.now.now }
     {
         are_whole(&self.blocks);
     }
