@@ -5,7 +5,7 @@ ghost use Rattle.gx_device.specs.Faults.{IsCounted};
 ghost use Rattle.gx_frames.specs.Pool.{IsResident, HasFreeFrame, without, with_residents};
 ghost use Rattle.gx_layout.specs.Layout.{home};
 ghost use Rattle.gx_journal.specs.Sources.{SamePages, OnlySlots};
-ghost use Rattle.gx_journal.specs.Working.{size_in, page_in, IsCachedIn};
+ghost use Rattle.gx_journal.specs.Working.{size_in, page_in, IsCachedIn, IsUnchangedIn};
 
 use crate::room::{make_room, reserve};
 use crate::working::WorkingPages;
@@ -87,6 +87,7 @@ pub(crate) fn read<D: Device>(
     requires cached { IsTrue D.tells → IsCachedIn (size_in working.old) (D.content device.old) working.old }
     ensures page { IsTrue D.tells → OnOk result (into.new ≡ page_in (size_in working.old) (D.content device.old) working.old p) }
     ensures same { IsTrue D.tells → SamePages (page_in (size_in working.old) (D.content device.old) working.old) (page_in (size_in working.old) (D.content device.new) working.new) }
+    ensures unchanged { IsUnchangedIn working.old → IsUnchangedIn working.new }
     ensures long { size_in working.new ≡ size_in working.old }
     ensures cached { IsTrue D.tells → IsCachedIn (size_in working.old) (D.content device.new) working.new }
     ensures slots { OnlySlots (size_in working.old) (D.content device.old) (D.content device.new) }

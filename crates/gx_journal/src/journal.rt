@@ -176,6 +176,7 @@ impl<D: Device> Journal<D> {
         ensures place { IsTrue D.tells → IfOk result (DifferFirst (text_at (head_blocks self.old))
             (λ q. slice_index_or (text_area schema.now equation.now) q 0)) }
         ensures working { working_of self.new ≡ working_of self.old }
+        ensures unchanged { IsUnchanged self.old → IsUnchanged self.new }
         ensures blocks { (content_of self.new).now.blocks ≡ (content_of self.old).now.blocks }
         ensures keeps { Keeps self.old self.new }
         ensures silent { Silent (content_of self.old) (content_of self.new) }
@@ -205,6 +206,7 @@ impl<D: Device> Journal<D> {
         requires bytes { length into.old ≡ 4096 }
         ensures page { IsTrue D.tells → OnOk result (into.new ≡ slice_index_or (working_of self.old) p []) }
         ensures working { working_of self.new ≡ working_of self.old }
+        ensures unchanged { IsUnchanged self.old → IsUnchanged self.new }
         ensures keeps { Keeps self.old self.new }
         ensures silent { Silent (content_of self.old) (content_of self.new) }
         ensures faults { IsCounted (D.faults (device_of self.old)) (D.faults (device_of self.new)) result }
@@ -268,6 +270,7 @@ impl<D: Device> Journal<D> {
         ensures rest { Listens (content_of self.old) (content_of self.new) }
         ensures faults { IsCounted (D.faults (device_of self.old)) (D.faults (device_of self.new)) result }
         ensures working { working_of self.new ≡ working_of self.old }
+        ensures unchanged { IsUnchanged self.old → IsUnchanged self.new }
         ensures keeps { Keeps self.old self.new }
     {
         self.device.hear(into)
@@ -283,6 +286,7 @@ impl<D: Device> Journal<D> {
         ensures counted { IfOk result (λ n. 0 < n → D.faults (device_of self.new) ≡ D.faults (device_of self.old)) }
         ensures none_taken { result ≡ Ok 0 → 0 < length from.now → Rose (D.faults (device_of self.old)) (D.faults (device_of self.new)) }
         ensures working { working_of self.new ≡ working_of self.old }
+        ensures unchanged { IsUnchanged self.old → IsUnchanged self.new }
         ensures keeps { Keeps self.old self.new }
     {
         self.device.say(from)

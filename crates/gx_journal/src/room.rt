@@ -1,10 +1,10 @@
 // Room in the frames.
-ghost use Rattle.std.specs.Prelude.{◌≡◌, ◌<◌, ◌≤◌, ◌+◌, ◌*◌, ◌⊎◌, ℕ, true, Some, None, length, slice_set, vec_capacity, IsTrue, OnOk};
+ghost use Rattle.std.specs.Prelude.{◌≡◌, ◌<◌, ◌≤◌, ◌+◌, ◌*◌, ◌⊎◌, ℕ, true, false, Some, None, length, slice_set, vec_capacity, IsTrue, OnOk};
 ghost use Rattle.gx_device.specs.Content.{Writes, Written};
 ghost use Rattle.gx_device.specs.Faults.{IsCounted};
 ghost use Rattle.gx_frames.specs.Pool.{Resident, IsResident, HasFreeFrame, find_page, to_front, with_residents};
 ghost use Rattle.gx_journal.specs.Sources.{stored, SamePages, IsListed, OnlySlots};
-ghost use Rattle.gx_journal.specs.Working.{size_in, page_in, IsCachedIn};
+ghost use Rattle.gx_journal.specs.Working.{size_in, page_in, IsCachedIn, IsUnchangedIn};
 
 use crate::working::WorkingPages;
 use gx_device::{Device, Failed};
@@ -81,6 +81,7 @@ fn settle<D: Device>(
     requires resident { IsResident working.old.frames p }
     requires changed { (r : Resident) → find_page p working.old.frames.resident ≡ Some r → r.changed ≡ changed }
     requires cached { IsTrue D.tells → IsCachedIn (size_in working.old) (D.content device.old) working.old }
+    ensures untouched { changed ≡ false → working.new ≡ working.old }
     ensures order { (q : ℕ) → find_page q working.new.frames.resident ≡ find_page q working.old.frames.resident }
     ensures count { length working.new.frames.resident ≤ length working.old.frames.resident }
     ensures frames { working.new.frames.frames ≡ working.old.frames.frames }
@@ -104,6 +105,7 @@ pub(crate) fn make_room<D: Device>(device: &mut D, working: &mut WorkingPages) -
     requires room { 7 + 2 * size_in working.old ≤ D.size device.old }
     requires cached { IsTrue D.tells → IsCachedIn (size_in working.old) (D.content device.old) working.old }
     ensures free { OnOk result (HasFreeFrame working.new.frames) }
+    ensures unchanged { IsUnchangedIn working.old → IsUnchangedIn working.new }
     ensures absent { (p : ℕ) → find_page p working.old.frames.resident ≡ None → find_page p working.new.frames.resident ≡ None }
     ensures same { IsTrue D.tells → SamePages (page_in (size_in working.old) (D.content device.old) working.old) (page_in (size_in working.old) (D.content device.new) working.new) }
     ensures cached { IsTrue D.tells → IsCachedIn (size_in working.old) (D.content device.new) working.new }

@@ -1,6 +1,8 @@
 use Rattle.std.proofs.Common.{length, ap, sym, subst, ◌∙◌, arith}
 use Rattle.std.proofs.lemmas.Option.{same_Some}
-use Rattle.gx_frames.specs.Pool.{Resident, Pool}
+use Rattle.gx_frames.specs.Pool.{Resident, Pool, IsChanged}
+use Rattle.gx_journal.specs.Working.{IsUnchangedIn}
+use Rattle.gx_journal.proofs.UnchangedLemmas.{last_unchanged, none_left}
 use Rattle.gx_journal.specs.Sources.{page_of, IsCached}
 use Rattle.gx_journal.proofs.SourceLemmas.{last_found, found_below, some_found, still_none, fewer_without, evicted_pages, evicted_cached}
 use Rattle.gx_journal.proofs.room.make_room.Goals as goal
@@ -50,3 +52,19 @@ returns-clause-cached g c told =
     let P = length c.args.working.now.spilled.items in
     subst (λ (x : Pool). IsCached P blocks c.settle.new.working.spilled.items x.resident) (sym c.evict.ensures)
     (evicted_cached P blocks c.settle.new.working.spilled.items c.settle.new.working.frames.resident c.in-Some.page (c.settle.ensures.cached told))
+
+pub returns-in_err-settle-clause-unchanged : goal.returns-in_err-settle-clause-unchanged
+returns-in_err-settle-clause-unchanged g c is =
+    subst IsUnchangedIn (sym (c.settle.ensures.untouched (last_unchanged c.args.working.now.frames
+    c.in-Some.page c.in-Some.changed c.victim.ensures.pool c.in-Some.ensures.last (is.clean c.in-Some.page)))) is
+
+pub returns-clause-unchanged : goal.returns-clause-unchanged
+returns-clause-unchanged g c is =
+    let settled : IsUnchangedIn c.settle.new.working = subst IsUnchangedIn (sym (c.settle.ensures.untouched
+    (last_unchanged c.args.working.now.frames c.in-Some.page c.in-Some.changed c.victim.ensures.pool
+    c.in-Some.ensures.last (is.clean c.in-Some.page)))) is in
+    record {
+      clean = λ q. subst (λ (x : Pool). ¬ IsChanged x q) (sym c.evict.ensures)
+          (none_left c.settle.new.working.frames.resident c.in-Some.page q (settled.clean q));
+      unspilled = settled.unspilled;
+    }
