@@ -1,5 +1,5 @@
 -- The pages of all chains of an indexed sequential file, as one list.
-use Rattle.std.proofs.Common.{◌≡◌, ◌≢◌, ◌↔◌, inl, inr, ℕ, ◌+◌, ◌<◌, ◌≤◌, List, [], ◌∷◌, ◌++◌, length, Some, sym, subst, ◌∙◌, arith}
+use Rattle.std.proofs.Common.{◌≡◌, ◌↔◌, inl, inr, ℕ, ◌+◌, ◌≤◌, List, ◌∷◌, length, Some, sym, subst, ◌∙◌, arith}
 use Rattle.std.specs.Prelude.{slice_get}
 use Rattle.std.specs.List.{Contains}
 use Rattle.std.specs.FinMap as fin
@@ -31,7 +31,7 @@ module _ (ground : Ground) (owner root : ℕ) (s : Sheets) (pages : ℕ → List
 
   pub below_apart : ArePagesApart s (pages_below pages count)
   below_apart = record {
-    once = once_below pages count (λ i less. (b.chains i less).once) (once ground owner root s pages b);
+    once = once_below pages count (λ i less. (b.chains i less).once) (once ground owner s (bytes_at s root) pages b);
     each = λ q c. (let r = below_to pages count q c in linked_page s (first_of (bytes_at s root) r.bucket) (pages r.bucket) q (b.chains r.bucket r.below).linked r.among);
     apart = across;
   }

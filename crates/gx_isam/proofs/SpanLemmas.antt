@@ -134,7 +134,7 @@ module _ (ground : Ground) (place : Place) (s : Sheets) (map : LeafMap) (h : IsI
   between_apart : ArePagesApart s those
   between_apart = record {
     once = once_below (chains_from h.pages from) (end - from) (λ i less. (h.buckets.chains (from + i) (in_count i less)).once)
-        (λ i j q in_i in_j at_i at_j. (let same = once ground place.owner place.root s h.pages h.buckets (from + i) (from + j) q (in_count i in_i) (in_count j in_j) at_i at_j in omega (arith, same)));
+        (λ i j q in_i in_j at_i at_j. (let same = once ground place.owner s (bytes_at s place.root) h.pages h.buckets (from + i) (from + j) q (in_count i in_i) (in_count j in_j) at_i at_j in omega (arith, same)));
     each = λ q c. (let r = between_to q c in linked_page s (first_of (bytes_at s place.root) r.bucket) (h.pages r.bucket) q (h.buckets.chains r.bucket r.below).linked r.among);
     apart = λ p q k b c in_p in_q at_p at_q. (let all = isam_apart ground place s map h in
         let x = between_to p in_p in
