@@ -20,3 +20,4 @@ pub mod PlacedLemmas
 pub mod PlacedChainLemmas
 pub mod PairLemmas
 pub mod BucketsLemmas
+pub mod SpanLemmas
