@@ -1,9 +1,11 @@
 -- The pages of several chains of one owner.
-use Rattle.std.proofs.Common.{◌≡◌, ◌≢◌, ◌↔◌, inl, inr, ℕ, zero, suc, ◌<◌, Bool, cond, List, [], ◌∷◌, ◌++◌, refl, ap, subst, ◌∙◌, arith}
+use Rattle.std.proofs.Common.{◌≡◌, ◌≢◌, ◌↔◌, inl, inr, ℕ, zero, suc, ◌<◌, Bool, cond, List, [], ◌∷◌, ◌++◌, Some, refl, ap, subst, ◌∙◌, arith}
 use Rattle.std.specs.Prelude.{◌==◌}
 use Rattle.std.specs.List.{AllPairs, Contains}
+use Rattle.std.specs.FinMap as fin
 use Rattle.std.proofs.lemmas.Bool.{cases_Bool, cases_eq, eqb-true}
 use Rattle.std.proofs.lemmas.List.Elements.{Contains-append_cases, Contains-append_left, Contains-append_right}
+use Rattle.gx_ports.specs.LeafMaps.{LeafMap}
 use Rattle.gx_ports.specs.Sheets.{Sheets}
 use Rattle.gx_chain.specs.Chain.{IsOn}
 use Rattle.gx_chain.specs.Chains.{IsOfChain, IsOnChain, pages_below}
@@ -53,6 +55,14 @@ on_below s pages n k b = (
   λ on. record
       { page = on.on.page; among = below_from pages n on.bucket on.on.page on.below on.on.among; here = on.on.here },
 )
+
+-- what the chains have, the pages in the list have
+pub map_below : (s : Sheets) (pages : ℕ → List ℕ) (count : ℕ) (map : LeafMap) → ((k b : List ℕ) → (fin.get map k ≡ Some b) ↔ IsOnChain s pages count k b) → (k b : List ℕ) → (fin.get map k ≡ Some b) ↔ IsOn s (pages_below pages count) k b
+map_below s pages count map there k b =
+    let both = on_below s pages count k b in (
+      λ is. both.1 ((there k b).0 is),
+      λ on. (there k b).1 (both.0 on),
+    )
 
 -- ---- each once
 

@@ -17,3 +17,7 @@ pub mod MapLemmas
 pub mod OwnerLemmas
 pub mod ChainsLemmas
 pub mod PlacedLemmas
+pub mod PlacedChainLemmas
+pub mod PairLemmas
+pub mod BucketsLemmas
+pub mod SpanLemmas

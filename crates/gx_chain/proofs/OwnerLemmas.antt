@@ -1,5 +1,5 @@
 -- What a change of one chain of an owner makes of the pages of others.
-use Rattle.std.proofs.Common.{◌≡◌, ◌≢◌, inl, inr, ℕ, ◌≤◌, List, Some, Ok, Err, refl, sym, ap, ◌∙◌, arith}
+use Rattle.std.proofs.Common.{◌≡◌, ◌≢◌, ◌⊎◌, inl, inr, ℕ, ◌≤◌, List, Some, Ok, Err, refl, sym, ap, ◌∙◌, arith}
 use Rattle.std.specs.Prelude.{slice_get, Result, OnOk, IsErrOf}
 use Rattle.std.specs.List.{Contains}
 use Rattle.std.proofs.lemmas.Option.{same_Some}
@@ -8,18 +8,18 @@ use Rattle.gx_ports.specs.declared.stop.Stop.{Stop}
 use Rattle.gx_ports.specs.declared.stop.Stop.TheVariants as stop
 use Rattle.gx_ports.specs.Files.{OthersStay, EndsFile}
 use Rattle.gx_ports.specs.Sheets.{Sheets, Ground}
-use Rattle.gx_chain.specs.Chain.{IsChain}
 use Rattle.gx_chain.specs.Changes.{StaysBeside}
 use Rattle.gx_chain.proofs.ListLemmas.{contains_or_not}
 
 -- ---- the pages of other owners
 
-module _ (ground : Ground) (owner first : ℕ) (s t : Sheets) (before now : List ℕ) (some : 1 ≤ owner)
-    (was : IsChain ground owner s first before) (is : IsChain ground owner t first now)
+module _ (ground : Ground) (owner : ℕ) (s t : Sheets) (before now : List ℕ)
+    (was : (q : ℕ) → Contains before q → slice_get s.owners q ≡ Some owner)
+    (is : (q : ℕ) → Contains now q → slice_get t.owners q ≡ Some owner)
     (b : StaysBeside ground s t before now) where
   off_before : (other q : ℕ) → other ≢ owner → slice_get s.owners q ≡ Some other → Contains before q
       → ⊥
-  off_before other q d o c = d (sym (same_Some owner other (sym (was.owned q c) ∙ o)))
+  off_before other q d o c = d (sym (same_Some owner other (sym (was q c) ∙ o)))
 
   off_now : (other q : ℕ) → other ≢ owner → other ≢ 0 → slice_get s.owners q ≡ Some other
       → Contains now q → ⊥
@@ -30,7 +30,7 @@ module _ (ground : Ground) (owner first : ℕ) (s t : Sheets) (before now : List
 
   new_off_now : (other q : ℕ) → other ≢ owner → slice_get t.owners q ≡ Some other → Contains now q
       → ⊥
-  new_off_now other q d o c = d (sym (same_Some owner other (sym (is.owned q c) ∙ o)))
+  new_off_now other q d o c = d (sym (same_Some owner other (sym (is q c) ∙ o)))
 
   new_off_before : (other q : ℕ) → other ≢ owner → other ≢ 0 → slice_get t.owners q ≡ Some other
       → Contains before q → ⊥
@@ -48,18 +48,29 @@ module _ (ground : Ground) (owner first : ℕ) (s t : Sheets) (before now : List
     bytes = λ q past o. b.bytes q past (off_before other q d o) (off_now other q d z o);
   }
 
-  -- the pages of the owner are those of the chain
-  pub owned_beside : ((q : ℕ) → slice_get s.owners q ≡ Some owner → Contains before q) → (q : ℕ)
-      → slice_get t.owners q ≡ Some owner → Contains now q
-  owned_beside all q o = elim (contains_or_not now q) [
-    | inl here ↦ here
+-- ---- the pages of the owner
+
+module _ (ground : Ground) (owner : ℕ) (s t : Sheets) (before now : List ℕ) (some : 1 ≤ owner)
+    (b : StaysBeside ground s t before now) where
+  -- each is one of those now, or was the owner's beside those before
+  pub owned_after : (q : ℕ) → slice_get t.owners q ≡ Some owner
+      → Contains now q ⊎ ((Contains before q → ⊥) × (slice_get s.owners q ≡ Some owner))
+  owned_after q o = elim (contains_or_not now q) [
+    | inl here ↦ inl here
     | inr off ↦ elim (contains_or_not before q) [
       | inl old ↦ elim (b.left q old) [
-        | inl here ↦ here
+        | inl here ↦ inl here
         | inr free ↦ (let zero : owner ≡ 0 = same_Some owner 0 (sym o ∙ free) in absurd (omega (arith, zero, some)))
       ]
-      | inr out ↦ absurd (out (all q (sym (b.owners q out off) ∙ o)))
+      | inr out ↦ inr (out, sym (b.owners q out off) ∙ o)
     ]
+  ]
+
+  pub owned_beside : ((q : ℕ) → slice_get s.owners q ≡ Some owner → Contains before q) → (q : ℕ)
+      → slice_get t.owners q ≡ Some owner → Contains now q
+  owned_beside all q o = elim (owned_after q o) [
+    | inl here ↦ here
+    | inr old ↦ absurd (old.0 (all q old.1))
   ]
 
 others_same : (ground : Ground) (owner : ℕ) (s t : Sheets) → t ≡ s → OthersStay ground owner s t

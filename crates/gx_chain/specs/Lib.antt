@@ -6,3 +6,4 @@ pub mod Check
 pub mod Collect
 pub mod Map
 pub mod Chains
+pub mod Placed

@@ -1,9 +1,9 @@
 -- The chain in which an entry stands, and the one of all keys inside a span.
-use Rattle.std.proofs.Common.{◌≡◌, ◌≢◌, inl, inr, ℕ, zero, suc, ◌<◌, ◌≤◌, ◌==◌, ◌%◌, Bool, true, false, cond, List, [], ◌∷◌, length, get_or, take, Option, Some, None, refl, sym, ap, subst, ◌∙◌, arith}
-use Rattle.std.specs.Prelude.{◌&&◌, nat_le}
+use Rattle.std.proofs.Common.{◌≡◌, ◌≢◌, inl, inr, ℕ, zero, suc, ◌<◌, ◌≤◌, ◌==◌, ◌%◌, Bool, true, cond, List, [], ◌∷◌, length, get_or, take, Option, Some, None, refl, sym, ap, subst, ◌∙◌, arith}
+use Rattle.std.specs.Prelude.{nat_le}
 use Rattle.std.specs.Option.{option_map, unwrap_or}
 use Rattle.std.specs.Ordering.{is_le, ordering_reverse}
-use Rattle.std.specs.Cmp.{tied_itself}
+use Rattle.std.specs.Cmp.{first_so, second_so, tied_itself}
 use Rattle.std.specs.Cmp.Lexicographic.{nat_list_cmp_total}
 use Rattle.std.specs.declared.cmp.Ordering.{Ordering}
 use Rattle.std.specs.declared.cmp.Ordering.TheVariants.{Less, Equal, Greater}
@@ -146,14 +146,6 @@ close Greater t e a b = absurd (false≢true a)
 le_both : (x y : List ℕ) → is_le (key_cmp x y) ≡ true → is_le (key_cmp y x) ≡ true → x ≡ y
 le_both x y a b = only_equal x y (close (key_cmp x y) (key_cmp y x) (nat_list_cmp_total.antisymm y x) a b)
 
-and_first : (a b : Bool) → (a && b) ≡ true → a ≡ true
-and_first true b e = refl
-and_first false b e = e
-
-and_second : (a b : Bool) → (a && b) ≡ true → b ≡ true
-and_second true b e = e
-and_second false b e = absurd (false≢true e)
-
 -- each key between two ends with one front has it
 only_front : (first : Kind) (lo hi key f : List ℕ) → whole_front first lo ≡ Some f → whole_front first hi ≡ Some f → is_inside lo hi key ≡ true → whole_front first key ≡ Some f
 only_front first lo hi key f low high inside =
@@ -161,8 +153,8 @@ only_front first lo hi key f low high inside =
     let at_hi = front_begins first hi f high in
     let long = ap length (sym at_hi) ∙ length-take (length f) hi in
     let above = subst (λ (x : List ℕ). is_le (key_cmp x (take (length f) key)) ≡ true) at_lo
-    (front_at_most (length f) lo key (and_first (is_le (key_cmp lo key)) (is_le (key_cmp (take (length hi) key) hi)) inside)) in
-    let below = front_at_most (length f) (take (length hi) key) hi (and_second (is_le (key_cmp lo key)) (is_le (key_cmp (take (length hi) key) hi)) inside) in
+    (front_at_most (length f) lo key (first_so (is_le (key_cmp lo key)) (is_le (key_cmp (take (length hi) key) hi)) inside)) in
+    let below = front_at_most (length f) (take (length hi) key) hi (second_so (is_le (key_cmp lo key)) (is_le (key_cmp (take (length hi) key) hi)) inside) in
     let below_too = subst (λ (x : List ℕ). is_le (key_cmp x (take (length f) hi)) ≡ true) (take-take (length f) (length hi) key (omega (arith, long))) below in
     let under = subst (λ (x : List ℕ). is_le (key_cmp (take (length f) key) x) ≡ true) at_hi below_too in
     front_begun first lo f key low (sym (le_both f (take (length f) key) above under))

@@ -1,5 +1,5 @@
 -- The pages of all chains of a hashed file, as one list.
-use Rattle.std.proofs.Common.{◌≡◌, ◌≢◌, ◌↔◌, ℕ, zero, suc, ◌+◌, ◌<◌, ◌≤◌, List, [], ◌∷◌, ◌++◌, length, drop, Some, sym, subst, ◌∙◌, arith, length-append}
+use Rattle.std.proofs.Common.{◌≡◌, ◌≢◌, ◌↔◌, ℕ, zero, suc, ◌+◌, ◌<◌, ◌≤◌, List, [], ◌∷◌, length, drop, Some, subst, ◌∙◌, arith, length-append}
 use Rattle.std.specs.Prelude.{slice_get}
 use Rattle.std.specs.List.{AllPairs, Contains}
 use Rattle.std.specs.FinMap as fin
@@ -11,11 +11,11 @@ use Rattle.gx_ports.specs.Sheets.{Sheets, Ground}
 use Rattle.gx_chain.specs.Chain.{entries_at, IsChain, IsOn}
 use Rattle.gx_chain.specs.Collect.{ArePagesApart}
 use Rattle.gx_chain.specs.Map.{owned_map}
-use Rattle.gx_chain.proofs.ChainLemmas.{linked_page}
-use Rattle.gx_chain.proofs.ChainsLemmas.{below_to, below_from, on_below, once_below}
+use Rattle.gx_chain.proofs.ChainsLemmas.{below_to, below_from, map_below, on_below, once_below}
 use Rattle.gx_chain.proofs.CountLemmas.{count_listed, keys_few, first_of}
 use Rattle.gx_chain.proofs.ListLemmas.{contains_later, contains_none, pairs_head, pairs_tail}
 use Rattle.gx_chain.proofs.MapLemmas.{owned_map_is, one_map}
+use Rattle.gx_chain.proofs.SpanLemmas.{AreBucketChains, across, below_apart}
 use Rattle.gx_hash.specs.Buckets.{bucket_of, IsHashed}
 use Rattle.gx_chain.specs.Chains.{IsOfChain, pages_below}
 use Rattle.gx_hash.specs.Hash.{IsHash}
@@ -25,19 +25,8 @@ use Rattle.gx_hash.proofs.HashLemmas.{chains_once, hash_same}
 module _ (ground : Ground) (place : Place) (s : Sheets) (pages : ℕ → List ℕ) (count : ℕ)
     (chains : (bucket : ℕ) → bucket < count → IsChain ground place.owner s (place.root + bucket) (pages bucket))
     (placed : (bucket : ℕ) (key body : List ℕ) → bucket < count → IsOn s (pages bucket) key body → bucket_of place.spec key ≡ bucket) where
-  across : (p q : ℕ) (k b c : List ℕ) → Contains (pages_below pages count) p → Contains (pages_below pages count) q → Contains (entries_at s p) (record { key = k; body = b }) → Contains (entries_at s q) (record { key = k; body = c }) → p ≡ q
-  across p q k b c in_p in_q at_p at_q =
-      let x = below_to pages count p in_p in
-      let y = below_to pages count q in_q in
-      let same : y.bucket ≡ x.bucket = sym (placed y.bucket k c y.below (record { page = q; among = y.among; here = at_q })) ∙ placed x.bucket k b x.below (record { page = p; among = x.among; here = at_p }) in
-      (chains x.bucket x.below).apart p q k b c x.among (subst (λ n. Contains (pages n) q) same y.among) at_p at_q
-
-  pub below_apart : ArePagesApart s (pages_below pages count)
-  below_apart = record {
-    once = once_below pages count (λ i less. (chains i less).once) (chains_once ground place s pages count chains placed);
-    each = λ q c. (let r = below_to pages count q c in linked_page s (place.root + r.bucket) (pages r.bucket) q (chains r.bucket r.below).linked r.among);
-    apart = across;
-  }
+  pub chains_of : AreBucketChains ground place.owner s (λ n. place.root + n) (bucket_of place.spec) count pages
+  chains_of = record { chains = chains; placed = placed; once = chains_once ground place s pages count chains placed }
 
   -- the pages behind the first of each chain
   abbrev rests : ℕ → List ℕ
@@ -79,7 +68,7 @@ module _ (ground : Ground) (place : Place) (s : Sheets) (pages : ℕ → List �
       let chain = chains r.bucket r.below in
       let e = first_of (entries_at s q) (chain.filled q (rest_of (pages r.bucket) q r.among) (rest_later (place.root + r.bucket) (pages r.bucket) chain q r.among)) in
       (e.0, e.1, e.2, map_is e.0 e.1 (record { page = q; among = rest_in q c; here = e.2 }))))
-      (λ p q k b c in_p in_q. across p q k b c (rest_in p in_p) (rest_in q in_q)) in
+      (λ p q k b c in_p in_q. across ground place.owner s (λ n. place.root + n) (bucket_of place.spec) count pages chains_of p q k b c (rest_in p in_p) (rest_in q in_q)) in
       omega (arith, few, rest_below count)
 
 -- ---- the file
@@ -88,14 +77,14 @@ module _ (ground : Ground) (place : Place) (s : Sheets) (map : LeafMap) (h : IsH
   abbrev all : List ℕ
   all = pages_below h.pages (roots_of place.spec)
 
-  pub hash_apart : ArePagesApart s all
-  hash_apart = below_apart ground place s h.pages (roots_of place.spec) h.chains h.placed
+  pub hash_chains : AreBucketChains ground place.owner s (λ n. place.root + n) (bucket_of place.spec) (roots_of place.spec) h.pages
+  hash_chains = record { chains = h.chains; placed = h.placed; once = h.once }
 
-  pub hash_map_is : (k b : List ℕ) → (fin.get map k ≡ Some b) ↔ IsOn s all k b
-  hash_map_is k b = (
-    λ is. (on_below s h.pages (roots_of place.spec) k b).1 ((h.map_is k b).0 is),
-    λ on. (h.map_is k b).1 ((on_below s h.pages (roots_of place.spec) k b).0 on),
-  )
+  hash_apart : ArePagesApart s all
+  hash_apart = below_apart ground place.owner s (λ n. place.root + n) (bucket_of place.spec) (roots_of place.spec) h.pages hash_chains
+
+  hash_map_is : (k b : List ℕ) → (fin.get map k ≡ Some b) ↔ IsOn s all k b
+  hash_map_is = map_below s h.pages (roots_of place.spec) map h.map_is
 
   all_owned : (q : ℕ) → slice_get s.owners q ≡ Some place.owner → Contains all q
   all_owned q o = let r = h.owned q o in below_from h.pages (roots_of place.spec) r.bucket q r.below r.among
@@ -120,7 +109,7 @@ pub hash_read : (ground : Ground) (place : Place) (s : Sheets) (pages : ℕ → 
     → IsHash ground place s (owned_map place.owner s)
 hash_read ground place s pages some roots chains owned placed =
     let all = pages_below pages (roots_of place.spec) in
-    let map_is = owned_map_is place.owner s all some (below_apart ground place s pages (roots_of place.spec) chains placed)
+    let map_is = owned_map_is place.owner s all some (below_apart ground place.owner s (λ n. place.root + n) (bucket_of place.spec) (roots_of place.spec) pages (chains_of ground place s pages (roots_of place.spec) chains placed))
     (λ q c. (let r = below_to pages (roots_of place.spec) q c in (chains r.bucket r.below).owned q r.among))
     (λ q o. (let r = owned q o in below_from pages (roots_of place.spec) r.bucket q r.below r.among)) in
     record {

@@ -1,12 +1,12 @@
 // The entries of a hashed file inside a span.
-ghost use Rattle.std.specs.Prelude.{◌<◌, Some, IfOk, IsErrOf, MatchOption};
+ghost use Rattle.std.specs.Prelude.{◌<◌, ◌≤◌, IfOk, IsErrOf, MatchOption};
 ghost use Rattle.gx_ports.specs.Files.{IsPlace, Holds, EndsFile, IsWhole};
 ghost use Rattle.gx_ports.specs.LeafMaps.{LeafMap};
 ghost use Rattle.gx_ports.specs.PageCalls.{ReadsPages};
 ghost use Rattle.gx_ports.specs.Roots.{roots_of};
 ghost use Rattle.gx_hash.specs.Buckets.{IsHashed};
 ghost use Rattle.gx_chain.specs.Chains.{AreGathered};
-ghost use Rattle.gx_hash.specs.Gathered.{IsOnlyBucket};
+ghost use Rattle.gx_hash.specs.Gathered.{HaveBuckets, IsOnlyBucket};
 ghost use Rattle.gx_hash.specs.Hash.{IsHash};
 
 use crate::buckets::{bucket, root, whole_front};
@@ -15,8 +15,8 @@ use gx_ports::{Entry, Pages, Place, Stop};
 use gx_values::Span;
 use std::alloc::Global;
 
-/// The entries inside the span, in no order. Only the chain in which all of them stand is read,
-/// where the span shows which it is.
+/// The entries inside the span, one chain after the other. Only the chain in which all of them stand
+/// is read, where the span shows which it is.
 pub(crate) fn gather_inside<P: Pages>(
     alloc: Global,
     pages: &mut P,
@@ -34,9 +34,27 @@ pub(crate) fn gather_inside<P: Pages>(
         pages.old pages.new result }
     ensures not_full { ¬ IsErrOf result Stop.Full }
 {
+    let (from, end) = buckets_inside(place, span);
+    let mut found = Vec::new(alloc);
+    for bucket in from..end {
+        let first = root(pages, place, bucket);
+        gather_from(alloc, pages, first, span, &mut found)?;
+    }
+    Ok(found)
+}
+
+// The buckets of the keys inside the span, from one up to another: the one that all of them have,
+// or else all buckets.
+fn buckets_inside(place: &Place, span: &Span) -> (u32, u32)
+    requires { IsHashed place.now.spec.kind }
+    ensures inside { HaveBuckets place.now.spec span.now.lo span.now.hi result.0 result.1 }
+    ensures ordered { result.0 ≤ result.1 }
+    ensures within { result.1 ≤ roots_of place.now.spec }
+{
+    let count = place.spec.kind.roots();
     match only_bucket(place, span) {
-        Some(bucket) => gather_one(alloc, pages, place, bucket, span),
-        None => gather_all(alloc, pages, place, span),
+        Some(bucket) => (bucket, bucket + 1),
+        None => (0, count),
     }
 }
 
@@ -53,56 +71,4 @@ fn only_bucket(place: &Place, span: &Span) -> Option<u32>
     } else {
         None
     }
-}
-
-// The entries inside the span on the chain of a bucket that all keys inside it have.
-fn gather_one<P: Pages>(
-    alloc: Global,
-    pages: &mut P,
-    place: &Place,
-    bucket: u32,
-    span: &Span,
-) -> Result<Vec<Entry>, Stop>
-    requires place { IsPlace (P.ground pages.old) place.now }
-    requires bucket { bucket < roots_of place.now.spec }
-    requires only { IsOnlyBucket place.now.spec span.now.lo span.now.hi (Some bucket) }
-    ensures found { (map : LeafMap) →
-        Holds P.PageView (IsHash (P.ground pages.old) place.now) pages.old map → IfOk result
-        (λ found. AreGathered (P.working pages.old) span.now.lo span.now.hi map found.items) }
-    ensures reads { ReadsPages P.PageView pages.old pages.new }
-    ensures ends { EndsFile P.PageView
-        (IsWhole P.PageView (IsHash (P.ground pages.old) place.now) pages.old)
-        pages.old pages.new result }
-    ensures not_full { ¬ IsErrOf result Stop.Full }
-{
-    let mut found = Vec::new(alloc);
-    let first = root(pages, place, bucket);
-    gather_from(alloc, pages, first, span, &mut found)?;
-    Ok(found)
-}
-
-// The entries inside the span on all chains.
-fn gather_all<P: Pages>(
-    alloc: Global,
-    pages: &mut P,
-    place: &Place,
-    span: &Span,
-) -> Result<Vec<Entry>, Stop>
-    requires kind { IsHashed place.now.spec.kind }
-    requires place { IsPlace (P.ground pages.old) place.now }
-    ensures found { (map : LeafMap) →
-        Holds P.PageView (IsHash (P.ground pages.old) place.now) pages.old map → IfOk result
-        (λ found. AreGathered (P.working pages.old) span.now.lo span.now.hi map found.items) }
-    ensures reads { ReadsPages P.PageView pages.old pages.new }
-    ensures ends { EndsFile P.PageView
-        (IsWhole P.PageView (IsHash (P.ground pages.old) place.now) pages.old)
-        pages.old pages.new result }
-    ensures not_full { ¬ IsErrOf result Stop.Full }
-{
-    let mut found = Vec::new(alloc);
-    for bucket in 0..place.spec.kind.roots() {
-        let first = root(pages, place, bucket);
-        gather_from(alloc, pages, first, span, &mut found)?;
-    }
-    Ok(found)
 }

@@ -1,11 +1,9 @@
 -- What a change of its chain makes of a heap.
-use Rattle.std.proofs.Common.{◌≡◌, ◌≢◌, ◌⊎◌, inl, inr, ℕ, ◌+◌, ◌≤◌, Bool, true, false, cond, List, [], ◌∷◌, set, Some, None, refl, sym, ap, subst, ◌∙◌, arith}
+use Rattle.std.proofs.Common.{◌≡◌, ◌≢◌, ◌↔◌, inl, inr, ℕ, ◌+◌, ◌≤◌, List, [], ◌∷◌, set, Some, refl, sym, ap, subst, ◌∙◌, arith}
 use Rattle.std.specs.Prelude.{slice_get}
 use Rattle.std.specs.List.{Contains}
-use Rattle.std.specs.Ordering.{eq_by_cmp}
-use Rattle.std.specs.Cmp.Lexicographic.{nat_list_cmp_total}
 use Rattle.std.specs.FinMap as fin
-use Rattle.std.proofs.lemmas.Bool.{cases_eq, true≢false}
+use Rattle.std.proofs.lemmas.Bool.{cases_eq}
 use Rattle.std.proofs.lemmas.Option.{same_Some, none-some}
 use Rattle.gx_ports.specs.declared.pages.Place.{Place}
 use Rattle.gx_ports.specs.Files.{SameFor, OthersStay, IsVacant, ClaimsRoots, page_count}
@@ -14,80 +12,43 @@ use Rattle.gx_ports.specs.declared.kinds.LeafKind.TheVariants as kinds
 use Rattle.gx_ports.specs.LeafMaps.{LeafMap}
 use Rattle.gx_ports.specs.Sheets.{Sheets, Ground, IsPast}
 use Rattle.gx_ports.specs.Keyed.{key_cmp}
-use Rattle.gx_ports.proofs.KeyLemmas.{same_key, tied}
 use Rattle.gx_slots.specs.Entries.{Entry}
-use Rattle.gx_chain.specs.Chain.{entries_at, IsOn}
-use Rattle.gx_chain.specs.Changes.{IsPutIn, IsRemovedFrom, IsMade}
+use Rattle.gx_chain.specs.Chain.{entries_at, IsChain, IsOn}
+use Rattle.gx_chain.specs.Changes.{IsPutIn, IsRemovedFrom, IsMade, StaysBeside}
 use Rattle.gx_chain.proofs.ChainLemmas.{at_other, same_on, same_on_back, same_chain}
 use Rattle.gx_chain.proofs.CountLemmas.{count_listed, chain_few}
 use Rattle.gx_chain.proofs.ListLemmas.{contains_here, contains_cases, contains_none}
 use Rattle.gx_chain.proofs.OwnerLemmas.{others_beside, owned_beside}
+use Rattle.gx_chain.proofs.PairLemmas.{found_put, found_removed}
 use Rattle.gx_chain.proofs.WriteLemmas.{slice_get_set, slice_get_set_same}
 use Rattle.gx_heap.specs.Heap.{IsHeap}
 
--- ---- one pair is set
+-- ---- its chain has changed
+
+module _ (ground : Ground) (place : Place) (s t : Sheets) (map new : LeafMap) (some : 1 ≤ place.owner) (h : IsHeap ground place s map) (now : List ℕ) (is : IsChain ground place.owner t place.root now) (b : StaysBeside ground s t h.pages now) where
+  heap_changed : ((k c : List ℕ) → (fin.get new k ≡ Some c) ↔ IsOn t now k c) → IsHeap ground place t new
+  heap_changed map_is = record {
+    pages = now;
+    chain = is;
+    owned = owned_beside ground place.owner s t h.pages now some b h.owned;
+    map_is = map_is;
+  }
 
 module _ (ground : Ground) (place : Place) (s t : Sheets) (map : LeafMap) (key body : List ℕ) (some : 1 ≤ place.owner) (h : IsHeap ground place s map) (p : IsPutIn ground place.owner place.root key body s t h.pages) where
-  get_new : (k : List ℕ) → fin.get (fin.insert map key body) k ≡ cond (eq_by_cmp key_cmp k key) (Some body) (fin.get map k)
-  get_new k = fin.get-insert nat_list_cmp_total map key body k
-
-  differ : (k : List ℕ) → eq_by_cmp key_cmp k key ≡ false → k ≢ key
-  differ k e same = true≢false (sym (tied key) ∙ ap (λ x. eq_by_cmp key_cmp x key) (sym same) ∙ e)
-
-  to_chain : (k b : List ℕ) (q : Bool) → eq_by_cmp key_cmp k key ≡ q → cond q (Some body) (fin.get map k) ≡ Some b → IsOn t p.pages k b
-  to_chain k b true e is = (p.entries k b).1 (inl (same_key k key e, sym (same_Some body b is)))
-  to_chain k b false e is = (p.entries k b).1 (inr (differ k e, (h.map_is k b).0 is))
-
-  from_chain : (k b : List ℕ) (q : Bool) → eq_by_cmp key_cmp k key ≡ q → ((k ≡ key) × (b ≡ body)) ⊎ ((k ≢ key) × IsOn s h.pages k b) → cond q (Some body) (fin.get map k) ≡ Some b
-  from_chain k b true e (inl put) = ap Some (sym put.1)
-  from_chain k b true e (inr old) = absurd (old.0 (same_key k key e))
-  from_chain k b false e (inl put) = absurd (differ k e put.0)
-  from_chain k b false e (inr old) = (h.map_is k b).1 old.1
-
   pub heap_put : IsHeap ground place t (fin.insert map key body)
-  heap_put = record {
-    pages = p.pages;
-    chain = p.chain;
-    owned = owned_beside ground place.owner place.root s t h.pages p.pages some h.chain p.chain p.beside h.owned;
-    map_is = λ k b. (
-      λ is. to_chain k b (eq_by_cmp key_cmp k key) refl (sym (get_new k) ∙ is),
-      λ on. get_new k ∙ from_chain k b (eq_by_cmp key_cmp k key) refl ((p.entries k b).0 on),
-    );
-  }
+  heap_put = heap_changed ground place s t map (fin.insert map key body) some h p.pages p.chain p.beside
+      (λ k b. (let found = found_put map key (IsOn s h.pages) h.map_is body k b in (λ is. (p.entries k b).1 (found.0 is), λ on. found.1 ((p.entries k b).0 on))))
 
   pub heap_put_others : OthersStay ground place.owner s t
-  heap_put_others = others_beside ground place.owner place.root s t h.pages p.pages some h.chain p.chain p.beside
-
--- ---- the pair at a key is taken away
+  heap_put_others = others_beside ground place.owner s t h.pages p.pages h.chain.owned p.chain.owned p.beside
 
 module _ (ground : Ground) (place : Place) (s t : Sheets) (map : LeafMap) (key : List ℕ) (some : 1 ≤ place.owner) (h : IsHeap ground place s map) (p : IsRemovedFrom ground place.owner place.root key s t h.pages) where
-  get_less : (k : List ℕ) → fin.get (fin.remove map key) k ≡ cond (eq_by_cmp key_cmp k key) None (fin.get map k)
-  get_less k = fin.get-remove nat_list_cmp_total map key k
-
-  other_key : (k : List ℕ) → eq_by_cmp key_cmp k key ≡ false → k ≢ key
-  other_key k e same = true≢false (sym (tied key) ∙ ap (λ x. eq_by_cmp key_cmp x key) (sym same) ∙ e)
-
-  less_to : (k b : List ℕ) (q : Bool) → eq_by_cmp key_cmp k key ≡ q → cond q None (fin.get map k) ≡ Some b → IsOn t p.pages k b
-  less_to k b true e is = absurd (none-some b is)
-  less_to k b false e is = (p.entries k b).1 (other_key k e, (h.map_is k b).0 is)
-
-  less_from : (k b : List ℕ) (q : Bool) → eq_by_cmp key_cmp k key ≡ q → (k ≢ key) × IsOn s h.pages k b → cond q None (fin.get map k) ≡ Some b
-  less_from k b true e old = absurd (old.0 (same_key k key e))
-  less_from k b false e old = (h.map_is k b).1 old.1
-
   pub heap_removed : IsHeap ground place t (fin.remove map key)
-  heap_removed = record {
-    pages = p.pages;
-    chain = p.chain;
-    owned = owned_beside ground place.owner place.root s t h.pages p.pages some h.chain p.chain p.beside h.owned;
-    map_is = λ k b. (
-      λ is. less_to k b (eq_by_cmp key_cmp k key) refl (sym (get_less k) ∙ is),
-      λ on. get_less k ∙ less_from k b (eq_by_cmp key_cmp k key) refl ((p.entries k b).0 on),
-    );
-  }
+  heap_removed = heap_changed ground place s t map (fin.remove map key) some h p.pages p.chain p.beside
+      (λ k b. (let found = found_removed map key (IsOn s h.pages) h.map_is k b in (λ is. (p.entries k b).1 (found.0 is), λ on. found.1 ((p.entries k b).0 on))))
 
   pub heap_removed_others : OthersStay ground place.owner s t
-  heap_removed_others = others_beside ground place.owner place.root s t h.pages p.pages some h.chain p.chain p.beside
+  heap_removed_others = others_beside ground place.owner s t h.pages p.pages h.chain.owned p.chain.owned p.beside
 
 -- ---- its pages are few, and decide
 

@@ -15,10 +15,11 @@ use Rattle.gx_chain.specs.Chain.{bytes_at, IsChain, IsOn, LeadsOn}
 use Rattle.gx_chain.specs.Changes.{IsPutIn, IsRemovedFrom}
 use Rattle.gx_chain.proofs.ChainLemmas.{linked_page}
 use Rattle.gx_chain.proofs.ListLemmas.{contains_here, contains_none}
+use Rattle.gx_chain.proofs.PairLemmas.{found_put, found_removed, none_put}
 use Rattle.gx_isam_index.specs.Index.{bucket_count, bucket_of, first_of}
 use Rattle.gx_isam.specs.Isam.{IsIsam}
 use Rattle.gx_isam.specs.Change.{IsHungBefore, IsSettled}
-use Rattle.gx_isam.proofs.BucketLemmas.{as_isam, key_isam, bucket_others, found_put, found_removed}
+use Rattle.gx_isam.proofs.BucketLemmas.{as_isam, key_isam, bucket_others, isam_at}
 use Rattle.gx_isam.proofs.HangLemmas.{no_pages, some_there, only_entry, that_entry, hung_bucket, hung_on}
 use Rattle.gx_isam.proofs.SettleLemmas.{headed, settled}
 
@@ -47,6 +48,10 @@ entry_first ground owner s first pages chain some =
 
 module _ (ground : Ground) (place : Place) (s : Sheets) (map : LeafMap) (least : 1 ≤ place.owner) (past : ground.tables ≤ place.root) (h : IsIsam ground place s map) (page : List ℕ) (page_is : page ≡ bytes_at s place.root)
     (key : List ℕ) (bucket : ℕ) (bucket_is : bucket ≡ bucket_of page key) (below : bucket < bucket_count page) where
+  -- on the chain of its bucket an entry stands
+  abbrev there : List ℕ → List ℕ → Type 0
+  there k b = IsOn s (h.pages (bucket_of (bytes_at s place.root) k)) k b
+
   at : bucket_of (bytes_at s place.root) key ≡ bucket
   at = sym (bucket_is ∙ ap (λ (b : List ℕ). bucket_of b key) page_is)
 
@@ -74,7 +79,7 @@ module _ (ground : Ground) (place : Place) (s : Sheets) (map : LeafMap) (least :
               (λ k c. (
                 λ on. elim ((hung_on ground place s u map least h bucket within (entry ∷ []) (some_there entry []) apart b k c).0 on) [ inl here ↦ inl (only_entry key body k c here) | inr old ↦ absurd (none_on k c old) ],
                 λ put. elim put [ inl is ↦ (hung_on ground place s u map least h bucket within (entry ∷ []) (some_there entry []) apart b k c).1 (inl (that_entry key body k c is)) | inr old ↦ absurd (none_on k c old.1) ],
-              )) (fin.insert map key body) (found_put ground place s map key h body),
+              )) (fin.insert map key body) (found_put map key there (isam_at ground place s map h) body),
           bucket_others ground place s u map least h bucket within (b.fresh ∷ h.pages bucket) changed,
         )
 
@@ -83,10 +88,7 @@ module _ (ground : Ground) (place : Place) (s : Sheets) (map : LeafMap) (least :
 
     pub removed_none : IsIsam ground place s (fin.remove map key)
     removed_none = as_isam ground place s (fin.remove map key) h.pages h.index h.root h.buckets h.owned
-        (λ k b. (let found = found_removed ground place s map key h k b in (
-          λ is. elim (found.0 is) [ inl never ↦ absurd never | inr old ↦ old.1 ],
-          λ on. found.1 (inr (lacks k b on, on)),
-        )))
+        (λ k b. (let found = found_removed map key there (isam_at ground place s map h) k b in (λ is. (found.0 is).1, λ on. found.1 (lacks k b on, on))))
 
   -- ---- the bucket has a chain
   module _ (first : ℕ) (is : first_of page bucket ≡ first) (some : first ≢ NONE) (t u : Sheets) where
@@ -101,7 +103,7 @@ module _ (ground : Ground) (place : Place) (s : Sheets) (map : LeafMap) (least :
         let c = settled ground place s t u map least past h bucket within first first_is some put.pages put.chain put.beside (settled_index after) in (
           key_isam ground place s u map least h bucket within c.now c.bucket key at (λ k b. (k ≡ key) × (b ≡ body)) (λ k b is. is.0)
               (λ k b. (λ on. (put.entries k b).0 ((c.on k b).0 on), λ old. (c.on k b).1 ((put.entries k b).1 old)))
-              (fin.insert map key body) (found_put ground place s map key h body),
+              (fin.insert map key body) (found_put map key there (isam_at ground place s map h) body),
           bucket_others ground place s u map least h bucket within c.now c.bucket,
         )
 
@@ -109,7 +111,7 @@ module _ (ground : Ground) (place : Place) (s : Sheets) (map : LeafMap) (least :
     removed_settled less after =
         let c = settled ground place s t u map least past h bucket within first first_is some less.pages less.chain less.beside (settled_index after) in (
           key_isam ground place s u map least h bucket within c.now c.bucket key at (λ k b. ⊥) (λ k b never. absurd never)
-              (λ k b. (λ on. inr ((less.entries k b).0 ((c.on k b).0 on)), λ old. elim old [ inl never ↦ absurd never | inr was ↦ (c.on k b).1 ((less.entries k b).1 was) ]))
-              (fin.remove map key) (found_removed ground place s map key h),
+              (λ k b. none_put (λ on. (less.entries k b).0 ((c.on k b).0 on), λ old. (c.on k b).1 ((less.entries k b).1 old)))
+              (fin.remove map key) (λ k b. none_put (found_removed map key there (isam_at ground place s map h) k b)),
           bucket_others ground place s u map least h bucket within c.now c.bucket,
         )

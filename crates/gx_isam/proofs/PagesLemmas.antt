@@ -1,5 +1,5 @@
 -- The pages of all chains of an indexed sequential file, as one list.
-use Rattle.std.proofs.Common.{◌≡◌, ◌≢◌, ◌↔◌, inl, inr, ℕ, ◌+◌, ◌<◌, ◌≤◌, List, [], ◌∷◌, ◌++◌, length, Some, sym, subst, ◌∙◌, arith}
+use Rattle.std.proofs.Common.{◌≡◌, ◌↔◌, inl, inr, ℕ, ◌+◌, ◌≤◌, List, ◌∷◌, length, Some, sym, subst, arith}
 use Rattle.std.specs.Prelude.{slice_get}
 use Rattle.std.specs.List.{Contains}
 use Rattle.std.specs.FinMap as fin
@@ -9,32 +9,24 @@ use Rattle.gx_ports.specs.LeafMaps.{LeafMap}
 use Rattle.gx_ports.specs.Sheets.{Sheets, Ground}
 use Rattle.gx_chain.specs.Chain.{bytes_at, entries_at, IsOn}
 use Rattle.gx_chain.specs.Collect.{ArePagesApart}
-use Rattle.gx_chain.proofs.ChainLemmas.{linked_page}
-use Rattle.gx_chain.proofs.ChainsLemmas.{below_to, below_from, on_below, once_below}
+use Rattle.gx_chain.proofs.ChainsLemmas.{below_to, below_from, map_below}
 use Rattle.gx_chain.proofs.CountLemmas.{count_listed, keys_few, first_of as entry_of}
 use Rattle.gx_chain.proofs.ListLemmas.{contains_here, contains_later}
-use Rattle.gx_isam_index.specs.Index.{bucket_count, first_of}
+use Rattle.gx_chain.proofs.SpanLemmas.{AreBucketChains, across, below_apart as chains_apart}
+use Rattle.gx_isam_index.specs.Index.{bucket_count, bucket_of, first_of}
 use Rattle.gx_isam.specs.Isam.{AreBuckets, IsIsam}
 use Rattle.gx_chain.specs.Chains.{pages_below}
 use Rattle.gx_isam.proofs.BucketLemmas.{once}
+
+pub bucket_chains : (ground : Ground) (owner : ℕ) (s : Sheets) (index : List ℕ) (pages : ℕ → List ℕ) → AreBuckets ground owner s index pages → AreBucketChains ground owner s (first_of index) (bucket_of index) (bucket_count index) pages
+bucket_chains ground owner s index pages b = record { chains = b.chains; placed = b.placed; once = once ground owner s index pages b }
 
 module _ (ground : Ground) (owner root : ℕ) (s : Sheets) (pages : ℕ → List ℕ) (b : AreBuckets ground owner s (bytes_at s root) pages) where
   abbrev count : ℕ
   count = bucket_count (bytes_at s root)
 
-  across : (p q : ℕ) (k c d : List ℕ) → Contains (pages_below pages count) p → Contains (pages_below pages count) q → Contains (entries_at s p) (record { key = k; body = c }) → Contains (entries_at s q) (record { key = k; body = d }) → p ≡ q
-  across p q k c d in_p in_q at_p at_q =
-      let x = below_to pages count p in_p in
-      let y = below_to pages count q in_q in
-      let same : y.bucket ≡ x.bucket = sym (b.placed y.bucket k d y.below (record { page = q; among = y.among; here = at_q })) ∙ b.placed x.bucket k c x.below (record { page = p; among = x.among; here = at_p }) in
-      (b.chains x.bucket x.below).apart p q k c d x.among (subst (λ n. Contains (pages n) q) same y.among) at_p at_q
-
   pub below_apart : ArePagesApart s (pages_below pages count)
-  below_apart = record {
-    once = once_below pages count (λ i less. (b.chains i less).once) (once ground owner root s pages b);
-    each = λ q c. (let r = below_to pages count q c in linked_page s (first_of (bytes_at s root) r.bucket) (pages r.bucket) q (b.chains r.bucket r.below).linked r.among);
-    apart = across;
-  }
+  below_apart = chains_apart ground owner s (first_of (bytes_at s root)) (bucket_of (bytes_at s root)) count pages (bucket_chains ground owner s (bytes_at s root) pages b)
 
   -- they are at most as many as there are entries
   pub below_few : (map : LeafMap) → ((k c : List ℕ) → IsOn s (pages_below pages count) k c → fin.get map k ≡ Some c) → length (pages_below pages count) ≤ fin.len map
@@ -42,7 +34,7 @@ module _ (ground : Ground) (owner root : ℕ) (s : Sheets) (pages : ℕ → List
       (λ q c. (let r = below_to pages count q c in
       let e = entry_of (entries_at s q) (b.filled r.bucket q r.below r.among) in
       (e.0, e.1, e.2, map_is e.0 e.1 (record { page = q; among = c; here = e.2 }))))
-      across
+      (across ground owner s (first_of (bytes_at s root)) (bucket_of (bytes_at s root)) count pages (bucket_chains ground owner s (bytes_at s root) pages b))
 
 -- ---- the file
 
@@ -50,15 +42,8 @@ module _ (ground : Ground) (place : Place) (s : Sheets) (map : LeafMap) (h : IsI
   abbrev all : List ℕ
   all = pages_below h.pages (bucket_count (bytes_at s place.root))
 
-  pub isam_apart : ArePagesApart s all
-  isam_apart = below_apart ground place.owner place.root s h.pages h.buckets
-
   pub isam_map_is : (k b : List ℕ) → (fin.get map k ≡ Some b) ↔ IsOn s all k b
-  isam_map_is k b =
-      let both = on_below s h.pages (bucket_count (bytes_at s place.root)) k b in (
-        λ is. both.1 ((h.map_is k b).0 is),
-        λ on. (h.map_is k b).1 (both.0 on),
-      )
+  isam_map_is = map_below s h.pages (bucket_count (bytes_at s place.root)) map h.map_is
 
   all_owned : (q : ℕ) → slice_get s.owners q ≡ Some place.owner → Contains (place.root ∷ all) q
   all_owned q o = elim (h.owned q o) [

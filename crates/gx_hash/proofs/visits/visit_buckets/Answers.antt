@@ -1,24 +1,18 @@
-use Rattle.std.proofs.Common.{◌≡◌, ◌<◌, ap, false, length, refl, sym, subst, ◌∙◌, arith}
-use Rattle.std.proofs.lemmas.List.{length-replicate}
+use Rattle.std.proofs.Common.{◌≡◌, ◌+◌, ap, refl, sym, subst, ◌∙◌, arith}
 use Rattle.gx_ports.specs.Files.{IsPlace, IsWhole}
 use Rattle.gx_ports.specs.Roots.{roots_of}
-use Rattle.gx_ports.specs.Sheets.{Sheets, Ground}
-use Rattle.gx_ports.proofs.PageLemmas.{pages_read_themselves, read_pages_joined, ends_handed_on}
+use Rattle.gx_ports.specs.Sheets.{Ground}
+use Rattle.gx_ports.proofs.PageLemmas.{read_pages_joined, ends_handed_on}
+use Rattle.gx_chain.proofs.PlacedChainLemmas.{visiting_first, visiting_more, visiting_last}
 use Rattle.gx_hash.specs.Hash.{IsHash}
-use Rattle.gx_hash.specs.Visited.{IsVisitedBucket, HasUnseenBucket, AreVisitedBuckets}
-use Rattle.gx_hash.proofs.VisitedLemmas.{visited_none, visited_more, bucket_there}
+use Rattle.gx_hash.specs.Visited.{ArePlaced, HasUnseenBucket}
+use Rattle.gx_hash.proofs.VisitedLemmas.{bucket_there}
 use Rattle.gx_hash.proofs.visits.visit_buckets.Goals as goal
 
 pub loop-bucket-init : goal.loop-bucket-init
 loop-bucket-init g c =
-    let ground = g.P.PageView.ground c.args.pages.now in
-    record {
-      reads = pages_read_themselves g.P.PageView c.args.pages.now;
-      faults = refl;
-      within = omega arith;
-      long = ap length c.requires.none ∙ length-replicate ground.size false;
-      so_far = λ told. visited_none ground c.args.place.now (g.P.PageView.working c.args.pages.now) ground.size c.args.visits.now.seen.items c.requires.none;
-    }
+    let place = c.args.place.now in
+    visiting_first g.P.PageView place.owner (λ n. place.root + n) (ArePlaced place) c.args.pages.now (roots_of place.spec) c.args.visits.now.seen.items c.requires.none
 
 pub visit_bucket-requires-clause-place : goal.visit_bucket-requires-clause-place
 visit_bucket-requires-clause-place g c = subst (λ (x : Ground). IsPlace x c.args.place.now) (sym c.loop-bucket.invariant.reads.keeps.ground) c.requires.place
@@ -46,30 +40,16 @@ returns-in_err-visit_bucket-clause-ends g c =
 
 pub loop-bucket-preserved : goal.loop-bucket-preserved
 loop-bucket-preserved g c =
-    let i = c.loop-bucket.invariant in
-    let p = c.args.pages.now in
     let place = c.args.place.now in
-    let ground = g.P.PageView.ground p in
-    let s = g.P.PageView.working p in
-    let n = c.loop-bucket.bucket in
-    let before = c.loop-bucket.visits.seen.items in
-    let seen = c.visit_bucket.new.visits.seen.items in
-    let below : n < roots_of place.spec = omega (arith, c.loop-bucket-test.true, c.roots-bucket-end.ensures.value) in
-    record {
-      reads = read_pages_joined g.P.PageView i.reads c.visit_bucket.ensures.reads;
-      faults = c.in_ok-visit_bucket.ensures.ends.cause.counted refl ∙ i.faults;
-      within = omega (arith, below);
-      long = c.visit_bucket.ensures.seen ∙ ap (λ (x : Ground). x.size) i.reads.keeps.ground;
-      so_far = λ told. visited_more ground place s n before seen (i.so_far told)
-          (subst (λ (x : Ground). IsVisitedBucket x place s n before seen) i.reads.keeps.ground
-          (subst (λ (x : Sheets). IsVisitedBucket (g.P.PageView.ground c.loop-bucket.pages) place x n before seen) i.reads.working (c.in_ok-visit_bucket.ensures.visited told)));
-    }
+    visiting_more g.P.PageView place.owner (λ n. place.root + n) (ArePlaced place) c.args.pages.now (roots_of place.spec)
+    c.loop-bucket.pages c.loop-bucket.bucket c.loop-bucket.visits.seen.items c.loop-bucket.invariant c.visit_bucket.new.pages c.visit_bucket.new.visits.seen.items
+    (omega (arith, c.loop-bucket-test.true, c.roots-bucket-end.ensures.value)) c.visit_bucket.ensures.reads (c.in_ok-visit_bucket.ensures.ends.cause.counted refl) c.visit_bucket.ensures.seen
+    c.in_ok-visit_bucket.ensures.visited
 
 pub returns-clause-visited : goal.returns-clause-visited
-returns-clause-visited g c told =
-    let p = c.args.pages.now in
+returns-clause-visited g c =
     let place = c.args.place.now in
     let within = c.loop-bucket.invariant.within in
     let over = c.loop-bucket-test.false in
     let end : c.loop-bucket.bucket ≡ roots_of place.spec = omega (arith, within, over, c.roots-bucket-end.ensures.value) in
-    subst (λ n. AreVisitedBuckets (g.P.PageView.ground p) place (g.P.PageView.working p) n c.loop-bucket.visits.seen.items) end (c.loop-bucket.invariant.so_far told)
+    visiting_last g.P.PageView place.owner (λ n. place.root + n) (ArePlaced place) c.args.pages.now (roots_of place.spec) c.loop-bucket.pages c.loop-bucket.bucket c.loop-bucket.visits.seen.items c.loop-bucket.invariant end

@@ -1,4 +1,4 @@
-use Rattle.gx_isam.proofs.SpanLemmas.{gathered_selected}
+use Rattle.gx_chain.proofs.SpanLemmas.{gathered_selected}
 use Rattle.gx_isam.proofs.isam.select.Goals as goal
 
 pub returns-clause-ok : goal.returns-clause-ok

@@ -8,10 +8,11 @@ use Rattle.gx_ports.proofs.PageLemmas.{ends_as, ends_handed_on}
 use Rattle.gx_slots.specs.Page.{IsEntryPage}
 use Rattle.gx_chain.specs.Chain.{bytes_at, entries_at, LeadsOn}
 use Rattle.gx_seen.proofs.EndLemmas.{ends_shown}
-use Rattle.gx_isam_index.specs.Index.{first_of}
-use Rattle.gx_isam.specs.Visited.{HasUnseenBucket, HasEntryAt}
+use Rattle.gx_chain.proofs.PlacedChainLemmas.{placed_chain, keys_have, keys_placed}
+use Rattle.gx_isam_index.specs.Index.{bucket_of, first_of}
+use Rattle.gx_isam.specs.Visited.{ArePlaced, HasUnseenBucket, HasEntryAt}
 use Rattle.gx_isam.proofs.ChangeLemmas.{leads_on}
-use Rattle.gx_isam.proofs.VisitedLemmas.{visited_nothing, visited_bucket, keys_placed, entry_there}
+use Rattle.gx_isam.proofs.VisitedLemmas.{visited_nothing, filled_chain, entry_there}
 use Rattle.gx_isam.proofs.visits.visit_bucket.Goals as goal
 
 pub returns-in_err-first-clause-ends : goal.returns-in_err-first-clause-ends
@@ -42,7 +43,8 @@ returns-then-not-are_placed-clause-ends g c =
     ends_shown g.P.PageView (HasUnseenBucket g.P.PageView p owner index c.args.bucket seen) p c.visit_chain.new.pages c.block.result
     (c.in_ok-visit_chain.ensures.ends.cause.counted refl) (subst (λ (x : Ground). c.block.result < x.blocks) c.visit_chain.ensures.reads.keeps.ground c.block.ensures.below)
     (λ n. false≢true (sym c.if-not-are_placed.true ∙ c.are_placed.ensures.1
-    (keys_placed (g.P.PageView.ground p) owner (g.P.PageView.working p) index c.args.bucket c.in-Some.first seen c.visit_chain.new.visits found.0 (c.in_ok-visit_chain.ensures.visited n.told) n.pages n.chain n.placed)))
+    (keys_placed (g.P.PageView.ground p) owner (g.P.PageView.working p) at c.in-Some.first seen c.visit_chain.new.visits found.0 (c.in_ok-visit_chain.ensures.visited n.told)
+    (bucket_of index) c.args.bucket n.pages n.chain n.placed.placed)))
 
 pub returns-clause-visited : goal.returns-clause-visited
 returns-clause-visited g c told =
@@ -50,10 +52,17 @@ returns-clause-visited g c told =
     let index = c.args.index.now in
     let at = first_of index c.args.bucket in
     let found = MatchOption-at_some (at ≡ NONE) (λ n. (at ≡ n) × IsPast (g.P.PageView.ground p) n × (n ≢ NONE)) c.in-Some.first c.in-Some.is c.in_ok-first.ensures.first in
+    let ground = g.P.PageView.ground p in
+    let s = g.P.PageView.working p in
+    let owner = c.args.place.now.owner in
+    let first = c.in-Some.first in
+    let seen = c.args.visits.now.seen.items in
+    let v = c.in_ok-visit_chain.ensures.visited told in
     on_ok_weaker c.seek_entry.result
-    (λ some. visited_bucket (g.P.PageView.ground p) c.args.place.now.owner (g.P.PageView.working p) index c.args.bucket c.in-Some.first c.args.visits.now.seen.items c.visit_chain.new.visits found.0
-    (c.in_ok-visit_chain.ensures.visited told) (c.are_placed.ensures.0 c.if-not-are_placed.false)
-    (subst (λ (x : Sheets). entries_at x c.in-Some.first ≢ []) c.visit_chain.ensures.reads.working some))
+    (λ some. placed_chain ground owner s at first seen c.visit_chain.new.visits found.0 v (ArePlaced index s c.args.bucket)
+    (filled_chain ground owner s index c.args.bucket first v.pages v.chain
+    (keys_have ground owner s at first seen c.visit_chain.new.visits found.0 v (bucket_of index) c.args.bucket (c.are_placed.ensures.0 c.if-not-are_placed.false))
+    (subst (λ (x : Sheets). entries_at x first ≢ []) c.visit_chain.ensures.reads.working some)))
     (c.seek_entry.ensures.some told)
 
 pub returns-clause-ends : goal.returns-clause-ends
