@@ -4,7 +4,7 @@ ghost use Rattle.std.specs.Int.{w16, to_be_bytes};
 ghost use Rattle.gx_device.specs.Content.{NonePending, block_of};
 ghost use Rattle.gx_device.specs.Crash.{Through, Outside, LeavesOnly};
 ghost use Rattle.gx_device.specs.Faults.{IsCounted};
-ghost use Rattle.gx_layout.specs.Layout.{OnlyBlocks, head_of, is_open};
+ghost use Rattle.gx_layout.specs.Layout.{OnlyBlocks, head_of, is_open, has_bit};
 ghost use Rattle.gx_layout.specs.Head.{text_area, text_blocks, block_in, IsText, IsFormatted};
 ghost use Rattle.gx_layout.specs.Besides.{IsImageBesides};
 
@@ -78,6 +78,8 @@ fn lay_out<D: Device>(device: &mut D, schema: &[u8], equation: &[u8]) -> Result<
     ensures head { IsTrue D.tells → OnOk result (head_of (D.content device.new).now.blocks
         ≡ block_of (D.content device.old).now 0 ∷ text_blocks schema.now equation.now) }
     ensures closed { IsTrue D.tells → OnOk result (is_open (block_of (D.content device.new).now 1) ≡ false) }
+    ensures bitmap { IsTrue D.tells → OnOk result ((p : ℕ) →
+        has_bit (block_of (D.content device.new).now 2) p ≡ false) }
     ensures run { Through (Outside IsFormatted (D.content device.old).now) (D.content device.old) (D.content device.new) }
     ensures rest { OnlyBlocks IsFormatted (D.content device.old) (D.content device.new) }
     ensures size { D.size device.new ≡ D.size device.old }
@@ -96,6 +98,8 @@ pub fn format<D: Device>(device: &mut D, schema: &[u8], equation: &[u8]) -> Resu
     ensures head { IsTrue D.tells → OnOk result (head_of (D.content device.new).now.blocks
         ≡ block_of (D.content device.old).now 0 ∷ text_blocks schema.now equation.now) }
     ensures closed { IsTrue D.tells → OnOk result (is_open (block_of (D.content device.new).now 1) ≡ false) }
+    ensures bitmap { IsTrue D.tells → OnOk result ((p : ℕ) →
+        has_bit (block_of (D.content device.new).now 2) p ≡ false) }
     ensures none_pending { IsTrue D.tells → OnOk result (NonePending (D.content device.new)) }
     ensures images { LeavesOnly (IsImageBesides IsFormatted (D.content device.old).now)
         (D.content device.old) (D.content device.new) }

@@ -1,5 +1,5 @@
 // What a crash left is settled.
-ghost use Rattle.std.specs.Prelude.{◌≡◌, ◌↔◌, ◌<◌, ◌≤◌, ◌+◌, ◌*◌, ℕ, true, false, Bool, List, length, IsTrue, IfOk, OnOk};
+ghost use Rattle.std.specs.Prelude.{◌≡◌, ◌↔◌, ◌<◌, ◌≤◌, ◌+◌, ◌*◌, ℕ, true, false, Bool, List, length, IsTrue, IfOk, OnOk, OnErr};
 ghost use Rattle.gx_device.specs.Content.{OnlyTime, NonePending, Silent, block_of};
 ghost use Rattle.gx_device.specs.Faults.{IsCounted};
 ghost use Rattle.gx_device.specs.Crash.{Through, Outside, LeavesOnly};
@@ -106,7 +106,7 @@ fn settle<D: Device>(device: &mut D, pages: u32) -> Result<(), Failed>
 
 /// Recovers what a crash left, where the device has the magic, and tells whether it has. Until the first
 /// sync a crash leaves what one right before the call could have left; from then on it leaves the
-/// same pages. Without the magic no block is written.
+/// same pages. Without the magic no block is written, whatever is answered.
 pub fn recover<D: Device>(device: &mut D, pages: u32) -> Result<bool, Failed>
     requires room { 7 + 2 * pages ≤ D.size device.old }
     requires limit { pages ≤ 32768 }
@@ -116,6 +116,9 @@ pub fn recover<D: Device>(device: &mut D, pages: u32) -> Result<bool, Failed>
     ensures at_rest { IsTrue D.tells → (v : View) → length v.pages ≡ pages → ReadsAs (D.content device.old).now v
         → IfOk result (λ found. found ≡ true → AtRest (D.content device.new).now v) }
     ensures unwritten { IfOk result (λ found. found ≡ false →
+        (D.content device.new).now.blocks ≡ (D.content device.old).now.blocks) }
+    ensures failed { IsTrue D.tells → OnErr result
+        (¬ HasMagic (block_of (D.content device.old).now 0) →
         (D.content device.new).now.blocks ≡ (D.content device.old).now.blocks) }
     ensures touched { IsTrue D.tells → OnlyBlocks (IsSettled pages (D.content device.old).now.blocks) (D.content device.old) (D.content device.new) }
     ensures silent { Silent (D.content device.old) (D.content device.new) }

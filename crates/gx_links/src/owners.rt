@@ -8,7 +8,7 @@ ghost use Rattle.gx_values.specs.Values.{IsSized};
 ghost use Rattle.gx_mapping.specs.Rule.{In};
 ghost use Rattle.gx_links.specs.declared.pairs.Owned.{Owned as Group};
 ghost use Rattle.gx_links.specs.Links.{Link, most_members};
-ghost use Rattle.gx_links.specs.Owners.{owner_cmp, is_last, with_pair, AreOwners, IsGroupOf};
+ghost use Rattle.gx_links.specs.Owners.{owner_cmp, pairs_of, is_last, with_pair, AreOwners, IsGroupOf};
 
 use crate::linkset::MOST_MEMBERS;
 use crate::pairs::{Owned, Owners, Pairs};
@@ -16,14 +16,15 @@ use gx_values::{NoMemory, Value, compare};
 use std::alloc::{AllocError, Global};
 use std::cmp::Ordering;
 
-/// The owners in the pairs of a link, in ascending order, each with its members. `NoMemory`: there was
-/// none for them.
+/// The owners in the pairs of a link, in ascending order, each with its members. They have just these
+/// pairs, also where those are of no link. `NoMemory`: there was none for them.
 pub fn owners_of(alloc: Global, pairs: &Pairs) -> Result<Owners, NoMemory>
     requires { (pair : FieldValue × FieldValue) → In pair pairs.now →
         IsSized pair.0 × IsSized pair.1 }
     ensures owners { IfOk result
         (λ owners. (link : Link) → entries link ≡ pairs.now → AreOwners link owners) }
     ensures pairs { IfOk result (λ owners. (g : Group) → In g owners → IsGroupOf pairs.now g) }
+    ensures all { IfOk result (λ owners. IsPermutation pairs.now (pairs_of owners)) }
 {
     let mut sorted = pairs.copy(alloc)?;
     sort_by_owner(&mut sorted.0)?;

@@ -1,6 +1,6 @@
 -- The place of a key among entries that ascend.
 use Rattle.std.proofs.Common.{◌≡◌, ℕ, zero, suc, ◌+◌, ◌<◌, Bool, true, false, List, [], ◌∷◌, length, drop, get_or, refl, sym, ap, ◌∙◌, subst, arith}
-use Rattle.std.specs.List.{All}
+use Rattle.std.specs.List.{All, HoldsAt}
 use Rattle.std.specs.Ordering.{is_le, is_lt, ordering_reverse}
 use Rattle.std.specs.declared.cmp.Ordering.TheVariants.{Less}
 use Rattle.std.proofs.lemmas.Bool.{false≢true}
@@ -42,6 +42,16 @@ all_behind entries i key entry ascending below at le k d in' =
 -- the key of an entry stands before one
 abbrev pub IsBefore : List ℕ → Entry → Type 0
 IsBefore key entry = cmp entry.key key ≡ Less
+
+-- a search has come to an entry whose key doesn't
+pub stops_at : (entries : List Entry) (key : List ℕ) (place : ℕ) (left : List Entry)
+    (entry : Entry)
+    (rest : List Entry) → IsAt entries place left → left ≡ entry ∷ rest
+    → is_le (cmp key entry.key) ≡ true
+    → HoldsAt (λ e. is_le (cmp key e.key) ≡ true) entries place
+stops_at entries key place left entry rest at is le d =
+    let next = at_next entries place left entry rest at is in
+    subst (λ (e : Entry). is_le (cmp key e.key) ≡ true) (sym (next.1 d)) le
 
 -- where a search has come to an entry whose key doesn't, those of all entries from there on don't
 pub at_behind : (entries : List Entry) (key : List ℕ) (place : ℕ) (left : List Entry)

@@ -1,7 +1,7 @@
 // Entries in the order of their keys.
 ghost use Rattle.std.specs.Prelude.{◌≡◌, ◌<◌, ◌≤◌, ◌↔◌, IsTrue, length, take, drop};
 ghost use Rattle.std.specs.Cmp.Lexicographic.{slice_cmp};
-ghost use Rattle.std.specs.List.{All};
+ghost use Rattle.std.specs.List.{All, HoldsAt};
 ghost use Rattle.std.specs.Ordering.{nat_cmp, is_le};
 ghost use Rattle.std.specs.declared.cmp.Ordering.TheVariants.{Less};
 ghost use Rattle.gx_slots.specs.Entries.{AreAscending};
@@ -48,12 +48,15 @@ fn do_ascend(bytes: &[u8], count: u16) -> bool
     true
 }
 
-/// The number of entries at the front of a page whose keys stand before this one. Where the keys
-/// ascend, those of all other entries don't.
+/// The number of entries at the front of a page whose keys stand before this one: that of the next
+/// entry doesn't. Where the keys ascend, those of all other entries don't.
 pub fn rank(page: &[u8], key: &[u8]) -> u16
     requires { IsEntryPage page.now }
     ensures place { result ≤ length (entries_of page.now) }
     ensures before { All (λ entry. slice_cmp nat_cmp entry.key key.now ≡ Less) (take result (entries_of page.now)) }
+    ensures stops { result < length (entries_of page.now) →
+        HoldsAt (λ entry. IsTrue (is_le (slice_cmp nat_cmp key.now entry.key)))
+        (entries_of page.now) result }
     ensures behind { AreAscending (entries_of page.now) → All (λ entry. IsTrue (is_le (slice_cmp nat_cmp key.now entry.key))) (drop result (entries_of page.now)) }
 {
     let mut place = 0;

@@ -1,6 +1,6 @@
 use Rattle.std.proofs.Common.{ℕ, List, [], get_or, ap, ◌∙◌}
 use Rattle.std.proofs.lemmas.Result.{IfOk-from_err}
-use Rattle.gx_layout.specs.Layout.{head_of, is_open}
+use Rattle.gx_layout.specs.Layout.{head_of, is_open, has_bit}
 use Rattle.gx_layout.specs.Head.{IsFormatted}
 use Rattle.gx_layout.proofs.BlockLemmas.{blocks_twice, blocks_sync}
 use Rattle.gx_layout.proofs.FormatLemmas.{besides, besides_synced, same_after}
@@ -20,6 +20,9 @@ returns-clause-head g c told = same_after c.sync.result (ap head_of c.sync.ensur
 
 pub returns-clause-closed : goal.returns-clause-closed
 returns-clause-closed g c told = same_after c.sync.result (ap (λ (l : List (List ℕ)). is_open (get_or l 1 [])) c.sync.ensures.rest.blocks ∙ c.in_ok-lay_out.ensures.closed told)
+
+pub returns-clause-bitmap : goal.returns-clause-bitmap
+returns-clause-bitmap g c told = same_after c.sync.result (λ p. ap (λ (l : List (List ℕ)). has_bit (get_or l 2 []) p) c.sync.ensures.rest.blocks ∙ c.in_ok-lay_out.ensures.bitmap told p)
 
 pub returns-in_err-lay_out-clause-head : goal.returns-in_err-lay_out-clause-head
 returns-in_err-lay_out-clause-head g c told = IfOk-from_err c.from_residual.result _ c.from_residual.ensures.0

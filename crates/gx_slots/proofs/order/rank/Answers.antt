@@ -1,9 +1,9 @@
 use Rattle.std.proofs.Common.{◌∙◌, arith}
-use Rattle.gx_bytes.proofs.SearchLemmas.{at_next, passed_start, passed_more}
+use Rattle.gx_bytes.proofs.SearchLemmas.{at_end, at_next, passed_start, passed_more}
 use Rattle.gx_order.proofs.BelowLemmas.{below_is_less, not_below_is_le}
 use Rattle.gx_slots.specs.Entries.{lent}
 use Rattle.gx_slots.specs.Page.{entries_of}
-use Rattle.gx_slots.proofs.OrderLemmas.{IsBefore, at_behind, none_behind}
+use Rattle.gx_slots.proofs.OrderLemmas.{IsBefore, at_behind, none_behind, stops_at}
 use Rattle.gx_slots.proofs.PageLemmas.{four_each, used_most}
 use Rattle.gx_slots.proofs.order.rank.Goals as goal
 
@@ -21,6 +21,9 @@ returns-then-not-is_below c =
     record {
       place = passed.at.within;
       before = passed.before;
+      stops = λ _. stops_at (entries_of c.args.page.now) c.args.key.now c.loop-found.place
+          c.loop-found.found-iterator (lent (c.in-Some.found, c.in-Some.field-0-1)) c.next.new.self
+          passed.at c.in-Some.ensures.steps le;
       behind = at_behind (entries_of c.args.page.now) c.args.key.now c.loop-found.place
           c.loop-found.found-iterator (lent (c.in-Some.found, c.in-Some.field-0-1)) c.next.new.self
           passed.at c.in-Some.ensures.steps le;
@@ -48,6 +51,12 @@ returns c =
     record {
       place = passed.at.within;
       before = passed.before;
+      stops = λ below. absurd (omega (
+        arith,
+        below,
+        at_end (entries_of c.args.page.now)
+            c.loop-found.place c.loop-found.found-iterator passed.at c.in-None.ensures.steps.0,
+      ));
       behind = λ _. none_behind (entries_of c.args.page.now) c.args.key.now c.loop-found.place
           c.loop-found.found-iterator passed.at c.in-None.ensures.steps.0;
     }
