@@ -1,10 +1,10 @@
 -- The keys of a chain, and whether each has its bucket.
-use Rattle.std.proofs.Common.{◌≡◌, inl, inr, ℕ, Bool, true, false, List, [], ◌∷◌, get_or, refl, sym, ap, ◌∙◌}
+use Rattle.std.proofs.Common.{◌≡◌, inl, inr, ℕ, Bool, true, List, [], ◌∷◌, get_or, sym, ap, ◌∙◌}
 use Rattle.std.specs.Prelude.{◌||◌, ◌==◌}
 use Rattle.std.specs.Global.{Vec}
 use Rattle.std.specs.List.{Contains, list_all}
 use Rattle.std.specs.Ordering.{eq_by_cmp}
-use Rattle.std.proofs.lemmas.Bool.{cases_Bool, eqb-true, false≢true}
+use Rattle.std.proofs.lemmas.Bool.{cases_Bool, eqb-true, false≢true, or_right}
 use Rattle.std.proofs.lemmas.List.Elements.{All-contains_itself}
 use Rattle.std.proofs.lemmas.List.Sums.{AllPass-from_list_all, list_all-from_AllPass}
 use Rattle.gx_ports.specs.Keyed.{key_cmp}
@@ -21,15 +21,11 @@ has_from (x ∷ xs) key is = elim (cases_Bool (eq_by_cmp key_cmp key x.items)) [
   | inr e ↦ (let r = has_from xs key (ap (λ (b : Bool). b || has_key xs key) (sym e) ∙ is) in (r.0, contains_later x r.0 xs r.1, r.2))
 ]
 
-either : (a b : Bool) → b ≡ true → (a || b) ≡ true
-either true b e = refl
-either false b e = e
-
 has_to : (keys : List (Vec ℕ)) (v : Vec ℕ) → Contains keys v → has_key keys v.items ≡ true
 has_to [] v c = absurd (contains_none v c)
 has_to (x ∷ xs) v c = elim (contains_cases x v xs c) [
   | inl e ↦ ap (λ (b : Bool). b || has_key xs v.items) (ap (λ (y : Vec ℕ). eq_by_cmp key_cmp v.items y.items) e ∙ tied v.items)
-  | inr later ↦ either (eq_by_cmp key_cmp v.items x.items) (has_key xs v.items) (has_to xs v later)
+  | inr later ↦ or_right (eq_by_cmp key_cmp v.items x.items) (has_key xs v.items) (has_to xs v later)
 ]
 
 module _ (bucket_of : List ℕ → ℕ) (number : ℕ) where
