@@ -1,13 +1,14 @@
 -- What every kind of file proves, of B+ trees.
-use Rattle.std.proofs.Common.{◌≡◌, ◌⊎◌, inl, inr, ℕ, zero, suc, ◌<◌, ◌≤◌, Bool, true, false, cond, List, [], ◌∷◌, ◌++◌, length, get_or, map, Option, Some, None, refl, sym, ap, subst, ◌∙◌, arith}
-use Rattle.std.specs.Prelude.{◌==◌, ◌&&◌, slice_get, slice_index_or}
+use Rattle.std.proofs.Common.{◌≡◌, ◌⊎◌, inl, inr, ℕ, zero, suc, ◌<◌, ◌≤◌, true, false, cond, List, [], ◌∷◌, ◌++◌, length, get_or, map, Option, Some, None, refl, sym, ap, subst, ◌∙◌, arith}
+use Rattle.std.specs.Prelude.{◌==◌, slice_get, slice_index_or}
 use Rattle.std.specs.Option.{unwrap_or}
 use Rattle.std.specs.Ordering.{eq_by_cmp}
 use Rattle.std.specs.Cmp.Lexicographic.{nat_list_cmp_total}
 use Rattle.std.specs.FinMap as fin
-use Rattle.std.proofs.lemmas.Bool.{cases_eq, eqb-true}
+use Rattle.std.proofs.lemmas.Bool.{cases_eq, eqb-true, and_from}
 use Rattle.std.proofs.lemmas.Bool.Decides.{nat_tests}
 use Rattle.std.proofs.lemmas.Option.{unwrap_or-slice_get}
+use Rattle.std.specs.Cmp.{first_so, second_so}
 use Rattle.gx_bytes.specs.declared.page.TheConstants.{NONE}
 use Rattle.gx_ports.specs.declared.kinds.LeafKind.TheVariants as kinds
 use Rattle.gx_ports.specs.declared.pages.Place.{Place}
@@ -101,18 +102,6 @@ mutual
     | inr b ↦ (let f = on_kids p kids x stand.1 b in (f.0, in_right f.0 (pages t) (kids_pages kids) f.1, f.2))
   ]
 
-both_true : (a b : Bool) → a ≡ true → b ≡ true → (a && b) ≡ true
-both_true true b x y = y
-both_true false b x y = let no : ⊥ = cc in absurd no
-
-first_true : (a b : Bool) → (a && b) ≡ true → a ≡ true
-first_true true b x = refl
-first_true false b x = let no : ⊥ = cc in absurd no
-
-second_true : (a b : Bool) → (a && b) ≡ true → b ≡ true
-second_true true b x = x
-second_true false b x = let no : ⊥ = cc in absurd no
-
 itself : (n : ℕ) → (n == n) ≡ true
 itself n = grind (arith, nat_tests)
 
@@ -171,7 +160,7 @@ module _ (ground : Ground) (place : Place) (s : Sheets) (m : LeafMap) (some : 1 
   owner_at q is =
       let here : slice_index_or s.owners q 0 ≡ place.owner =
       eqb-true (slice_index_or s.owners q 0) place.owner
-      (first_true (slice_index_or s.owners q 0 == place.owner) (slice_index_or (bytes_at s q) 0 0 == 68) is) in
+      (first_so (slice_index_or s.owners q 0 == place.owner) (slice_index_or (bytes_at s q) 0 0 == 68) is) in
       shown (slice_get s.owners q) (unwrap_or-slice_get s.owners q 0 ∙ here)
 
   -- what is read stands in the tree
@@ -181,7 +170,7 @@ module _ (ground : Ground) (place : Place) (s : Sheets) (m : LeafMap) (some : 1 
       let o = owned_from place.owner s (length s.owners) e i in
       let kind : slice_index_or (bytes_at s o.page) 0 0 ≡ 68 =
       eqb-true (slice_index_or (bytes_at s o.page) 0 0) 68
-      (second_true (slice_index_or s.owners o.page 0 == place.owner) (slice_index_or (bytes_at s o.page) 0 0 == 68) o.owned) in
+      (second_so (slice_index_or s.owners o.page 0 == place.owner) (slice_index_or (bytes_at s o.page) 0 0 == 68) o.owned) in
       elim (page_seen (bytes_at s) b.tree o.page b.whole.stands ((b.owned o.page).0 (owner_at o.page o.owned))) [
         | inl a ↦ a.2 e (subst (In e) (entries_of-page a.0 NONE (bytes_at s o.page) a.1) o.here)
         | inr a ↦ (let other : slice_index_or (bytes_at s o.page) 0 0 ≡ 73 = ap
@@ -203,7 +192,7 @@ module _ (ground : Ground) (place : Place) (s : Sheets) (m : LeafMap) (some : 1 
       let second : (slice_index_or (bytes_at s o.0) 0 0 == 68) ≡ true =
       ap (λ n. n == 68) kind ∙ itself 68 in
       owned_to place.owner s (length s.owners) o.0 e (get_below s.owners o.0 place.owner mine)
-      (both_true (slice_index_or s.owners o.0 0 == place.owner)
+      (and_from (slice_index_or s.owners o.0 0 == place.owner)
       (slice_index_or (bytes_at s o.0) 0 0 == 68) first second)
       (subst (In e) (sym (entries_of-page o.2.0 NONE (bytes_at s o.0) o.2.1)) o.2.2)
 

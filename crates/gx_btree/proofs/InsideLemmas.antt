@@ -1,9 +1,10 @@
 -- The page of a part that is visited: its keys between the bounds, and its children.
-use Rattle.std.proofs.Common.{◌≡◌, ◌↔◌, inl, inr, ℕ, zero, suc, ◌+◌, ◌<◌, ◌≤◌, Bool, true, false, List, [], ◌∷◌, ◌++◌, map, length, get_or, Option, refl, sym, ap, ◌∙◌, subst, arith, append_assoc, append-nil, eq-eqb}
+use Rattle.std.proofs.Common.{◌≡◌, ◌↔◌, inl, inr, ℕ, zero, suc, ◌+◌, ◌<◌, ◌≤◌, Bool, List, [], ◌∷◌, ◌++◌, map, length, get_or, Option, refl, sym, ap, ◌∙◌, subst, arith, append_assoc, append-nil, eq-eqb}
 use Rattle.std.specs.Prelude.{◌==◌, ◌&&◌, IsTrue}
 use Rattle.std.specs.List.{HoldsAt}
-use Rattle.std.proofs.lemmas.Bool.{cases_eq, eqb-true, false≢true}
+use Rattle.std.proofs.lemmas.Bool.{cases_eq, eqb-true, and_from}
 use Rattle.std.proofs.lemmas.List.{length-map}
+use Rattle.std.specs.Cmp.{first_so, second_so}
 use Rattle.gx_slots.specs.Entries.{Entry}
 use Rattle.gx_slots.specs.Page.{entries_of}
 use Rattle.gx_bnode.specs.Branches.{Branch}
@@ -56,18 +57,6 @@ last_above (e ∷ f ∷ es) d x (suc n) len up i =
       | inr j ↦ rest x n short up.1 j
     ]
 
-pub both_true : (a b : Bool) → IsTrue a → IsTrue b → IsTrue (a && b)
-both_true true b x y = y
-both_true false b x y = x
-
-pub first_true : (a b : Bool) → IsTrue (a && b) → IsTrue a
-first_true true b x = refl
-first_true false b x = x
-
-pub second_true : (a b : Bool) → IsTrue (a && b) → IsTrue b
-second_true true b x = x
-second_true false b x = absurd (false≢true x)
-
 pub some_inside : (bytes : List ℕ) (part : Part) (high : Option (List ℕ)) (first last : Entry)
     (n : ℕ) (low under : Bool) → Shows shapes.Entries bytes → length (entries_of bytes) ≡ n + 1
     → HoldsAt (λ e. e ≡ first) (entries_of bytes) 0 → HoldsAt (λ e. e ≡ last) (entries_of bytes) n
@@ -81,14 +70,14 @@ some_inside bytes part high first last n low under shown len at_first at_last is
       λ is. (
         (λ d. some_of es (omega (arith, len))),
         (λ x i. (
-          up_to_up_to part.low first.key x.key (is_low.0 (first_true low under is))
+          up_to_up_to part.low first.key x.key (is_low.0 (first_so low under is))
               (subst (λ (e : Entry). IsUpTo e.key x.key) first_is (first_up_to es first x up i)),
           under_up_to x.key last.key high
               (subst (λ (e : Entry). IsUpTo x.key e.key) last_is (last_above es last x n len up i))
-              (is_under.0 (second_true low under is)),
+              (is_under.0 (second_so low under is)),
         )),
       ),
-      λ inside. both_true low under
+      λ inside. and_from low under
           (is_low.1 (inside.1 first
           (subst (λ e. In e es) first_is (in_place es 0 first (omega (arith, len))))).0)
           (is_under.1 (inside.1 last (subst (λ e. In e es) last_is (in_place es n last (omega (arith, len))))).1),

@@ -7,6 +7,8 @@ use Rattle.std.specs.FinMap.{get}
 use Rattle.std.specs.FinMap.Entries.{below_all}
 use Rattle.std.specs.Ordering.{nat_cmp, is_le, is_lt, eq_by_cmp}
 use Rattle.std.specs.declared.cmp.Ordering.{Ordering}
+use Rattle.std.proofs.lemmas.Bool.{and_from}
+use Rattle.std.specs.Cmp.{first_so, second_so}
 use Rattle.gx_values.specs.Keys.{is_inside}
 use Rattle.gx_ports.specs.LeafMaps.{LeafMap, selected, entry_of}
 use Rattle.gx_ports.specs.declared.leaves.Entry.{Entry as LeafEntry}
@@ -209,18 +211,6 @@ given_all lo hi m t o is =
     ∙ ap (λ (xs : List (List ℕ × List ℕ)). map entry_of (filter (λ f. is_inside lo hi f.0) xs))
     (sym (map_entries m (entries t) (tree_up t o) is))
 
-both : (a b : Bool) → a ≡ true → b ≡ true → (a && b) ≡ true
-both true b p q = q
-both false b p q = p
-
-first_of : (a b : Bool) → (a && b) ≡ true → a ≡ true
-first_of true b h = refl
-first_of false b h = h
-
-second_of : (a b : Bool) → (a && b) ≡ true → b ≡ true
-second_of true b h = h
-second_of false b h = let never : ⊥ = cc in absurd never
-
 under_of : (key : List ℕ) (bound : Option (List ℕ)) → is_under key bound ≡ true → IsUnder key bound
 under_of key None h = tt
 under_of key (Some b) h = below_of key b h
@@ -252,35 +242,35 @@ given_next lo hi key bound t es o up found =
     let a = ((in_filter q all x).0 i).1 in
     let b = ((in_filter r es y).0 j).1 in
     below_up_to x.key key y.key
-    (below_of x.key key (second_of (is_inside lo hi x.key) (is_below x.key key) a))
-    (first_of (is_le (slice_cmp nat_cmp key y.key)) (is_inside lo hi y.key) b)))
+    (below_of x.key key (second_so (is_inside lo hi x.key) (is_below x.key key) a))
+    (first_so (is_le (slice_cmp nat_cmp key y.key)) (is_inside lo hi y.key) b)))
     (λ x i.
     let a = (in_filter p all x).0 i in
-    let inside = first_of (is_inside lo hi x.key) (is_under x.key bound) a.1 in
+    let inside = first_so (is_inside lo hi x.key) (is_under x.key bound) a.1 in
     let under =
-    under_of x.key bound (second_of (is_inside lo hi x.key) (is_under x.key bound) a.1) in
+    under_of x.key bound (second_so (is_inside lo hi x.key) (is_under x.key bound) a.1) in
     elim (below_or_not x.key key) [
       | inl l ↦ in_left x (filter q all) (filter r es)
           ((in_filter q all x).1
-          (a.0, both (is_inside lo hi x.key) (is_below x.key key) inside (is_below_of x.key key l)))
+          (a.0, and_from (is_inside lo hi x.key) (is_below x.key key) inside (is_below_of x.key key l)))
       | inr l ↦ in_right x (filter q all) (filter r es)
           ((in_filter r es x).1 (
             found.all x a.0 l under,
-            both (is_le (slice_cmp nat_cmp key x.key)) (is_inside lo hi x.key) l inside,
+            and_from (is_le (slice_cmp nat_cmp key x.key)) (is_inside lo hi x.key) l inside,
           ))
     ])
     (λ x i. (in_filter p all x).1 (elim (in_cases x (filter q all) (filter r es) i) [
       | inl j ↦ (let a = (in_filter q all x).0 j in
-          let l = below_of x.key key (second_of (is_inside lo hi x.key) (is_below x.key key) a.1) in (
+          let l = below_of x.key key (second_so (is_inside lo hi x.key) (is_below x.key key) a.1) in (
             a.0,
-            both (is_inside lo hi x.key) (is_under x.key bound)
-                (first_of (is_inside lo hi x.key) (is_below x.key key) a.1)
+            and_from (is_inside lo hi x.key) (is_under x.key bound)
+                (first_so (is_inside lo hi x.key) (is_below x.key key) a.1)
                 (is_under_of x.key bound (under_below x.key key bound l found.to)),
           ))
       | inr j ↦ (let a = (in_filter r es x).0 j in (
         found.among x a.0,
-        both (is_inside lo hi x.key) (is_under x.key bound)
-            (second_of (is_le (slice_cmp nat_cmp key x.key)) (is_inside lo hi x.key) a.1)
+        and_from (is_inside lo hi x.key) (is_under x.key bound)
+            (second_so (is_le (slice_cmp nat_cmp key x.key)) (is_inside lo hi x.key) a.1)
             (is_under_of x.key bound (found.under x a.0)),
       ))
     ])) in

@@ -1,7 +1,7 @@
 -- Chains that are checked, one after the other.
 use Rattle.std.proofs.Common.{◌≡◌, ◌≢◌, inl, inr, ℕ, ◌+◌, ◌<◌, ◌≤◌, Bool, true, false, List, [], length, replicate, refl, sym, ap, subst, ◌∙◌, arith}
-use Rattle.std.specs.Prelude.{slice_get, Some, IsTrue}
-use Rattle.std.specs.List.{Contains}
+use Rattle.std.specs.Prelude.{◌==◌, slice_get, Some, IsTrue}
+use Rattle.std.specs.List.{Contains, list_all}
 use Rattle.std.proofs.lemmas.Bool.{cases_eq}
 use Rattle.std.proofs.lemmas.List.{length-replicate}
 use Rattle.gx_ports.specs.declared.page_view.PageView.{Ghosts}
@@ -11,9 +11,10 @@ use Rattle.gx_ports.proofs.PageLemmas.{pages_read_themselves, read_pages_joined}
 use Rattle.gx_chain.specs.declared.check.Visits.{Visits}
 use Rattle.gx_chain.specs.Chain.{IsChain, IsOn}
 use Rattle.gx_chain.specs.Chains.{IsOfChain}
-use Rattle.gx_chain.specs.Check.{has_key, IsVisitedChain, HasUnseenChain, AreUnseen}
+use Rattle.gx_chain.specs.Check.{IsVisitedChain, HasUnseenChain, AreUnseen}
 use Rattle.gx_chain.specs.Placed.{HaveBucket, IsPlacedChain, HasPlacedChain, ArePlacedChains}
 use Rattle.gx_chain.proofs.ChainsLemmas.{changed, changed_here, changed_other}
+use Rattle.gx_chain.proofs.PlacedLemmas.{all_placed, placed_all}
 use Rattle.gx_chain.proofs.VisitLemmas.{unmarked}
 
 -- ---- the first chains
@@ -156,13 +157,13 @@ module _ (ground : Ground) (owner : ℕ) (s : Sheets) (at first : ℕ) (before :
   }
 
   module _ (bucket_of : List ℕ → ℕ) (bucket : ℕ) where
-    pub keys_have : ((key : List ℕ) → has_key visits.keys.keys key ≡ true → bucket_of key ≡ bucket) → HaveBucket bucket_of s bucket v.pages
-    keys_have all key body on = all key ((v.keys key).1 (body, on))
+    pub keys_have : list_all (λ key. bucket_of key.items == bucket) visits.keys.keys ≡ true → HaveBucket bucket_of s bucket v.pages
+    keys_have all key body on = all_placed bucket_of bucket visits.keys.keys all key ((v.keys key).1 (body, on))
 
-    pub keys_placed : (pages : List ℕ) → IsChain ground owner s at pages → HaveBucket bucket_of s bucket pages → (key : List ℕ) → has_key visits.keys.keys key ≡ true → bucket_of key ≡ bucket
-    keys_placed pages chain placed key has =
+    pub keys_placed : (pages : List ℕ) → IsChain ground owner s at pages → HaveBucket bucket_of s bucket pages → list_all (λ key. bucket_of key.items == bucket) visits.keys.keys ≡ true
+    keys_placed pages chain placed = placed_all bucket_of bucket visits.keys.keys (λ key has.
         let on = (v.keys key).0 has in
-        placed key on.0 (subst (λ (x : List ℕ). IsOn s x key on.0) (sym (v.only pages (at_first pages chain))) on.1)
+        placed key on.0 (subst (λ (x : List ℕ). IsOn s x key on.0) (sym (v.only pages (at_first pages chain))) on.1))
 
 pub unseen_chain : {S : Type 0} (g : Ghosts S) (p : S) (owner at first : ℕ) (IsPlaced : List ℕ → Type 0) (seen : List Bool) → at ≡ first → HasPlacedChain g p owner at IsPlaced seen → HasUnseenChain g p owner first seen
 unseen_chain g p owner at first IsPlaced seen is has = record {

@@ -1,9 +1,9 @@
 -- The records that meet the conditions of a `find`, by its plan.
 use Rattle.std.proofs.Common.{[], ◌≡◌, ◌≢◌, ℕ, zero, suc, ◌<◌, ◌≤◌, List, ◌∷◌, ◌++◌, length, map, take, drop, get_or, Bool, true, false, cond, eqb, Some, refl, sym, ap, subst, ◌∙◌, arith, inl, inr, append-nil}
-use Rattle.std.specs.Prelude.{◌&&◌, ◌⊎◌, pos, unwrap_or}
+use Rattle.std.specs.Prelude.{◌⊎◌, pos, unwrap_or}
 use Rattle.std.specs.List.{list_all, slice_get}
 use Rattle.std.specs.Option.{option_map}
-use Rattle.std.proofs.lemmas.Bool.{eqb-true}
+use Rattle.std.proofs.lemmas.Bool.{eqb-true, and_parts}
 use Rattle.gx_values.specs.declared.values.Kind.{Kind}
 use Rattle.gx_values.specs.declared.values.Kind.TheVariants as kind
 use Rattle.gx_values.specs.declared.values.Op.{Op}
@@ -152,14 +152,10 @@ key_spanned file s some is = record {
 
 -- ---- all conditions
 
-pub both : (a b : Bool) → (a && b) ≡ true → (a ≡ true) × (b ≡ true)
-both true b h = (refl, h)
-both false b h = absurd cc
-
 pub one_met : {A : Type 0} (p : A → Bool) (xs : List A) (x : A) → In x xs → list_all p xs ≡ true → p x ≡ true
 one_met p [] x h all = absurd h
-one_met p (y ∷ ys) x (inl e) all = ap p e ∙ (both (p y) (list_all p ys) all).0
-one_met p (y ∷ ys) x (inr h) all = one_met p ys x h (both (p y) (list_all p ys) all).1
+one_met p (y ∷ ys) x (inl e) all = ap p e ∙ (and_parts (p y) (list_all p ys) all).0
+one_met p (y ∷ ys) x (inr h) all = one_met p ys x h (and_parts (p y) (list_all p ys) all).1
 
 -- ---- the value of a field
 

@@ -29,7 +29,8 @@ use Rattle.gx_stack.specs.Selected.{IsKeySpan}
 use Rattle.gx_model.specs.States.{Row, IsRowOf}
 use Rattle.gx_model.specs.Found.{value_at, meets_cond, meets_conds}
 use Rattle.gx_finds.specs.Spans.{has_span, is_on, meets_on, HoldsAllMet, is_from, is_up_to}
-use Rattle.gx_finds.proofs.PlannedLemmas.{both, one_met, value_kind}
+use Rattle.gx_finds.proofs.PlannedLemmas.{one_met, value_kind}
+use Rattle.std.proofs.lemmas.Bool.{and_parts}
 
 -- ---- the lower end
 
@@ -203,7 +204,7 @@ on_unmet field conds c v there on unmet = elim (cases_Bool (meets_on field conds
 ]
 
 on_field : (field : ℕ) (c : Cond) → is_on field c ≡ true → c.field ≡ field
-on_field field c on = eqb-true c.field field (both (nat_eq c.field field) (has_span c.op) on).0
+on_field field c on = eqb-true c.field field (and_parts (nat_eq c.field field) (has_span c.op) on).0
 
 spans : (o : Op) → o ≢ op.Unequal → has_span o ≡ true
 spans op.Equal other = refl
@@ -224,7 +225,7 @@ own_met field c r on = ap (λ (n : ℕ). met_by (value_at r n) c) (sym (on_field
 pub field_meets : (field : ℕ) (conds : List Cond) (r : Row) → meets_conds conds r ≡ true → meets_on field conds (value_at r field) ≡ true
 field_meets field [] r met = refl
 field_meets field (c ∷ cs) r met =
-    let here = both (meets_cond r c) (list_all (meets_cond r) cs) met in
+    let here = and_parts (meets_cond r c) (list_all (meets_cond r) cs) met in
     go (is_on field c) refl here.0 (field_meets field cs r here.1)
   where
     go : (on : Bool) → is_on field c ≡ on → meets_cond r c ≡ true → meets_on field cs (value_at r field) ≡ true → list_all (met_by (value_at r field)) (cond on (c ∷ filter (is_on field) cs) (filter (is_on field) cs)) ≡ true

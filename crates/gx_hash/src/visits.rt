@@ -1,9 +1,9 @@
 // The chains of a hashed file are checked.
-ghost use Rattle.std.specs.Prelude.{◌≡◌, ◌↔◌, ◌<◌, ℕ, List, length, replicate, false, true, IsTrue, OnOk, IsErrOf};
+ghost use Rattle.std.specs.Prelude.{◌≡◌, ◌==◌, ◌<◌, length, replicate, false, true, IsTrue, OnOk, IsErrOf};
+ghost use Rattle.std.specs.List.{list_all};
 ghost use Rattle.gx_ports.specs.Files.{IsPlace, EndsFile, IsWhole};
 ghost use Rattle.gx_ports.specs.PageCalls.{ReadsPages};
 ghost use Rattle.gx_ports.specs.Roots.{roots_of};
-ghost use Rattle.gx_chain.specs.Check.{has_key};
 ghost use Rattle.gx_hash.specs.Buckets.{IsHashed, bucket_of};
 ghost use Rattle.gx_hash.specs.Hash.{IsHash};
 ghost use Rattle.gx_hash.specs.Visited.{AreVisitedBuckets, HasUnseenBucket, IsVisitedBucket};
@@ -74,13 +74,7 @@ fn visit_bucket<P: Pages>(
 // Whether all keys have the bucket.
 fn are_placed(place: &Place, number: u32, keys: &BTreeSet<Vec<u8>>) -> bool
     requires { IsHashed place.now.spec.kind }
-    ensures { IsTrue result ↔ ((key : List ℕ) → has_key keys.now.keys key ≡ true →
-        bucket_of place.now.spec key ≡ number) }
+    ensures { result ≡ list_all (λ key. bucket_of place.now.spec key.items == number) keys.now.keys }
 {
-    for key in keys {
-        if bucket(place, key) != number {
-            return false;
-        }
-    }
-    true
+    keys.iter().all(|key| bucket(place, key) == number)
 }

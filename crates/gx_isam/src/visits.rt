@@ -1,10 +1,10 @@
 // The chains of an indexed sequential file are checked.
-ghost use Rattle.std.specs.Prelude.{◌≡◌, ◌≢◌, ◌↔◌, ◌<◌, ℕ, List, [], length, replicate, false, true, IsTrue, OnOk, IsErrOf};
+ghost use Rattle.std.specs.Prelude.{◌≡◌, ◌≢◌, ◌==◌, ◌<◌, [], length, replicate, false, true, IsTrue, OnOk, IsErrOf};
+ghost use Rattle.std.specs.List.{list_all};
 ghost use Rattle.gx_ports.specs.Files.{EndsFile, IsPlace, IsWhole};
 ghost use Rattle.gx_ports.specs.PageCalls.{ReadsPages};
 ghost use Rattle.gx_ports.specs.Sheets.{IsPast};
 ghost use Rattle.gx_chain.specs.Chain.{bytes_at, entries_at};
-ghost use Rattle.gx_chain.specs.Check.{has_key};
 ghost use Rattle.gx_isam_index.specs.Index.{IsIndexPage, bucket_count, bucket_of};
 ghost use Rattle.gx_isam.specs.Isam.{IsIsam};
 ghost use Rattle.gx_isam.specs.Visited.{AreVisitedBuckets, HasEntryAt, HasRootAndSeen, HasUnseenBucket, IsRootAndSeen, IsVisitedBucket};
@@ -85,15 +85,9 @@ fn visit_bucket<P: Pages>(
 // Whether all keys have the bucket.
 fn are_placed(index: &[u8], number: u16, keys: &BTreeSet<Vec<u8>>) -> bool
     requires { IsIndexPage index.now }
-    ensures { IsTrue result ↔ ((key : List ℕ) → has_key keys.now.keys key ≡ true →
-        bucket_of index.now key ≡ number) }
+    ensures { result ≡ list_all (λ key. bucket_of index.now key.items == number) keys.now.keys }
 {
-    for key in keys {
-        if bucket_of(index, key) != number {
-            return false;
-        }
-    }
-    true
+    keys.iter().all(|key| bucket_of(index, key) == number)
 }
 
 // Looks whether an entry page has an entry.

@@ -7,7 +7,7 @@ use Rattle.std.proofs.lemmas.Bool.{cases_lt, eqb-true, eq-eqb}
 use Rattle.std.proofs.lemmas.Grind.{common_steps}
 use Rattle.std.proofs.lemmas.List.Quantifiers.{position-Some}
 use Rattle.std.proofs.lemmas.List.Sums.{fails_before_first}
-use Rattle.std.proofs.lemmas.Option.{slice_get-get_or, slice_get_cases}
+use Rattle.std.proofs.lemmas.Option.{slice_get-get_or, slice_get_cases, same_Some}
 use Rattle.gx_values.specs.declared.values.Op.TheVariants as op
 use Rattle.gx_values.specs.declared.values.Value.TheVariants as value
 use Rattle.gx_commands.specs.declared.command.Cond.{Cond}
@@ -18,9 +18,6 @@ use Rattle.gx_planner.specs.Plans.{rank_of, first_of, by_or, plan_by_condition, 
 
 some_cond : Cond
 some_cond = record { field = 0; op = op.Equal; bound = value.Int (pos 0) }
-
-some_is : {A : Type 0} (x y : A) → Some x ≡ Some y → x ≡ y
-some_is x y e = cc
 
 pub not_some : {A : Type 0} (o : Option A) → is_some o ≡ false → IsSome o → ⊥
 not_some o e h = cc
@@ -35,7 +32,7 @@ module _ (q : Find) (indexed : List Bool) (rank : ℕ) where
   passes : (k : ℕ) (d : Cond) → k < length q.conds → HasRank q indexed rank k → has (get_or q.conds k d) ≡ true
   passes k d lt h =
       let same : Some (rank_of indexed (get_or q.conds k d)) ≡ Some rank = sym (ap (option_map (rank_of indexed)) (slice_get-get_or q.conds k d lt)) ∙ h in
-      eq-eqb (rank_of indexed (get_or q.conds k d)) rank (some_is (rank_of indexed (get_or q.conds k d)) rank same)
+      eq-eqb (rank_of indexed (get_or q.conds k d)) rank (same_Some (rank_of indexed (get_or q.conds k d)) rank same)
 
   pub first_has : (n : ℕ) → first_of rank indexed q.conds ≡ Some n → HasRank q indexed rank n
   first_has n e =

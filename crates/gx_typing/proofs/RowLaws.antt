@@ -6,6 +6,7 @@ use Rattle.std.specs.Ordering.{is_lt}
 use Rattle.std.specs.declared.cmp.Ordering.{Ordering}
 use Rattle.std.specs.declared.cmp.Ordering.TheVariants.{Less, Equal, Greater}
 use Rattle.std.proofs.lemmas.Bool.Decides.{nat_tests}
+use Rattle.std.proofs.lemmas.Bool.{and_parts}
 use Rattle.gx_values.specs.Keys.{widths, IsKeyKind}
 use Rattle.gx_values.specs.Values.{value_cmp, is_printable}
 use Rattle.gx_values.specs.declared.values.Code.{Code}
@@ -41,10 +42,6 @@ tested_ok reason false u h = absurd cc
 pub ok_tested : (reason : TypeWhy) (b : Bool) → b ≡ true → tested reason b ≡ Ok tt
 ok_tested reason true is = refl
 ok_tested reason false is = absurd cc
-
-both_true : (a b : Bool) → (a && b) ≡ true → (a ≡ true) × (b ≡ true)
-both_true true b h = (refl, h)
-both_true false b h = absurd cc
 
 true_both : (a b : Bool) → a ≡ true → b ≡ true → (a && b) ≡ true
 true_both true b is h = h
@@ -128,7 +125,7 @@ names_found : (form : Form) (names : List (List ℕ)) → are_data form names �
 names_found form [] h = tt
 names_found form (name ∷ names) h =
     let both = then_true (is_data form name && not (has_name names name)) (are_data form names) h in
-    let here = both_true (is_data form name) (not (has_name names name)) both.0 in
+    let here = and_parts (is_data form name) (not (has_name names name)) both.0 in
     let d = is_data_ok (kind_in form.keys name) (kind_in form.fields name) here.0 in
     ((d.0, record { no_key = d.1; is = d.2 }), not_true (has_name names name) here.1, names_found form names both.1)
 
@@ -189,7 +186,7 @@ bound_ok kinds.Int (values.Text text) h = absurd cc
 bound_ok kinds.Int (values.Bytes bytes) h = absurd cc
 bound_ok (kinds.Text most) (values.Int n) h = absurd cc
 bound_ok (kinds.Text most) (values.Text text) h =
-    let both = both_true (nat_le (length text) most) (list_all is_printable text) h in
+    let both = and_parts (nat_le (length text) most) (list_all is_printable text) h in
     (le_true (length text) most both.0, both.1)
 bound_ok (kinds.Text most) (values.Bytes bytes) h = absurd cc
 bound_ok (kinds.Bytes most) v h = absurd cc
@@ -205,7 +202,7 @@ ok_bound (kinds.Bytes most) v h = absurd h
 
 bounds_ok : (k : Kind) (bounds : List Value) → list_all (is_bound k) bounds ≡ true → AllByRecursion (IsBoundFor k) bounds
 bounds_ok k [] h = tt
-bounds_ok k (v ∷ vs) h = let both = both_true (is_bound k v) (list_all (is_bound k) vs) h in (bound_ok k v both.0, bounds_ok k vs both.1)
+bounds_ok k (v ∷ vs) h = let both = and_parts (is_bound k v) (list_all (is_bound k) vs) h in (bound_ok k v both.0, bounds_ok k vs both.1)
 
 ok_bounds : (k : Kind) (bounds : List Value) → AllByRecursion (IsBoundFor k) bounds → list_all (is_bound k) bounds ≡ true
 ok_bounds k [] h = refl
@@ -261,7 +258,7 @@ ok_one (f ∷ g ∷ fs) h = absurd h
 -- ---- heads
 
 some_each : (n kids : ℕ) → (nat_lt 0 n && kids == n) ≡ true → (0 < n) × (kids ≡ n)
-some_each n kids h = let both = both_true (nat_lt 0 n) (kids == n) h in (positive n both.0, same kids n both.1)
+some_each n kids h = let both = and_parts (nat_lt 0 n) (kids == n) h in (positive n both.0, same kids n both.1)
   where
     positive : (n : ℕ) → nat_lt 0 n ≡ true → 0 < n
     positive n e = grind (arith, nat_tests)
@@ -305,7 +302,7 @@ row_found (heads.Partition name bounds) form kids u h =
     let k = behind_ok (any_kind form name) _ _ h in
     let fitting = behind_ok (tested why.FieldKind (is_key_kind k.0 && list_all (is_bound k.0) bounds)) _ _ k.2 in
     let ordered = behind_ok (tested why.Bounds (ascends bounds)) _ _ fitting.2 in
-    let both = both_true (is_key_kind k.0) (list_all (is_bound k.0) bounds) (tested_ok why.FieldKind (is_key_kind k.0 && list_all (is_bound k.0) bounds) fitting.0 fitting.1) in
+    let both = and_parts (is_key_kind k.0) (list_all (is_bound k.0) bounds) (tested_ok why.FieldKind (is_key_kind k.0 && list_all (is_bound k.0) bounds) fitting.0 fitting.1) in
     record {
       kind = k.0;
       field = any_found form name k.0 k.1;

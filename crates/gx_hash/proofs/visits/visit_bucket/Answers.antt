@@ -25,9 +25,9 @@ returns-then-not-are_placed-clause-ends g c =
     let seen = c.args.visits.now.seen.items in
     ends_shown g.P.PageView (HasUnseenBucket g.P.PageView p place c.args.bucket seen) p c.visit_chain.new.pages c.block.result
     (c.in_ok-visit_chain.ensures.ends.cause.counted refl) (subst (λ (x : Ground). c.block.result < x.blocks) c.visit_chain.ensures.reads.keeps.ground c.block.ensures.below)
-    (λ n. false≢true (sym c.if-not-are_placed.true ∙ c.are_placed.ensures.1
-    (keys_placed (g.P.PageView.ground p) place.owner (g.P.PageView.working p) (place.root + c.args.bucket) c.root-first.result seen c.visit_chain.new.visits (sym c.root-first.ensures) (c.in_ok-visit_chain.ensures.visited n.told)
-    (bucket_of place.spec) c.args.bucket n.pages n.chain n.placed)))
+    (λ n. false≢true (sym c.if-not-are_placed.true ∙ c.are_placed.ensures
+    ∙ keys_placed (g.P.PageView.ground p) place.owner (g.P.PageView.working p) (place.root + c.args.bucket) c.root-first.result seen c.visit_chain.new.visits (sym c.root-first.ensures) (c.in_ok-visit_chain.ensures.visited n.told)
+    (bucket_of place.spec) c.args.bucket n.pages n.chain n.placed))
 
 pub returns-clause-visited : goal.returns-clause-visited
 returns-clause-visited g c told =
@@ -38,4 +38,4 @@ returns-clause-visited g c told =
     let seen = c.args.visits.now.seen.items in
     let v = c.in_ok-visit_chain.ensures.visited told in
     placed_chain ground place.owner s at c.root-first.result seen c.visit_chain.new.visits (sym c.root-first.ensures) v (ArePlaced place s c.args.bucket)
-    (keys_have ground place.owner s at c.root-first.result seen c.visit_chain.new.visits (sym c.root-first.ensures) v (bucket_of place.spec) c.args.bucket (c.are_placed.ensures.0 c.if-not-are_placed.false))
+    (keys_have ground place.owner s at c.root-first.result seen c.visit_chain.new.visits (sym c.root-first.ensures) v (bucket_of place.spec) c.args.bucket (sym c.are_placed.ensures ∙ c.if-not-are_placed.false))

@@ -42,9 +42,9 @@ returns-then-not-are_placed-clause-ends g c =
     let found = MatchOption-at_some (at ≡ NONE) (λ n. (at ≡ n) × IsPast (g.P.PageView.ground p) n × (n ≢ NONE)) c.in-Some.first c.in-Some.is c.in_ok-first.ensures.first in
     ends_shown g.P.PageView (HasUnseenBucket g.P.PageView p owner index c.args.bucket seen) p c.visit_chain.new.pages c.block.result
     (c.in_ok-visit_chain.ensures.ends.cause.counted refl) (subst (λ (x : Ground). c.block.result < x.blocks) c.visit_chain.ensures.reads.keeps.ground c.block.ensures.below)
-    (λ n. false≢true (sym c.if-not-are_placed.true ∙ c.are_placed.ensures.1
-    (keys_placed (g.P.PageView.ground p) owner (g.P.PageView.working p) at c.in-Some.first seen c.visit_chain.new.visits found.0 (c.in_ok-visit_chain.ensures.visited n.told)
-    (bucket_of index) c.args.bucket n.pages n.chain n.placed.placed)))
+    (λ n. false≢true (sym c.if-not-are_placed.true ∙ c.are_placed.ensures
+    ∙ keys_placed (g.P.PageView.ground p) owner (g.P.PageView.working p) at c.in-Some.first seen c.visit_chain.new.visits found.0 (c.in_ok-visit_chain.ensures.visited n.told)
+    (bucket_of index) c.args.bucket n.pages n.chain n.placed.placed))
 
 pub returns-clause-visited : goal.returns-clause-visited
 returns-clause-visited g c told =
@@ -61,7 +61,7 @@ returns-clause-visited g c told =
     on_ok_weaker c.seek_entry.result
     (λ some. placed_chain ground owner s at first seen c.visit_chain.new.visits found.0 v (ArePlaced index s c.args.bucket)
     (filled_chain ground owner s index c.args.bucket first v.pages v.chain
-    (keys_have ground owner s at first seen c.visit_chain.new.visits found.0 v (bucket_of index) c.args.bucket (c.are_placed.ensures.0 c.if-not-are_placed.false))
+    (keys_have ground owner s at first seen c.visit_chain.new.visits found.0 v (bucket_of index) c.args.bucket (sym c.are_placed.ensures ∙ c.if-not-are_placed.false))
     (subst (λ (x : Sheets). entries_at x first ≢ []) c.visit_chain.ensures.reads.working some)))
     (c.seek_entry.ensures.some told)
 
