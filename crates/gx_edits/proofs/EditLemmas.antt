@@ -124,9 +124,6 @@ linked_edit schema built old new s i key are same is =
 
 -- ---- counts of entries
 
-pub short_as_it_is : (limit : Option Limits) (before more : ℕ) → IsCrowdedBy limit before → IsCrowdedBy limit (before + more)
-short_as_it_is limit before more = crowded_more limit before (before + more) (omega arith)
-
 -- the entries of a record of a file are among those of the state
 short_with : (limit : Option Limits) (schema : Schema) (built : Built) (leaves before : ℕ) (s : State) (i : ℕ) (f : File) (r : Rec) → AreFor schema built leaves → length s.files ≡ length schema.files → i < length schema.files → In r (records_of f)
     → IsCrowdedBy limit (before + length (entries_of any_rule (tree_at built.files i) r)) → IsCrowdedBy limit (before + state_entries built (with_file s i f))
@@ -145,9 +142,6 @@ insert_accepted schema s i key values rest parts none =
 
 pub update_accepted : (schema : Schema) (s : State) (i : ℕ) (key : Value) (changes : List Change) (values : List Value) → fin.get (file_in s i) key ≡ Some values → refusal_of schema s (command.Update i key changes) ≡ None
 update_accepted schema s i key changes values found = ap (λ (o : Option (List Value)). first_refusal ((not (is_some o), no_record) ∷ [])) found
-
-pub delete_accepted : (schema : Schema) (s : State) (i : ℕ) (key : Value) (values : List Value) → is_linked schema.links s.links i key ≡ false → fin.get (file_in s i) key ≡ Some values → refusal_of schema s (command.Delete i key) ≡ None
-delete_accepted schema s i key values free found = λ j. first_refusal ((not (is_some (found j)), no_record) ∷ (free j, linked) ∷ [])
 
 -- what isn't refused is carried out
 pub next_is : (schema : Schema) (s : State) (c : Command) → refusal_of schema s c ≡ None → next_state schema s c ≡ state_after s c

@@ -26,6 +26,11 @@ is_edit (command.Connect link owner member) = true
 is_edit (command.Disconnect link member) = true
 is_edit _ = false
 
+-- whether the command may bring entries: each edit but a delete
+abbrev pub may_bring : Command → Bool
+may_bring (command.Delete file key) = false
+may_bring c = is_edit c
+
 -- what is said of an edit
 abbrev pub edit_text : Option Refused → List ℕ
 edit_text None = codes "ok\n"
@@ -42,6 +47,8 @@ pub record EditsEach {S : Type 0} (g : Ghosts S) (schema : Schema) (built : Buil
   pub edit : (s : State) → Known s → g.whole old → AreInternal schema built (g.working old) s → IfOk result (IsEdit schema built c s (g.working new))
   -- the pages may not be enough for the entries that there are and those of the state after it
   pub full : (s : State) → Known s → g.whole old → AreInternal schema built (g.working old) s → IsErrOf result stop.Full → IsCrowdedBy (g.limit old) (entry_count (g.working old) + state_entries built (next_state schema s c))
+  -- they are enough for a delete
+  pub bringing : IsErrOf result stop.Full → may_bring c ≡ true
   -- they are enough for an edit that is refused
   pub accepted : (s : State) → Known s → g.whole old → AreInternal schema built (g.working old) s → IsErrOf result stop.Full → refusal_of schema s c ≡ None
   pub keeps : Keeps g old new

@@ -21,8 +21,8 @@ use std::alloc::Global;
 /// Carries out a command that changes records or links, as the abstract database does, or answers why
 /// it is refused. Where it is refused the leaves hold what they held.
 ///
-/// `Full`: the command isn't refused, and the pages may not be enough for the entries that there
-/// are and those of the state after it. `Damaged`: the leaves stood for no state, which is said of
+/// `Full`: the command isn't a delete and isn't refused, and the pages may not be enough for the
+/// entries that there are and those of the state after it. `Damaged`: the leaves stood for no state, which is said of
 /// block 0 where each is whole. `Fault`: the count of faults rose; with any other answer it stays.
 /// `NoMemory`: an allocation failed. After a stop a part of the change may be made; what was last
 /// committed stays, whatever is answered.
@@ -41,9 +41,9 @@ pub fn edit<B: Leaves>(
     match command {
         Command::Insert(file, values) => insert(alloc, schema, built, file, values, leaves),
         Command::Update(file, key, changes) => {
-            update(alloc, schema, built, file, &key, &changes, leaves)
+            update(alloc, schema, built, file, key, changes, leaves)
         }
-        Command::Delete(file, key) => delete(alloc, schema, built, file, &key, leaves),
+        Command::Delete(file, key) => delete(alloc, schema, built, file, key, leaves),
         Command::Connect(link, owner, member) => {
             connect(alloc, schema, built, link, &owner, &member, leaves)
         }
@@ -88,18 +88,18 @@ fn update<B: Leaves>(
     schema: &Schema,
     built: &Built,
     file: u16,
-    key: &Value,
-    changes: &Changes,
+    key: Value,
+    changes: Changes,
     leaves: &mut B,
 ) -> Result<Option<Refused>, Stop>
     requires ready { AreFor schema.now built.now (length (B.working leaves.old)) }
-    requires of_schema { IsOfSchema schema.now (command.Update file key.now changes.now) }
-    ensures { Edits B.View schema.now built.now (command.Update file key.now changes.now)
+    requires of_schema { IsOfSchema schema.now (command.Update file key changes) }
+    ensures { Edits B.View schema.now built.now (command.Update file key changes)
         leaves.old leaves.new result }
 {
     let def = file_def(schema, file);
     let node = file_node(built, file);
-    update_record(alloc, def, node, key, &changes.0, leaves)
+    update_record(alloc, def, node, key, changes, leaves)
 }
 
 // A record that is an end of a pair is there, so the links may be asked first.
@@ -108,15 +108,15 @@ fn delete<B: Leaves>(
     schema: &Schema,
     built: &Built,
     file: u16,
-    key: &Value,
+    key: Value,
     leaves: &mut B,
 ) -> Result<Option<Refused>, Stop>
     requires ready { AreFor schema.now built.now (length (B.working leaves.old)) }
-    requires of_schema { IsOfSchema schema.now (command.Delete file key.now) }
-    ensures { Edits B.View schema.now built.now (command.Delete file key.now) leaves.old
+    requires of_schema { IsOfSchema schema.now (command.Delete file key) }
+    ensures { Edits B.View schema.now built.now (command.Delete file key) leaves.old
         leaves.new result }
 {
-    if is_linked(alloc, schema, built, file, key, leaves)? {
+    if is_linked(alloc, schema, built, file, &key, leaves)? {
         return Ok(Some(Refused::Linked));
     }
     delete_unlinked(alloc, schema, built, file, key, leaves)
@@ -128,12 +128,12 @@ fn delete_unlinked<B: Leaves>(
     schema: &Schema,
     built: &Built,
     file: u16,
-    key: &Value,
+    key: Value,
     leaves: &mut B,
 ) -> Result<Option<Refused>, Stop>
     requires ready { AreFor schema.now built.now (length (B.working leaves.old)) }
-    requires of_schema { IsOfSchema schema.now (command.Delete file key.now) }
-    ensures { EditsUnlinked B.View schema.now built.now (command.Delete file key.now) file key.now
+    requires of_schema { IsOfSchema schema.now (command.Delete file key) }
+    ensures { EditsUnlinked B.View schema.now built.now (command.Delete file key) file key
         leaves.old leaves.new result }
 {
     let def = file_def(schema, file);

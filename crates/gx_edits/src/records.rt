@@ -6,7 +6,7 @@ ghost use Rattle.gx_values.specs.Values.{Fits, AreFit, AreSized};
 ghost use Rattle.gx_values.specs.declared.values.Value.{Value as TheValue};
 ghost use Rattle.gx_schema.specs.Lookups.{key_kind, data_fields};
 ghost use Rattle.gx_commands.specs.Commands.{IsChangeOf};
-ghost use Rattle.gx_ports.specs.LeafMaps.{entry_count, IsCrowded, IsCrowdedBy};
+ghost use Rattle.gx_ports.specs.LeafMaps.{entry_count, IsCrowdedBy};
 ghost use Rattle.gx_ports.specs.Calls.{Keeps, Ends};
 ghost use Rattle.gx_mapping.specs.Rule.{IsOf};
 ghost use Rattle.gx_stack.specs.Tree.{entries_of};
@@ -18,10 +18,10 @@ ghost use Rattle.gx_model.specs.Commands.{changed, updated, first_refusal, key_e
 ghost use Rattle.gx_scan.specs.Files.{rec_of, IsInternal, HasFile, IsStorable, IsTreeFor};
 ghost use Rattle.gx_edits.specs.Records.{IsEditedWhere};
 
-use gx_commands::Change;
+use gx_commands::Changes;
 use gx_pairs::Refused;
 use gx_ports::{Leaves, Stop};
-use gx_scan::find_record;
+use gx_scan::{find_record, find_values};
 use gx_schema::FileDef;
 use gx_stack::Node;
 use gx_types::AnyMapping;
@@ -75,7 +75,7 @@ pub(crate) fn insert_record<B: Leaves>(
         return Ok(Some(Refused::KeyExists));
     }
     let new = new_record(alloc, key, values)?;
-    node.replace(alloc, leaves, None, Some(&new))?;
+    node.replace(alloc, leaves, None, Some(new))?;
     Ok(None)
 }
 
@@ -84,33 +84,30 @@ pub(crate) fn delete_record<B: Leaves>(
     alloc: Global,
     file: &FileDef,
     node: &Node<AnyMapping>,
-    key: &Value,
+    key: Value,
     leaves: &mut B,
 ) -> Result<Option<Refused>, Stop>
     requires tree { IsTreeFor file.now (tree_of node.now) (length (B.working leaves.old)) }
     requires storable { IsStorable file.now }
-    requires key { Fits (key_kind file.now) key.now }
+    requires key { Fits (key_kind file.now) key }
     ensures deleted { (f : FileMap) → B.whole leaves.old →
         IsInternal file.now (tree_of node.now) (B.working leaves.old) f → IfOk result
         (λ why. IsEditedWhere file.now (tree_of node.now)
         (B.working leaves.old) (B.working leaves.new) f
-        (first_refusal ((not (is_some (fin.get f key.now)), no_record) ∷ []))
-        (fin.remove f key.now) why) }
+        (first_refusal ((not (is_some (fin.get f key)), no_record) ∷ []))
+        (fin.remove f key) why) }
     ensures keeps { Keeps B.View leaves.old leaves.new }
     ensures ends { Ends B.View
         (B.whole leaves.old × HasFile file.now (tree_of node.now) (B.working leaves.old))
         leaves.old leaves.new result }
     ensures block { (n : ℕ) → IsErrOf result (Stop.Damaged n) → B.whole leaves.old → n ≡ 0 }
-    ensures full { B.whole leaves.old → IsErrOf result Stop.Full →
-        IsCrowded (B.limit leaves.old) (B.working leaves.old) }
-    ensures found { (f : FileMap) → B.whole leaves.old →
-        IsInternal file.now (tree_of node.now) (B.working leaves.old) f → IsErrOf result Stop.Full →
-        (values : List TheValue) × (fin.get f key.now ≡ Option.Some values) }
+    ensures not_full { ¬ IsErrOf result Stop.Full }
 {
-    let Some(old) = find_record(alloc, file, node, key, leaves)? else {
+    let Some(values) = find_values(alloc, file, node, &key, leaves)? else {
         return Ok(Some(Refused::NoRecord));
     };
-    node.replace(alloc, leaves, Some(&old), None)?;
+    let old = new_record(alloc, key, values)?;
+    node.replace(alloc, leaves, Some(old), None)?;
     Ok(None)
 }
 
@@ -119,20 +116,20 @@ pub(crate) fn update_record<B: Leaves>(
     alloc: Global,
     file: &FileDef,
     node: &Node<AnyMapping>,
-    key: &Value,
-    changes: &[Change],
+    key: Value,
+    changes: Changes,
     leaves: &mut B,
 ) -> Result<Option<Refused>, Stop>
     requires tree { IsTreeFor file.now (tree_of node.now) (length (B.working leaves.old)) }
     requires storable { IsStorable file.now }
-    requires key { Fits (key_kind file.now) key.now }
-    requires changes { AllByRecursion (IsChangeOf file.now) changes.now }
+    requires key { Fits (key_kind file.now) key }
+    requires changes { AllByRecursion (IsChangeOf file.now) changes }
     ensures updated { (f : FileMap) → B.whole leaves.old →
         IsInternal file.now (tree_of node.now) (B.working leaves.old) f → IfOk result
         (λ why. IsEditedWhere file.now (tree_of node.now)
         (B.working leaves.old) (B.working leaves.new) f
-        (first_refusal ((not (is_some (fin.get f key.now)), no_record) ∷ []))
-        (updated f key.now changes.now) why) }
+        (first_refusal ((not (is_some (fin.get f key)), no_record) ∷ []))
+        (updated f key changes) why) }
     ensures keeps { Keeps B.View leaves.old leaves.new }
     ensures ends { Ends B.View
         (B.whole leaves.old × HasFile file.now (tree_of node.now) (B.working leaves.old))
@@ -140,55 +137,46 @@ pub(crate) fn update_record<B: Leaves>(
     ensures block { (n : ℕ) → IsErrOf result (Stop.Damaged n) → B.whole leaves.old → n ≡ 0 }
     ensures full { (f : FileMap) → B.whole leaves.old →
         IsInternal file.now (tree_of node.now) (B.working leaves.old) f → IsErrOf result Stop.Full →
-        (values : List TheValue) × (fin.get f key.now ≡ Option.Some values)
+        (values : List TheValue) × (fin.get f key ≡ Option.Some values)
         × IsCrowdedBy (B.limit leaves.old)
         (entry_count (B.working leaves.old)
-        + length (entries_of any_rule (tree_of node.now) (rec_of (key.now, changed values changes.now)))) }
+        + length (entries_of any_rule (tree_of node.now) (rec_of (key, changed values changes)))) }
 {
-    let Some(old) = find_record(alloc, file, node, key, leaves)? else {
+    let Some(values) = find_values(alloc, file, node, &key, leaves)? else {
         return Ok(Some(Refused::NoRecord));
     };
-    let new = changed_record(alloc, file, &old, changes)?;
-    node.replace(alloc, leaves, Some(&old), Some(&new))?;
+    let old = new_record(alloc, key, values)?;
+    let gone = node.entries_of(alloc, &old)?;
+    let new = changed_record(file, old, changes);
+    node.replace_entries(alloc, leaves, &gone, Some(new))?;
     Ok(None)
 }
 
 // The record after the changes.
-fn changed_record(
-    alloc: Global,
-    file: &FileDef,
-    old: &Rec,
-    changes: &[Change],
-) -> Result<Rec, NoMemory>
-    requires old { IsOf (file_form file.now) old.now }
-    requires changes { AllByRecursion (IsChangeOf file.now) changes.now }
-    ensures key { IfOk result (λ made. made.key ≡ old.now.key) }
-    ensures fields { IfOk result (λ made. made.fields ≡ changed old.now.fields changes.now) }
-    ensures fits { IfOk result (IsOf (file_form file.now)) }
+fn changed_record(file: &FileDef, old: Rec, changes: Changes) -> Rec
+    requires old { IsOf (file_form file.now) old }
+    requires changes { AllByRecursion (IsChangeOf file.now) changes }
+    ensures key { result.key ≡ old.key }
+    ensures fields { result.fields ≡ changed old.fields changes }
+    ensures fits { IsOf (file_form file.now) result }
 {
-    Ok(Rec {
-        key: old.key.copy(alloc)?,
-        fields: changed_values(alloc, file, old.fields.copy(alloc)?, changes)?,
-    })
+    Rec {
+        key: old.key,
+        fields: changed_values(file, old.fields, changes),
+    }
 }
 
 // The values after the changes.
-fn changed_values(
-    alloc: Global,
-    file: &FileDef,
-    values: Values,
-    changes: &[Change],
-) -> Result<Values, NoMemory>
+fn changed_values(file: &FileDef, values: Values, changes: Changes) -> Values
     requires values { AreFit (data_fields file.now) values }
-    requires changes { AllByRecursion (IsChangeOf file.now) changes.now }
-    ensures changed { IfOk result (λ after. after ≡ changed values changes.now) }
-    ensures fits { IfOk result (AreFit (data_fields file.now)) }
+    requires changes { AllByRecursion (IsChangeOf file.now) changes }
+    ensures changed { result ≡ changed values changes }
+    ensures fits { AreFit (data_fields file.now) result }
 {
     let _file = file;
     let mut values = values.0;
-    for change in changes {
-        let value = change.value.copy(alloc)?;
-        values[change.field as usize - 1] = value;
+    for change in changes.0 {
+        values[change.field as usize - 1] = change.value;
     }
-    Ok(Values(values))
+    Values(values)
 }

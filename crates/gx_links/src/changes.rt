@@ -54,9 +54,9 @@ pub fn replace_both<M: Mapping, B: Leaves>(
     alloc: Global,
     leaves: &mut B,
     first: &Node<M>,
-    first_change: &Change,
+    first_change: Change,
     second: &Node<M>,
-    second_change: &Change,
+    second_change: Change,
 ) -> Result<(), Stop>
     requires first_valid { IsValid M.rule (tree_of first.now) }
     requires second_valid { IsValid M.rule (tree_of second.now) }
@@ -65,12 +65,12 @@ pub fn replace_both<M: Mapping, B: Leaves>(
     requires second_below { (n : ℕ) → In n (leaves_of (tree_of second.now)) →
         n < length (B.working leaves.old) }
     requires first_fits { FitsChange (tree_form M.rule (tree_of first.now))
-        first_change.now }
+        first_change }
     requires second_fits { FitsChange (tree_form M.rule (tree_of second.now))
-        second_change.now }
+        second_change }
     ensures changed { B.whole leaves.old → OnOk result
-        (AreReplaced M.rule (tree_of first.now) (tree_of second.now) first_change.now
-        second_change.now (B.working leaves.old) (B.working leaves.new)) }
+        (AreReplaced M.rule (tree_of first.now) (tree_of second.now) first_change second_change
+        (B.working leaves.old) (B.working leaves.new)) }
     ensures others { (n : ℕ) → B.whole leaves.old → ¬ IsErrOf result Stop.Fault →
         ¬ In n (leaves_of (tree_of first.now)) → ¬ In n (leaves_of (tree_of second.now)) →
         map_at (B.working leaves.new) n ≡ map_at (B.working leaves.old) n }
@@ -80,11 +80,9 @@ pub fn replace_both<M: Mapping, B: Leaves>(
     ensures full { B.whole leaves.old → IsErrOf result Stop.Full →
         IsCrowdedBy (B.limit leaves.old)
         (entry_count (B.working leaves.old)
-        + (length (entries_if M.rule (tree_of first.now) first_change.now.new)
-        + length (entries_if M.rule (tree_of second.now) second_change.now.new))) }
+        + (length (entries_if M.rule (tree_of first.now) first_change.new)
+        + length (entries_if M.rule (tree_of second.now) second_change.new))) }
 {
-    let (old, new) = (first_change.old.as_ref(), first_change.new.as_ref());
-    first.replace(alloc, leaves, old, new)?;
-    let (old, new) = (second_change.old.as_ref(), second_change.new.as_ref());
-    second.replace(alloc, leaves, old, new)
+    first.replace(alloc, leaves, first_change.old, first_change.new)?;
+    second.replace(alloc, leaves, second_change.old, second_change.new)
 }

@@ -113,10 +113,10 @@ impl<'a, M: Mapping> Linkset for PointerArray<'a, M> {
         }
         let old = array_rec(alloc, owner, &members.0)?;
         if rest.0.is_empty() {
-            return self.tree.replace(alloc, leaves, Some(&old), None);
+            return self.tree.replace(alloc, leaves, Some(old), None);
         }
         let new = array_rec(alloc, owner, &rest.0)?;
-        self.tree.replace(alloc, leaves, Some(&old), Some(&new))
+        self.tree.replace(alloc, leaves, Some(old), Some(new))
     }
 
     fn pairs<B: Leaves>(
@@ -176,10 +176,10 @@ impl<'a, M: Mapping> PointerArray<'a, M> {
         let with = with_member(alloc, member, members)?;
         let new = array_rec(alloc, owner, &with.0)?;
         if members.0.is_empty() {
-            return self.tree.replace(alloc, leaves, None, Some(&new));
+            return self.tree.replace(alloc, leaves, None, Some(new));
         }
         let old = array_rec(alloc, owner, &members.0)?;
-        self.tree.replace(alloc, leaves, Some(&old), Some(&new))
+        self.tree.replace(alloc, leaves, Some(old), Some(new))
     }
 
     // The pairs of the link whose rows these records are. `None`: they are those of no link.

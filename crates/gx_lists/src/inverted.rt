@@ -106,7 +106,7 @@ impl<'a, M: Mapping> Linkset for Inverted<'a, M> {
     ) -> Result<(), Stop> {
         let pair = Change::coming(pair_rec(alloc, owner, member)?).reversed();
         let owned = Change::coming(owned_rec(alloc, owner, member)?).reversed();
-        replace_both(alloc, leaves, self.down, &pair, self.up, &owned)
+        replace_both(alloc, leaves, self.down, pair, self.up, owned)
     }
 
     fn pairs<B: Leaves>(
@@ -197,7 +197,7 @@ impl<'a, M: Mapping> Inverted<'a, M> {
     {
         let pair = Change::coming(pair_rec(alloc, owner, member)?);
         let owned = Change::coming(owned_rec(alloc, owner, member)?);
-        replace_both(alloc, leaves, self.down, &pair, self.up, &owned)
+        replace_both(alloc, leaves, self.down, pair, self.up, owned)
     }
 
     // The pairs of the link whose rows these records of the two nodes are. `None`: they are those of no

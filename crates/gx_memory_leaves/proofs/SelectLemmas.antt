@@ -4,14 +4,16 @@ use Rattle.std.specs.Prelude.{filter, not, ◌&&◌}
 use Rattle.std.specs.List.{filter_map, cons_option, flat_map, AllByRecursion}
 use Rattle.std.specs.List.Sorted.{IsStrictlySortedBy}
 use Rattle.std.specs.Option.{option_map}
-use Rattle.std.specs.Ordering.{is_le}
-use Rattle.std.specs.declared.cmp.Ordering.TheVariants.{Less}
+use Rattle.std.specs.Ordering.{is_le, is_lt, ordering_reverse}
+use Rattle.std.specs.declared.cmp.Ordering.{Ordering}
+use Rattle.std.specs.Cmp.Lexicographic.{nat_list_cmp_total}
+use Rattle.std.specs.declared.cmp.Ordering.TheVariants.{Less, Equal, Greater}
 use Rattle.std.specs.Map.{keys_of}
 use Rattle.std.proofs.lemmas.Map.Keys.{sorted_head, sorted_tail}
 use Rattle.gx_values.specs.Keys.{is_inside}
 use Rattle.gx_ports.specs.LeafMaps.{entry_of, selected, Extends}
 use Rattle.gx_ports.specs.Keyed.{key_cmp}
-use Rattle.gx_memory_leaves.specs.Cells.{Cell, cells_of, body_entry, bodies, is_up_to, picked_body, picked}
+use Rattle.gx_memory_leaves.specs.Cells.{Cell, cells_of, body_entry, bodies, is_up_to, IsPastAll, picked_body, picked}
 use Rattle.gx_ports.specs.declared.leaves.Entry.{Entry}
 use Rattle.gx_ports.proofs.KeyLemmas.{le_trans, front_le}
 use Rattle.gx_memory_leaves.proofs.MapLemmas.{entries_cells}
@@ -57,6 +59,39 @@ picked_range lo hi (e ∷ es) =
       | true ↦ λ _. ap (λ (xs : List Entry). picked lo hi e ++ xs) (picked_range lo hi es)
       | false ↦ λ t. picked_range lo hi es ∙ ap (λ (xs : List Entry). xs ++ flat_map (picked lo hi) es) (sym (outside lo hi e (ap (λ (b : Bool). b && is_le (key_cmp (take (length hi) e.0) hi)) t)))
     ] refl
+
+-- ---- a key past all
+
+back_le : (o : Ordering) → is_lt o ≡ false → is_le (ordering_reverse o) ≡ true
+back_le Less e = cc
+back_le Equal e = refl
+back_le Greater e = refl
+
+pub is_less : (o : Ordering) → is_lt o ≡ true → o ≡ Less
+is_less Less e = refl
+is_less Equal e = cc
+is_less Greater e = cc
+
+-- a key past the greatest one
+past_one : (last q key : List ℕ) → is_lt (key_cmp last q) ≡ false → key_cmp last key ≡ Less → is_le (key_cmp key q) ≡ false
+past_one last q key least less = go (is_le (key_cmp key q)) refl
+  where
+    go : (b : Bool) → is_le (key_cmp key q) ≡ b → b ≡ false
+    go false t = refl
+    go true t =
+        let back : is_le (key_cmp q last) ≡ true = ap is_le (nat_list_cmp_total.antisymm q last) ∙ back_le (key_cmp last q) least in
+        let up = le_trans key q last t back in
+        let down : is_le (key_cmp key last) ≡ false = ap is_le (nat_list_cmp_total.antisymm key last ∙ ap ordering_reverse less) in
+        sym up ∙ down
+
+pub past_each : (last key : List ℕ) (keys : List (List ℕ)) → AllByRecursion (λ q. is_lt (key_cmp last q) ≡ false) keys → key_cmp last key ≡ Less → AllByRecursion (λ q. is_le (key_cmp key q) ≡ false) keys
+past_each last key [] all less = tt
+past_each last key (q ∷ keys) all less = (past_one last q key all.0 less, past_each last key keys all.1 less)
+
+-- from it on there is no entry
+pub none_from_key : (lo : List ℕ) (es : List (List ℕ × Cell)) → IsPastAll lo es → from_key lo es ≡ []
+none_from_key lo [] past = refl
+none_from_key lo (e ∷ es) past = ap (λ (b : Bool). cond (b && true) (e ∷ from_key lo es) (from_key lo es)) past.0 ∙ none_from_key lo es past.1
 
 -- past the upper end
 abbrev is_past : List ℕ → List ℕ → Bool

@@ -1,6 +1,6 @@
 -- The cells of a leaf in memory, what the open transaction replaced in them, and the maps that they stand for.
-use Rattle.std.specs.Prelude.{◌≡◌, ℕ, List, [], ◌∷◌, Bool, true, Option, Some, None, is_some, length, take, if◌then◌else◌}
-use Rattle.std.specs.List.{filter_map}
+use Rattle.std.specs.Prelude.{◌≡◌, ℕ, List, [], ◌∷◌, Bool, true, false, Option, Some, None, is_some, length, take, if◌then◌else◌}
+use Rattle.std.specs.List.{AllByRecursion, filter_map}
 use Rattle.std.specs.List.Sorted.{IsStrictlySortedBy}
 use Rattle.std.specs.Map.{keys_of}
 use Rattle.std.specs.Option.{option_map}
@@ -85,6 +85,10 @@ pair_of cells made undos = record { working = bodies cells; kept = bodies (kept_
 abbrev pub ended : End → LeafPair → LeafPair
 ended Commit l = record { working = l.working; kept = l.working }
 ended Abort l = record { working = l.kept; kept = l.kept }
+
+-- the key is past each of theirs
+abbrev pub IsPastAll : List ℕ → List (List ℕ × Cell) → Type 0
+IsPastAll key es = AllByRecursion (λ k. is_le (key_cmp key k) ≡ false) (keys_of es)
 
 -- the first bytes of the key, as many as hi has, are at most hi
 abbrev pub is_up_to : List ℕ → List ℕ → Bool

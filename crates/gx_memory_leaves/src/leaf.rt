@@ -1,10 +1,10 @@
 // One leaf in memory: an ordered map from each key to its cell, and what the open transaction
 // replaced there, so that its end looks no key up that it keeps, and takes no memory.
-ghost use Rattle.std.specs.Prelude.{◌≡◌, ◌≤◌, ◌++◌, [], length, None, is_some, OnOk, OnErr};
+ghost use Rattle.std.specs.Prelude.{◌≡◌, ◌≤◌, ◌++◌, [], length, None, true, is_some, OnOk, OnErr};
 ghost use Rattle.std.specs.Option.{option_and_then};
 ghost use Rattle.std.specs.FinMap.{insert, remove, get};
 ghost use Rattle.gx_ports.specs.LeafMaps.{selected, Extends};
-ghost use Rattle.gx_memory_leaves.specs.Cells.{cells_of, IsAscending, bodies, undone, without, kept_cells, emptied, HasCell, IsOpen, ended, is_up_to};
+ghost use Rattle.gx_memory_leaves.specs.Cells.{cells_of, IsAscending, bodies, undone, without, kept_cells, emptied, HasCell, IsOpen, ended, is_up_to, IsPastAll};
 ghost use Rattle.gx_memory_leaves.specs.Pairs.{empty_pair};
 
 use crate::key::Key;
@@ -13,6 +13,7 @@ use gx_order::compare_bytes;
 use gx_ports::Entries;
 use gx_values::{NoMemory, Span};
 use std::alloc::Global;
+use std::cmp::Ord;
 use std::collections::BTreeMap;
 use std::marker::Model;
 use std::mem;
@@ -243,11 +244,15 @@ fn select_cells(
     span: &Span,
     out: &mut Entries,
 ) -> Result<(), NoMemory>
+    requires { IsAscending cells.now.entries }
     ensures ok { OnOk result
         (out.new ≡ out.old ++ selected span.now.lo span.now.hi (bodies (cells_of cells.now.entries))) }
     ensures extends { Extends out.old out.new }
 {
     let lo = Key::from_slice(alloc, span.lo.as_slice())?;
+    if is_past_all(cells, &lo) {
+        return Ok(());
+    }
     for (key, cell) in cells.range(lo..) {
         let bytes = key.as_slice();
         if !is_up_to(span.hi.as_slice(), bytes) {
@@ -258,6 +263,16 @@ fn select_cells(
         }
     }
     Ok(())
+}
+
+// Whether the key is known to be past each key of the leaf, as one that comes in ascending order is.
+fn is_past_all(cells: &BTreeMap<Key, Cell>, key: &Key) -> bool
+    ensures { result ≡ true → IsPastAll key.now cells.now.entries }
+{
+    match cells.last_key_value() {
+        Some((last, _)) => last.cmp(key).is_lt(),
+        None => false,
+    }
 }
 
 // Whether the first bytes of the key, as many as `hi` has, are at most `hi`.

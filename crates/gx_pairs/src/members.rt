@@ -24,7 +24,7 @@ use gx_gather::NO_BLOCK;
 use gx_links::Linkset;
 use gx_ports::{Leaves, Stop};
 use gx_rows::Row;
-use gx_scan::{find_record, into_row, meets_all};
+use gx_scan::{find_values, meets_all};
 use gx_values::{Value, Values};
 use std::alloc::Global;
 
@@ -182,10 +182,11 @@ fn add_record<B: Leaves>(
         × HasFile (file_of stored.now) (node_tree stored.now) (B.working leaves.old))
         leaves.old leaves.new result }
 {
-    let Some(rec) = find_record(alloc, stored.file, stored.node, key, leaves)? else {
+    let Some(values) = find_values(alloc, stored.file, stored.node, key, leaves)? else {
         return Ok(false);
     };
-    let row = into_row(stored.file, rec);
+    let key = key.copy(alloc)?;
+    let row = Row { key, values };
     if meets_all(conds, &row) {
         rows.push(row)?;
     }

@@ -117,7 +117,7 @@ impl<'a, M: Mapping> Linkset for Ring<'a, M> {
         let at = neighbours_of(&others.0, member);
         let own = own_change(alloc, owner, member, at)?.reversed();
         let lead = lead_change(alloc, owner, member, at)?.reversed();
-        replace_both(alloc, leaves, self.chain, &own, self.leading(at), &lead)
+        replace_both(alloc, leaves, self.chain, own, self.leading(at), lead)
     }
 
     fn pairs<B: Leaves>(
@@ -183,7 +183,7 @@ impl<'a, M: Mapping> Ring<'a, M> {
         let at = neighbours_of(&members.0, member);
         let lead = lead_change(alloc, owner, member, at)?;
         let own = own_change(alloc, owner, member, at)?;
-        replace_both(alloc, leaves, self.leading(at), &lead, self.chain, &own)
+        replace_both(alloc, leaves, self.leading(at), lead, self.chain, own)
     }
 
     // Appends the members from this one on.

@@ -29,6 +29,11 @@ use Rattle.gx_scan.specs.Entries.{wrapped, entry_of_row, IsStoredRow}
 
 -- ---- one record
 
+-- one more that fits
+pub all_more : {A : Type 0} (P : A → Type 0) (xs : List A) (x : A) → AllByRecursion P xs → P x → AllByRecursion P (xs ++ x ∷ [])
+all_more P [] x all p = (p, tt)
+all_more P (y ∷ xs) x all p = (all.0, all_more P xs x all.1 p)
+
 first_kind : (fs : List Field) (d : Field) → 0 < length fs → d ≡ get_or fs 0 d → d.kind ≡ (get_or fs 0 no_field).kind
 first_kind [] d some is = absurd (omega arith)
 first_kind (f ∷ fs) d some is = ap (λ (g : Field). g.kind) is

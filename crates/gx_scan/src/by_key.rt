@@ -1,12 +1,14 @@
 // The values of the record at a key of a file, without the record where an entry has them.
-ghost use Rattle.std.specs.Prelude.{◌≡◌, ◌≤◌, ◌+◌, ℕ, Option, length, option_map, IfOk, OnOk};
+ghost use Rattle.std.specs.Prelude.{◌≡◌, ◌≤◌, ◌+◌, ℕ, Option, length, option_map, IfOk, IfSome, OnOk};
+ghost use Rattle.std.specs.List.{AllByRecursion};
 ghost use Rattle.std.specs.FinMap as fin;
-ghost use Rattle.gx_values.specs.Values.{Fits};
-ghost use Rattle.gx_schema.specs.Lookups.{key_kind};
+ghost use Rattle.gx_values.specs.Values.{Fits, AreFit};
+ghost use Rattle.gx_schema.specs.Lookups.{key_kind, data_fields};
+ghost use Rattle.gx_schema.specs.declared.schema.FileDef.{FileDef as TheFile};
 ghost use Rattle.gx_ports.specs.Calls.{ReadsMaps};
 ghost use Rattle.gx_stack.specs.Tree.{leaves_of};
 ghost use Rattle.gx_stack.specs.Seen.{tree_of};
-ghost use Rattle.gx_model.specs.States.{File as FileMap, Row as TheRow};
+ghost use Rattle.gx_model.specs.States.{File as FileMap, Row as TheRow, IsRowOf};
 ghost use Rattle.gx_scan.specs.Files.{IsInternal, HasFile, IsStorable, IsTreeFor};
 ghost use Rattle.gx_scan.specs.Entries.{ArePlaces};
 ghost use Rattle.gx_scan.specs.Records.{list_of_one};
@@ -42,6 +44,7 @@ pub fn find_values<B: Leaves>(
     ensures found { (f : FileMap) → B.whole leaves.old →
         IsInternal file.now (tree_of node.now) (B.working leaves.old) f →
         IfOk result (λ found. found ≡ fin.get f key.now) }
+    ensures fits { IfOk result (λ found. IfSome found (AreFit (data_fields file.now))) }
     ensures steps { (f : FileMap) (most : ℕ) → B.whole leaves.old →
         IsInternal file.now (tree_of node.now) (B.working leaves.old) f →
         HaveAtMost most (tree_of node.now) f → OnOk result
@@ -75,6 +78,7 @@ fn values_by_entry<B: Leaves>(
     ensures found { (f : FileMap) → B.whole leaves.old →
         IsInternal file.now (tree_of node.now) (B.working leaves.old) f →
         IfOk result (λ found. found ≡ fin.get f key.now) }
+    ensures fits { IfOk result (λ found. IfSome found (AreFit (data_fields file.now))) }
     ensures steps { (f : FileMap) (most : ℕ) → B.whole leaves.old →
         IsInternal file.now (tree_of node.now) (B.working leaves.old) f →
         HaveAtMost most (tree_of node.now) f → OnOk result
@@ -101,8 +105,10 @@ fn values_by_entry<B: Leaves>(
 }
 
 fn last_values(rows: Vec<Row>) -> Option<Values>
-    ensures { (one : Option TheRow) → rows.items ≡ list_of_one one →
+    ensures last { (one : Option TheRow) → rows.items ≡ list_of_one one →
         result ≡ option_map (λ row. row.1) one }
+    ensures fits { (file : TheFile) → AllByRecursion (IsRowOf file) rows.items →
+        IfSome result (AreFit (data_fields file)) }
 {
     let mut rows = rows;
     let row = rows.pop()?;
@@ -123,6 +129,7 @@ fn values_by_record<B: Leaves>(
     ensures found { (f : FileMap) → B.whole leaves.old →
         IsInternal file.now (tree_of node.now) (B.working leaves.old) f →
         IfOk result (λ found. found ≡ fin.get f key.now) }
+    ensures fits { IfOk result (λ found. IfSome found (AreFit (data_fields file.now))) }
     ensures steps { (f : FileMap) (most : ℕ) → B.whole leaves.old →
         IsInternal file.now (tree_of node.now) (B.working leaves.old) f →
         HaveAtMost most (tree_of node.now) f → OnOk result

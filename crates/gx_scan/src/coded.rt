@@ -14,7 +14,7 @@ ghost use Rattle.gx_encode.specs.Codes.{code_of, IsCodable};
 ghost use Rattle.gx_encode.specs.Packs.{pack};
 ghost use Rattle.gx_encode.specs.Rules.{coded};
 ghost use Rattle.gx_encode.specs.Runs.{rle};
-ghost use Rattle.gx_model.specs.States.{Row as TheRow};
+ghost use Rattle.gx_model.specs.States.{Row as TheRow, IsRowOf};
 ghost use Rattle.gx_model.specs.Found.{meets_conds};
 ghost use Rattle.gx_scan.specs.Files.{IsStorable};
 ghost use Rattle.gx_scan.specs.Entries.{entry_of_row, IsStoredRow};
@@ -50,6 +50,8 @@ pub(crate) fn add_rows_at(
         IfOk result (λ all. (all ≡ true)
         × (rows.new.items ≡ rows.old.items ++ filter (meets_conds conds.now) rs)) }
     ensures front { Extends rows.old.items rows.new.items }
+    ensures fit { AllByRecursion (IsRowOf file.now) rows.old.items →
+        AllByRecursion (IsRowOf file.now) rows.new.items }
 {
     if place.codes.is_empty() {
         add_chosen_rows(alloc, file, place.lengths, conds, entries, rows)
@@ -72,6 +74,8 @@ fn add_coded_rows(
         IfOk result (λ all. (all ≡ true)
         × (rows.new.items ≡ rows.old.items ++ filter (meets_conds conds.now) rs)) }
     ensures front { Extends rows.old.items rows.new.items }
+    ensures fit { AllByRecursion (IsRowOf file.now) rows.old.items →
+        AllByRecursion (IsRowOf file.now) rows.new.items }
 {
     let mut plain = Vec::new(alloc);
     for index in 0..entries.len() {

@@ -1,6 +1,6 @@
 // The records of a file among the entries of its leaf that meet conditions: the conditions are tested on
 // the bytes of an entry, and only a record that meets them all is made.
-ghost use Rattle.std.specs.Prelude.{◌≡◌, ◌<◌, ◌≤◌, ◌++◌, [], List, ℕ, ℤ, pos, suc, length, map, filter, slice_index_or, true, Some, IfOk, IsSomeAnd};
+ghost use Rattle.std.specs.Prelude.{◌≡◌, ◌<◌, ◌≤◌, ◌++◌, [], List, ℕ, ℤ, pos, suc, length, map, filter, slice_index_or, true, Some, IfOk, IfSome, IsSomeAnd};
 ghost use Rattle.std.specs.Int.{w64};
 ghost use Rattle.std.specs.Int.RustNames.{FitsSigned};
 ghost use Rattle.std.specs.List.{AllByRecursion};
@@ -46,6 +46,8 @@ pub(crate) fn add_chosen_rows(
         (λ all. (all ≡ true)
         × (rows.new.items ≡ rows.old.items ++ filter (meets_conds conds.now) rs)) }
     ensures front { Extends rows.old.items rows.new.items }
+    ensures fit { AllByRecursion (IsRowOf file.now) rows.old.items →
+        AllByRecursion (IsRowOf file.now) rows.new.items }
 {
     for index in 0..entries.len() {
         let entry = entries.entry(index);
@@ -83,8 +85,9 @@ pub(crate) fn read_row(
     body: &[u8],
 ) -> Result<Option<Row>, NoMemory>
     requires { IsStorable file.now }
-    ensures { (r : TheRow) → IsRowOf file.now r → key.now ≡ bytes_of r.0 → body.now ≡ body_of r.1 →
-        IfOk result (λ found. found ≡ Some r) }
+    ensures read { (r : TheRow) → IsRowOf file.now r → key.now ≡ bytes_of r.0 →
+        body.now ≡ body_of r.1 → IfOk result (λ found. found ≡ Some r) }
+    ensures fits { IfOk result (λ found. IfSome found (IsRowOf file.now)) }
 {
     let kind = file.fields.0[0].kind;
     let Some(key) = read_value_key(alloc, kind, key)? else {

@@ -198,6 +198,7 @@ pub fn put_new<B: Leaves>(
     ensures ends { Ends B.View (B.whole leaves.old) leaves.old leaves.new result }
     ensures full { B.whole leaves.old → IsErrOf result Stop.Full →
         IsCrowdedBy (B.limit leaves.old) (entry_count (B.working leaves.old) + length come.now) }
+    ensures full_of_some { IsErrOf result Stop.Full → 0 < length come.now }
 {
     for i in 0..come.len() {
         let entry = &come[i];

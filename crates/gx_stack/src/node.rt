@@ -1,6 +1,5 @@
 // Nodes: trees of mappings, with leaves below.
-ghost use Rattle.std.specs.Prelude.{◌≡◌, ◌<◌, ◌≤◌, ◌+◌, ◌++◌, ◌∷◌, [], ◌↔◌, List, ℕ, None, length, take, drop, OnOk, IsErrOf, IfOk};
-ghost use Rattle.std.specs.Option.{option_map};
+ghost use Rattle.std.specs.Prelude.{◌≡◌, ◌≢◌, ◌<◌, ◌≤◌, ◌+◌, ◌++◌, ◌∷◌, [], ◌↔◌, List, ℕ, Option, None, length, take, drop, OnOk, IsErrOf, IfOk};
 ghost use Rattle.gx_ports.specs.LeafMaps.{LeafMap, map_at, entry_count, Extends, IsCrowdedBy};
 ghost use Rattle.gx_ports.specs.Calls.{Keeps, ReadsMaps, Ends};
 ghost use Rattle.gx_values.specs.declared.records.Rec.{Rec as Record};
@@ -8,7 +7,7 @@ ghost use Rattle.gx_mapping.specs.Rule.{In, IsOf, AreOfKey, IsGathered};
 ghost use Rattle.gx_gather.specs.Gather.{part_for, AreEach};
 ghost use Rattle.gx_stack.specs.Tree.{leaves_of, tree_form, entries_of, IsValid};
 ghost use Rattle.gx_stack.specs.Seen.{tree_of};
-ghost use Rattle.gx_stack.specs.Internal.{IsSet, IsInternal, IsUnion, IsChange, IfThere, HasSet, changed, entries_if};
+ghost use Rattle.gx_stack.specs.Internal.{IsSet, IsInternal, IsUnion, IsChange, IfThere, HasSet, AreOfOne, changed, entries_if};
 ghost use Rattle.gx_stack.specs.Selected.{IsKeySpan, IsFound};
 
 use crate::entries::{
@@ -162,57 +161,60 @@ impl<M: Mapping> Node<M> {
     }
 
     // The leaf entries that come from an optional record.
-    fn entries_if(&self, alloc: Global, rec: Option<&Rec>) -> Result<Vec<LeafEntry>, NoMemory>
+    fn entries_if(&self, alloc: Global, rec: Option<Rec>) -> Result<Vec<LeafEntry>, NoMemory>
         requires valid { IsValid M.rule (tree_of self.now) }
-        requires of_form { IfThere (option_map (λ r. r.now) rec)
-            (IsOf (tree_form M.rule (tree_of self.now))) }
-        ensures { IfOk result
-            (λ es. es.items
-            ≡ entries_if M.rule (tree_of self.now) (option_map (λ r. r.now) rec.entry)) }
+        requires of_form { IfThere rec (IsOf (tree_form M.rule (tree_of self.now))) }
+        ensures { IfOk result (λ es. es.items ≡ entries_if M.rule (tree_of self.now) rec) }
     {
         let mut entries = Vec::new(alloc);
         if let Some(rec) = rec {
-            self.entries(alloc, rec, &mut entries)?;
+            self.into_entries(alloc, rec, &mut entries)?;
         }
+        Ok(entries)
+    }
+
+    /// The leaf entries that come from a record. `NoMemory`: there was none for them.
+    pub fn entries_of(&self, alloc: Global, rec: &Rec) -> Result<Vec<LeafEntry>, NoMemory>
+        requires valid { IsValid M.rule (tree_of self.now) }
+        requires of_form { IsOf (tree_form M.rule (tree_of self.now)) rec.now }
+        ensures { IfOk result (λ es. es.items ≡ entries_of M.rule (tree_of self.now) rec.now) }
+    {
+        let mut entries = Vec::new(alloc);
+        self.entries(alloc, rec, &mut entries)?;
         Ok(entries)
     }
 
     /// Changes one record: `old` is what the node holds at the key, and `new` what it is to hold there. The
     /// entries that both have are left alone.
     ///
-    /// `Full`: the pages may not be enough for the entries of `new` besides all that there are.
-    /// `Damaged`: some leaf's stored form isn't whole. `Fault`: the count of faults rose; with any other
-    /// answer it stays. `NoMemory`: there was none. After a refusal a part of the change may be made.
+    /// `Full`: there is a `new`, and the pages may not be enough for its entries besides all that there
+    /// are. `Damaged`: some leaf's stored form isn't whole. `Fault`: the count of faults rose; with any
+    /// other answer it stays. `NoMemory`: there was none. After a refusal a part of the change may be made.
     pub fn replace<B: Leaves>(
         &self,
         alloc: Global,
         leaves: &mut B,
-        old: Option<&Rec>,
-        new: Option<&Rec>,
+        old: Option<Rec>,
+        new: Option<Rec>,
     ) -> Result<(), Stop>
         requires valid { IsValid M.rule (tree_of self.now) }
         requires below { (n : ℕ) → In n (leaves_of (tree_of self.now)) →
             n < length (B.working leaves.old) }
-        requires old_fits { IfThere (option_map (λ r. r.now) old)
-            (IsOf (tree_form M.rule (tree_of self.now))) }
-        requires new_fits { IfThere (option_map (λ r. r.now) new)
-            (IsOf (tree_form M.rule (tree_of self.now))) }
+        requires old_fits { IfThere old (IsOf (tree_form M.rule (tree_of self.now))) }
+        requires new_fits { IfThere new (IsOf (tree_form M.rule (tree_of self.now))) }
 
         // The leaves hold the records with the one changed, and all other leaves stay.
         ensures internal { (R : List Record) → B.whole leaves.old →
-            IsSet (tree_form M.rule (tree_of self.now)) R →
-            IsChange R (option_map (λ r. r.now) old.entry) (option_map (λ r. r.now) new.entry) →
+            IsSet (tree_form M.rule (tree_of self.now)) R → IsChange R old new →
             IsInternal M.rule (tree_of self.now) R (B.working leaves.old) → OnOk result
-            (IsInternal M.rule (tree_of self.now)
-            (changed R (option_map (λ r. r.now) old.entry) (option_map (λ r. r.now) new.entry))
-            (B.working leaves.new)) }
+            (IsInternal M.rule (tree_of self.now) (changed R old new) (B.working leaves.new)) }
         ensures others { (n : ℕ) → B.whole leaves.old → ¬ IsErrOf result Stop.Fault →
             ¬ In n (leaves_of (tree_of self.now)) →
             map_at (B.working leaves.new) n ≡ map_at (B.working leaves.old) n }
         ensures count { B.whole leaves.old → OnOk result
             (entry_count (B.working leaves.new)
             ≤ entry_count (B.working leaves.old)
-            + length (entries_if M.rule (tree_of self.now) (option_map (λ r. r.now) new.entry))) }
+            + length (entries_if M.rule (tree_of self.now) new)) }
 
         ensures keeps { Keeps B.View leaves.old leaves.new }
         ensures work { B.work leaves.new ≡ B.work leaves.old }
@@ -220,12 +222,57 @@ impl<M: Mapping> Node<M> {
         ensures full { B.whole leaves.old → IsErrOf result Stop.Full →
             IsCrowdedBy (B.limit leaves.old)
             (entry_count (B.working leaves.old)
-            + length (entries_if M.rule (tree_of self.now) (option_map (λ r. r.now) new.entry))) }
+            + length (entries_if M.rule (tree_of self.now) new)) }
+        ensures full_of_new { IsErrOf result Stop.Full → new ≢ None }
     {
         let gone = self.entries_if(alloc, old)?;
+        self.replace_entries(alloc, leaves, &gone, new)
+    }
+
+    /// The same, where `gone` has the leaf entries of what the node holds at the key.
+    ///
+    /// `Full`: there is a `new`, and the pages may not be enough for its entries besides all that there
+    /// are. `Damaged`: some leaf's stored form isn't whole. `Fault`: the count of faults rose; with any
+    /// other answer it stays. `NoMemory`: there was none. After a refusal a part of the change may be made.
+    pub fn replace_entries<B: Leaves>(
+        &self,
+        alloc: Global,
+        leaves: &mut B,
+        gone: &[LeafEntry],
+        new: Option<Rec>,
+    ) -> Result<(), Stop>
+        requires valid { IsValid M.rule (tree_of self.now) }
+        requires below { (n : ℕ) → In n (leaves_of (tree_of self.now)) →
+            n < length (B.working leaves.old) }
+        requires gone { AreOfOne M.rule (tree_of self.now) gone.now }
+        requires new_fits { IfThere new (IsOf (tree_form M.rule (tree_of self.now))) }
+
+        // The leaves hold the records with the one changed, and all other leaves stay.
+        ensures internal { (R : List Record) (old : Option Record) → B.whole leaves.old →
+            gone.now ≡ entries_if M.rule (tree_of self.now) old →
+            IsSet (tree_form M.rule (tree_of self.now)) R → IsChange R old new →
+            IsInternal M.rule (tree_of self.now) R (B.working leaves.old) → OnOk result
+            (IsInternal M.rule (tree_of self.now) (changed R old new) (B.working leaves.new)) }
+        ensures others { (n : ℕ) → B.whole leaves.old → ¬ IsErrOf result Stop.Fault →
+            ¬ In n (leaves_of (tree_of self.now)) →
+            map_at (B.working leaves.new) n ≡ map_at (B.working leaves.old) n }
+        ensures count { B.whole leaves.old → OnOk result
+            (entry_count (B.working leaves.new)
+            ≤ entry_count (B.working leaves.old)
+            + length (entries_if M.rule (tree_of self.now) new)) }
+
+        ensures keeps { Keeps B.View leaves.old leaves.new }
+        ensures work { B.work leaves.new ≡ B.work leaves.old }
+        ensures ends { Ends B.View (B.whole leaves.old) leaves.old leaves.new result }
+        ensures full { B.whole leaves.old → IsErrOf result Stop.Full →
+            IsCrowdedBy (B.limit leaves.old)
+            (entry_count (B.working leaves.old)
+            + length (entries_if M.rule (tree_of self.now) new)) }
+        ensures full_of_new { IsErrOf result Stop.Full → new ≢ None }
+    {
         let come = self.entries_if(alloc, new)?;
-        remove_others(alloc, leaves, &gone, &come)?;
-        put_new(alloc, leaves, &gone, &come)
+        remove_others(alloc, leaves, gone, &come)?;
+        put_new(alloc, leaves, gone, &come)
     }
 
     /// Appends the records whose key is inside the span, in ascending order of their keys.

@@ -4,7 +4,7 @@ use Rattle.gx_stack.specs.Seen.{tree_of}
 use Rattle.gx_scan.specs.Files.{IsTreeFor}
 use Rattle.gx_scan.proofs.CallLemmas.{ok_one, ends_so}
 use Rattle.gx_states.proofs.StoredLemmas.{internal_at, has_file}
-use Rattle.gx_edits.proofs.EditLemmas.{delete_edited, delete_accepted, short_as_it_is}
+use Rattle.gx_edits.proofs.EditLemmas.{delete_edited}
 use Rattle.gx_edits.proofs.edits.delete_unlinked.Goals as goal
 
 pub delete_record-requires-clause-tree : goal.delete_record-requires-clause-tree
@@ -26,11 +26,10 @@ returns g c =
     record {
       edit = λ s free whole are.
           ok_one c.delete_record.result _ _ (c.delete_record.ensures.deleted _ whole (internal_at schema built i def t old s def_is tree_is lt are))
-          (λ why is. delete_edited schema built _ old new s i def t why c.requires.ready are lt def_is tree_is c.args.key.now free is);
-      full = λ s free whole are stops. short_as_it_is _ _ _ (c.delete_record.ensures.full whole stops);
-      accepted = λ s free whole are stops.
-          let found = c.delete_record.ensures.found _ whole (internal_at schema built i def t old s def_is tree_is lt are) stops in
-          delete_accepted schema s i c.args.key.now found.0 free found.1;
+          (λ why is. delete_edited schema built _ old new s i def t why c.requires.ready are lt def_is tree_is c.args.key free is);
+      full = λ s free whole are stops. absurd (c.delete_record.ensures.not_full stops);
+      bringing = λ stops. absurd (c.delete_record.ensures.not_full stops);
+      accepted = λ s free whole are stops. absurd (c.delete_record.ensures.not_full stops);
       keeps = c.delete_record.ensures.keeps;
       ends = ends_so g.B.View _ _ _ _ _ (λ found. (found.0, has_file schema built i def t old def_is tree_is lt found.1)) c.delete_record.ensures.ends;
       block = c.delete_record.ensures.block;

@@ -1,4 +1,4 @@
-use Rattle.std.proofs.Common.{length, sym, subst}
+use Rattle.std.proofs.Common.{length, sym, subst, refl}
 use Rattle.gx_schema.specs.declared.schema.FileDef.{FileDef}
 use Rattle.gx_stack.specs.Seen.{tree_of}
 use Rattle.gx_scan.specs.Files.{IsTreeFor}
@@ -30,6 +30,7 @@ returns g c =
       full = λ s known whole are stops.
           let short = c.insert_record.ensures.full _ whole (internal_at schema built i def t old s def_is tree_is lt are) stops in
           short_insert (g.B.View.limit c.args.leaves.now) schema built _ _ old s i t c.requires.ready are lt tree_is c.key_and_values-key.result.0 c.args.values c.key_and_values-key.result.1 c.key_and_values-key.ensures.parts short.0 short.1;
+      bringing = λ stops. refl;
       accepted = λ s known whole are stops.
           let short = c.insert_record.ensures.full _ whole (internal_at schema built i def t old s def_is tree_is lt are) stops in
           insert_accepted schema s i c.key_and_values-key.result.0 c.args.values c.key_and_values-key.result.1 c.key_and_values-key.ensures.parts short.0;

@@ -1,18 +1,9 @@
-use Rattle.std.proofs.Common.{length, sym, subst, List, [], ◌∷◌, ◌+◌, ◌∙◌}
+use Rattle.std.proofs.Common.{length, sym, subst, refl}
 use Rattle.gx_schema.specs.declared.schema.FileDef.{FileDef}
 use Rattle.gx_stack.specs.Seen.{tree_of}
-use Rattle.gx_scan.specs.Files.{IsTreeFor, rec_of}
-use Rattle.std.specs.Prelude.{not, is_some}
-use Rattle.std.specs.FinMap.{get}
-use Rattle.gx_commands.specs.declared.command.Change.{Change}
-use Rattle.gx_ports.specs.LeafMaps.{entry_count, IsCrowdedBy}
-use Rattle.gx_stack.specs.Tree.{entries_of}
-use Rattle.gx_types.specs.Any.{any_rule}
-use Rattle.gx_model.specs.States.{file_in}
-use Rattle.gx_model.specs.Commands.{changed, updated, first_refusal, no_record}
+use Rattle.gx_scan.specs.Files.{IsTreeFor}
 use Rattle.gx_scan.proofs.CallLemmas.{ok_one, ends_so}
 use Rattle.gx_states.proofs.StoredLemmas.{internal_at, has_file}
-use Rattle.gx_edits.specs.Records.{IsEditedWhere}
 use Rattle.gx_edits.proofs.EditLemmas.{update_edited, update_accepted, short_update}
 use Rattle.gx_edits.proofs.edits.update.Goals as goal
 
@@ -35,15 +26,14 @@ returns g c =
     record {
       edit = λ s known whole are.
           ok_one c.update_record.result _ _ (c.update_record.ensures.updated _ whole (internal_at schema built i def t old s def_is tree_is lt are))
-          (λ why is. update_edited schema built _ old new s i def t why c.requires.ready are lt def_is tree_is c.args.key.now c.args.changes.now
-          (subst (λ (cs : List Change). IsEditedWhere def t old new (file_in s i) (first_refusal ((not (is_some (get (file_in s i) c.args.key.now)), no_record) ∷ [])) (updated (file_in s i) c.args.key.now cs) why) (c.deref.ensures.value ∙ c.changes.view_is) is));
+          (λ why is. update_edited schema built _ old new s i def t why c.requires.ready are lt def_is tree_is c.args.key c.args.changes is);
       full = λ s known whole are stops.
           let short = c.update_record.ensures.full _ whole (internal_at schema built i def t old s def_is tree_is lt are) stops in
-          short_update (g.B.View.limit c.args.leaves.now) schema built _ _ old s i t c.requires.ready are lt tree_is c.args.key.now c.args.changes.now short.0 short.1
-          (subst (λ (cs : List Change). IsCrowdedBy (g.B.View.limit c.args.leaves.now) (entry_count old + length (entries_of any_rule t (rec_of (c.args.key.now, changed short.0 cs))))) (c.deref.ensures.value ∙ c.changes.view_is) short.2);
+          short_update (g.B.View.limit c.args.leaves.now) schema built _ _ old s i t c.requires.ready are lt tree_is c.args.key c.args.changes short.0 short.1 short.2;
+      bringing = λ stops. refl;
       accepted = λ s known whole are stops.
           let short = c.update_record.ensures.full _ whole (internal_at schema built i def t old s def_is tree_is lt are) stops in
-          update_accepted schema s i c.args.key.now c.args.changes.now short.0 short.1;
+          update_accepted schema s i c.args.key c.args.changes short.0 short.1;
       keeps = c.update_record.ensures.keeps;
       ends = ends_so g.B.View _ _ _ _ _ (λ found. (found.0, has_file schema built i def t old def_is tree_is lt found.1)) c.update_record.ensures.ends;
       block = c.update_record.ensures.block;

@@ -1,4 +1,4 @@
-use Rattle.std.proofs.Common.{length, sym, subst}
+use Rattle.std.proofs.Common.{length, sym, subst, refl}
 use Rattle.gx_values.specs.Values.{Fits}
 use Rattle.gx_schema.specs.declared.schema.FileDef.{FileDef}
 use Rattle.gx_schema.specs.Lookups.{key_kind}
@@ -38,6 +38,7 @@ returns g c =
           let linked = is_linked_in any_link_rule IsHeldBy IsValidLinkset schema built _ i x c.requires.ready lt is old s are in
           let full = pair.full _ _ _ whole linked stops in
           disconnect_full any_link_rule IsHeldBy IsValidLinkset schema built _ i x c.requires.ready lt is _ _ s full.0 c.args.member.now are.valid full.1 full.3;
+      bringing = λ stops. refl;
       accepted = λ s known whole are stops.
           (pair.full _ _ _ whole (is_linked_in any_link_rule IsHeldBy IsValidLinkset schema built _ i x c.requires.ready lt is old s are) stops).1;
       keeps = pair.keeps;

@@ -1,9 +1,8 @@
 use Rattle.std.proofs.Common.{◌<◌, sym, subst}
 use Rattle.std.specs.Prelude.{OnOk}
-use Rattle.std.specs.Option.{option_map}
 use Rattle.gx_stack.specs.Seen.{tree_of}
 use Rattle.gx_stack.specs.Internal.{IsInternal, changed}
-use Rattle.gx_links.proofs.ReplaceLemmas.{on_ok, replaced}
+use Rattle.gx_links.proofs.ReplaceLemmas.{on_ok}
 use Rattle.gx_links.proofs.changes.replace_both.Goals as goal
 
 pub replace-requires-2-clause-below : goal.replace-requires-2-clause-below
@@ -20,17 +19,15 @@ returns-clause-changed g c = λ whole.
     let half = b.working c.replace.new.leaves in
     let now = b.working c.replace-2.new.leaves in
     let half_whole = c.in_ok-replace.ensures.ends.whole whole in
-    let old2 = option_map (λ r. r.now) c.as_ref-old-2.result in
-    let new2 = option_map (λ r. r.now) c.as_ref-new-2.result in
     on_ok c.replace-2.result (λ x done. record {
       half = half;
-      one = replaced rule first c.args.first_change.now old half _ _ c.as_ref-old.ensures.value
-          c.as_ref-new.ensures.value
-          (λ R set change is. c.in_ok-replace.ensures.internal R whole set change is)
-          (λ n away. c.in_ok-replace.ensures.others n whole (λ f. cc) away);
-      two = replaced rule second c.args.second_change.now half now _ _ c.as_ref-old-2.ensures.value
-          c.as_ref-new-2.ensures.value
-          (λ R set change is. subst (λ r. OnOk r (IsInternal rule second (changed R old2 new2) now))
-          done (c.replace-2.ensures.internal R half_whole set change is))
-          (λ n away. c.replace-2.ensures.others n half_whole (λ f. cc) away);
+      one = record {
+        internal = λ R set change is. c.in_ok-replace.ensures.internal R whole set change is;
+        others = λ n away. c.in_ok-replace.ensures.others n whole (λ f. cc) away;
+      };
+      two = record {
+        internal = λ R set change is. subst (λ r. OnOk r (IsInternal rule second (changed R c.args.second_change.old c.args.second_change.new) now))
+            done (c.replace-2.ensures.internal R half_whole set change is);
+        others = λ n away. c.replace-2.ensures.others n half_whole (λ f. cc) away;
+      };
     })

@@ -1,7 +1,7 @@
-use Rattle.std.proofs.Common.{◌≡◌, ap, sym, rules, ◌∷◌, [], ◌∙◌, refl, true, false, Some, None}
+use Rattle.std.proofs.Common.{◌≡◌, ap, sym, rules, ◌∷◌, [], ◌∙◌, refl, true, false, Some, None, append-nil}
 use Rattle.std.specs.Option.{option_copied}
 use Rattle.gx_memory_leaves.specs.Cells.{is_up_to}
-use Rattle.gx_memory_leaves.proofs.SelectLemmas.{from_key, begun, gone_on, passed_over, ended_outside, ended_last, range_gives}
+use Rattle.gx_memory_leaves.proofs.SelectLemmas.{from_key, begun, gone_on, passed_over, ended_outside, ended_last, range_gives, none_from_key}
 use Rattle.gx_memory_leaves.proofs.leaf.select_cells.Goals as goal
 
 pub loop-key-init : goal.loop-key-init
@@ -9,6 +9,12 @@ loop-key-init c =
     let same : c.in_ok-lo.lo ≡ c.args.span.now.lo = search rules in
     let range : c.into_iter-key-iterator.result ≡ from_key c.in_ok-lo.lo c.args.cells.now.entries = search rules in
     begun c.in_ok-lo.lo _ _ _ _ _ c.args.cells.now.entries same range c.range-key-items.ensures.ordered refl
+
+pub returns-then-is_past_all-clause-ok : goal.returns-then-is_past_all-clause-ok
+returns-then-is_past_all-clause-ok c =
+    let same : c.in_ok-lo.lo ≡ c.args.span.now.lo = search rules in
+    let none : from_key c.in_ok-lo.lo c.args.cells.now.entries ≡ [] = none_from_key c.in_ok-lo.lo c.args.cells.now.entries (c.is_past_all.ensures c.if-is_past_all.true) in
+    sym (append-nil c.args.out.now) ∙ range_gives c.in_ok-lo.lo _ c.args.span.now.hi c.args.out.now [] c.args.cells.now.entries same (sym none) c.requires
 
 pub returns-then-not-is_up_to-clause-ok : goal.returns-then-not-is_up_to-clause-ok
 returns-then-not-is_up_to-clause-ok c =

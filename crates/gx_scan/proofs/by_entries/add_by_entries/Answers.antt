@@ -24,6 +24,7 @@ loop-place-init g c = record {
   rows = λ f whole is. ([], sym (append-nil c.args.rows.now.items), none_chosen (tree_of c.args.node.now) (is_within c.args.span.now c.args.conds.now) f [] refl);
   steps = λ f whole is. ([], none_chosen (tree_of c.args.node.now) (is_key_inside c.args.span.now) f [] refl, omega arith);
   front = ([], sym (append-nil c.args.rows.now.items));
+  fit = λ all. all;
   reads = reads_itself g.B.View c.args.leaves.now;
   whole = λ h. h;
   counted = refl;
@@ -74,6 +75,7 @@ loop-place-preserved g c =
             omega (arith, so_far.2, now, length-append so_far.0 more, length-take i ps, length-take (i + 1) ps),
           );
       front = (inv.front.0 ++ e.front.0, e.front.1 ∙ ap (λ (l : List Row). l ++ e.front.0) inv.front.1 ∙ append_assoc c.args.rows.now.items inv.front.0 e.front.0);
+      fit = λ all. e.fit (inv.fit all);
       reads = reads_joined b inv.reads e.reads.reads;
       whole = λ h. e.reads.ends.whole (inv.whole h);
       counted = e.reads.ends.counted refl ∙ inv.counted;

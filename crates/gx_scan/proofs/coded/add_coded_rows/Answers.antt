@@ -1,9 +1,12 @@
-use Rattle.std.proofs.Common.{◌≡◌, ◌++◌, ◌∷◌, ◌∙◌, [], List, sym, ap, true, false, append_assoc}
+use Rattle.std.proofs.Common.{◌≡◌, ◌++◌, ◌∷◌, ◌∙◌, [], List, sym, ap, true, false, subst, append_assoc}
+use Rattle.std.specs.Prelude.{IfSome}
+use Rattle.std.specs.List.{AllByRecursion}
 use Rattle.std.proofs.lemmas.Bool.{true≢false}
 use Rattle.gx_ports.specs.declared.leaves.Entry.{Entry}
-use Rattle.gx_model.specs.States.{Row}
+use Rattle.gx_model.specs.States.{Row, IsRowOf}
 use Rattle.gx_model.specs.Found.{meets_conds}
 use Rattle.gx_scan.specs.Entries.{entry_of_row, IsStoredRow}
+use Rattle.gx_scan.proofs.EntryLemmas.{all_more}
 use Rattle.gx_scan.proofs.ScanLemmas.{row_of, row_kept, row_left}
 use Rattle.gx_scan.proofs.coded.add_coded_rows.Goals as goal
 
@@ -45,7 +48,7 @@ returns-in_default-2-clause-chosen c = λ rs all same.
     let key = ap (λ (x : Entry). x.key) at.is in
     let body = ap (λ (x : Entry). x.body) at.is in
     let plain = c.in_ok-make_plain_body.ensures at.row at.fits body in
-    let read = c.in_ok-row.ensures at.row at.fits.0 key (c.as_slice.ensures.value ∙ plain.1) in
+    let read = c.in_ok-row.ensures.read at.row at.fits.0 key (c.as_slice.ensures.value ∙ plain.1) in
     let none = c.in_default-2.is in
     cc
 
@@ -68,6 +71,7 @@ loop-index-preserved-then-not-is_chosen c = record {
       (meets_conds c.args.conds.now) rs c.args.rows.now.items c.loop-index.rows.items
       c.loop-index.index e at (c.loop-index.invariant.rows rs all same) unmet;
   front = c.loop-index.invariant.front;
+  fit = c.loop-index.invariant.fit;
 }
 
 pub loop-index-preserved : goal.loop-index-preserved
@@ -86,7 +90,7 @@ loop-index-preserved c = record {
       let chosen = c.if-not-is_chosen.false in
       let met : meets_conds c.args.conds.now at.row ≡ true = cc in
       let plain = c.in_ok-make_plain_body.ensures at.row at.fits body in
-      let read = c.in_ok-row.ensures at.row at.fits.0 key (c.as_slice.ensures.value ∙ plain.1) in
+      let read = c.in_ok-row.ensures.read at.row at.fits.0 key (c.as_slice.ensures.value ∙ plain.1) in
       let there = c.in-Some-2.is in
       let row : c.in-Some-2.row ≡ at.row = cc in
       row_kept (IsStoredRow c.args.file.now place.codes) (entry_of_row place.lengths place.codes)
@@ -99,4 +103,8 @@ loop-index-preserved c = record {
         ∙ ap (λ (l : List Row). l ++ c.in-Some-2.row ∷ []) c.loop-index.invariant.front.1
         ∙ append_assoc c.args.rows.now.items c.loop-index.invariant.front.0 (c.in-Some-2.row ∷ []),
   );
+  fit = λ all. subst (AllByRecursion (IsRowOf c.args.file.now)) (sym c.in_ok-push.ensures.items)
+      (all_more (IsRowOf c.args.file.now) c.loop-index.rows.items c.in-Some-2.row
+      (c.loop-index.invariant.fit all)
+      (subst (λ o. IfSome o (IsRowOf c.args.file.now)) c.in-Some-2.is c.in_ok-row.ensures.fits));
 }

@@ -1,11 +1,13 @@
-use Rattle.std.proofs.Common.{◌≡◌, ◌++◌, ◌∷◌, ◌∙◌, [], List, ap, true, false, subst, append_assoc}
-use Rattle.std.specs.Prelude.{IsSomeAnd}
+use Rattle.std.proofs.Common.{◌≡◌, ◌++◌, ◌∷◌, ◌∙◌, [], List, ap, sym, true, false, subst, append_assoc}
+use Rattle.std.specs.Prelude.{IfSome, IsSomeAnd}
+use Rattle.std.specs.List.{AllByRecursion}
 use Rattle.gx_ports.specs.declared.leaves.Entry.{Entry}
 use Rattle.gx_actual.specs.Bodies.{body_of}
 use Rattle.gx_model.specs.States.{Row, IsRowOf}
 use Rattle.gx_model.specs.Found.{meets_conds}
 use Rattle.gx_scan.specs.Files.{rec_of}
 use Rattle.gx_scan.specs.Entries.{entry_of_row}
+use Rattle.gx_scan.proofs.EntryLemmas.{all_more}
 use Rattle.gx_scan.proofs.ScanLemmas.{row_of, row_kept, row_left}
 use Rattle.gx_scan.proofs.scan.add_chosen_rows.Goals as goal
 
@@ -35,7 +37,7 @@ returns-in_default-2-clause-chosen c rs all same =
     let at = row_of (IsRowOf c.args.file.now) (entry_of_row c.args.lengths []) rs c.args.entries.now
     c.loop-index.index e all same c.entry-entry.ensures in
     let values = subst (λ o. IsSomeAnd o (λ values. values.now ≡ body_of at.row.1)) c.in-Some.is (c.behind_lengths.ensures (rec_of at.row) (ap (λ (x : Entry). x.body) at.is)) in
-    let read = c.in_ok-row.ensures at.row at.fits (ap (λ (x : Entry). x.key) at.is) values in
+    let read = c.in_ok-row.ensures.read at.row at.fits (ap (λ (x : Entry). x.key) at.is) values in
     let none = c.in_default-2.is in
     cc
 
@@ -55,6 +57,7 @@ loop-index-preserved-then-not-is_chosen c = record {
       (meets_conds c.args.conds.now) rs c.args.rows.now.items c.loop-index.rows.items
       c.loop-index.index e at (c.loop-index.invariant.rows rs all same) unmet;
   front = c.loop-index.invariant.front;
+  fit = c.loop-index.invariant.fit;
 }
 
 pub loop-index-preserved : goal.loop-index-preserved
@@ -69,7 +72,7 @@ loop-index-preserved c = record {
       let some = c.in-Some-meets_all.is in
       let chosen = c.if-not-is_chosen.false in
       let met : meets_conds c.args.conds.now at.row ≡ true = cc in
-      let read = c.in_ok-row.ensures at.row at.fits (ap (λ (x : Entry). x.key) at.is) values in
+      let read = c.in_ok-row.ensures.read at.row at.fits (ap (λ (x : Entry). x.key) at.is) values in
       let there = c.in-Some-2.is in
       let row : c.in-Some-2.row ≡ at.row = cc in
       row_kept (IsRowOf c.args.file.now) (entry_of_row c.args.lengths [])
@@ -82,4 +85,8 @@ loop-index-preserved c = record {
         ∙ ap (λ (l : List Row). l ++ c.in-Some-2.row ∷ []) c.loop-index.invariant.front.1
         ∙ append_assoc c.args.rows.now.items c.loop-index.invariant.front.0 (c.in-Some-2.row ∷ []),
   );
+  fit = λ all. subst (AllByRecursion (IsRowOf c.args.file.now)) (sym c.in_ok-push.ensures.items)
+      (all_more (IsRowOf c.args.file.now) c.loop-index.rows.items c.in-Some-2.row
+      (c.loop-index.invariant.fit all)
+      (subst (λ o. IfSome o (IsRowOf c.args.file.now)) c.in-Some-2.is c.in_ok-row.ensures.fits));
 }

@@ -12,4 +12,6 @@ invariant-loop-index l = record {
       → l.entries ≡ map (λ (r : Row). entry_of (entry_of_row l.lengths [] r)) rs
       → l.rows.items ≡ l.fn.rows.items ++ filter (meets_conds l.conds) (take l.index rs);
   front : Extends l.fn.rows.items l.rows.items;
+  fit : AllByRecursion (IsRowOf l.file) l.fn.rows.items
+      → AllByRecursion (IsRowOf l.file) l.rows.items;
 }
