@@ -44,7 +44,7 @@ kind_is file d is at = first_kind file.fields d is.keyed at
 pub key_fits : (file : FileDef) (k : Kind) (bytes : List ℕ) (key : Value) → k ≡ key_kind file → IsRead bytes_of k bytes (Some key) → Fits (key_kind file) key
 key_fits file k bytes key same read = subst (λ (j : Kind). Fits j key) same read.0
 
-same_key : (k : Kind) (v w : Value) → IsKeyKind k → Fits k v → Fits k w → bytes_of v ≡ bytes_of w → v ≡ w
+pub same_key : (k : Kind) (v w : Value) → IsKeyKind k → Fits k v → Fits k w → bytes_of v ≡ bytes_of w → v ≡ w
 same_key k v w key f g e = (value_prefix_free k key v w [] [] f g (append-nil (bytes_of v) ∙ e ∙ sym (append-nil (bytes_of w)))).0
 
 -- what is read of a record's entry is the record
@@ -110,14 +110,14 @@ values_behind (suc n) r = subst (λ k. IsBehind (leaf_body (wrapped (suc (suc n)
 
 -- ---- the records within a span
 
-filter_map : {A B : Type 0} (test : B → Bool) (f : A → B) (xs : List A) → filter test (map f xs) ≡ map f (filter (λ x. test (f x)) xs)
+pub filter_map : {A B : Type 0} (test : B → Bool) (f : A → B) (xs : List A) → filter test (map f xs) ≡ map f (filter (λ x. test (f x)) xs)
 filter_map test f [] = refl
 filter_map {A} {B} test f (x ∷ xs) = elim (test (f x)) as (λ b. cond b (f x ∷ filter test (map f xs)) (filter test (map f xs)) ≡ map f (cond b (x ∷ filter (λ y. test (f y)) xs) (filter (λ y. test (f y)) xs))) [
   | true ↦ ap (λ (l : List B). f x ∷ l) (filter_map test f xs)
   | false ↦ filter_map test f xs
 ]
 
-map_joined : {A B C : Type 0} (g : B → C) (f : A → B) (xs : List A) → map g (map f xs) ≡ map (λ x. g (f x)) xs
+pub map_joined : {A B C : Type 0} (g : B → C) (f : A → B) (xs : List A) → map g (map f xs) ≡ map (λ x. g (f x)) xs
 map_joined g f [] = refl
 map_joined {A} {B} {C} g f (x ∷ xs) = ap (λ (l : List C). g (f x) ∷ l) (map_joined g f xs)
 

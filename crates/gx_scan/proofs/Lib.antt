@@ -4,6 +4,8 @@ pub mod RecordLemmas
 mod CodeLemmas
 mod EntryLemmas
 mod PlaceLemmas
+mod GroupLemmas
+mod JoinLemmas
 pub mod ListingLemmas
 mod ScanLemmas
 pub mod SelectLemmas

@@ -511,10 +511,10 @@ layer_placed node l n cs b ds i ps is valid passes end placed =
 
 -- ---- the entries of one leaf
 
-abbrev Pair : Type 0
+abbrev pub Pair : Type 0
 Pair = List ℕ × List ℕ
 
-abbrev pair_cmp : Pair → Pair → Ordering
+abbrev pub pair_cmp : Pair → Pair → Ordering
 pair_cmp a b = slice_cmp nat_cmp a.0 b.0
 
 abbrev pub key_cmp : Row → Row → Ordering
@@ -556,7 +556,7 @@ wrapped_key : (n : ℕ) (r : Rec) → (wrapped n r).key ≡ r.key
 wrapped_key zero r = refl
 wrapped_key (suc n) r = wrapped_key n r
 
-entry_key : (n : ℕ) (cs : List (Option Code)) (r : Row)
+pub entry_key : (n : ℕ) (cs : List (Option Code)) (r : Row)
     → key_of (below n cs (rec_of r)).key ≡ bytes_of r.0
 entry_key n cs r = ap key_of (wrapped_key n (stored_rec cs (rec_of r))) ∙ append-nil (bytes_of r.0)
 

@@ -2,6 +2,7 @@ pub mod Files
 pub mod Records
 pub mod Stored
 pub mod Entries
+pub mod Groups
 pub mod Scan
 pub mod Within
 pub mod Where

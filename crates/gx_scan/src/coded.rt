@@ -168,7 +168,7 @@ pub(crate) fn push_plain_value<'a>(
 }
 
 // The same of a value that has no code.
-fn push_as_it_is<'a>(
+pub(crate) fn push_as_it_is<'a>(
     kind: Kind,
     rest: &'a [u8],
     plain: &mut Vec<u8>,
@@ -243,7 +243,7 @@ fn push_unpacked(bytes: &[u8], plain: &mut Vec<u8>) -> Result<bool, AllocError>
     Ok(true)
 }
 
-fn push_int(int: i64, plain: &mut Vec<u8>) -> Result<(), AllocError>
+pub(crate) fn push_int(int: i64, plain: &mut Vec<u8>) -> Result<(), AllocError>
     ensures { IfOk result
         (λ _. plain.new.items ≡ plain.old.items ++ field_bytes (value.Int int)) }
 {
@@ -263,7 +263,7 @@ fn push_runs(alloc: Global, most: u16, bytes: &[u8], plain: &mut Vec<u8>) -> Res
     Ok(true)
 }
 
-fn push_text(text: &[u8], plain: &mut Vec<u8>) -> Result<(), AllocError>
+pub(crate) fn push_text(text: &[u8], plain: &mut Vec<u8>) -> Result<(), AllocError>
     requires { length text.now ≤ 255 }
     ensures { IfOk result
         (λ _. plain.new.items ≡ plain.old.items ++ field_bytes (value.Text text.now)) }

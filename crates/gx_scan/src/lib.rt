@@ -3,12 +3,15 @@
 #![tactic(auto)]
 
 mod by_entries;
+mod by_groups;
 mod by_index;
 mod by_key;
 mod by_records;
 mod coded;
 mod codes;
 mod conditions;
+mod groups;
+mod joined;
 mod places;
 mod records;
 mod scan;

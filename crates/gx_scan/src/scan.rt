@@ -100,7 +100,7 @@ pub(crate) fn read_row(
 }
 
 // Whether the record of an entry meets every condition. `None`: the entry is that of no record.
-fn meets_all(file: &FileDef, conds: &[Cond], key: &[u8], body: &[u8]) -> Option<bool>
+pub(crate) fn meets_all(file: &FileDef, conds: &[Cond], key: &[u8], body: &[u8]) -> Option<bool>
     requires { IsStorable file.now }
     ensures { (r : TheRow) → IsRowOf file.now r → key.now ≡ bytes_of r.0 → body.now ≡ body_of r.1 →
         result ≡ Some (meets_conds conds.now r) }

@@ -14,7 +14,9 @@ ghost use Rattle.gx_scan.specs.Within.{AreAdded};
 ghost use Rattle.gx_scan.specs.Steps.{HaveAtMost, rows_inside};
 
 use crate::by_entries::{add_by_entries, are_few};
+use crate::by_groups::add_by_groups;
 use crate::by_records::add_by_records;
+use crate::groups::groups_of;
 use crate::places::places_of;
 use gx_commands::Cond;
 use gx_ports::{Entries, Leaves, Stop};
@@ -25,14 +27,15 @@ use gx_types::AnyMapping;
 use gx_values::{KeyBuf, Span};
 use std::alloc::Global;
 
-/// Appends the records of the file within the span that meet the conditions, in any order. Where each
-/// record stands whole in one leaf, the conditions are tested on the bytes of leaf entries, and no other
-/// record is made, but for a single key that may stand in one of many leaves. It takes a step for each
-/// leaf, and one for each leaf entry of a record within the span.
+/// Appends the records of the file within the span that meet the conditions, in any order. Where
+/// each record stands whole in one leaf, or a segment splits it in two, the conditions are tested on
+/// the bytes of leaf entries, and no other record is made, but for a single key that may stand in
+/// one of many leaves. It takes a step for each leaf, and one for each leaf entry of a record within
+/// the span.
 ///
-/// After an error `rows` may have more at its end. `Damaged`: some leaf's stored form isn't whole, or the
-/// leaves hold no file, which is said of block 0. `Fault`: the count of faults rose; with any other answer
-/// it stays. `NoMemory`: there was none.
+/// After an error `rows` may have more at its end. `Damaged`: some leaf's stored form isn't whole, or
+/// the leaves hold no file, which is said of block 0. `Fault`: the count of faults rose; with any
+/// other answer it stays. `NoMemory`: there was none.
 pub fn rows_within<B: Leaves>(
     alloc: Global,
     file: &FileDef,
@@ -58,6 +61,9 @@ pub fn rows_within<B: Leaves>(
         (B.whole leaves.old × HasFile file.now (tree_of node.now) (B.working leaves.old))
         leaves.old leaves.new result }
 {
+    if let Some(groups) = groups_of(alloc, node)? {
+        return add_by_groups(alloc, file, node, &groups, span, conds, leaves, rows);
+    }
     match places_of(alloc, node)? {
         Some(places) if are_few(&places) || !is_one_key(span) => {
             let mut entries = Entries::new(alloc);

@@ -87,6 +87,14 @@ fn group_part(alloc: Global, child: u16, mask: &Mask, rec: &Rec) -> Result<Part,
 }
 
 impl Segment {
+    /// Of each data field, whether it is in the first group.
+    pub fn mask(&self) -> &[bool]
+        ensures mask { result.now ≡ mask_of self.now }
+        ensures long { length result.now ≡ length (form_of self.now).fields }
+    {
+        &self.mask.0
+    }
+
     // The values of the record with these parts.
     fn values(&self, alloc: Global, parts: &[Part]) -> Result<Option<Values>, NoMemory>
         requires { (p : ThePart) → In p parts.now → IsOf (segment_form (mask_of self.now) (form_of self.now) p.child) p.rec }

@@ -1,0 +1,41 @@
+-- Records that stand in two leaves, each with one group of their data fields.
+use Rattle.std.specs.Prelude.{[], ◌≡◌, ℕ, List, ◌∷◌, Bool, not, length, map}
+use Rattle.gx_values.specs.declared.records.Field.{Field}
+use Rattle.gx_split.specs.Groups.{chosen, are_default}
+use Rattle.gx_split.specs.SegmentRules.{segment_rule}
+use Rattle.gx_stack.specs.Tree.{Tree, layer, kid, no_kids, tree_form}
+use Rattle.gx_types.specs.declared.any.AnyMapping.{AnyMapping}
+use Rattle.gx_types.specs.Any.{any_rule}
+use Rattle.gx_model.specs.States.{Row}
+use Rattle.gx_scan.specs.declared.groups.Groups.{Groups}
+use Rattle.gx_scan.specs.Entries.{ArePlaces, entry_of_row}
+
+-- A segment splits the tree's records by the mask, and each of the two groups stands whole in one
+-- leaf, with no field by a code.
+pub record AreGroups (t : Tree AnyMapping) (g : Groups) : Type 0 where
+  pub mapping : AnyMapping
+  pub first : Tree AnyMapping
+  pub others : Tree AnyMapping
+  pub tree : t ≡ layer mapping (kid first (kid others no_kids))
+  pub splits : any_rule mapping ≡ segment_rule (tree_form any_rule t) g.mask.items
+  pub long : length g.mask.items ≡ length (tree_form any_rule t).fields
+  pub first_place : ArePlaces 0 first (g.first ∷ [])
+  pub other_place : ArePlaces 0 others (g.others ∷ [])
+  pub first_plain : g.first.codes ≡ []
+  pub other_plain : g.others.codes ≡ []
+
+-- the key and the values of one group
+abbrev pub group_row : List Bool → Row → Row
+group_row mask r = (r.0, chosen mask r.1)
+
+-- whether some value outside the first group isn't its default
+abbrev pub has_others : List Bool → List Field → Row → Bool
+has_others mask fields r =
+    not (are_default (chosen (map not mask) fields) (chosen (map not mask) r.1))
+
+-- the entry of a record's first group, and that of its others
+abbrev pub first_entry : Groups → Row → List ℕ × List ℕ
+first_entry g r = entry_of_row g.first.lengths [] (group_row g.mask.items r)
+
+abbrev pub other_entry : Groups → Row → List ℕ × List ℕ
+other_entry g r = entry_of_row g.others.lengths [] (group_row (map not g.mask.items) r)

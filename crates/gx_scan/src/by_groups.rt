@@ -1,0 +1,83 @@
+// Finding by two groups: where a segment splits records in two leaves, the entries of both are
+// joined by their keys.
+ghost use Rattle.std.specs.Prelude.{◌≡◌, ◌<◌, ◌≤◌, ◌+◌, ◌*◌, ℕ, length, IfOk, OnOk};
+ghost use Rattle.gx_ports.specs.Calls.{ReadsMaps};
+ghost use Rattle.gx_ports.specs.LeafMaps.{Extends, selected, map_at, counted};
+ghost use Rattle.gx_stack.specs.Tree.{leaves_of};
+ghost use Rattle.gx_stack.specs.Seen.{tree_of};
+ghost use Rattle.gx_model.specs.States.{File as FileMap};
+ghost use Rattle.gx_scan.specs.Files.{IsInternal, HasFile, IsStorable, IsTreeFor};
+ghost use Rattle.gx_scan.specs.Groups.{AreGroups};
+ghost use Rattle.gx_scan.specs.Within.{AreAdded};
+ghost use Rattle.gx_scan.specs.Steps.{HaveAtMost, rows_inside};
+
+use crate::groups::Groups;
+use crate::joined::add_joined_rows;
+use crate::places::Place;
+use crate::records::NO_BLOCK;
+use gx_commands::Cond;
+use gx_ports::{Entries, Leaves, Stop};
+use gx_rows::Row;
+use gx_schema::FileDef;
+use gx_stack::Node;
+use gx_types::AnyMapping;
+use gx_values::Span;
+use std::alloc::Global;
+
+/// Appends the records of the file within the span that meet the conditions, in the order of their
+/// keys.
+pub(crate) fn add_by_groups<B: Leaves>(
+    alloc: Global,
+    file: &FileDef,
+    node: &Node<AnyMapping>,
+    groups: &Groups,
+    span: &Span,
+    conds: &[Cond],
+    leaves: &mut B,
+    rows: &mut Vec<Row>,
+) -> Result<(), Stop>
+    requires groups { AreGroups (tree_of node.now) groups.now }
+    requires tree { IsTreeFor file.now (tree_of node.now) (length (B.working leaves.old)) }
+    requires storable { IsStorable file.now }
+    ensures rows { (f : FileMap) → B.whole leaves.old →
+        IsInternal file.now (tree_of node.now) (B.working leaves.old) f →
+        OnOk result (AreAdded span.now conds.now f rows.old.items rows.new.items) }
+    ensures steps { (f : FileMap) (most : ℕ) → B.whole leaves.old →
+        IsInternal file.now (tree_of node.now) (B.working leaves.old) f →
+        HaveAtMost most (tree_of node.now) f → OnOk result
+        (B.work leaves.new
+        ≤ B.work leaves.old
+        + (length (leaves_of (tree_of node.now)) + length (rows_inside span.now f) * most)) }
+    ensures front { Extends rows.old.items rows.new.items }
+    ensures reads { ReadsMaps B.View
+        (B.whole leaves.old × HasFile file.now (tree_of node.now) (B.working leaves.old))
+        leaves.old leaves.new result }
+{
+    let _node = node;
+    let firsts = entries_at(alloc, &groups.first, span, leaves)?;
+    let others = entries_at(alloc, &groups.others, span, leaves)?;
+    if add_joined_rows(alloc, file, groups, conds, &firsts, &others, rows)? {
+        Ok(())
+    } else {
+        Err(Stop::Damaged(NO_BLOCK))
+    }
+}
+
+// The entries of a place within the span, in the order of their keys.
+fn entries_at<B: Leaves>(
+    alloc: Global,
+    place: &Place,
+    span: &Span,
+    leaves: &mut B,
+) -> Result<Entries, Stop>
+    requires { place.now.leaf < length (B.working leaves.old) }
+    ensures entries { B.whole leaves.old → IfOk result (λ found. found
+        ≡ selected span.now.lo span.now.hi (map_at (B.working leaves.old) place.now.leaf)) }
+    ensures steps { IfOk result (λ found. B.work leaves.new
+        ≡ counted (B.work leaves.old) (1 + length found)) }
+    ensures reads { ReadsMaps B.View (B.whole leaves.old) leaves.old leaves.new result }
+{
+    let mut entries = Entries::new(alloc);
+    leaves.select(alloc, place.leaf, span, &mut entries)?;
+    Ok(entries)
+}

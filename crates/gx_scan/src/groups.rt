@@ -1,0 +1,77 @@
+// The leaves where a segment puts the two groups of a file's data fields.
+ghost use Rattle.std.specs.Prelude.{◌≡◌, ◌∷◌, [], IfOk, IfSome};
+ghost use Rattle.gx_values.specs.Keys.{AreKeyFields};
+ghost use Rattle.gx_stack.specs.Tree.{tree_form, IsValid};
+ghost use Rattle.gx_stack.specs.Seen.{tree_of};
+ghost use Rattle.gx_types.specs.Any.{any_rule};
+ghost use Rattle.gx_scan.specs.Entries.{ArePlaces};
+ghost use Rattle.gx_scan.specs.Groups.{AreGroups};
+
+use crate::places::{Place, places_of};
+use gx_stack::Node;
+use gx_types::AnyMapping;
+use gx_values::NoMemory;
+use std::alloc::Global;
+
+/// Two leaves with the two groups of data fields that a segment makes.
+#[derive(Debug, Drop)]
+pub struct Groups {
+    /// of each data field, whether it is in the first group
+    pub mask: Vec<bool>,
+    /// where the first group of each record stands
+    pub first: Place,
+    /// where its other fields stand, unless each has its default
+    pub others: Place,
+}
+
+/// The two groups of the records of a file's node. `None`: no segment splits them, or a group isn't
+/// whole in one leaf. `NoMemory`: there was none for the groups.
+pub(crate) fn groups_of(alloc: Global, node: &Node<AnyMapping>) -> Result<Option<Groups>, NoMemory>
+    requires valid { IsValid any_rule (tree_of node.now) }
+    requires plain { AreKeyFields (tree_form any_rule (tree_of node.now)).fields }
+    ensures { IfOk result (λ found. IfSome found (AreGroups (tree_of node.now))) }
+{
+    let Node::Layer(layer) = node else {
+        return Ok(None);
+    };
+    let AnyMapping::Segment(segment) = &layer.mapping else {
+        return Ok(None);
+    };
+    let Some(first) = only_place(alloc, &layer.kids[0])? else {
+        return Ok(None);
+    };
+    let Some(others) = only_place(alloc, &layer.kids[1])? else {
+        return Ok(None);
+    };
+    let mask = segment.mask().to_vec(alloc)?;
+    Ok(Some(Groups {
+        mask,
+        first,
+        others,
+    }))
+}
+
+// The one place of a node's records, where no field has a code.
+fn only_place(alloc: Global, node: &Node<AnyMapping>) -> Result<Option<Place>, NoMemory>
+    requires valid { IsValid any_rule (tree_of node.now) }
+    requires plain { AreKeyFields (tree_form any_rule (tree_of node.now)).fields }
+    ensures places { IfOk result
+        (λ found. IfSome found (λ p. ArePlaces 0 (tree_of node.now) (p ∷ []))) }
+    ensures plain { IfOk result (λ found. IfSome found (λ p. p.codes ≡ [])) }
+{
+    match places_of(alloc, node)? {
+        Some(places) => Ok(alone(places)),
+        None => Ok(None),
+    }
+}
+
+fn alone(places: Vec<Place>) -> Option<Place>
+    ensures one { IfSome result (λ p. places.items ≡ p ∷ []) }
+    ensures plain { IfSome result (λ p. p.codes ≡ []) }
+{
+    let mut places = places;
+    match places.as_slice() {
+        [place] if place.codes.is_empty() => places.pop(),
+        _ => None,
+    }
+}
