@@ -11,3 +11,4 @@ pub mod VisitedLemmas
 pub mod SelectedLemmas
 pub mod RebuildLemmas
 pub mod FreshLemmas
+pub mod BlankLemmas

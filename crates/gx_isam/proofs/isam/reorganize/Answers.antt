@@ -1,4 +1,4 @@
-use Rattle.std.proofs.Common.{◌<◌, length, refl, sym, ap, subst, ◌∙◌, arith, Err}
+use Rattle.std.proofs.Common.{refl, sym, ap, subst, ◌∙◌, arith, Err}
 use Rattle.std.proofs.lemmas.Result.{on_ok_weaker}
 use Rattle.gx_ports.specs.Files.{IsWhole, OthersStay}
 use Rattle.gx_ports.specs.Sheets.{Sheets, Ground, HasNone}
@@ -8,11 +8,11 @@ use Rattle.gx_chain.specs.Chain.{bytes_at}
 use Rattle.gx_isam_index.specs.Fresh.{HasFreshBuckets}
 use Rattle.gx_isam.specs.Isam.{IsIsam}
 use Rattle.gx_isam_index.specs.Layout.{keys_of}
-use Rattle.gx_isam.specs.Rebuild.{IsBlankFor, IsEmptied}
+use Rattle.gx_isam.proofs.BlankLemmas.{blank_there, others_there}
 use Rattle.gx_isam.proofs.ChangeLemmas.{isam_read}
 use Rattle.gx_isam_index.proofs.LayoutLemmas.{fresh_stays}
 use Rattle.gx_isam.proofs.MakeLemmas.{one_root}
-use Rattle.gx_isam.proofs.RebuildLemmas.{blank_for, blank_others, others_itself, others_joined}
+use Rattle.gx_isam.proofs.RebuildLemmas.{others_itself, others_joined}
 use Rattle.gx_isam.proofs.SelectedLemmas.{keys_selected}
 use Rattle.gx_isam.proofs.WriteLemmas.{handed_refusal, no_refusal, same_refusal}
 use Rattle.gx_isam.proofs.isam.reorganize.Goals as goal
@@ -59,47 +59,23 @@ returns-clause-unchanged g c is = absurd (c.fill_chains.ensures.frugal is)
 pub returns-clause-ok : goal.returns-clause-ok
 returns-clause-ok g c map holds =
     let p = c.args.pages.now in
-    let r = g.P.PageView.working c.free_chains.new.pages in
     let w = c.write.new.self in
     let place = c.args.place.now in
-    let ground = g.P.PageView.ground p in
-    let s = g.P.PageView.working p in
     let index = c.write_index.new.page in
     let reads = c.gather_all.ensures.reads in
-    let on_r = c.free_chains.ensures.keeps.ground ∙ reads.keeps.ground in
-    let on_w = c.write.ensures.keeps.ground ∙ on_r in
-    let emptied = subst (λ (x : Sheets). IsEmptied ground place x r) reads.working (subst (λ (x : Ground). IsEmptied x place (g.P.PageView.working c.gather_all.new.pages) r) reads.keeps.ground
-    (c.in_ok-free_chains.ensures.emptied map (record { told = holds.told; file = isam_read g.P.PageView place p c.gather_all.new.pages reads map holds.file }))) in
-    let many = g.met.P.Pages.many c.free_chains.new.pages holds.told in
-    let size = ap (λ (x : Ground). x.size) on_r in
-    let below = c.requires.place.below in
-    let roots = one_root place c.requires.kind in
-    let within : place.root < length r.bytes = omega (arith, below, roots, many.1, size) in
-    let blank = subst (λ (x : Ground). IsBlankFor x place (g.P.PageView.working w) index c.in_ok-entries.entries map) (sym on_w)
-    (blank_for ground place s r (g.P.PageView.working w) map index c.in_ok-entries.entries emptied within (c.in_ok-write.ensures.written holds.told) c.write_index.ensures.index c.write_index.ensures.none (c.in_ok-entries.ensures.all map holds)) in
-    on_ok_weaker c.fill_chains.result (λ filled. subst (λ (x : Ground). IsIsam x place (g.P.PageView.working c.fill_chains.new.pages) map) on_w filled.file) (c.fill_chains.ensures.filled holds.told map blank)
+    let blank = blank_there g.P.PageView place p c.gather_all.new.pages c.free_chains.new.pages w reads c.requires.place c.requires.kind c.free_chains.ensures.keeps.ground c.write.ensures.keeps.ground (g.met.P.Pages.many c.free_chains.new.pages holds.told).1
+    index c.in_ok-entries.entries map holds (c.in_ok-free_chains.ensures.emptied map) (c.in_ok-write.ensures.written holds.told) c.write_index.ensures.index c.write_index.ensures.none (c.in_ok-entries.ensures.all map holds) in
+    on_ok_weaker c.fill_chains.result (λ filled. subst (λ (x : Ground). IsIsam x place (g.P.PageView.working c.fill_chains.new.pages) map) (c.write.ensures.keeps.ground ∙ c.free_chains.ensures.keeps.ground ∙ reads.keeps.ground) filled.file) (c.fill_chains.ensures.filled holds.told map blank)
 
 pub returns-clause-fresh : goal.returns-clause-fresh
 returns-clause-fresh g c map holds =
     let p = c.args.pages.now in
-    let r = g.P.PageView.working c.free_chains.new.pages in
     let w = c.write.new.self in
     let place = c.args.place.now in
-    let ground = g.P.PageView.ground p in
-    let s = g.P.PageView.working p in
     let index = c.write_index.new.page in
     let reads = c.gather_all.ensures.reads in
-    let on_r = c.free_chains.ensures.keeps.ground ∙ reads.keeps.ground in
-    let on_w = c.write.ensures.keeps.ground ∙ on_r in
-    let emptied = subst (λ (x : Sheets). IsEmptied ground place x r) reads.working (subst (λ (x : Ground). IsEmptied x place (g.P.PageView.working c.gather_all.new.pages) r) reads.keeps.ground
-    (c.in_ok-free_chains.ensures.emptied map (record { told = holds.told; file = isam_read g.P.PageView place p c.gather_all.new.pages reads map holds.file }))) in
-    let many = g.met.P.Pages.many c.free_chains.new.pages holds.told in
-    let size = ap (λ (x : Ground). x.size) on_r in
-    let below = c.requires.place.below in
-    let roots = one_root place c.requires.kind in
-    let within : place.root < length r.bytes = omega (arith, below, roots, many.1, size) in
-    let blank = subst (λ (x : Ground). IsBlankFor x place (g.P.PageView.working w) index c.in_ok-entries.entries map) (sym on_w)
-    (blank_for ground place s r (g.P.PageView.working w) map index c.in_ok-entries.entries emptied within (c.in_ok-write.ensures.written holds.told) c.write_index.ensures.index c.write_index.ensures.none (c.in_ok-entries.ensures.all map holds)) in
+    let blank = blank_there g.P.PageView place p c.gather_all.new.pages c.free_chains.new.pages w reads c.requires.place c.requires.kind c.free_chains.ensures.keeps.ground c.write.ensures.keeps.ground (g.met.P.Pages.many c.free_chains.new.pages holds.told).1
+    index c.in_ok-entries.entries map holds (c.in_ok-free_chains.ensures.emptied map) (c.in_ok-write.ensures.written holds.told) c.write_index.ensures.index c.write_index.ensures.none (c.in_ok-entries.ensures.all map holds) in
     let now = bytes_at (g.P.PageView.working c.fill_chains.new.pages) place.root in
     on_ok_weaker c.fill_chains.result
     (λ filled. subst (HasFreshBuckets now) (ap keys_of (c.in_ok-entries.ensures.all map holds) ∙ keys_selected map) (fresh_stays index now (keys_of c.in_ok-entries.entries) c.write_index.ensures.fresh filled.count filled.separators))
@@ -108,52 +84,30 @@ returns-clause-fresh g c map holds =
 pub returns-clause-others : goal.returns-clause-others
 returns-clause-others g c whole fault =
     let p = c.args.pages.now in
-    let r = g.P.PageView.working c.free_chains.new.pages in
     let w = c.write.new.self in
     let place = c.args.place.now in
-    let ground = g.P.PageView.ground p in
-    let s = g.P.PageView.working p in
     let index = c.write_index.new.page in
     let reads = c.gather_all.ensures.reads in
-    let on_r = c.free_chains.ensures.keeps.ground ∙ reads.keeps.ground in
-    let on_w = c.write.ensures.keeps.ground ∙ on_r in
-    let emptied = subst (λ (x : Sheets). IsEmptied ground place x r) reads.working (subst (λ (x : Ground). IsEmptied x place (g.P.PageView.working c.gather_all.new.pages) r) reads.keeps.ground
-    (c.in_ok-free_chains.ensures.emptied whole.0 (record { told = whole.1.told; file = isam_read g.P.PageView place p c.gather_all.new.pages reads whole.0 whole.1.file }))) in
-    let many = g.met.P.Pages.many c.free_chains.new.pages whole.1.told in
-    let size = ap (λ (x : Ground). x.size) on_r in
-    let below = c.requires.place.below in
-    let roots = one_root place c.requires.kind in
-    let within : place.root < length r.bytes = omega (arith, below, roots, many.1, size) in
-    let blank = subst (λ (x : Ground). IsBlankFor x place (g.P.PageView.working w) index c.in_ok-entries.entries whole.0) (sym on_w)
-    (blank_for ground place s r (g.P.PageView.working w) whole.0 index c.in_ok-entries.entries emptied within (c.in_ok-write.ensures.written whole.1.told) c.write_index.ensures.index c.write_index.ensures.none (c.in_ok-entries.ensures.all whole.0 whole.1)) in
     let u = g.P.PageView.working c.fill_chains.new.pages in
-    let before = blank_others ground place s r r (g.P.PageView.working w) index emptied refl within (c.in_ok-write.ensures.written whole.1.told) c.write_index.ensures.index c.write_index.ensures.none in
-    others_joined ground place.owner s (g.P.PageView.working w) u before
-    (subst (λ (x : Ground). OthersStay x place.owner (g.P.PageView.working w) u) on_w (c.fill_chains.ensures.partly whole.1.told whole.0 blank fault).others)
+    let blank = blank_there g.P.PageView place p c.gather_all.new.pages c.free_chains.new.pages w reads c.requires.place c.requires.kind c.free_chains.ensures.keeps.ground c.write.ensures.keeps.ground (g.met.P.Pages.many c.free_chains.new.pages whole.1.told).1
+    index c.in_ok-entries.entries whole.0 whole.1 (c.in_ok-free_chains.ensures.emptied whole.0) (c.in_ok-write.ensures.written whole.1.told) c.write_index.ensures.index c.write_index.ensures.none (c.in_ok-entries.ensures.all whole.0 whole.1) in
+    let before = others_there g.P.PageView place p c.gather_all.new.pages c.free_chains.new.pages w reads c.requires.place c.requires.kind c.free_chains.ensures.keeps.ground c.write.ensures.keeps.ground (g.met.P.Pages.many c.free_chains.new.pages whole.1.told).1
+    index c.in_ok-entries.entries whole.0 whole.1 (c.in_ok-free_chains.ensures.emptied whole.0) (c.in_ok-write.ensures.written whole.1.told) c.write_index.ensures.index c.write_index.ensures.none in
+    others_joined (g.P.PageView.ground p) place.owner (g.P.PageView.working p) (g.P.PageView.working w) u before
+    (subst (λ (x : Ground). OthersStay x place.owner (g.P.PageView.working w) u) (c.write.ensures.keeps.ground ∙ c.free_chains.ensures.keeps.ground ∙ reads.keeps.ground) (c.fill_chains.ensures.partly whole.1.told whole.0 blank fault).others)
 
 pub returns-clause-full : goal.returns-clause-full
 returns-clause-full g c = record {
   none = λ told is. subst (λ (x : Ground). HasNone x (g.P.PageView.working c.fill_chains.new.pages)) (c.write.ensures.keeps.ground ∙ c.free_chains.ensures.keeps.ground ∙ c.gather_all.ensures.reads.keeps.ground) (c.fill_chains.ensures.full told is);
   few = λ map holds is. (
       let p = c.args.pages.now in
-      let r = g.P.PageView.working c.free_chains.new.pages in
       let w = c.write.new.self in
       let place = c.args.place.now in
-      let ground = g.P.PageView.ground p in
-      let s = g.P.PageView.working p in
       let index = c.write_index.new.page in
       let reads = c.gather_all.ensures.reads in
-      let on_r = c.free_chains.ensures.keeps.ground ∙ reads.keeps.ground in
-      let on_w = c.write.ensures.keeps.ground ∙ on_r in
-      let emptied = subst (λ (x : Sheets). IsEmptied ground place x r) reads.working (subst (λ (x : Ground). IsEmptied x place (g.P.PageView.working c.gather_all.new.pages) r) reads.keeps.ground
-      (c.in_ok-free_chains.ensures.emptied map (record { told = holds.told; file = isam_read g.P.PageView place p c.gather_all.new.pages reads map holds.file }))) in
-      let many = g.met.P.Pages.many c.free_chains.new.pages holds.told in
-      let size = ap (λ (x : Ground). x.size) on_r in
-      let below = c.requires.place.below in
+      let blank = blank_there g.P.PageView place p c.gather_all.new.pages c.free_chains.new.pages w reads c.requires.place c.requires.kind c.free_chains.ensures.keeps.ground c.write.ensures.keeps.ground (g.met.P.Pages.many c.free_chains.new.pages holds.told).1
+      index c.in_ok-entries.entries map holds (c.in_ok-free_chains.ensures.emptied map) (c.in_ok-write.ensures.written holds.told) c.write_index.ensures.index c.write_index.ensures.none (c.in_ok-entries.ensures.all map holds) in
       let roots = one_root place c.requires.kind in
-      let within : place.root < length r.bytes = omega (arith, below, roots, many.1, size) in
-      let blank = subst (λ (x : Ground). IsBlankFor x place (g.P.PageView.working w) index c.in_ok-entries.entries map) (sym on_w)
-      (blank_for ground place s r (g.P.PageView.working w) map index c.in_ok-entries.entries emptied within (c.in_ok-write.ensures.written holds.told) c.write_index.ensures.index c.write_index.ensures.none (c.in_ok-entries.ensures.all map holds)) in
       let few = (c.fill_chains.ensures.partly holds.told map blank (λ fault. (let clash = sym is ∙ fault in cc))).few in
       omega (arith, few, roots));
 }
