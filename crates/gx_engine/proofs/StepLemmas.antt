@@ -35,7 +35,7 @@ use Rattle.gx_engine.specs.Steps.{schema_of, built_of, leaves_of, IsSound, AreFr
 use Rattle.gx_states.specs.Internal.{AreInternal, HaveState, state_entries}
 use Rattle.gx_scan.proofs.CallLemmas.{ends_so}
 use Rattle.gx_states.proofs.StoredLemmas.{has_file}
-use Rattle.gx_edits.specs.Edits.{is_edit, edit_text, IsEdit}
+use Rattle.gx_edits.specs.Edits.{is_edit, may_bring, edit_text, IsEdit}
 use Rattle.gx_edits.proofs.EditLemmas.{short_after}
 use Rattle.gx_answers.specs.Work.{IsBounded}
 use Rattle.gx_engine.specs.Moments.{Stands, IsCarried, may_want_room, MayWantRoom}
@@ -187,7 +187,7 @@ edit_carried schema built inside commits old new kept now p c why out said text 
       (subst (Stands schema built inside commits new kept) (sym (edit_next schema p c is)) (stands_with schema built inside commits old new kept p (next_state schema (seen_state p) c) stands (edit_open inside c is place) edit.stands));
 }
 
-edit_room : (c : Command) → is_edit c ≡ true → may_want_room c ≡ true
+edit_room : (c : Command) → may_bring c ≡ true → may_want_room c ≡ true
 edit_room (command.ReorganizeFile file) e = refl
 edit_room (command.ReorganizeLink link) e = refl
 edit_room _ e = e
@@ -197,9 +197,9 @@ edit_short limit schema built before p c is open_ short =
     let s = next_state schema (seen_state p) c in
     short_after limit built before s (seen_state (next_of schema p c)) (ap seen_state (edit_next schema p c is) ∙ seen_next p s open_) short
 
-pub edit_wants : (schema : Schema) (p : Playing) (c : Command) → is_edit c ≡ true → refusal_of schema (seen_state p) c ≡ None → MayWantRoom schema p c
-edit_wants schema p c is accepted = record {
-  kind = edit_room c is;
+pub edit_wants : (schema : Schema) (p : Playing) (c : Command) → may_bring c ≡ true → refusal_of schema (seen_state p) c ≡ None → MayWantRoom schema p c
+edit_wants schema p c brings accepted = record {
+  kind = edit_room c brings;
   accepted = accepted;
 }
 

@@ -8,7 +8,7 @@ use Rattle.gx_types.specs.declared.built.Built.{Built}
 use Rattle.gx_model.specs.Commands.{refusal_of}
 use Rattle.gx_model.specs.Play.{Playing, seen_state, is_inside, next_of, IsAnswered}
 use Rattle.gx_states.specs.Internal.{AreInternal}
-use Rattle.gx_edits.specs.Edits.{is_edit}
+use Rattle.gx_edits.specs.Edits.{may_bring}
 
 -- what the engine has stands for a moment of the play
 pub record Stands (schema : Schema) (built : Built) (inside : Bool) (commits : ℕ) (working kept : List LeafMap) (p : Playing) : Type 0 where
@@ -26,11 +26,11 @@ pub record IsCarried (schema : Schema) (built : Built) (p : Playing) (c : Comman
 
 -- ---- which commands may want room
 
--- the command changes records or links, or lays the leaves of a file or a link out anew
+-- the command is an edit other than a delete, or lays the leaves of a file or a link out anew
 abbrev pub may_want_room : Command → Bool
 may_want_room (command.ReorganizeFile file) = true
 may_want_room (command.ReorganizeLink link) = true
-may_want_room c = is_edit c
+may_want_room c = may_bring c
 
 -- it is such a command, and it isn't refused at this moment
 pub record MayWantRoom (schema : Schema) (p : Playing) (c : Command) : Type 0 where

@@ -92,8 +92,8 @@ impl<B: Leaves + Drop> Engine<B> {
     /// `Now` gives this call up and is kept: `out` is as before, and each later call answers
     /// `Stopped` with it and does nothing. Where it isn't `Now(Fault)`, the state of the last
     /// commit stays. `Now(Fault)`: the count of faults rose; with any other answer it stays.
-    /// `Now(Full)`: the command changes records or links and isn't refused, or it lays leaves out
-    /// anew, and the pages may be too few for the entries of the states before and after.
+    /// `Now(Full)`: the command changes records or links, isn't refused and is no delete, or it lays
+    /// leaves out anew, and the pages may be too few for the entries of the states before and after.
     /// `Now(Damaged)`: the leaves stood for no state, which is said of block 0 where the stored
     /// form of each is whole. `Now(NoMemory)`: there was no memory.
     ///

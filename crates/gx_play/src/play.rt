@@ -177,7 +177,7 @@ fn step<B: Leaves + Drop>(
 /// After that the engine stands behind the lines whose answers were said; or what they committed
 /// last stays, unless the next line is a `commit`, of which nothing was said. Of a stop, `Fault`
 /// comes only where the count of faults rose, `Full` only where the pages may be too few for the
-/// command of the next line, which changes records or links and isn't refused, or is a
+/// command of the next line, which changes records or links, isn't refused and is no `delete`, or is a
 /// `reorganize`, and `Damaged` never where the leaves hold a state.
 pub fn play_script<B: Leaves + Drop>(
     alloc: Global,

@@ -40,9 +40,9 @@ use std::alloc::Global;
 /// - `Refused`: the request is refused for the first reason in the order of the words, the texts, the
 ///   schema, the equation, its types, and the length of the texts. The line of that reason was said, and
 ///   nothing else.
-/// - `Full`: the pages may be too few for the command of a line, which changes records or links and
-///   isn't refused, or is a `reorganize`. Exactly the answers of the lines before it were said, and
-///   then `stopped: full`; of `work` that line alone.
+/// - `Full`: the pages may be too few for the command of a line, which changes records or links, isn't
+///   refused and is no `delete`, or is a `reorganize`. Exactly the answers of the lines before it were
+///   said, and then `stopped: full`; of `work` that line alone.
 /// - `Device`: the device isn't what was asked for. Its line was said, and nothing else; that of damage,
 ///   which is found while the script is played, was said last, behind what was said before. It comes only
 ///   of a device that is there, with its size, a database and the same texts, and that holds no state.
