@@ -18,7 +18,7 @@ pub(crate) fn coded(alloc: Global, code: Code, value: &Value) -> Result<Octets, 
     ensures { IfOk result (λ bytes. bytes ≡ code_of code value.now) }
 {
     match (code, value) {
-        (Code::Pack, Value::Int(n)) => Octets::from_slice(alloc, pack_into(*n).as_slice()),
+        (Code::Pack, Value::Int(n)) => pack_into(alloc, *n),
         (Code::Rle, Value::Text(text)) => rle_into(alloc, text.as_slice()),
         _ => unreachable!(),
     }

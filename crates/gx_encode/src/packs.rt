@@ -1,17 +1,18 @@
 // Ints as their shortest two's complement bytes.
-ghost use Rattle.std.specs.Prelude.{◌≡◌, ◌≤◌, ℕ, length, true};
+ghost use Rattle.std.specs.Prelude.{◌≡◌, ◌≤◌, ℕ, length, true, IfOk};
 ghost use Rattle.gx_encode.specs.Packs.{sign_of, extended, shortest, pack, IsPack, IsUnpacked};
 ghost use Rattle.gx_encode.specs.PackLaws.{IsShortest};
 
-use gx_values::KeyBuf;
+use gx_values::{NoMemory, Octets};
+use std::alloc::Global;
 
 /// The code of an int: its shortest two's complement bytes, big endian, whose sign extension is the
-/// int. 0 is no byte. At most 8 bytes.
-pub fn pack_into(value: i64) -> KeyBuf
-    ensures code { result ≡ pack value }
-    ensures shortest { IsPack value result }
+/// int. 0 is no byte. At most 8 bytes. `NoMemory`: there was none for it.
+pub fn pack_into(alloc: Global, value: i64) -> Result<Octets, NoMemory>
+    ensures code { IfOk result (λ code. code ≡ pack value) }
+    ensures shortest { IfOk result (IsPack value) }
 {
-    KeyBuf::from_slice(shortest(&value.to_be_bytes()))
+    Octets::from_slice(alloc, shortest(&value.to_be_bytes()))
 }
 
 // The bytes without those in front that only repeat the sign of what follows.

@@ -1,6 +1,9 @@
 // Finding by two groups: where a segment splits records in two leaves, the entries of both are
 // joined by their keys.
-ghost use Rattle.std.specs.Prelude.{◌≡◌, ◌<◌, ◌≤◌, ◌+◌, ◌*◌, ℕ, length, IfOk, OnOk};
+ghost use Rattle.std.specs.Prelude.{◌≡◌, ◌<◌, ◌≤◌, ◌+◌, ◌*◌, ◌++◌, ◌∷◌, [], ℕ, filter, length, IfOk, OnOk};
+ghost use Rattle.std.specs.FinMap as fin;
+ghost use Rattle.gx_values.specs.Values.{Fits};
+ghost use Rattle.gx_schema.specs.Lookups.{key_kind};
 ghost use Rattle.gx_ports.specs.Calls.{ReadsMaps};
 ghost use Rattle.gx_ports.specs.LeafMaps.{Extends, selected, map_at, counted};
 ghost use Rattle.gx_stack.specs.Tree.{leaves_of};
@@ -8,20 +11,24 @@ ghost use Rattle.gx_stack.specs.Seen.{tree_of};
 ghost use Rattle.gx_model.specs.States.{File as FileMap};
 ghost use Rattle.gx_scan.specs.Files.{IsInternal, HasFile, IsStorable, IsTreeFor};
 ghost use Rattle.gx_scan.specs.Groups.{AreGroups};
+ghost use Rattle.gx_model.specs.Found.{meets_conds};
 ghost use Rattle.gx_scan.specs.Within.{AreAdded};
+ghost use Rattle.gx_scan.specs.Where.{rows_at_key};
 ghost use Rattle.gx_scan.specs.Steps.{HaveAtMost, rows_inside};
 
+use crate::by_key::last_values;
 use crate::groups::Groups;
 use crate::joined::add_joined_rows;
 use crate::places::Place;
-use crate::records::NO_BLOCK;
+use crate::records::{NO_BLOCK, set_key};
+use crate::within::whole_span;
 use gx_commands::Cond;
 use gx_ports::{Entries, Leaves, Stop};
 use gx_rows::Row;
 use gx_schema::FileDef;
 use gx_stack::Node;
 use gx_types::AnyMapping;
-use gx_values::Span;
+use gx_values::{Span, Value, Values};
 use std::alloc::Global;
 
 /// Appends the records of the file within the span that meet the conditions, in the order of their
@@ -61,6 +68,68 @@ pub(crate) fn add_by_groups<B: Leaves>(
     } else {
         Err(Stop::Damaged(NO_BLOCK))
     }
+}
+
+/// The values of the record at a key, but for the key, where there is one.
+pub(crate) fn values_by_groups<B: Leaves>(
+    alloc: Global,
+    file: &FileDef,
+    node: &Node<AnyMapping>,
+    groups: &Groups,
+    key: &Value,
+    leaves: &mut B,
+) -> Result<Option<Values>, Stop>
+    requires groups { AreGroups (tree_of node.now) groups.now }
+    requires tree { IsTreeFor file.now (tree_of node.now) (length (B.working leaves.old)) }
+    requires storable { IsStorable file.now }
+    requires key { Fits (key_kind file.now) key.now }
+    ensures found { (f : FileMap) → B.whole leaves.old →
+        IsInternal file.now (tree_of node.now) (B.working leaves.old) f →
+        IfOk result (λ found. found ≡ fin.get f key.now) }
+    ensures steps { (f : FileMap) (most : ℕ) → B.whole leaves.old →
+        IsInternal file.now (tree_of node.now) (B.working leaves.old) f →
+        HaveAtMost most (tree_of node.now) f → OnOk result
+        (B.work leaves.new
+        ≤ B.work leaves.old + (length (leaves_of (tree_of node.now)) + most)) }
+    ensures reads { ReadsMaps B.View
+        (B.whole leaves.old × HasFile file.now (tree_of node.now) (B.working leaves.old))
+        leaves.old leaves.new result }
+{
+    let mut rows = Vec::new(alloc);
+    add_key_by_groups(alloc, file, node, groups, key, leaves, &mut rows)?;
+    Ok(last_values(rows))
+}
+
+// Appends the record at a key, where there is one.
+fn add_key_by_groups<B: Leaves>(
+    alloc: Global,
+    file: &FileDef,
+    node: &Node<AnyMapping>,
+    groups: &Groups,
+    key: &Value,
+    leaves: &mut B,
+    rows: &mut Vec<Row>,
+) -> Result<(), Stop>
+    requires groups { AreGroups (tree_of node.now) groups.now }
+    requires tree { IsTreeFor file.now (tree_of node.now) (length (B.working leaves.old)) }
+    requires storable { IsStorable file.now }
+    requires key { Fits (key_kind file.now) key.now }
+    ensures rows { (f : FileMap) → B.whole leaves.old →
+        IsInternal file.now (tree_of node.now) (B.working leaves.old) f → OnOk result
+        (rows.new.items
+        ≡ rows.old.items ++ filter (meets_conds []) (rows_at_key f (key.now ∷ []))) }
+    ensures steps { (f : FileMap) (most : ℕ) → B.whole leaves.old →
+        IsInternal file.now (tree_of node.now) (B.working leaves.old) f →
+        HaveAtMost most (tree_of node.now) f → OnOk result
+        (B.work leaves.new
+        ≤ B.work leaves.old + (length (leaves_of (tree_of node.now)) + most)) }
+    ensures reads { ReadsMaps B.View
+        (B.whole leaves.old × HasFile file.now (tree_of node.now) (B.working leaves.old))
+        leaves.old leaves.new result }
+{
+    let mut span = whole_span();
+    set_key(&mut span, key);
+    add_by_groups(alloc, file, node, groups, &span, &[], leaves, rows)
 }
 
 // The entries of a place within the span, in the order of their keys.

@@ -15,6 +15,8 @@ ghost use Rattle.gx_scan.specs.Records.{list_of_one};
 ghost use Rattle.gx_scan.specs.Steps.{HaveAtMost};
 
 use crate::by_entries::{KeyProbe, add_at_key, are_few};
+use crate::by_groups::values_by_groups;
+use crate::groups::groups_of;
 use crate::places::{Place, places_of};
 use crate::records::find_record;
 use gx_ports::{Leaves, Stop};
@@ -25,9 +27,9 @@ use gx_types::AnyMapping;
 use gx_values::{Value, Values};
 use std::alloc::Global;
 
-/// The values of the record with this key, but for the key, where there is one. Where the records stand
-/// whole in few leaves, they are read from the bytes of its entry. It takes a step for each leaf, and one for
-/// each leaf entry of the record.
+/// The values of the record with this key, but for the key, where there is one. Where the records
+/// stand whole in few leaves, or a segment splits them in two, they are read from the bytes of its
+/// entries. It takes a step for each leaf, and one for each leaf entry of the record.
 ///
 /// `Damaged`: some leaf's stored form isn't whole, or the leaves hold no file, which is said of block 0.
 /// `Fault`: the count of faults rose; with any other answer it stays. `NoMemory`: there was none.
@@ -54,6 +56,9 @@ pub fn find_values<B: Leaves>(
         (B.whole leaves.old × HasFile file.now (tree_of node.now) (B.working leaves.old))
         leaves.old leaves.new result }
 {
+    if let Some(groups) = groups_of(alloc, node)? {
+        return values_by_groups(alloc, file, node, &groups, key, leaves);
+    }
     match places_of(alloc, node)? {
         Some(places) if are_few(&places) => {
             values_by_entry(alloc, file, node, &places, key, leaves)
@@ -104,7 +109,7 @@ fn values_by_entry<B: Leaves>(
     Ok(last_values(rows))
 }
 
-fn last_values(rows: Vec<Row>) -> Option<Values>
+pub(crate) fn last_values(rows: Vec<Row>) -> Option<Values>
     ensures last { (one : Option TheRow) → rows.items ≡ list_of_one one →
         result ≡ option_map (λ row. row.1) one }
     ensures fits { (file : TheFile) → AllByRecursion (IsRowOf file) rows.items →

@@ -33,6 +33,9 @@ use gx_schema::FileDef;
 use gx_values::{Code, Field, Kind, NoMemory};
 use std::alloc::{AllocError, Global};
 
+/// Room for the body of a record of some short texts: most grow no further.
+pub(crate) const PLAIN_ROOM: usize = 128;
+
 /// Appends the records of the entries of a place that meet the conditions, in the order of the entries, and
 /// answers whether each entry looked at was that of a record of the file; one that a condition rules out
 /// is read no further. `NoMemory`: there was none for the records.
@@ -77,7 +80,7 @@ fn add_coded_rows(
     ensures fit { AllByRecursion (IsRowOf file.now) rows.old.items →
         AllByRecursion (IsRowOf file.now) rows.new.items }
 {
-    let mut plain = Vec::new(alloc);
+    let mut plain = Vec::with_capacity(alloc, PLAIN_ROOM)?;
     for index in 0..entries.len() {
         let entry = entries.entry(index);
         let found = is_chosen(alloc, file, place, conds, entry.key, entry.body, &mut plain)?;

@@ -17,7 +17,7 @@ ghost use Rattle.gx_scan.specs.Files.{IsStorable};
 ghost use Rattle.gx_scan.specs.Groups.{has_others, first_entry, other_entry};
 ghost use Rattle.gx_scan.specs.Scan.{value_of};
 
-use crate::coded::{push_as_it_is, push_int, push_text};
+use crate::coded::{PLAIN_ROOM, push_as_it_is, push_int, push_text};
 use crate::groups::Groups;
 use crate::records::data_fields;
 use crate::scan::{
@@ -54,7 +54,7 @@ pub(crate) fn add_joined_rows(
     ensures front { Extends rows.old.items rows.new.items }
 {
     let defaults = default_body(alloc, data_fields(file), groups.mask.as_slice())?;
-    let mut plain = Vec::new(alloc);
+    let mut plain = Vec::with_capacity(alloc, PLAIN_ROOM)?;
     let mut at = 0;
     for index in 0..firsts.len() {
         let entry = firsts.entry(index);

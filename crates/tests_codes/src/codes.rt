@@ -14,8 +14,9 @@ const PACKED: [(i64, &[u8]); 6] = [
 
 #[test]
 fn ints_are_packed(rt: HostRuntime) -> Result<(), Fail> {
+    let alloc = rt.alloc();
     for (value, code) in PACKED {
-        assert!(rt; pack_into(value).as_slice() == code);
+        assert!(rt; pack_into(alloc, value)?.as_slice() == code);
         assert!(rt; unpack(code) == Some(value));
     }
     Ok(())
