@@ -1,14 +1,15 @@
 // Finding by two groups: where a segment splits records in two leaves, the entries of both are
 // joined by their keys.
-ghost use Rattle.std.specs.Prelude.{◌≡◌, ◌<◌, ◌≤◌, ◌+◌, ◌*◌, ◌++◌, ◌∷◌, [], ℕ, filter, length, IfOk, OnOk};
+ghost use Rattle.std.specs.Prelude.{◌≡◌, ◌<◌, ◌≤◌, ◌+◌, ◌*◌, ◌++◌, ◌∷◌, [], ℕ, filter, length, IfOk, IfSome, OnOk};
+ghost use Rattle.std.specs.List.{AllByRecursion};
 ghost use Rattle.std.specs.FinMap as fin;
-ghost use Rattle.gx_values.specs.Values.{Fits};
-ghost use Rattle.gx_schema.specs.Lookups.{key_kind};
+ghost use Rattle.gx_values.specs.Values.{Fits, AreFit};
+ghost use Rattle.gx_schema.specs.Lookups.{key_kind, data_fields};
 ghost use Rattle.gx_ports.specs.Calls.{ReadsMaps};
 ghost use Rattle.gx_ports.specs.LeafMaps.{Extends, selected, map_at, counted};
 ghost use Rattle.gx_stack.specs.Tree.{leaves_of};
 ghost use Rattle.gx_stack.specs.Seen.{tree_of};
-ghost use Rattle.gx_model.specs.States.{File as FileMap};
+ghost use Rattle.gx_model.specs.States.{File as FileMap, IsRowOf};
 ghost use Rattle.gx_scan.specs.Files.{IsInternal, HasFile, IsStorable, IsTreeFor};
 ghost use Rattle.gx_scan.specs.Groups.{AreGroups};
 ghost use Rattle.gx_model.specs.Found.{meets_conds};
@@ -56,6 +57,8 @@ pub(crate) fn add_by_groups<B: Leaves>(
         ≤ B.work leaves.old
         + (length (leaves_of (tree_of node.now)) + length (rows_inside span.now f) * most)) }
     ensures front { Extends rows.old.items rows.new.items }
+    ensures fit { AllByRecursion (IsRowOf file.now) rows.old.items →
+        AllByRecursion (IsRowOf file.now) rows.new.items }
     ensures reads { ReadsMaps B.View
         (B.whole leaves.old × HasFile file.now (tree_of node.now) (B.working leaves.old))
         leaves.old leaves.new result }
@@ -86,6 +89,7 @@ pub(crate) fn values_by_groups<B: Leaves>(
     ensures found { (f : FileMap) → B.whole leaves.old →
         IsInternal file.now (tree_of node.now) (B.working leaves.old) f →
         IfOk result (λ found. found ≡ fin.get f key.now) }
+    ensures fits { IfOk result (λ found. IfSome found (AreFit (data_fields file.now))) }
     ensures steps { (f : FileMap) (most : ℕ) → B.whole leaves.old →
         IsInternal file.now (tree_of node.now) (B.working leaves.old) f →
         HaveAtMost most (tree_of node.now) f → OnOk result
@@ -123,6 +127,8 @@ fn add_key_by_groups<B: Leaves>(
         HaveAtMost most (tree_of node.now) f → OnOk result
         (B.work leaves.new
         ≤ B.work leaves.old + (length (leaves_of (tree_of node.now)) + most)) }
+    ensures fit { AllByRecursion (IsRowOf file.now) rows.old.items →
+        AllByRecursion (IsRowOf file.now) rows.new.items }
     ensures reads { ReadsMaps B.View
         (B.whole leaves.old × HasFile file.now (tree_of node.now) (B.working leaves.old))
         leaves.old leaves.new result }

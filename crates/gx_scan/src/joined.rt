@@ -52,6 +52,8 @@ pub(crate) fn add_joined_rows(
         IfOk result (λ all. (all ≡ true)
         × (rows.new.items ≡ rows.old.items ++ filter (meets_conds conds.now) rs)) }
     ensures front { Extends rows.old.items rows.new.items }
+    ensures fit { AllByRecursion (IsRowOf file.now) rows.old.items →
+        AllByRecursion (IsRowOf file.now) rows.new.items }
 {
     let defaults = default_body(alloc, data_fields(file), groups.mask.as_slice())?;
     let mut plain = Vec::with_capacity(alloc, PLAIN_ROOM)?;
@@ -124,6 +126,8 @@ fn add_joined(
         IfOk result (λ is. (is ≡ true)
         × (rows.new.items ≡ rows.old.items ++ filter (meets_conds conds.now) (r ∷ []))) }
     ensures front { Extends rows.old.items rows.new.items }
+    ensures fit { AllByRecursion (IsRowOf file.now) rows.old.items →
+        AllByRecursion (IsRowOf file.now) rows.new.items }
 {
     let mask = groups.mask.as_slice();
     let Some(first) = behind_lengths(first, groups.first.lengths) else {
@@ -153,6 +157,8 @@ fn add_met(
         body.now ≡ body_of r.1 → IfOk result (λ is. (is ≡ true)
         × (rows.new.items ≡ rows.old.items ++ filter (meets_conds conds.now) (r ∷ []))) }
     ensures front { Extends rows.old.items rows.new.items }
+    ensures fit { AllByRecursion (IsRowOf file.now) rows.old.items →
+        AllByRecursion (IsRowOf file.now) rows.new.items }
 {
     let Some(is_met) = meets_all(file, conds, key, body) else {
         return Ok(false);

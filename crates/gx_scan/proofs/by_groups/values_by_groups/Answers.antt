@@ -17,4 +17,4 @@ returns-clause-found g c = λ f whole is.
     let found = c.in_ok-add_key_by_groups.ensures.rows f whole is
     ∙ ap (λ (before : List Row). before ++ rows) c.new-rows.ensures.items
     ∙ one_unfiltered key values in
-    c.last_values.ensures one found ∙ row_values key values
+    c.last_values.ensures.last one found ∙ row_values key values

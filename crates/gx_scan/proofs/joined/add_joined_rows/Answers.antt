@@ -118,4 +118,5 @@ loop-index-preserved c = record {
         more.1 ∙ ap (λ l. l ++ more.0) before.1
             ∙ append_assoc c.args.rows.now.items before.0 more.0,
       );
+  fit = λ all. c.in_ok-add_joined.ensures.fit (c.loop-index.invariant.fit all);
 }

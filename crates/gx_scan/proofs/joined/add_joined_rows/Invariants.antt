@@ -20,4 +20,6 @@ invariant-loop-index l = record {
       (filter (has_others l.groups.mask.items (data_fields l.file)) (drop l.index rs)))
       × (l.rows.items ≡ l.fn.rows.items ++ filter (meets_conds l.conds) (take l.index rs));
   front : Extends l.fn.rows.items l.rows.items;
+  fit : AllByRecursion (IsRowOf l.file) l.fn.rows.items
+      → AllByRecursion (IsRowOf l.file) l.rows.items;
 }
