@@ -13,7 +13,7 @@ use Rattle.gx_ports.specs.Files.{IsPlace, IsVacant, ClaimsRoots, Holds, IsWhole,
 use Rattle.gx_ports.specs.LeafMaps.{LeafMap}
 use Rattle.gx_ports.specs.PageCalls.{ReadsPages}
 use Rattle.gx_ports.specs.Roots.{roots_of, roots_of_kind}
-use Rattle.gx_ports.specs.Sheets.{Sheets, Ground, IsPast, IsClaimed}
+use Rattle.gx_ports.specs.Sheets.{Sheets, Ground, IsPast, IsClaimed, IsHome}
 use Rattle.gx_ports.proofs.KeyLemmas.{same_key, tied}
 use Rattle.gx_slots.specs.Entries.{Entry}
 use Rattle.gx_bnode.specs.Page.{IsInnerPage}
@@ -194,7 +194,7 @@ module _ {S : Type 0} (g : Ghosts S) (place : Place) (key : List ℕ) (start : S
         (subst (λ s. HasRemoved (g.ground b) place.owner place.root key s (g.working c) tree) all.working h)
 
   -- the search never ends on damaged pages alone
-  pub descent_lost : {T : Type 0} {steps : ℕ} (now : S) (at : ℕ) (page : List ℕ) (n : ℕ) → IsDescent g place key start now at page steps → (g.ground start).size ≤ steps → n < (g.ground start).blocks → EndsFile {T = T} g Whole start now (Err (Damaged n))
+  pub descent_lost : {T : Type 0} {steps : ℕ} (now : S) (at : ℕ) (page : List ℕ) (n : ℕ) → IsDescent g place key start now at page steps → (g.ground start).size ≤ steps → IsHome (g.ground start) n → EndsFile {T = T} g Whole start now (Err (Damaged n))
   descent_lost now at page n d over block = record {
     cause = record {
       later = (let f = d.faults in omega (arith, f));
@@ -202,7 +202,7 @@ module _ {S : Type 0} (g : Ghosts S) (place : Place) (key : List ℕ) (start : S
       counted = λ _. d.faults;
       damaged = λ m is w. (let e = descent_ends (g.ground start) place.owner (g.working start) place.root at key w.1.file.tree (past_of (g.ground start) place (g.working start) w.0 w.1.file) (d.hand w.0 w.1) in omega (arith, e, over));
     };
-    bound = λ m is. let same : n ≡ m = cc in omega (arith, same, block);
+    home = λ m is. let same : n ≡ m = cc in subst (IsHome (g.ground start)) same block;
   }
 
 -- the tree is one page

@@ -1,5 +1,5 @@
 -- The file of a tree with an entry put in, and a search that splits pages.
-use Rattle.std.proofs.Common.{◌≡◌, inl, inr, ℕ, ◌+◌, ◌*◌, ◌<◌, ◌≤◌, cond, List, Some, refl, sym, ap, ◌∙◌, subst, arith}
+use Rattle.std.proofs.Common.{◌≡◌, inl, inr, ℕ, ◌+◌, ◌*◌, ◌≤◌, cond, List, Some, refl, sym, ap, ◌∙◌, subst, arith}
 use Rattle.std.specs.Prelude.{IsTrue, Result, Err, IsErrOf, IsErrAnd, OnOk, Ok}
 use Rattle.std.specs.FinMap.{get, insert, len, get-insert}
 use Rattle.std.specs.Ordering.{nat_cmp, eq_by_cmp}
@@ -13,7 +13,7 @@ use Rattle.gx_ports.specs.Roots.{roots_of, roots_of_kind}
 use Rattle.gx_ports.specs.Files.{Holds, IsWhole, IsFull, OthersStay, EndsFile, page_count}
 use Rattle.gx_ports.specs.LeafMaps.{LeafMap}
 use Rattle.gx_ports.specs.PageCalls.{KeepsPages, ReadsPages}
-use Rattle.gx_ports.specs.Sheets.{Sheets, Ground, IsPast, HasNone}
+use Rattle.gx_ports.specs.Sheets.{Sheets, Ground, IsPast, HasNone, IsHome}
 use Rattle.gx_ports.proofs.KeyLemmas.{tied}
 use Rattle.gx_slots.specs.Entries.{Entry}
 use Rattle.gx_bnode.specs.Branches.{Branch}
@@ -271,7 +271,7 @@ module _ {S : Type 0} (g : Ghosts S) (place : Place) (key : List ℕ) (start : S
       }
 
   -- the search never ends on damaged pages alone
-  pub growing_lost : {T : Type 0} {least : ℕ} (now : S) (at : ℕ) (page : List ℕ) (n : ℕ) → IsGrowing g place key start now at page least → (g.ground start).size ≤ least → n < (g.ground start).blocks → EndsFile {T = T} g Whole start now (Err (Damaged n))
+  pub growing_lost : {T : Type 0} {least : ℕ} (now : S) (at : ℕ) (page : List ℕ) (n : ℕ) → IsGrowing g place key start now at page least → (g.ground start).size ≤ least → IsHome (g.ground start) n → EndsFile {T = T} g Whole start now (Err (Damaged n))
   growing_lost now at page n d over block = record {
     cause = record {
       later = (let f = d.faults in omega (arith, f));
@@ -279,5 +279,5 @@ module _ {S : Type 0} (g : Ghosts S) (place : Place) (key : List ℕ) (start : S
       counted = λ _. d.faults;
       damaged = λ m is w. let h = d.come w.0 w.1 in let e = descent_ends (g.ground start) place.owner (g.working now) place.root at key w.1.file.tree h.search.past h.search.hand in let m = h.many in omega (arith, e, m, over);
     };
-    bound = λ m is. let same : n ≡ m = cc in omega (arith, same, block);
+    home = λ m is. let same : n ≡ m = cc in subst (IsHome (g.ground start)) same block;
   }

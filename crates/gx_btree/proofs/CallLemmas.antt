@@ -1,10 +1,11 @@
 -- Calls of pages, one after the other.
-use Rattle.std.proofs.Common.{◌≡◌, ℕ, ◌<◌, ◌≤◌, ◌∙◌, refl, sym, ap, subst, arith}
+use Rattle.std.proofs.Common.{◌≡◌, ℕ, ◌≤◌, ◌∙◌, refl, sym, ap, subst, arith}
 use Rattle.std.specs.Prelude.{Result, Ok, Err, IsErrOf, IsErrAnd}
 use Rattle.gx_ports.specs.declared.page_view.PageView.{Ghosts}
 use Rattle.gx_ports.specs.declared.stop.Stop.{Stop}
 use Rattle.gx_ports.specs.declared.stop.Stop.TheVariants.{Fault, Damaged}
 use Rattle.gx_device.specs.Faults.{Rose}
+use Rattle.gx_ports.specs.Sheets.{IsHome}
 use Rattle.gx_ports.specs.Files.{EndsFile}
 use Rattle.gx_ports.specs.PageCalls.{KeepsPages, ReadsPages}
 
@@ -19,7 +20,7 @@ module _ {S : Type 0} (g : Ghosts S) where
     cause =
         record
         { later = e.cause.later; fault = e.cause.fault; counted = e.cause.counted; damaged = λ n is h. e.cause.damaged n is (f h) };
-    bound = e.bound;
+    home = e.home;
   }
 
   pub pages_keep_itself : (a : S) → KeepsPages g a a
@@ -50,10 +51,14 @@ module _ {S : Type 0} (g : Ghosts S) where
   }
 
   pub pages_read_itself : (a : S) → ReadsPages g a a
-  pages_read_itself a = record { working = refl; keeps = pages_keep_itself a }
+  pages_read_itself a = record { working = refl; unchanged = λ h. h; keeps = pages_keep_itself a }
 
   pub pages_read_joined : {a b c : S} → ReadsPages g a b → ReadsPages g b c → ReadsPages g a c
-  pages_read_joined x y = record { working = y.working ∙ x.working; keeps = pages_keep_joined x.keeps y.keeps }
+  pages_read_joined x y = record {
+    working = y.working ∙ x.working;
+    unchanged = λ h. y.unchanged (x.unchanged h);
+    keeps = pages_keep_joined x.keeps y.keeps;
+  }
 
   -- a call whose count of faults begins where an earlier one ended
   pub ends_after : {T : Type 0} (more less : Type 0) (a b c : S) (r : Result T Stop)
@@ -68,12 +73,12 @@ module _ {S : Type 0} (g : Ghosts S) where
           counted = λ is. k.cause.counted is ∙ f;
           damaged = k.cause.damaged;
         };
-        bound = λ n is. subst (λ x. n < x.blocks) h (k.bound n is);
+        home = λ n is. subst (λ x. IsHome x n) h (k.home n is);
       }
 
   -- a page shows that something isn't sound
   pub ends_shown : {T : Type 0} (sound : Type 0) (a b : S) (n : ℕ) → g.faults b ≡ g.faults a
-      → n < (g.ground a).blocks → ¬ sound → EndsFile {T = T} g sound a b (Err (Damaged n))
+      → IsHome (g.ground a) n → ¬ sound → EndsFile {T = T} g sound a b (Err (Damaged n))
   ends_shown sound a b n f block off = record {
     cause = record {
       later = subst (λ m. m ≤ g.faults b) f (same_or_more (g.faults b));
@@ -81,7 +86,7 @@ module _ {S : Type 0} (g : Ghosts S) where
       counted = λ _. f;
       damaged = λ m is. off;
     };
-    bound = λ m is. let same : n ≡ m = cc in subst (λ x. x < (g.ground a).blocks) same block;
+    home = λ m is. let same : n ≡ m = cc in subst (λ x. IsHome (g.ground a) x) same block;
   }
 
   -- an error that is handed on
@@ -100,7 +105,7 @@ module _ {S : Type 0} (g : Ghosts S) where
           counted = e.cause.counted;
           damaged = λ n h. e.cause.damaged n (recast T U why (Damaged n) h);
         };
-    bound = λ n h. e.bound n (recast T U why (Damaged n) h);
+    home = λ n h. e.home n (recast T U why (Damaged n) h);
   }
 
   pub ends_handed : (T U : Type 0) (sound : Type 0) (a b : S) (why : Stop) (r : Result U Stop)

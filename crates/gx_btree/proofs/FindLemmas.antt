@@ -8,7 +8,7 @@ use Rattle.gx_ports.specs.declared.stop.Stop.TheVariants.{Damaged}
 use Rattle.gx_ports.specs.Files.{Holds, IsWhole, EndsFile}
 use Rattle.gx_ports.specs.LeafMaps.{LeafMap}
 use Rattle.gx_ports.specs.PageCalls.{ReadsPages}
-use Rattle.gx_ports.specs.Sheets.{Sheets, IsPast}
+use Rattle.gx_ports.specs.Sheets.{Sheets, IsPast, IsHome}
 use Rattle.gx_slots.specs.Page.{entries_of}
 use Rattle.gx_bnode.specs.Branches.{Branch}
 use Rattle.gx_bnode.specs.Page.{IsInnerPage, separators_in, first_of, branches_of}
@@ -207,7 +207,7 @@ module _ {S : Type 0} (g : Ghosts S) (place : Place) (key : List ℕ) (start : S
 
     -- no such page is none
     pub finding_torn : {T : Type 0} (b : S) (page : List ℕ) (n : ℕ) → g.faults b ≡ g.faults now
-        → n < (g.ground start).blocks → Seems shapes.Inner page
+        → IsHome (g.ground start) n → Seems shapes.Inner page
         → (IsTrue g.tells → bytes_at (g.working now) at ≡ page) → ¬ IsInnerPage page
         → EndsFile {T = T} g Whole start b (Err (Damaged n))
     finding_torn b page n faults block seems told none =
@@ -215,7 +215,7 @@ module _ {S : Type 0} (g : Ghosts S) (place : Place) (key : List ℕ) (start : S
         (λ w. none (finding_shape page shapes.Inner seems told w.0 w.1))
 
     pub finding_lost : {T : Type 0} (n : ℕ) → (g.ground start).size ≤ steps
-        → n < (g.ground start).blocks
+        → IsHome (g.ground start) n
         → EndsFile {T = T} g Whole start now (Err (Damaged n))
     finding_lost n over block = record {
       cause = record {
@@ -228,5 +228,5 @@ module _ {S : Type 0} (g : Ghosts S) (place : Place) (key : List ℕ) (start : S
             (past_of (g.ground start) place (g.working start) w.0 w.1.file) (f.way w.0 w.1).hand in
             omega (arith, e, over));
       };
-      bound = λ m is. let same : n ≡ m = cc in omega (arith, same, block);
+      home = λ m is. let same : n ≡ m = cc in subst (IsHome (g.ground start)) same block;
     }

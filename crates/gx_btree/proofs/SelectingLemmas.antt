@@ -13,7 +13,7 @@ use Rattle.gx_ports.specs.declared.stop.Stop.TheVariants.{Damaged}
 use Rattle.gx_ports.specs.Files.{Holds, IsWhole, EndsFile}
 use Rattle.gx_ports.specs.LeafMaps.{LeafMap, Extends, selected}
 use Rattle.gx_ports.specs.PageCalls.{ReadsPages}
-use Rattle.gx_ports.specs.Sheets.{Sheets, Ground, IsPast}
+use Rattle.gx_ports.specs.Sheets.{Sheets, Ground, IsPast, IsHome}
 use Rattle.gx_ports.proofs.KeyLemmas.{front_le, le_trans}
 use Rattle.gx_slots.specs.Entries.{Entry}
 use Rattle.gx_btree.specs.Bplus.{IsBplus, IsOwned, bytes_at}
@@ -318,14 +318,14 @@ module _ {S : Type 0} (g : Ghosts S) (place : Place) (lo hi : List ℕ) (start :
 
     -- a page shows that no tree stands there
     pub selecting_torn : {T : Type 0} (b : S) (n : ℕ) → g.faults b ≡ g.faults now
-        → n < (g.ground start).blocks
+        → IsHome (g.ground start) n
         → ((m : LeafMap) → Holds g (IsBplus (g.ground start) place) start m → ⊥)
         → EndsFile {T = T} g Whole start b (Err (Damaged n))
     selecting_torn b n faults block none =
         ends_shown g Whole start b n (faults ∙ s.faults) block (λ w. none w.0 w.1)
 
     pub selecting_lost : {T : Type 0} (n : ℕ) → (g.ground start).size ≤ steps
-        → n < (g.ground start).blocks
+        → IsHome (g.ground start) n
         → EndsFile {T = T} g Whole start now (Err (Damaged n))
     selecting_lost n over block = record {
       cause = record {
@@ -336,5 +336,5 @@ module _ {S : Type 0} (g : Ghosts S) (place : Place) (lo hi : List ℕ) (start :
             λ k is w. (let e = seen_ends (g.ground start) place (g.working start) w.0 w.1.file key steps
             (s.seen w.0 w.1) in omega (arith, e, over));
       };
-      bound = λ k is. let same : n ≡ k = cc in omega (arith, same, block);
+      home = λ k is. let same : n ≡ k = cc in subst (IsHome (g.ground start)) same block;
     }

@@ -7,7 +7,7 @@ use Rattle.gx_ports.specs.declared.stop.Stop.{Stop}
 use Rattle.gx_ports.specs.declared.stop.Stop.TheVariants.{Damaged}
 use Rattle.gx_ports.specs.Files.{EndsFile, IsWhole}
 use Rattle.gx_ports.specs.PageCalls.{ReadsPages}
-use Rattle.gx_ports.specs.Sheets.{Sheets, Ground, IsPast}
+use Rattle.gx_ports.specs.Sheets.{Sheets, Ground, IsPast, IsHome}
 use Rattle.std.proofs.lemmas.Bool.{false≢true}
 use Rattle.std.proofs.lemmas.List.{length-replicate}
 use Rattle.std.proofs.lemmas.Option.{same_Some, none-some}
@@ -255,7 +255,7 @@ module _ {S : Type 0} (g : Ghosts S) (place : Place) (start : S) where
           visits.high visits.seen.items) is ((v.rest told).0 whole))
 
       pub visiting_lost : {T : Type 0} (n : ℕ) → (g.ground start).size ≤ steps
-          → visits.parts.items ≢ [] → n < (g.ground start).blocks
+          → visits.parts.items ≢ [] → IsHome (g.ground start) n
           → EndsFile {T = T} g Whole start now (Err (Damaged n))
       visiting_lost n over some block =
           ends_shown g Whole start now n v.faults block

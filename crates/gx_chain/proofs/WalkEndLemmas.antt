@@ -5,6 +5,7 @@ use Rattle.std.specs.Result.{IsErrAnd}
 use Rattle.gx_ports.specs.declared.page_view.PageView.{Ghosts}
 use Rattle.gx_ports.specs.declared.stop.Stop.{Stop}
 use Rattle.gx_ports.specs.declared.stop.Stop.TheVariants as stop
+use Rattle.gx_ports.specs.Sheets.{IsHome}
 use Rattle.gx_ports.specs.Files.{EndsFile}
 use Rattle.gx_ports.specs.PageCalls.{ReadsPages}
 use Rattle.gx_ports.proofs.PageLemmas.{read_pages_joined, ends_handed_on}
@@ -58,7 +59,7 @@ module _ {S : Type 0} (g : Ghosts S) (first : ℕ) (start now : S) (done number 
 
   -- it is longer than a chain can be
   pub walk_over : {T : Type 0} (block : ℕ) → (g.ground start).size ≤ done
-      → block < (g.ground now).blocks
+      → IsHome (g.ground now) block
       → EndsFile {T = T} g (HasChain g start first) start now (Err (stop.Damaged block))
   walk_over block over below = record {
     cause = record {
@@ -70,7 +71,7 @@ module _ {S : Type 0} (g : Ghosts S) (first : ℕ) (start now : S) (done number 
           (walk.hand has.0 has.1 has.2 has.3) in
           omega (arith, less, over));
     };
-    bound = λ other is. (let same : block ≡ other = cc in
-        subst (λ n. n < (g.ground start).blocks) same
-        (subst (λ x. block < x.blocks) walk.reads.keeps.ground below));
+    home = λ other is. (let same : block ≡ other = cc in
+        subst (λ n. IsHome (g.ground start) n) same
+        (subst (λ x. IsHome x block) walk.reads.keeps.ground below));
   }

@@ -10,6 +10,7 @@ use Rattle.gx_ports.specs.declared.stop.Stop.TheVariants.{Fault, Full, Damaged}
 use Rattle.gx_ports.specs.Stops.{is_outside, HasStopCause}
 use Rattle.gx_ports.specs.LeafMaps.{LeafMap, map_at, entry_count, SameElsewhere}
 use Rattle.gx_ports.specs.PageCalls.{KeepsPages}
+use Rattle.gx_ports.specs.Sheets.{IsHome}
 use Rattle.gx_ports.specs.Files.{Holds, IsWhole, SparesOthers, IsFull, EndsFile}
 use Rattle.gx_leaves.specs.Kinds.{IsFileAt, IsFreshOf, map_in}
 use Rattle.gx_leaves.specs.Places.{IsLaidOut}
@@ -76,10 +77,10 @@ module _ {S : Type 0} (g : Ghosts S) (places : List Place) where
           (subst (λ n. IsFreshOf place.spec.kind place (g.working new) n) (sym ((laws_at (g.ground old) places laid leaf place at).one (g.working new) m file)) fresh)))
       fresh_now (Err e) m file fresh = tt
 
-      pub fresh_stays : (result : Result T Stop) → SparesOthers g (IsFileAt (g.ground old) place) place.owner old new result → Whole old → OnOk result ((i : ℕ) → i ≢ leaf → IsFreshAt (g.ground old) places (g.working old) i → IsFreshAt (g.ground new) places (g.working new) i)
-      fresh_stays (Ok x) spares whole = λ i differ fresh. subst (λ b. IsFreshAt b places (g.working new) i) (sym keeps.ground)
-          (others_fresh (g.ground old) places laid (g.working old) (g.working new) leaf place at (spares (file_whole whole) (λ e. cc)) whole.laid i differ fresh)
-      fresh_stays (Err e) spares whole = tt
+      pub fresh_stays : (result : Result T Stop) → SparesOthers g (IsFileAt (g.ground old) place) place.owner old new result → Whole old → ¬ IsErrOf result Fault
+          → (i : ℕ) → i ≢ leaf → IsFreshAt (g.ground old) places (g.working old) i → IsFreshAt (g.ground new) places (g.working new) i
+      fresh_stays result spares whole no_fault i differ fresh = subst (λ b. IsFreshAt b places (g.working new) i) (sym keeps.ground)
+          (others_fresh (g.ground old) places laid (g.working old) (g.working new) leaf place at (spares (file_whole whole) no_fault) whole.laid i differ fresh)
 
 -- the same refusal again
 pub same_cause : {T U : Type 0} (before now : ℕ) (sound : Type 0) (result : Result U Stop) (why : Stop) → HasStopCause {T = T} before now sound (Err why) → IsErrAnd result (λ s. s ≡ why) → HasStopCause before now sound result
@@ -93,10 +94,15 @@ same_cause {T} {U} before now sound (Err s) why cause err = record {
 
 -- at the same block
 pub same_block : {S T U : Type 0} (g : Ghosts S) (sound : Type 0) (old new : S) (result : Result U Stop) (why : Stop) → EndsFile {T = T} g sound old new (Err why) → IsErrAnd result (λ s. s ≡ why)
-    → (block : ℕ) → IsErrOf result (Damaged block) → block < (g.ground old).blocks
+    → (block : ℕ) → IsErrOf result (Damaged block) → IsHome (g.ground old) block
 same_block g sound old new (Ok x) why ends err = absurd err
-same_block g sound old new (Err s) why ends err = λ block f. let same : s ≡ Damaged block = cc in ends.bound block (ap Err (sym err ∙ same))
+same_block g sound old new (Err s) why ends err = λ block f. let same : s ≡ Damaged block = cc in ends.home block (ap Err (sym err ∙ same))
 
 pub not_ok : {T : Type 0} (result : Result T Stop) (P : Stop → Type 0) (A : Type 0) → IsErrAnd result P → OnOk result A
 not_ok (Ok x) P A err = absurd err
 not_ok (Err s) P A err = tt
+
+-- what holds where a call didn't fail holds where it went well
+pub not_failed : {T : Type 0} {A : Type 0} (result : Result T Stop) → (¬ IsErrOf result Fault → A) → OnOk result A
+not_failed (Ok x) rest = rest (λ e. cc)
+not_failed (Err s) rest = tt

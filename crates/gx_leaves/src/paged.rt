@@ -120,6 +120,8 @@ impl<P: Pages + Drop> View for PagedLeaves<P> {
 
     ghost kept = { kept_of };
 
+    ghost unchanged = { λ l. P.unchanged l.pages };
+
     ghost work = { work_of };
 
     ghost limit = { λ l. Some (limits_of (P.ground l.pages) l.places.items) };

@@ -75,6 +75,8 @@ impl<D: Device> View for PlainLeaves<D> {
 
     ghost kept = { kept_of };
 
+    ghost unchanged = { λ _. Unit {0} };
+
     ghost work = { work_of };
 
     ghost limit = { λ _. None };

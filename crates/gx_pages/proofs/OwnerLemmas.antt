@@ -9,7 +9,7 @@ use Rattle.std.proofs.lemmas.List.FromFn.{get_or-map-range_with_len}
 use Rattle.std.proofs.lemmas.Option.{slice_get-get_or, slice_get_past, get_or_from_slice_get, MatchOption-at_none}
 use Rattle.gx_bytes.specs.Parts.{overwritten}
 use Rattle.gx_ports.specs.Sheets.{Ground, IsPast, IsOwnedAnew, IsClaimed, HasNone}
-use Rattle.gx_pages.specs.Owners.{number_of, owner_at, owners_of, sheets_of, IsFoundFree, IsClear, IsAllFree}
+use Rattle.gx_pages.specs.Owners.{number_of, owner_at, owners_of, sheets_of, IsFreeBetween, IsFoundFree, IsClear, IsAllFree}
 use Rattle.gx_pages.specs.Laws.{count_owners}
 use Rattle.gx_pages.proofs.TableLemmas.{number_set, number_other}
 
@@ -121,3 +121,23 @@ all_free base pages end sixteen long within clear = record {
   free = λ page past. (let below : page < length pages = omega (arith, past.below, long) in
       owner_listed pages page 0 below ((clear (page / 2048) (within page below)).free page refl (omega (arith, past.past, sixteen))));
 }
+
+-- A page of the table is searched in two parts. What was found in the first one is free, and where none
+-- was found in either, none past the table is.
+pub found_on : (base : Ground) (pages : List (List ℕ)) (numbers : List ℕ) (table first middle end : ℕ) (found : Option ℕ)
+    → numbers ≡ get_or pages table []
+    → ((page : ℕ) → page / 2048 ≡ table → IsPast base page → (first ≤ page) × (page < end))
+    → ((page : ℕ) → first ≤ page → page < middle → page / 2048 ≡ table)
+    → ((page : ℕ) → middle ≤ page → page < end → number_of numbers page ≢ 0)
+    → IsFreeBetween numbers first middle found → IsFoundFree table (table + 1) base pages found
+found_on base pages numbers table first middle end None is within inside behind before = λ page from to past free.
+    let at : page / 2048 ≡ table = omega (arith, from, to) in
+    let here : number_of numbers page ≡ 0 =
+    ap (λ (t : List ℕ). number_of t page) is ∙ ap (λ (k : ℕ). number_of (get_or pages k []) page) (sym at) ∙ free in
+    elim (cases_lt page middle) [
+      | inl low ↦ before page (within page at past).0 low here
+      | inr high ↦ behind page high (within page at past).1 here
+    ]
+found_on base pages numbers table first middle end (Some page) is within inside behind found =
+    ap (λ (k : ℕ). number_of (get_or pages k []) page) (inside page found.0 found.1)
+    ∙ ap (λ (t : List ℕ). number_of t page) (sym is) ∙ found.2

@@ -2,7 +2,7 @@
 ghost use Rattle.std.specs.Prelude.{◌≡◌, ◌<◌, ◌≤◌, ◌+◌, ◌*◌, ℕ, Some, length, slice_get, IsTrue, IfOk, IfSome, OnOk};
 ghost use Rattle.gx_ports.specs.declared.pages.TheConstants.{OWNERS};
 ghost use Rattle.gx_ports.specs.Sheets.{IsPast, IsOwnedAnew};
-ghost use Rattle.gx_journal.specs.Journal.{size_of, working_of};
+ghost use Rattle.gx_journal.specs.Journal.{size_of, working_of, IsUnchanged};
 ghost use Rattle.gx_pages.specs.Owners.{owner_at, IsFoundFree, IsAllFree};
 ghost use Rattle.gx_pages.specs.Paged.{ground_of, working_sheets, KeepsJournal};
 
@@ -19,6 +19,7 @@ pub(crate) fn owner<D: Device>(journal: &mut Journal<D>, page: u32) -> Result<u1
     ensures owner { IsTrue D.tells →
         IfOk result (λ owner. owner_at (working_of journal.old) page ≡ owner) }
     ensures working { working_of journal.new ≡ working_of journal.old }
+    ensures unchanged { IsUnchanged journal.old → IsUnchanged journal.new }
     ensures keeps { KeepsJournal journal.old journal.new result }
 {
     let mut table = [0; PAGE_LEN];
@@ -38,6 +39,7 @@ pub(crate) fn owners_on<D: Device>(
         slice_get into.new i ≡ Some (owner_at (working_of journal.old) (OWNERS * table + i))) }
     ensures count { length into.new ≡ OWNERS }
     ensures working { working_of journal.new ≡ working_of journal.old }
+    ensures unchanged { IsUnchanged journal.old → IsUnchanged journal.new }
     ensures keeps { KeepsJournal journal.old journal.new result }
 {
     let mut numbers = [0; PAGE_LEN];

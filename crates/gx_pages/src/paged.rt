@@ -59,7 +59,7 @@ impl<D: Device> Paged<D> {
 }
 
 impl<D: Device> PageView for Paged<D> {
-    ghost use Rattle.gx_journal.specs.Journal.{device_of, content_of, IsSteady, IsCalm};
+    ghost use Rattle.gx_journal.specs.Journal.{device_of, content_of, IsSteady, IsUnchanged, IsCalm};
     ghost use Rattle.gx_pages.specs.Paged.{StandsFor, working_sheets, kept_sheets, ground_of};
 
     ghost tells = { D.tells };
@@ -74,6 +74,8 @@ impl<D: Device> PageView for Paged<D> {
 
     ghost ground = { λ p. ground_of p.journal };
 
+    ghost unchanged = { λ p. IsUnchanged p.journal };
+
     ghost steady = { λ p. IsSteady p.journal };
 
     ghost stands = { StandsFor };
@@ -82,9 +84,6 @@ impl<D: Device> PageView for Paged<D> {
 }
 
 impl<D: Device> Pages for Paged<D> {
-    ghost use Rattle.gx_layout.specs.Layout.{home};
-    ghost use Rattle.gx_journal.specs.Journal.{device_of, size_of};
-    ghost use Rattle.gx_pages.specs.View.{journal_of};
     ghost use Rattle.gx_pages.specs.Laws.{many_pages, calm_stands, calm_later};
 
     fn pages(&self) -> u32 {
@@ -122,11 +121,7 @@ impl<D: Device> Pages for Paged<D> {
         owners_on(&mut self.journal, table, into)
     }
 
-    fn block(&self, page: u32) -> u32
-        requires page { page < size_of (journal_of self.now) }
-        ensures below { result < D.size (device_of (journal_of self.now)) }
-        ensures home { result ≡ home (size_of (journal_of self.now)) page }
-    {
+    fn block(&self, page: u32) -> u32 {
         self.journal.block(page)
     }
 

@@ -35,13 +35,15 @@ begins_front xs ys zs piece same said = (take said.0 piece, said.1 ∙ ap (λ (t
 -- ---- what `hear` and `say` keep, once and one after the other
 
 pub talks_itself : {S : Type 0} (g : Ghosts S) (a : S) → Talks g a a
-talks_itself g a = record { working = refl; whole = λ h. h; kept = refl; kept_whole = (λ h. h, λ h. h); work = refl; limit = refl; head = refl; calm = λ s h. h }
+talks_itself g a = record { working = refl; whole = λ h. h; fresh = λ leaf h. h; kept = refl; unchanged = λ h. h; kept_whole = (λ h. h, λ h. h); work = refl; limit = refl; head = refl; calm = λ s h. h }
 
 pub talks_joined : {S : Type 0} (g : Ghosts S) (a b c : S) → Talks g a b → Talks g b c → Talks g a c
 talks_joined g a b c p q = record {
   working = q.working ∙ p.working;
   whole = λ h. q.whole (p.whole h);
+  fresh = λ leaf h. q.fresh leaf (p.fresh leaf h);
   kept = q.kept ∙ p.kept;
+  unchanged = λ h. q.unchanged (p.unchanged h);
   kept_whole = (λ h. q.kept_whole.0 (p.kept_whole.0 h), λ h. p.kept_whole.1 (q.kept_whole.1 h));
   work = q.work ∙ p.work;
   limit = q.limit ∙ p.limit;

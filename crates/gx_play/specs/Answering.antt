@@ -28,6 +28,7 @@ beside g to = record {
   faults = λ x. g.faults x.0;
   working = λ x. g.working x.0;
   kept = λ x. g.kept x.0;
+  unchanged = λ x. g.unchanged x.0;
   work = λ x. g.work x.0;
   limit = λ x. g.limit x.0;
   stored = λ x. g.stored x.0;

@@ -1,11 +1,12 @@
 -- What calls of pages keep, one after the other, and how a call ends that hands on how another one ended.
-use Rattle.std.proofs.Common.{◌≡◌, ℕ, ◌≤◌, ◌<◌, Ok, Err, refl, sym, ap, subst, ◌∙◌}
+use Rattle.std.proofs.Common.{◌≡◌, ℕ, ◌≤◌, Ok, Err, refl, sym, ap, subst, ◌∙◌}
 use Rattle.std.specs.Prelude.{Result}
 use Rattle.std.specs.Result.{IsErrAnd}
 use Rattle.gx_device.specs.Faults.{Rose}
 use Rattle.gx_ports.specs.declared.page_view.PageView.{Ghosts}
 use Rattle.gx_ports.specs.declared.stop.Stop.{Stop}
 use Rattle.gx_ports.specs.Files.{EndsFile}
+use Rattle.gx_ports.specs.Sheets.{IsHome}
 use Rattle.gx_ports.specs.PageCalls.{KeepsPages, ReadsPages}
 
 module _ {S : Type 0} (g : Ghosts S) where
@@ -22,10 +23,10 @@ module _ {S : Type 0} (g : Ghosts S) where
   }
 
   pub pages_read_themselves : (a : S) → ReadsPages g a a
-  pages_read_themselves a = record { working = refl; keeps = pages_keep_themselves a }
+  pages_read_themselves a = record { working = refl; unchanged = λ h. h; keeps = pages_keep_themselves a }
 
   pub read_pages_joined : {a b c : S} → ReadsPages g a b → ReadsPages g b c → ReadsPages g a c
-  read_pages_joined x y = record { working = y.working ∙ x.working; keeps = kept_pages_joined x.keeps y.keeps }
+  read_pages_joined x y = record { working = y.working ∙ x.working; unchanged = λ h. y.unchanged (x.unchanged h); keeps = kept_pages_joined x.keeps y.keeps }
 
 same_stop : {T U : Type 0} (e why : Stop) → ◌≡◌ {A = Result T Stop} (Err e) (Err why) → ◌≡◌ {A = Result U Stop} (Err e) (Err why)
 same_stop e why is = let same : e ≡ why = cc in ap Err same
@@ -39,7 +40,7 @@ ends_err {T = T} {U = U} g sound other start now new e faults ground to ends = r
     counted = λ is. ends.cause.counted is ∙ faults;
     damaged = λ block is whole. ends.cause.damaged block (same_stop e _ is) (to whole);
   };
-  bound = λ block is. subst (λ x. block < x.blocks) ground (ends.bound block (same_stop e _ is));
+  home = λ block is. subst (λ x. IsHome x block) ground (ends.home block (same_stop e _ is));
 }
 
 -- a refusal is handed on
@@ -59,5 +60,5 @@ ends_as g sound other start now new result faults ground to ends = record {
     counted = λ is. ends.cause.counted is ∙ faults;
     damaged = λ block is whole. ends.cause.damaged block is (to whole);
   };
-  bound = λ block is. subst (λ x. block < x.blocks) ground (ends.bound block is);
+  home = λ block is. subst (λ x. IsHome x block) ground (ends.home block is);
 }

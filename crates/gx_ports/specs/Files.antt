@@ -9,7 +9,7 @@ use Rattle.gx_ports.specs.declared.stop.Stop.{Stop}
 use Rattle.gx_ports.specs.declared.stop.Stop.TheVariants.{Fault, Full, Damaged}
 use Rattle.gx_ports.specs.LeafMaps.{LeafMap}
 use Rattle.gx_ports.specs.Roots.{roots_of}
-use Rattle.gx_ports.specs.Sheets.{Sheets, Ground, HasNone}
+use Rattle.gx_ports.specs.Sheets.{Sheets, Ground, HasNone, IsHome}
 use Rattle.gx_ports.specs.Stops.{HasStopCause}
 
 -- the root pages lie past the table and are pages, and the owner is no mark of a free page or of the table
@@ -51,11 +51,10 @@ abbrev pub ClaimsRoots : Place → Sheets → Sheets → Type 0
 ClaimsRoots place old new =
     (page : ℕ) → ¬ ((place.root ≤ page) × (page < place.root + roots_of place.spec)) → slice_get new.owners page ≡ slice_get old.owners page
 
--- When a call on a file is given up: faults are counted, and damage is found only where something was not sound, at a block of the
--- device.
+-- When a call on a file is given up: faults are counted, and damage is found only where something was not sound, at the home of a page.
 pub record EndsFile {S T : Type 0} (g : Ghosts S) (sound : Type 0) (old new : S) (result : Result T Stop) : Type 0 where
   pub cause : HasStopCause (g.faults old) (g.faults new) sound result
-  pub bound : (block : ℕ) → IsErrOf result (Damaged block) → block < (g.ground old).blocks
+  pub home : (block : ℕ) → IsErrOf result (Damaged block) → IsHome (g.ground old) block
 
 module _ {S : Type 0} (g : Ghosts S) (IsFile : Sheets → LeafMap → Type 0) where
   -- the pages tell what the device holds, and hold this map

@@ -16,6 +16,7 @@ pub record KeepsPages {S : Type 0} (g : Ghosts S) (old new : S) : Type 0 where
 -- the same of a call that reads them
 pub record ReadsPages {S : Type 0} (g : Ghosts S) (old new : S) : Type 0 where
   pub working : g.working new ≡ g.working old
+  pub unchanged : g.unchanged old → g.unchanged new
   pub keeps : KeepsPages g old new
 
 -- what `hear` and `say` keep: all but the content and the count of faults
@@ -23,6 +24,7 @@ pub record TalksPages {S : Type 0} (g : Ghosts S) (old new : S) : Type 0 where
   pub ground : g.ground new ≡ g.ground old
   pub working : g.working new ≡ g.working old
   pub kept : g.kept new ≡ g.kept old
+  pub unchanged : g.unchanged old → g.unchanged new
   pub steady : g.steady old ↔ g.steady new
   pub calm : (s : Content) → g.calm old s → g.calm new s
 

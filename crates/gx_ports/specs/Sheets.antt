@@ -14,6 +14,8 @@ pub record Ground : Type 0 where
   pub tables : ℕ
   -- how many blocks the device has on which they lie
   pub blocks : ℕ
+  -- the home block of the first page; those of the others come right behind it
+  pub first : ℕ
   -- the blocks that tell which database it is
   pub head : List (List ℕ)
 
@@ -21,6 +23,16 @@ pub record Ground : Type 0 where
 pub record Stored : Type 0 where
   pub ground : Ground
   pub sheets : Sheets
+
+-- a block of the device is the home of this page
+pub record IsHomeOf (ground : Ground) (page block : ℕ) : Type 0 where
+  pub paged : page < ground.size
+  pub is : block ≡ ground.first + page
+  pub within : block < ground.blocks
+
+-- the block is the home of a page
+abbrev pub IsHome : Ground → ℕ → Type 0
+IsHome ground block = (page : ℕ) × IsHomeOf ground page block
 
 -- a page past the table
 pub record IsPast (ground : Ground) (page : ℕ) : Type 0 where

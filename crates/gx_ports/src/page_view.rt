@@ -24,6 +24,9 @@ pub trait PageView {
     /// How many pages there are, over which device. No call changes it.
     ghost ground: { Self → Ground };
 
+    /// Nothing was changed since the last commit: another one calls nothing of the device.
+    ghost unchanged: { Self → Type 0 };
+
     /// No commit failed: what the pages have in memory goes with what the device holds.
     ghost steady: { Self → Type 0 };
 

@@ -1,7 +1,7 @@
 // Pages: each has 4,096 bytes and an owner, as it is and as it was last committed.
 ghost use Rattle.std.specs.Prelude.{◌≡◌, ◌↔◌, ℕ, ◌*◌, ◌≤◌, ◌<◌, length, slice_get, slice_set, Some, IsTrue, IfOk, OnOk, IsErrOf};
 ghost use Rattle.gx_device.specs.Content.{Content};
-ghost use Rattle.gx_ports.specs.Sheets.{Sheets, IsPast, IsClaimed, IsOwnedAnew, AreOwnersOn, HasNone};
+ghost use Rattle.gx_ports.specs.Sheets.{Sheets, IsPast, IsHomeOf, IsClaimed, IsOwnedAnew, AreOwnersOn, HasNone};
 ghost use Rattle.gx_ports.specs.PageCalls.{KeepsPages, ReadsPages, TalksPages, SettlesPages, CountsPageFaults, PagesHear, PagesSay};
 ghost use Rattle.gx_ports.specs.Stops.{HasStopCause};
 ghost use Rattle.gx_device.specs.Quiet.{QuietSince};
@@ -100,7 +100,7 @@ pub trait Pages: PageView {
     /// The home block of a page.
     fn block(&self, page: u32) -> u32
         requires page { page < (Self.ground self.now).size }
-        ensures below { result < (Self.ground self.now).blocks };
+        ensures home { IsHomeOf (Self.ground self.now) page result };
 
     /// Reads a page. After `Failed` the slice may hold anything.
     fn read(&mut self, page: u32, into: &mut [u8]) -> Result<(), Failed>
@@ -122,17 +122,21 @@ pub trait Pages: PageView {
         ensures keeps { KeepsPages Self.PageView self.old self.new }
         ensures faults { CountsPageFaults Self.PageView self.old self.new result };
 
-    /// Makes the working pages the kept ones. After `Failed` the pages are to be opened again.
+    /// Makes the working pages the kept ones. Where none was changed the device isn't called. After
+    /// `Failed` the pages are to be opened again.
     fn commit(&mut self) -> Result<(), Failed>
         ensures kept { OnOk result (Self.kept self.new ≡ Self.working self.old) }
         ensures working { OnOk result (Self.working self.new ≡ Self.working self.old) }
         ensures steady { OnOk result (Self.steady self.old ↔ Self.steady self.new) }
+        ensures saved { OnOk result (Self.unchanged self.new) }
+        ensures idle { Self.unchanged self.old → Self.content self.new ≡ Self.content self.old }
         ensures settles { SettlesPages Self.PageView self.old self.new }
         ensures faults { CountsPageFaults Self.PageView self.old self.new result };
 
     /// Makes the kept pages the working ones.
     fn abort(&mut self)
         ensures working { Self.working self.new ≡ Self.kept self.old }
+        ensures unchanged { Self.unchanged self.new }
         ensures keeps { KeepsPages Self.PageView self.old self.new }
         ensures counted { Self.faults self.new ≡ Self.faults self.old };
 

@@ -24,6 +24,9 @@ pub trait View {
     /// The maps of the last commit.
     ghost kept: { Self → List LeafMap };
 
+    /// Nothing was changed since the last commit: another one calls nothing of the device.
+    ghost unchanged: { Self → Type 0 };
+
     /// How many steps there were: one for each `select` that answered Ok, and one for each entry
     /// that it gave. It stays at 2 ^ 64 - 1 once it is there.
     ghost work: { Self → ℕ };

@@ -7,10 +7,11 @@ use Rattle.gx_device.specs.Faults.{Rose}
 use Rattle.gx_ports.specs.declared.page_view.PageView.{Ghosts}
 use Rattle.gx_ports.specs.declared.stop.Stop.{Stop}
 use Rattle.gx_ports.specs.declared.stop.Stop.TheVariants.{Fault, Damaged}
+use Rattle.gx_ports.specs.Sheets.{IsHome}
 use Rattle.gx_ports.specs.Files.{EndsFile}
 
 -- a page shows that something isn't sound
-pub ends_shown : {S T : Type 0} (g : Ghosts S) (sound : Type 0) (start now : S) (block : ℕ) → g.faults now ≡ g.faults start → block < (g.ground start).blocks → (sound → ⊥) → EndsFile {T = T} g sound start now (Err (Damaged block))
+pub ends_shown : {S T : Type 0} (g : Ghosts S) (sound : Type 0) (start now : S) (block : ℕ) → g.faults now ≡ g.faults start → IsHome (g.ground start) block → (sound → ⊥) → EndsFile {T = T} g sound start now (Err (Damaged block))
 ends_shown g sound start now block same below none = record {
   cause = record {
     later = omega (arith, same);
@@ -18,13 +19,13 @@ ends_shown g sound start now block same below none = record {
     counted = λ is. same;
     damaged = λ b is has. none has;
   };
-  bound = λ b is. (let equal : block ≡ b = cc in subst (λ n. n < (g.ground start).blocks) equal below);
+  home = λ b is. (let equal : block ≡ b = cc in subst (λ n. IsHome (g.ground start) n) equal below);
 }
 
 pub ends_well : {S T : Type 0} (g : Ghosts S) (sound : Type 0) (start now : S) (x : T) → g.faults now ≡ g.faults start → EndsFile {T = T} g sound start now (Ok x)
 ends_well g sound start now x same = record {
   cause = record { later = omega (arith, same); fault = λ is. absurd (cc); counted = λ is. same; damaged = λ b is has. absurd (cc) };
-  bound = λ b is. absurd (cc);
+  home = λ b is. absurd (cc);
 }
 
 failed_ends : {S T : Type 0} (g : Ghosts S) (sound : Type 0) (start now new : S) → g.faults now ≡ g.faults start → g.faults now ≤ g.faults new → Rose (g.faults now) (g.faults new) → EndsFile {T = T} g sound start new (Err Fault)
@@ -35,7 +36,7 @@ failed_ends g sound start now new same later rose = record {
     counted = λ is. absurd (true≢false is);
     damaged = λ b is has. absurd (cc);
   };
-  bound = λ b is. absurd (cc);
+  home = λ b is. absurd (cc);
 }
 
 pub ends_failed : {S T : Type 0} (g : Ghosts S) (sound : Type 0) (start now new : S) (result : Result T Stop) → g.faults now ≡ g.faults start → g.faults now ≤ g.faults new → Rose (g.faults now) (g.faults new)

@@ -1,5 +1,5 @@
 -- Leaves over a journal whose pages hold these maps.
-use Rattle.std.proofs.Common.{◌≡◌, ℕ, List, length, IsTrue, sym, ap, subst, ◌∙◌}
+use Rattle.std.proofs.Common.{◌≡◌, ◌+◌, ℕ, List, length, IsTrue, sym, ap, subst, ◌∙◌}
 use Rattle.std.specs.Prelude.{Result, Ok, Err, IfOk, OnOk}
 use Rattle.gx_device.specs.declared.device.Device as device
 use Rattle.gx_ports.specs.declared.page_view.PageView as page_view
@@ -56,20 +56,20 @@ module _ (base : Ground) (specs : List LeafSpec) (maps : List LeafMap) (sheets :
 
 -- where the numbers and the head are those of the blocks, so is the ground
 pub ground_same : (blocks : List (List ℕ)) (size count : ℕ) (head : List (List ℕ)) → size ≡ pages_of (length blocks) → count ≡ length blocks → head ≡ head_of blocks
-    → ground_on blocks ≡ record { size = size; tables = 16; blocks = count; head = head }
+    → ground_on blocks ≡ record { size = size; tables = 16; blocks = count; first = 7 + size; head = head }
 ground_same blocks size count head e n h =
     let es = sym e in
     let ns = sym n in
     let hs = sym h in
-    λ i. record { size = es i; tables = 16; blocks = ns i; head = hs i }
+    λ i. record { size = es i; tables = 16; blocks = ns i; first = 7 + es i; head = hs i }
 
 -- the maps of blocks as a journal over them has them
 pub maps_opened : (blocks : List (List ℕ)) (specs : List LeafSpec) (maps : List LeafMap) (size count : ℕ) (head pages : List (List ℕ))
     → size ≡ pages_of (length blocks) → count ≡ length blocks → head ≡ head_of blocks → pages ≡ replayed_pages blocks
     → AreMaps (ground_on blocks) specs maps (sheets_of (replayed_pages blocks))
-    → AreMaps (record { size = size; tables = 16; blocks = count; head = head }) specs maps (sheets_of pages)
+    → AreMaps (record { size = size; tables = 16; blocks = count; first = 7 + size; head = head }) specs maps (sheets_of pages)
 maps_opened blocks specs maps size count head pages es en eh ep are =
-    subst (λ (ps : List (List ℕ)). AreMaps (record { size = size; tables = 16; blocks = count; head = head }) specs maps (sheets_of ps)) (sym ep)
+    subst (λ (ps : List (List ℕ)). AreMaps (record { size = size; tables = 16; blocks = count; first = 7 + size; head = head }) specs maps (sheets_of ps)) (sym ep)
     (subst (λ (b : Ground). AreMaps b specs maps (sheets_of (replayed_pages blocks))) (ground_same blocks size count head es en eh) are)
 
 module _ {M : Type 0} {g : device.Ghosts M} where
@@ -78,7 +78,7 @@ module _ {M : Type 0} {g : device.Ghosts M} where
       let s = keeps.size in
       let n = keeps.blocks in
       let h = keeps.head in
-      λ i. record { size = s i; tables = 16; blocks = n i; head = h i }
+      λ i. record { size = s i; tables = 16; blocks = n i; first = 7 + s i; head = h i }
 
   module _ {v : page_view.Ghosts (Paged M g)} where
     -- what leaves hold that have been made

@@ -60,10 +60,6 @@ counted_leaves stop.NoMemory before now is = counted_still before now is
 counted_leaves stop.Full before now is = absurd is
 counted_leaves (stop.Damaged block) before now is = absurd is
 
-pub on_ok_both : {T E P Q R : Type 0} (r : Result T E) → (P → Q → R) → OnOk r P → OnOk r Q → OnOk r R
-on_ok_both (Ok x) f p q = f p q
-on_ok_both (Err e) f p q = tt
-
 -- a refusal on the attached device comes after blocks were written, where the size is right
 pub unmade_touched : (specs : List LeafSpec) (count : ℕ) (why : Unopened) → IsSize specs count → IsUnmadeOn specs count why → is_untouched why ≡ true → ⊥
 unmade_touched specs count unopened.Size size are so = are size

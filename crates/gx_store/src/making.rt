@@ -31,8 +31,8 @@ use std::alloc::Global;
 ///
 /// Otherwise, in this order: `Size` of the number, `Exists`; then no device is made or changed.
 /// `Fault`: the count of faults rose; with every other answer it stays. `NoMemory`: there was none.
-/// After these two there may be a device that wasn't there before: it has no magic, or it is opened
-/// as an empty database. A device that was there before reads as it did, whatever the answer is.
+/// After these two there may be a device that wasn't there before: it has so many blocks, and it has
+/// no magic, or is opened as an empty database. A device that was there before reads as it did, whatever the answer is.
 pub fn make<M: Machine + Drop>(
     alloc: Global,
     machine: M,
@@ -64,6 +64,9 @@ pub fn make<M: Machine + Drop>(
         device_at (M.content machine).now name.now ≡ None → (blocks : List (List ℕ)) →
         device_at (M.content result.1).now name.now ≡ Some blocks →
         IsNoneOrEmpty schema.now equation.now specs.now blocks }
+    ensures begun { CanAttach M.tells (M.content machine) →
+        device_at (M.content machine).now name.now ≡ None → (made : List (List ℕ)) →
+        device_at (M.content result.1).now name.now ≡ Some made → length made ≡ blocks }
     ensures attaches { CanAttach M.tells (M.content machine) →
         Attaches name.now (M.content machine) (M.content result.1) }
     ensures faults { Counted (has_no_fault result.0) (M.faults machine) (M.faults result.1) }
@@ -95,6 +98,7 @@ fn make_attached<M: Machine + Drop>(
         (M.content result.1).now.blocks) }
     ensures left { IsTrue M.tells → ¬ HasMagic (block_of (M.content machine).now 0) →
         IsNoneOrEmpty schema.now equation.now specs.now (M.content result.1).now.blocks }
+    ensures blocks { IsTrue M.tells → length (M.content result.1).now.blocks ≡ M.size machine }
     ensures unmade { IfErr result.0 (λ why. IsUnmadeOn specs.now (M.size machine) why) }
     ensures silent { Silent (M.content machine) (M.content result.1) }
     ensures faults { Counted (has_no_fault result.0) (M.faults machine) (M.faults result.1) }
@@ -124,7 +128,7 @@ fn make_over<M: Machine + Drop>(
         drop 1 (head_blocks journal) ≡ text_blocks schema equation →
         IsNoneOrEmpty schema equation specs.now (M.content result.1).now.blocks }
     ensures blocks { IsTrue M.tells →
-        OnOk result.0 (length (M.content result.1).now.blocks ≡ M.size (device_of journal)) }
+        length (M.content result.1).now.blocks ≡ M.size (device_of journal) }
     ensures unmade { IfErr result.0 (λ why. IsUnlaid why) }
     ensures silent { Silent (content_of journal) (M.content result.1) }
     ensures faults { Counted (has_no_fault result.0) (M.faults (device_of journal))
@@ -149,6 +153,7 @@ fn make_leaves<M: Machine + Drop>(
     ensures ground { IfOk result (λ j. ground_of j ≡ ground_of journal) }
     ensures steady { IfOk result (λ j. IsSteady journal ↔ IsSteady j) }
     ensures head { IfErr result (λ e. head_told M.tells (M.content e.0) ≡ head_blocks journal) }
+    ensures blocks { M.size (machine_below result) ≡ M.size (device_of journal) }
     ensures unmade { IfErr result (λ e. IsUnlaid e.1) }
     ensures silent { Silent (content_of journal) (M.content (machine_below result)) }
     ensures faults { Counted (is_laid result) (M.faults (device_of journal))
@@ -176,6 +181,7 @@ fn make_in<M: Machine + Drop>(
     ensures steady { IfOk result (λ j. IsSteady (journal_of pages) ↔ IsSteady j) }
     ensures head { IfErr result
         (λ e. head_told M.tells (M.content e.0) ≡ head_blocks (journal_of pages)) }
+    ensures blocks { M.size (machine_below result) ≡ M.size (device_of (journal_of pages)) }
     ensures unmade { IfErr result (λ e. IsUnlaid e.1) }
     ensures silent { Silent (content_of (journal_of pages)) (M.content (machine_below result)) }
     ensures faults { Counted (is_laid result) (M.faults (device_of (journal_of pages)))

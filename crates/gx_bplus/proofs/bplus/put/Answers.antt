@@ -1,4 +1,5 @@
 use Rattle.std.proofs.Common.{refl, sym, subst, ap, arith}
+use Rattle.gx_ports.specs.Sheets.{IsHome}
 use Rattle.gx_ports.specs.Files.{OthersStay}
 use Rattle.gx_btree.proofs.CallLemmas.{ends_after, ends_handed}
 use Rattle.gx_bplus.proofs.FileLemmas.{root_ends}
@@ -218,4 +219,4 @@ returns-clause-ends g c =
     let i = c.loop.invariant in
     growing_lost g.P.PageView c.args.place.now c.args.key.now c.args.pages.now c.loop.pages c.loop.at c.loop.page c.block.result i
     (let s = ap (λ e. e.size) c.open_root.ensures.keeps.ground in let r = ap (λ e. e.size) c.in_ok-read_page.ensures.reads.keeps.ground in let n = c.pages-end.ensures in let o = c.loop-test.false in omega (arith, s, r, n, o))
-    (let b = c.block.ensures.below in let s = ap (λ e. e.blocks) i.keeps.ground in omega (arith, b, s))
+    (subst (λ x. IsHome x c.block.result) i.keeps.ground (_, c.block.ensures.home))

@@ -3,6 +3,7 @@ use Rattle.gx_btree.specs.Bplus.{Shows}
 use Rattle.gx_btree.proofs.CallLemmas.{ends_handed}
 use Rattle.gx_bplus.proofs.FileLemmas.{removed_file, on_no_fault, root_ends, descent_starts, next_ends, descent_goes, reached_of, reached_ends, removed_of, descent_lost, alone_of}
 use Rattle.gx_bplus.proofs.RemovalLemmas.{on_ok}
+use Rattle.gx_ports.specs.Sheets.{IsHome}
 use Rattle.gx_bplus.proofs.bplus.remove.Goals as goal
 
 pub returns-in_err-read_page-clause-ends : goal.returns-in_err-read_page-clause-ends
@@ -85,4 +86,4 @@ returns-clause-ends g c =
     let i = c.loop.invariant in
     descent_lost v c.args.place.now c.args.key.now c.args.pages.now c.loop.pages c.loop.at c.loop.page c.block.result i
     (let s = ap (λ e. e.size) c.in_ok-read_page.ensures.reads.keeps.ground in let n = c.pages-end.ensures in let o = c.loop-test.false in omega (arith, s, n, o))
-    (let b = c.block.ensures.below in let s = ap (λ e. e.blocks) i.reads.keeps.ground in omega (arith, b, s))
+    (subst (λ x. IsHome x c.block.result) i.reads.keeps.ground (_, c.block.ensures.home))

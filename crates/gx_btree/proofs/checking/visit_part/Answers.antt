@@ -3,7 +3,7 @@ use Rattle.std.specs.Prelude.{IsTrue}
 use Rattle.std.specs.Bool.{OnTrue}
 use Rattle.std.specs.Global.{Vec}
 use Rattle.std.proofs.lemmas.Bool.{false≢true}
-use Rattle.gx_ports.specs.Sheets.{Ground}
+use Rattle.gx_ports.specs.Sheets.{Ground, IsHome}
 use Rattle.gx_ports.proofs.PageLemmas.{ends_handed_on}
 use Rattle.gx_btree.specs.declared.reading.Shape.{Shape}
 use Rattle.gx_btree.specs.Bplus.{IsTreePage}
@@ -37,8 +37,8 @@ returns-then-not-branch-clause-ends g c =
     let read = c.in_ok-shape.ensures in
     ends_shown g.P.PageView (HasNext g.P.PageView p c.args.owner part visits) p
     c.read_unseen.new.pages c.block.result
-    (read.ends.cause.counted refl) (subst (λ (x : Ground). c.block.result < x.blocks)
-    read.reads.keeps.ground c.block.ensures.below)
+    (read.ends.cause.counted refl) (subst (λ (x : Ground). IsHome x c.block.result)
+    read.reads.keeps.ground (_, c.block.ensures.home))
     (λ n. false≢true (sym c.if-not-branch.true
     ∙ c.in_ok-pass.ensures.inside.1
     (next_inside g.P.PageView c.args.owner part p visits c.in_ok-shape.shape c.read_unseen.new.page read.shape read.read (let b = read.past.below in omega (arith, b, c.requires.seen)) n)))

@@ -1,5 +1,5 @@
-use Rattle.std.proofs.Common.{◌≡◌, ◌≢◌, ◌<◌, List, [], false, length, replicate, refl, sym, ap, ◌∙◌, subst, arith, eq-eqb}
-use Rattle.gx_ports.specs.Sheets.{Ground}
+use Rattle.std.proofs.Common.{◌≡◌, ◌≢◌, List, [], false, length, replicate, refl, sym, ap, ◌∙◌, subst, arith, eq-eqb}
+use Rattle.gx_ports.specs.Sheets.{Ground, IsHome}
 use Rattle.std.proofs.lemmas.Bool.{eqb-true, false≢true}
 use Rattle.gx_btree.specs.declared.checking.Part.{Part}
 use Rattle.gx_btree.specs.declared.checking.Visits.{Visits}
@@ -70,4 +70,4 @@ returns-clause-ends g c =
     visiting_lost g.P.PageView c.args.place.now c.args.pages.now c.loop.pages c.loop.visits i
     c.block.result
     (let n = c.pages-count.ensures in let over = c.loop-test.false in omega (arith, n, over)) some
-    (subst (λ (x : Ground). c.block.result < x.blocks) i.reads.keeps.ground c.block.ensures.below)
+    (subst (λ (x : Ground). IsHome x c.block.result) i.reads.keeps.ground (_, c.block.ensures.home))

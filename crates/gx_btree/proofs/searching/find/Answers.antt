@@ -1,9 +1,10 @@
-use Rattle.std.proofs.Common.{refl, subst, ap, arith}
+use Rattle.std.proofs.Common.{◌∙◌, refl, subst, arith}
 use Rattle.gx_btree.specs.Bplus.{Seems}
 use Rattle.gx_btree.proofs.CallLemmas.{ends_handed}
 use Rattle.gx_btree.proofs.FileLemmas.{place_past}
 use Rattle.gx_btree.proofs.FindLemmas.{finding_starts, finding_ends, finding_goes, finding_shape, finding_found, finding_torn, finding_lost}
 use Rattle.gx_btree.specs.declared.reading.Shape.TheVariants as shapes
+use Rattle.gx_ports.specs.Sheets.{IsHome}
 use Rattle.gx_btree.proofs.searching.find.Goals as goal
 
 pub loop-init : goal.loop-init
@@ -44,8 +45,8 @@ returns-in_default-clause-ends g c =
     c.loop.from c.loop.at
     c.loop.bound i c.read_kind.new.pages c.read_kind.new.into c.block.result
     (e.ends.cause.counted refl)
-    (let b = c.block.ensures.below in let s = ap (λ x. x.blocks) i.reads.keeps.ground in
-    let t = ap (λ x. x.blocks) e.reads.keeps.ground in omega (arith, b, s, t))
+    (subst (λ x. IsHome x c.block.result) (e.reads.keeps.ground ∙ i.reads.keeps.ground)
+    (_, c.block.ensures.home))
     (subst (λ s. Seems s c.read_kind.new.into) c.in-Inner.is e.kind) e.read c.in_default.ensures
 
 pub loop-preserved : goal.loop-preserved
@@ -67,5 +68,4 @@ returns-clause-ends g c =
     c.loop.from c.loop.at
     c.loop.bound i c.block-2.result
     (let n = c.pages-end.ensures in let o = c.loop-test.false in omega (arith, n, o))
-    (let b = c.block-2.ensures.below in let s = ap (λ e. e.blocks) i.reads.keeps.ground in omega
-    (arith, b, s))
+    (subst (λ x. IsHome x c.block-2.result) i.reads.keeps.ground (_, c.block-2.ensures.home))

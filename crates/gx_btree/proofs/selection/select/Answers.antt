@@ -1,4 +1,4 @@
-use Rattle.std.proofs.Common.{◌≡◌, ◌++◌, ◌∙◌, refl, subst, sym, ap, arith}
+use Rattle.std.proofs.Common.{◌≡◌, ◌++◌, ◌∙◌, refl, subst, sym, arith}
 use Rattle.std.proofs.lemmas.Bool.{false≢true}
 use Rattle.gx_slots.specs.Page.{entries_of}
 use Rattle.gx_btree.specs.Search.{IsFound}
@@ -6,6 +6,7 @@ use Rattle.gx_btree.specs.Selection.{given_from}
 use Rattle.gx_btree.proofs.CallLemmas.{ends_handed}
 use Rattle.gx_btree.proofs.EntryLemmas.{entries_up}
 use Rattle.gx_btree.proofs.SelectingLemmas.{holds_now, selecting_starts, selecting_ends, selecting_goes, selecting_all, selecting_past, selecting_torn, selecting_lost}
+use Rattle.gx_ports.specs.Sheets.{IsHome}
 use Rattle.gx_btree.proofs.selection.select.Goals as goal
 
 pub loop-init : goal.loop-init
@@ -30,8 +31,8 @@ returns-then-not-branch-clause-ends g c =
     c.args.pages.now
     c.args.out.now c.loop.pages c.loop.out c.loop.key i c.find.new.pages c.block.result
     (e.ends.cause.counted refl)
-    (let b = c.block.ensures.below in let s = ap (λ x. x.blocks) i.reads.keeps.ground in
-    let t = ap (λ x. x.blocks) e.reads.keeps.ground in omega (arith, b, s, t))
+    (subst (λ x. IsHome x c.block.result) (e.reads.keeps.ground ∙ i.reads.keeps.ground)
+    (_, c.block.ensures.home))
     (λ m holds.
     let here =
     holds_now g.P.PageView c.args.place.now c.args.span.now.lo c.args.span.now.hi c.args.pages.now
@@ -115,5 +116,4 @@ returns-clause-ends g c =
     c.args.pages.now
     c.args.out.now c.loop.pages c.loop.out c.loop.key i c.block-2.result
     (let n = c.pages-end.ensures in let o = c.loop-test.false in omega (arith, n, o))
-    (let b = c.block-2.ensures.below in let s = ap (λ e. e.blocks) i.reads.keeps.ground in omega
-    (arith, b, s))
+    (subst (λ x. IsHome x c.block-2.result) i.reads.keeps.ground (_, c.block-2.ensures.home))

@@ -1,7 +1,7 @@
 use Rattle.std.proofs.Common.{◌≢◌, ◌<◌, ℕ, Bool, List, [], length, refl, sym, ap, subst, ◌∙◌, arith}
 use Rattle.std.specs.Bool.{OnTrue, OnFalse}
 use Rattle.std.proofs.lemmas.Bool.{false≢true}
-use Rattle.gx_ports.specs.Sheets.{Sheets, Ground}
+use Rattle.gx_ports.specs.Sheets.{Sheets, Ground, IsHome}
 use Rattle.gx_ports.proofs.PageLemmas.{ends_handed_on, read_pages_joined}
 use Rattle.gx_slots.specs.Page.{IsEntryPage, entries_of}
 use Rattle.gx_chain.specs.Chain.{bytes_at, IsEntryAt}
@@ -19,8 +19,8 @@ returns-then-not-branch-clause-ends g c =
     let visits = c.args.visits.now in
     ends_shown g.P.PageView (IsNext g.P.PageView p c.args.owner c.args.first visits c.args.number) p
     c.is_unseen.new.pages c.block.result
-    c.in_ok-is_unseen.ensures.faults.counted (subst (λ (x : Ground). c.block.result < x.blocks)
-    c.is_unseen.ensures.reads.keeps.ground c.block.ensures.below)
+    c.in_ok-is_unseen.ensures.faults.counted (subst (λ (x : Ground). IsHome x c.block.result)
+    c.is_unseen.ensures.reads.keeps.ground (_, c.block.ensures.home))
     (λ n. (let unseen = subst (λ (x : List Bool). IsUnseen (g.P.PageView.working p) c.args.owner x c.args.number) (sym c.deref.ensures.value) (next_unseen g.P.PageView p c.args.owner c.args.first visits c.args.number n) in
     false≢true (sym c.if-not-branch.true ∙ (c.in_ok-is_unseen.ensures.unseen n.told).1 unseen)))
 
@@ -52,8 +52,8 @@ returns-then-count-eq0-clause-ends g c =
     c.read_entries.new.pages c.block-then-count-eq0.result
     (c.in_ok-read_entries.ensures.ends.cause.counted refl
     ∙ c.in_ok-is_unseen.ensures.faults.counted) (subst
-    (λ (x : Ground). c.block-then-count-eq0.result < x.blocks) reads.keeps.ground
-    c.block-then-count-eq0.ensures.below)
+    (λ (x : Ground). IsHome x c.block-then-count-eq0.result) reads.keeps.ground
+    (_, c.block-then-count-eq0.ensures.home))
     (λ n. (let read = c.in_ok-read_entries.ensures.bytes n.told ∙ ap (λ (x : Sheets). bytes_at x c.args.number) c.is_unseen.ensures.reads.working in
     next_filled g.P.PageView p c.args.owner c.args.first visits c.args.number n
     c.if-number-first.true
@@ -73,8 +73,8 @@ returns-then-not-branch-2-clause-ends g c =
     c.read_entries.new.pages c.block-then-not-branch-2.result
     (c.in_ok-read_entries.ensures.ends.cause.counted refl
     ∙ c.in_ok-is_unseen.ensures.faults.counted)
-    (subst (λ (x : Ground). c.block-then-not-branch-2.result < x.blocks) reads.keeps.ground
-    c.block-then-not-branch-2.ensures.below)
+    (subst (λ (x : Ground). IsHome x c.block-then-not-branch-2.result) reads.keeps.ground
+    (_, c.block-then-not-branch-2.ensures.home))
     (λ n. (let read = c.in_ok-read_entries.ensures.bytes n.told ∙ ap (λ (x : Sheets). bytes_at x c.args.number) c.is_unseen.ensures.reads.working in
     next_fresh g.P.PageView p c.args.owner c.args.first visits c.args.number n
     (subst (λ (b : List ℕ). SharesKey (entries_of b) visits.keys.keys) read shared)))

@@ -1,7 +1,7 @@
 use Rattle.std.proofs.Common.{◌≡◌, ◌+◌, ◌≤◌, ◌<◌, [], refl, sym, ap, subst, ◌∙◌, arith}
 use Rattle.std.proofs.lemmas.Option.{MatchOption-at_none, MatchOption-at_some}
 use Rattle.gx_bytes.specs.declared.page.TheConstants.{NONE}
-use Rattle.gx_ports.specs.Sheets.{Sheets, Ground, IsPast}
+use Rattle.gx_ports.specs.Sheets.{Sheets, Ground, IsPast, IsHome}
 use Rattle.gx_ports.proofs.PageLemmas.{pages_read_themselves, read_pages_joined, ends_handed_on}
 use Rattle.gx_slots.specs.Page.{next_of}
 use Rattle.gx_chain.specs.Chain.{bytes_at, LeadsOn}
@@ -160,7 +160,7 @@ returns-clause-ends g c =
     ends_shown g.P.PageView
     (HasUnseenChain g.P.PageView p c.args.owner c.args.first c.args.visits.now.seen.items) p
     c.loop.pages c.block.result i.faults
-    (subst (λ (x : Ground). c.block.result < x.blocks) i.reads.keeps.ground c.block.ensures.below)
+    (subst (λ (x : Ground). IsHome x c.block.result) i.reads.keeps.ground (_, c.block.ensures.home))
     (λ has. (let hand = whole_hand ground c.args.owner s c.args.first c.args.visits.now.seen.items few_pages c.loop.counter c.loop.number c.loop.visits i.past (i.so_far has.told) has.pages has.chain in
     let less = hand_ends ground c.args.owner s c.args.first has.pages c.loop.counter c.loop.number
     has.chain hand in

@@ -2,7 +2,7 @@ use Rattle.std.proofs.Common.{◌≡◌, ◌≤◌, ◌<◌, ℕ, List, ◌++◌
 use Rattle.std.proofs.lemmas.Bool.{false≢true}
 use Rattle.std.proofs.lemmas.Option.{MatchOption-at_none, MatchOption-at_some}
 use Rattle.gx_bytes.specs.declared.page.TheConstants.{NONE}
-use Rattle.gx_ports.specs.Sheets.{IsPast}
+use Rattle.gx_ports.specs.Sheets.{IsPast, IsHome}
 use Rattle.gx_ports.proofs.PageLemmas.{pages_read_themselves, read_pages_joined}
 use Rattle.gx_slots.specs.Page.{IsEntryPage, entries_of, next_of}
 use Rattle.gx_chain.specs.Chain.{bytes_at}
@@ -61,9 +61,9 @@ returns-then-not-branch-clause-ends g c =
             false≢true
             (sym c.if-not-branch.true ∙ c.in_ok-copy_inside.ensures.sound (subst IsEntryPage (sym read) n.hand.linked.1)));
       };
-      bound = λ block is. (let same : c.block.result ≡ block = cc in
-          subst (λ n. n < ground.blocks) same
-          (subst (λ x. c.block.result < x.blocks) reads.keeps.ground c.block.ensures.below));
+      home = λ block is. (let same : c.block.result ≡ block = cc in
+          subst (λ n. IsHome ground n) same
+          (subst (λ x. IsHome x c.block.result) reads.keeps.ground (_, c.block.ensures.home)));
     }
 
 pub returns-in_err-behind-clause-ends : goal.returns-in_err-behind-clause-ends
@@ -148,4 +148,4 @@ returns-clause-ends g c =
       faults = i.faults;
       hand = λ told owner all chain. (i.way told owner all chain).hand;
     })
-    c.block-2.result (omega (arith, c.loop-test.false, c.pages-end.ensures)) c.block-2.ensures.below
+    c.block-2.result (omega (arith, c.loop-test.false, c.pages-end.ensures)) (_, c.block-2.ensures.home)

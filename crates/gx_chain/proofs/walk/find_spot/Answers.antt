@@ -149,4 +149,4 @@ returns-clause-ends g c =
       faults = i.faults;
       hand = λ told owner all chain. (i.way told owner all chain).hand;
     })
-    c.block.result (omega (arith, c.loop-test.false, c.pages-end.ensures)) c.block.ensures.below
+    c.block.result (omega (arith, c.loop-test.false, c.pages-end.ensures)) (_, c.block.ensures.home)

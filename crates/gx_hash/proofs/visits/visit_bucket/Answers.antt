@@ -1,6 +1,6 @@
 use Rattle.std.proofs.Common.{◌+◌, ◌<◌, refl, sym, subst, ◌∙◌}
 use Rattle.std.proofs.lemmas.Bool.{false≢true}
-use Rattle.gx_ports.specs.Sheets.{Ground}
+use Rattle.gx_ports.specs.Sheets.{Ground, IsHome}
 use Rattle.gx_ports.proofs.PageLemmas.{ends_handed_on}
 use Rattle.gx_chain.specs.Check.{HasUnseenChain}
 use Rattle.gx_chain.proofs.PlacedChainLemmas.{placed_chain, keys_have, keys_placed, unseen_chain}
@@ -24,7 +24,7 @@ returns-then-not-are_placed-clause-ends g c =
     let place = c.args.place.now in
     let seen = c.args.visits.now.seen.items in
     ends_shown g.P.PageView (HasUnseenBucket g.P.PageView p place c.args.bucket seen) p c.visit_chain.new.pages c.block.result
-    (c.in_ok-visit_chain.ensures.ends.cause.counted refl) (subst (λ (x : Ground). c.block.result < x.blocks) c.visit_chain.ensures.reads.keeps.ground c.block.ensures.below)
+    (c.in_ok-visit_chain.ensures.ends.cause.counted refl) (subst (λ (x : Ground). IsHome x c.block.result) c.visit_chain.ensures.reads.keeps.ground (_, c.block.ensures.home))
     (λ n. false≢true (sym c.if-not-are_placed.true ∙ c.are_placed.ensures
     ∙ keys_placed (g.P.PageView.ground p) place.owner (g.P.PageView.working p) (place.root + c.args.bucket) c.root-first.result seen c.visit_chain.new.visits (sym c.root-first.ensures) (c.in_ok-visit_chain.ensures.visited n.told)
     (bucket_of place.spec) c.args.bucket n.pages n.chain n.placed))

@@ -1,7 +1,7 @@
 use Rattle.std.proofs.Common.{◌≡◌, ◌≢◌, ◌<◌, refl, sym, ap, subst, ◌∙◌, arith}
 use Rattle.std.proofs.lemmas.Option.{MatchOption-at_none, MatchOption-at_some}
 use Rattle.gx_bytes.specs.declared.page.TheConstants.{NONE}
-use Rattle.gx_ports.specs.Sheets.{Ground, Sheets, IsPast}
+use Rattle.gx_ports.specs.Sheets.{Ground, Sheets, IsPast, IsHome}
 use Rattle.gx_ports.proofs.PageLemmas.{ends_handed_on, kept_pages_joined, pages_keep_themselves}
 use Rattle.gx_slots.specs.Page.{next_of}
 use Rattle.gx_chain.specs.Chain.{IsChain, IsEntryAt, LeadsOn}
@@ -110,6 +110,6 @@ returns-clause-ends g c =
     let now = c.loop.pages in
     let place = c.args.place.now in
     let over = c.loop-test.false in
-    ends_shown g.P.PageView (HasIndexAt g.P.PageView p place c.args.index.now) p now c.block.result i.faults (subst (λ (x : Ground). c.block.result < x.blocks) i.keeps.ground c.block.ensures.below)
+    ends_shown g.P.PageView (HasIndexAt g.P.PageView p place c.args.index.now) p now c.block.result i.faults (subst (λ (x : Ground). IsHome x c.block.result) i.keeps.ground (_, c.block.ensures.home))
     (λ has. (let less = freeing_ends (g.P.PageView.ground p) place c.args.bucket (g.P.PageView.working p) (g.P.PageView.working now) c.args.index.now c.loop.index c.loop.counter c.requires.place.least (i.way has.0 has.1) in
     omega (arith, less, over, c.pages-end.ensures)))

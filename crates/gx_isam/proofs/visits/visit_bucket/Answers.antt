@@ -1,9 +1,9 @@
-use Rattle.std.proofs.Common.{◌≡◌, ◌≢◌, ◌<◌, [], refl, sym, subst, ◌∙◌}
+use Rattle.std.proofs.Common.{◌≡◌, ◌≢◌, [], refl, sym, subst, ◌∙◌}
 use Rattle.std.proofs.lemmas.Bool.{false≢true}
 use Rattle.std.proofs.lemmas.Option.{MatchOption-at_none, MatchOption-at_some}
 use Rattle.std.proofs.lemmas.Result.{on_ok_weaker}
 use Rattle.gx_bytes.specs.declared.page.TheConstants.{NONE}
-use Rattle.gx_ports.specs.Sheets.{Sheets, Ground, IsPast}
+use Rattle.gx_ports.specs.Sheets.{Sheets, Ground, IsPast, IsHome}
 use Rattle.gx_ports.proofs.PageLemmas.{ends_as, ends_handed_on}
 use Rattle.gx_slots.specs.Page.{IsEntryPage}
 use Rattle.gx_chain.specs.Chain.{bytes_at, entries_at, LeadsOn}
@@ -41,7 +41,7 @@ returns-then-not-are_placed-clause-ends g c =
     let at = first_of index c.args.bucket in
     let found = MatchOption-at_some (at ≡ NONE) (λ n. (at ≡ n) × IsPast (g.P.PageView.ground p) n × (n ≢ NONE)) c.in-Some.first c.in-Some.is c.in_ok-first.ensures.first in
     ends_shown g.P.PageView (HasUnseenBucket g.P.PageView p owner index c.args.bucket seen) p c.visit_chain.new.pages c.block.result
-    (c.in_ok-visit_chain.ensures.ends.cause.counted refl) (subst (λ (x : Ground). c.block.result < x.blocks) c.visit_chain.ensures.reads.keeps.ground c.block.ensures.below)
+    (c.in_ok-visit_chain.ensures.ends.cause.counted refl) (subst (λ (x : Ground). IsHome x c.block.result) c.visit_chain.ensures.reads.keeps.ground (_, c.block.ensures.home))
     (λ n. false≢true (sym c.if-not-are_placed.true ∙ c.are_placed.ensures
     ∙ keys_placed (g.P.PageView.ground p) owner (g.P.PageView.working p) at c.in-Some.first seen c.visit_chain.new.visits found.0 (c.in_ok-visit_chain.ensures.visited n.told)
     (bucket_of index) c.args.bucket n.pages n.chain n.placed.placed))

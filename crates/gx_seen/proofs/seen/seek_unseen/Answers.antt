@@ -2,7 +2,7 @@ use Rattle.std.proofs.Common.{◌≡◌, ◌<◌, ◌≤◌, ℕ, ◌*◌, refl,
 use Rattle.std.specs.Prelude.{slice_get}
 use Rattle.std.proofs.lemmas.Grind.{div_ceil_times}
 use Rattle.std.proofs.lemmas.Option.{slice_get_within}
-use Rattle.gx_ports.specs.Sheets.{Sheets, Ground, AreOwnersOn}
+use Rattle.gx_ports.specs.Sheets.{Sheets, Ground, AreOwnersOn, IsHome}
 use Rattle.gx_ports.proofs.PageLemmas.{pages_read_themselves, read_pages_joined}
 use Rattle.gx_seen.specs.Seen.{HasAllSeen}
 use Rattle.gx_seen.proofs.EndLemmas.{ends_shown}
@@ -20,7 +20,7 @@ returns-in-Some-clause-ends g c =
     let size : c.pages-in-loop-table.result ≡ (g.P.PageView.ground c.args.pages.now).size = c.pages-in-loop-table.ensures ∙ ap (λ (x : Ground). x.size) reads.keeps.ground in
     let found = c.in-Some.ensures in
     ends_shown g.P.PageView (HasAllSeen g.P.PageView c.args.pages.now c.args.owner c.args.seen.now) c.args.pages.now c.owners.new.self c.block.result
-    (c.in_ok-owners.ensures.faults.counted ∙ i.faults) (subst (λ (x : Ground). c.block.result < x.blocks) reads.keeps.ground c.block.ensures.below)
+    (c.in_ok-owners.ensures.faults.counted ∙ i.faults) (subst (λ (x : Ground). IsHome x c.block.result) reads.keeps.ground (_, c.block.ensures.home))
     (λ has.
     let on = subst (λ (s : Sheets). AreOwnersOn s.owners c.loop-table.table c.owners.new.into) i.reads.working (c.in_ok-owners.ensures.owners has.0) in
     let owned = owned_there (g.P.PageView.ground c.args.pages.now).size sheets (g.met.P.Pages.many c.args.pages.now has.0).0 c.loop-table.table (c.loop-table.table * 2048) c.owners.new.into on (omega arith)

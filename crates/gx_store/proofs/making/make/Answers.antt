@@ -91,3 +91,16 @@ pub returns-clause-attaches : goal.returns-clause-attaches
 returns-clause-attaches g c = λ can.
     let m = c.in_default.ensures.made can.told can.free c.args.blocks refl in
     attached_rest c.args.name.now (zero_blocks c.args.blocks) (g.M.Device.content c.args.machine) (g.M.Device.content c.attach.new.self) _ can.free m.attached c.make_attached.ensures.silent
+
+pub returns-in-Err-clause-begun : goal.returns-in-Err-clause-begun
+returns-in-Err-clause-begun g c = λ can none blocks is.
+    absurd (let wrong : ◌≡◌ {A = _} (Some blocks) None = sym is ∙ ap (λ (m : Moment). device_at m c.args.name.now) c.in-Err.ensures.refused.now ∙ none in cc)
+
+pub returns-clause-begun : goal.returns-clause-begun
+returns-clause-begun g c = λ can none blocks is.
+    let m = c.in_default.ensures.made can.told can.free c.args.blocks refl in
+    let mid = g.M.Device.content c.attach.new.self in
+    let last = g.M.Device.content c.make_attached.result.1 in
+    let at = attached_at c.args.name.now (zero_blocks c.args.blocks) (g.M.Device.content c.args.machine) mid last can.free m.attached c.make_attached.ensures.silent in
+    let count = g.met.M.Device.sized c.attach.new.self can.told ∙ ap (λ (bs : List (List ℕ)). length bs) m.attached.blocks_are ∙ length-replicate c.args.blocks _ in
+    ap (λ (bs : List (List ℕ)). length bs) (sym (some_same last.now.blocks blocks (sym at ∙ is))) ∙ c.make_attached.ensures.blocks can.told ∙ count

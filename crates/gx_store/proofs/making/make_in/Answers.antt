@@ -1,5 +1,6 @@
 use Rattle.std.proofs.Common.{◌∙◌, not, length, replicate, sym, ap, subst}
 use Rattle.std.specs.FinMap.{empty}
+use Rattle.gx_ports.specs.Sheets.{Ground}
 use Rattle.gx_leaves.specs.Making.{IsAllFree}
 use Rattle.gx_journal.specs.Journal.{device_of}
 use Rattle.gx_device.specs.Faults.{Counted}
@@ -28,3 +29,13 @@ returns-in-Err-clause-faults g c =
     subst (λ w. Counted (not (is_fault w)) before (g.M.Device.faults c.into_device.result)) (sym c.not_made.ensures)
     (subst (λ d. Counted (not (is_fault (not_laid c.in-Err.why))) before (g.M.Device.faults d)) (sym out)
     (counted_leaves c.in-Err.why before _ c.in-Err.ensures.cause))
+
+pub returns-in-Ok-clause-blocks : goal.returns-in-Ok-clause-blocks
+returns-in-Ok-clause-blocks g c =
+    ap (λ j. g.M.Device.size (device_of j)) (c.into_journal.ensures ∙ ap (λ p. journal_of p) c.into_pages.ensures)
+    ∙ ap (λ (b : Ground). b.blocks) c.in-Ok.ensures.keeps.ground
+
+pub returns-in-Err-clause-blocks : goal.returns-in-Err-clause-blocks
+returns-in-Err-clause-blocks g c =
+    ap (λ d. g.M.Device.size d) (c.into_device.ensures ∙ ap (λ j. device_of j) c.into_journal-in-Err.ensures)
+    ∙ ap (λ (b : Ground). b.blocks) c.in-Err.ensures.keeps.ground

@@ -1,4 +1,4 @@
-use Rattle.std.proofs.Common.{◌∙◌, length, replicate, sym, subst}
+use Rattle.std.proofs.Common.{◌∙◌, length, replicate, sym, ap, subst}
 use Rattle.std.specs.Prelude.{IfOk}
 use Rattle.std.specs.FinMap.{empty}
 use Rattle.std.proofs.lemmas.Result.{IfOk-weaker, IfErr-weaker}
@@ -47,3 +47,10 @@ returns-in-Ok-clause-silent g c = silent_after _ (content_of (journal_of c.in-Ok
 
 pub returns-in-Ok-clause-faults : goal.returns-in-Ok-clause-faults
 returns-in-Ok-clause-faults g c = counted_after _ _ _ _ c.in-Ok.ensures.keeps.faults.same c.make_in.ensures.faults
+
+pub returns-in-Ok-clause-blocks : goal.returns-in-Ok-clause-blocks
+returns-in-Ok-clause-blocks g c = c.make_in.ensures.blocks ∙ c.in-Ok.ensures.keeps.keeps.blocks
+
+pub returns-in-Err-clause-blocks : goal.returns-in-Err-clause-blocks
+returns-in-Err-clause-blocks g c =
+    ap (λ d. g.M.Device.size d) c.into_device.ensures ∙ c.in-Err.ensures.keeps.keeps.blocks

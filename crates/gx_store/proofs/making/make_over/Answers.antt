@@ -8,7 +8,6 @@ use Rattle.gx_store.proofs.ShelfLemmas.{silent_after}
 use Rattle.gx_store.proofs.CauseLemmas.{counted_after}
 use Rattle.gx_store.proofs.SettledLemmas.{settled_reopens}
 use Rattle.gx_journal.specs.State.{head_told}
-use Rattle.gx_store.proofs.MakeLemmas.{on_ok_always}
 use Rattle.gx_store.proofs.JournalLemmas.{grounded}
 use Rattle.gx_store.proofs.making.make_over.Goals as goal
 
@@ -33,7 +32,7 @@ returns-in-Ok-clause-left g c = λ told steady none schema equation texts magic.
 
 pub returns-in-Ok-clause-blocks : goal.returns-in-Ok-clause-blocks
 returns-in-Ok-clause-blocks g c = λ told.
-    on_ok_always c.publish.result.0 (c.publish.ensures.blocks told ∙ ap (λ (b : Ground). b.blocks) c.in-Ok.ensures.ground)
+    c.publish.ensures.blocks told ∙ ap (λ (b : Ground). b.blocks) c.in-Ok.ensures.ground
 
 pub returns-in-Ok-clause-silent : goal.returns-in-Ok-clause-silent
 returns-in-Ok-clause-silent g c = silent_after _ (content_of c.in-Ok.journal) _ c.in-Ok.ensures.silent c.publish.ensures.silent
@@ -45,3 +44,6 @@ pub returns-in-Err-clause-left : goal.returns-in-Err-clause-left
 returns-in-Err-clause-left g c = λ told steady none schema equation texts magic.
     absurd (none (subst (λ (h : List (List ℕ)). HasMagic (get_or h 0 [])) (c.in-Err.ensures.head)
     (subst (λ (b : Bool). HasMagic (get_or (head_told b (g.M.Device.content c.in-Err.machine)) 0 [])) (sym told) magic)))
+
+pub returns-in-Err-clause-blocks : goal.returns-in-Err-clause-blocks
+returns-in-Err-clause-blocks g c = λ told. sym (g.met.M.Device.sized c.in-Err.machine told) ∙ c.in-Err.ensures.blocks

@@ -75,7 +75,7 @@ pub returns-in-Ok-clause-no_database : goal.returns-in-Ok-clause-no_database
 returns-in-Ok-clause-no_database g c = λ told goes none.
     absurd (none (record {
       size = sized_by c.args.specs.now (length (g.M.Device.content c.args.machine).now.blocks) (g.M.Device.size c.args.machine)
-          c.blocks-2.result c.is_size.result (g.met.M.Device.sized c.args.machine told) c.blocks-2.ensures c.is_size.ensures c.if-not-is_size.false;
+          c.blocks-2.result c.is_size.result (g.met.M.Device.sized c.args.machine told) c.blocks-2.ensures.count c.is_size.ensures c.if-not-is_size.false;
       magic = c.in-Ok.ensures.magic told;
     }))
 
@@ -105,7 +105,7 @@ returns-in-Ok-clause-opened g c = λ told.
     on_ok_weaker c.open_journal.result
     (λ texts. record {
       size = sized_by c.args.specs.now (length old.now.blocks) (g.M.Device.size c.args.machine) c.blocks-2.result c.is_size.result
-          (g.met.M.Device.sized c.args.machine told) c.blocks-2.ensures c.is_size.ensures c.if-not-is_size.false;
+          (g.met.M.Device.sized c.args.machine told) c.blocks-2.ensures.count c.is_size.ensures c.if-not-is_size.false;
       magic = c.in-Ok.ensures.magic told;
       texts = subst (λ (h : List (List ℕ)). AreTexts c.args.schema.now c.args.equation.now h) head texts;
     })
@@ -117,7 +117,7 @@ returns-in-Ok-clause-unopened g c = λ told.
     IfErr-weaker c.open_journal.result _ _
     (λ e is. unread_on c.args.schema.now c.args.equation.now c.args.specs.now old.now.blocks (head_blocks c.in-Ok.journal) e.1
     (sized_by c.args.specs.now (length old.now.blocks) (g.M.Device.size c.args.machine) c.blocks-2.result c.is_size.result
-    (g.met.M.Device.sized c.args.machine told) c.blocks-2.ensures c.is_size.ensures c.if-not-is_size.false)
+    (g.met.M.Device.sized c.args.machine told) c.blocks-2.ensures.count c.is_size.ensures c.if-not-is_size.false)
     (c.in-Ok.ensures.magic told)
     (c.in-Ok.ensures.head ∙ ap (λ (b : Bool). head_told b old) told) is)
     (c.open_journal.ensures.other told)

@@ -1,7 +1,9 @@
-use Rattle.std.proofs.Common.{◌∙◌, Bool, true, refl, sym, ap, subst}
+use Rattle.std.proofs.Common.{◌≡◌, ◌∙◌, ℕ, Bool, true, None, get_or, refl, sym, ap, subst, rules}
+use Rattle.std.specs.Prelude.{IfOk}
 use Rattle.std.proofs.lemmas.Result.{IfOk-weaker, IfErr-weaker}
 use Rattle.gx_device.specs.Content.{Silent}
 use Rattle.gx_device.specs.Faults.{Counted}
+use Rattle.gx_layout.specs.Head.{DifferFirst, text_at, text_area}
 use Rattle.gx_journal.specs.Journal.{IsCalm, content_of, head_blocks, device_of}
 use Rattle.gx_pages.specs.Paged.{ground_of}
 use Rattle.gx_pages.specs.Laws.{calm_later}
@@ -9,7 +11,7 @@ use Rattle.gx_leaves.specs.Places.{specs_of}
 use Rattle.gx_leaves.proofs.PlaceLemmas.{specs_back}
 use Rattle.gx_store.specs.Opening.{AreUnread}
 use Rattle.gx_store.specs.Store.{machine_left}
-use Rattle.gx_store.proofs.HeldLemmas.{adopted, adopted_just, ground_kept, if_ok_both}
+use Rattle.gx_store.proofs.HeldLemmas.{adopted, adopted_just, ground_kept, if_ok_both, on_ok_always}
 use Rattle.gx_store.proofs.LeftLemmas.{left_is, goes_on_is}
 use Rattle.gx_store.proofs.CauseLemmas.{counted_still}
 use Rattle.gx_store.proofs.opening.open_journal.Goals as goal
@@ -57,3 +59,10 @@ returns-in-Ok-None-clause-just_opened g c = λ same steady.
     IfOk-weaker c.adopt.result _ _
     (adopted_just (λ p. refl) (λ p. refl) (λ p. refl) (λ p h. h) c.args.journal c.texts_differ.new.self c.texts_differ.ensures.keeps c.texts_differ.ensures.working same steady)
     c.adopt.ensures.journal
+
+pub returns-in-Ok-None-clause-texts : goal.returns-in-Ok-None-clause-texts
+returns-in-Ok-None-clause-texts g c = λ told.
+    let head = text_at (head_blocks c.args.journal) in
+    let area : ℕ → ℕ = λ q. get_or (text_area c.args.schema.now c.args.equation.now) q 0 in
+    let none : c.in-Ok-None.field-0 ≡ None = search rules in
+    on_ok_always c.adopt.result (subst (DifferFirst head area) none (subst (λ r. IfOk r (DifferFirst head area)) c.in-Ok-None.is (c.texts_differ.ensures.place told)))

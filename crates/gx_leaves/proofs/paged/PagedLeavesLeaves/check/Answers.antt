@@ -1,8 +1,10 @@
-use Rattle.std.proofs.Common.{◌<◌, false, refl, subst, ◌∙◌, arith, rules}
+use Rattle.std.proofs.Common.{ℕ, false, refl, subst, ◌∙◌, arith, rules}
 use Rattle.std.proofs.lemmas.Result.{on_ok_weaker}
 use Rattle.gx_device.specs.Faults.{Rose}
 use Rattle.gx_ports.proofs.PageLemmas.{read_pages_joined}
-use Rattle.gx_ports.specs.Sheets.{Ground}
+use Rattle.std.specs.Prelude.{IsErrOf}
+use Rattle.gx_ports.specs.Sheets.{Ground, IsHome}
+use Rattle.gx_ports.specs.declared.stop.Stop.TheVariants.{Damaged}
 use Rattle.gx_leaves.proofs.ExamineLemmas.{whole_by, file_of, whole_read}
 use Rattle.gx_leaves.proofs.paged.PagedLeavesLeaves.check.Goals as goal
 
@@ -29,4 +31,7 @@ returns-clause-ends g c =
     }
 
 pub returns-clause-block : goal.returns-clause-block
-returns-clause-block g c = λ block is. subst (λ (x : Ground). block < x.blocks) c.check_table.ensures.reads.keeps.ground (c.check_file.ensures.ends.bound block is)
+returns-clause-block g c =
+    let home : (block : ℕ) → IsErrOf c.check_file.result (Damaged block) → IsHome (g.P.PageView.ground c.args.self.now.pages) block = λ block is.
+    subst (λ (x : Ground). IsHome x block) c.check_table.ensures.reads.keeps.ground (c.check_file.ensures.ends.home block is) in
+    record { bound = λ block is. (home block is).1.within; home = home }

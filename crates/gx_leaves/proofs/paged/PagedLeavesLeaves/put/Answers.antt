@@ -1,6 +1,6 @@
 use Rattle.std.specs.FinMap.{insert}
 use Rattle.gx_ports.specs.LeafMaps.{map_at}
-use Rattle.gx_leaves.proofs.ChangeLemmas.{maps, holds, file_whole, others_stay, stays_whole, sets, full}
+use Rattle.gx_leaves.proofs.ChangeLemmas.{maps, holds, file_whole, others_stay, fresh_stays, stays_whole, sets, full}
 use Rattle.gx_leaves.proofs.paged.PagedLeavesLeaves.put.Goals as goal
 
 pub returns-clause-ok : goal.returns-clause-ok
@@ -34,4 +34,9 @@ returns-clause-full g c =
     full g.P.PageView l.places.items l.pages l.laid_out c.args.leaf c.place-place.result c.place-place.ensures.at c.put_in_file.new.pages c.put_in_file.ensures.keeps c.put_in_file.result c.put_in_file.ensures.others c.put_in_file.ensures.full (λ told. (g.met.P.Pages.many c.put_in_file.new.pages told).0)
 
 pub returns-clause-block : goal.returns-clause-block
-returns-clause-block g c = c.put_in_file.ensures.ends.bound
+returns-clause-block g c = let home = c.put_in_file.ensures.ends.home in record { bound = λ block is. (home block is).1.within; home = home }
+
+pub returns-clause-fresh_others : goal.returns-clause-fresh_others
+returns-clause-fresh_others g c =
+    let l = c.args.self.now in
+    fresh_stays g.P.PageView l.places.items l.pages l.laid_out c.args.leaf c.place-place.result c.place-place.ensures.at c.put_in_file.new.pages c.put_in_file.ensures.keeps c.put_in_file.result c.put_in_file.ensures.others

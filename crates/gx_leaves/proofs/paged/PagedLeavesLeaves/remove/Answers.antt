@@ -1,6 +1,6 @@
 use Rattle.std.specs.FinMap.{remove}
 use Rattle.gx_ports.specs.LeafMaps.{map_at}
-use Rattle.gx_leaves.proofs.ChangeLemmas.{maps, holds, file_whole, others_stay, stays_whole, sets}
+use Rattle.gx_leaves.proofs.ChangeLemmas.{maps, holds, file_whole, others_stay, fresh_stays, stays_whole, sets}
 use Rattle.gx_leaves.proofs.paged.PagedLeavesLeaves.remove.Goals as goal
 
 pub returns-clause-ok : goal.returns-clause-ok
@@ -29,4 +29,9 @@ returns-clause-ends g c =
     }
 
 pub returns-clause-block : goal.returns-clause-block
-returns-clause-block g c = c.remove_from_file.ensures.ends.bound
+returns-clause-block g c = let home = c.remove_from_file.ensures.ends.home in record { bound = λ block is. (home block is).1.within; home = home }
+
+pub returns-clause-fresh_others : goal.returns-clause-fresh_others
+returns-clause-fresh_others g c =
+    let l = c.args.self.now in
+    fresh_stays g.P.PageView l.places.items l.pages l.laid_out c.args.leaf c.place-place.result c.place-place.ensures.at c.remove_from_file.new.pages c.remove_from_file.ensures.keeps c.remove_from_file.result c.remove_from_file.ensures.others

@@ -1,5 +1,5 @@
 use Rattle.gx_ports.specs.LeafMaps.{map_at}
-use Rattle.gx_leaves.proofs.ChangeLemmas.{maps, holds, file_whole, others_stay, stays_whole, stays, full, fresh_now, fresh_stays}
+use Rattle.gx_leaves.proofs.ChangeLemmas.{maps, holds, file_whole, others_stay, stays_whole, stays, full, fresh_now, fresh_stays, not_failed}
 use Rattle.gx_leaves.proofs.paged.PagedLeavesLeaves.reorganize.Goals as goal
 
 pub returns-clause-ok : goal.returns-clause-ok
@@ -42,7 +42,8 @@ returns-clause-fresh g c = λ whole.
 pub returns-clause-fresh_others : goal.returns-clause-fresh_others
 returns-clause-fresh_others g c = λ whole.
     let l = c.args.self.now in
-    fresh_stays g.P.PageView l.places.items l.pages l.laid_out c.args.leaf c.place-place.result c.place-place.ensures.at c.reorganize_file.new.pages c.reorganize_file.ensures.keeps c.reorganize_file.result c.reorganize_file.ensures.others whole
+    not_failed c.reorganize_file.result
+    (fresh_stays g.P.PageView l.places.items l.pages l.laid_out c.args.leaf c.place-place.result c.place-place.ensures.at c.reorganize_file.new.pages c.reorganize_file.ensures.keeps c.reorganize_file.result c.reorganize_file.ensures.others whole)
 
 pub returns-clause-block : goal.returns-clause-block
-returns-clause-block g c = c.reorganize_file.ensures.ends.bound
+returns-clause-block g c = let home = c.reorganize_file.ensures.ends.home in record { bound = λ block is. (home block is).1.within; home = home }

@@ -23,4 +23,5 @@ returns-clause-ok g c = λ whole.
 pub returns-in_err-select_in_file-clause-block : goal.returns-in_err-select_in_file-clause-block
 returns-in_err-select_in_file-clause-block g c =
     let l = c.args.self.now in
-    same_block g.P.PageView (IsWhole g.P.PageView (IsFileAt (g.P.PageView.ground l.pages) c.place-place.result) l.pages) l.pages c.select_in_file.new.pages c.from_residual.result c.in_err-select_in_file.field-0.0 c.in_err-select_in_file.ensures.ends c.from_residual.ensures.1
+    let home = same_block g.P.PageView (IsWhole g.P.PageView (IsFileAt (g.P.PageView.ground l.pages) c.place-place.result) l.pages) l.pages c.select_in_file.new.pages c.from_residual.result c.in_err-select_in_file.field-0.0 c.in_err-select_in_file.ensures.ends c.from_residual.ensures.1 in
+    record { bound = λ block is. (home block is).1.within; home = home }
