@@ -3,3 +3,4 @@ mod RecordLemmas
 mod EndLemmas
 mod RelinkLemmas
 pub mod EditLemmas
+mod AloneLemmas

@@ -1,2 +1,3 @@
 pub mod Records
 pub mod Edits
+pub mod Alone

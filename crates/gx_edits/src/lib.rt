@@ -1,6 +1,7 @@
 //! The commands that change records or links, on leaves.
 #![tactic(auto)]
 
+mod alone;
 mod edits;
 mod links;
 mod records;

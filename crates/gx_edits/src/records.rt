@@ -18,6 +18,7 @@ ghost use Rattle.gx_model.specs.Commands.{changed, updated, first_refusal, key_e
 ghost use Rattle.gx_scan.specs.Files.{rec_of, IsInternal, HasFile, IsStorable, IsTreeFor};
 ghost use Rattle.gx_edits.specs.Records.{IsEditedWhere};
 
+use crate::alone::{only_leaf, put_alone, take_alone};
 use gx_commands::Changes;
 use gx_pairs::Refused;
 use gx_ports::{Leaves, Stop};
@@ -106,6 +107,10 @@ pub(crate) fn delete_record<B: Leaves>(
     let Some(values) = find_values(alloc, file, node, &key, leaves)? else {
         return Ok(Some(Refused::NoRecord));
     };
+    if let Some(leaf) = only_leaf(node) {
+        take_alone(alloc, node, leaf, &key, leaves)?;
+        return Ok(None);
+    }
     let old = new_record(alloc, key, values)?;
     node.replace(alloc, leaves, Some(old), None)?;
     Ok(None)
@@ -146,6 +151,11 @@ pub(crate) fn update_record<B: Leaves>(
         return Ok(Some(Refused::NoRecord));
     };
     let old = new_record(alloc, key, values)?;
+    if let Some(leaf) = only_leaf(node) {
+        let new = changed_record(file, old, changes);
+        put_alone(alloc, node, leaf, &new, leaves)?;
+        return Ok(None);
+    }
     let gone = node.entries_of(alloc, &old)?;
     let new = changed_record(file, old, changes);
     node.replace_entries(alloc, leaves, &gone, Some(new))?;

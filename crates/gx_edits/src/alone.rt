@@ -1,0 +1,113 @@
+// Records that have one leaf entry each, under their own key: one is changed at its one place.
+ghost use Rattle.std.specs.Prelude.{◌≡◌, ◌<◌, ◌≤◌, ◌+◌, ◌∷◌, [], ℕ, List, Option, true, length, IfSome, OnOk, IsErrOf};
+ghost use Rattle.gx_values.specs.declared.records.Rec.{Rec as Record};
+ghost use Rattle.gx_values.specs.Keys.{bytes_of};
+ghost use Rattle.gx_ports.specs.LeafMaps.{map_at, entry_count, IsCrowdedBy};
+ghost use Rattle.gx_ports.specs.Calls.{Keeps, Ends};
+ghost use Rattle.gx_ports.specs.declared.leaves.TheConstants.{MAX_KEY_LEN};
+ghost use Rattle.gx_mapping.specs.Rule.{In, IsOf};
+ghost use Rattle.gx_stack.specs.Tree.{leaves_of, tree_form, entries_of, IsValid};
+ghost use Rattle.gx_stack.specs.Seen.{tree_of};
+ghost use Rattle.gx_stack.specs.Internal.{IsSet, IsInternal, changed};
+ghost use Rattle.gx_types.specs.Any.{any_rule};
+ghost use Rattle.gx_edits.specs.Alone.{KeepsKeys, IsOnlyLeaf};
+
+use gx_ports::{Leaves, Stop};
+use gx_scan::whole_span;
+use gx_stack::Node;
+use gx_types::AnyMapping;
+use gx_values::{Rec, Value};
+use std::alloc::Global;
+
+/// The leaf where each record of the node has its one entry, under its own key. `None`: there may be other
+/// entries.
+pub(crate) fn only_leaf(node: &Node<AnyMapping>) -> Option<u32>
+    requires { IsValid any_rule (tree_of node.now) }
+    ensures { IfSome result (IsOnlyLeaf (tree_of node.now)) }
+{
+    match node {
+        Node::Leaf(node) => Some(node.leaf),
+        Node::Layer(layer) => {
+            if keeps_keys(&layer.mapping) {
+                only_leaf(&layer.kids[0])
+            } else {
+                None
+            }
+        }
+    }
+}
+
+// Whether each record is known to have one part, for the first child and with the record's own key.
+fn keeps_keys(mapping: &AnyMapping) -> bool
+    ensures { result ≡ true → KeepsKeys (any_rule mapping.now) }
+{
+    match mapping {
+        AnyMapping::Actual(_) | AnyMapping::Encode(_) => true,
+        _ => false,
+    }
+}
+
+/// Takes the record with this key out of the only leaf of a node.
+pub(crate) fn take_alone<B: Leaves>(
+    alloc: Global,
+    node: &Node<AnyMapping>,
+    leaf: u32,
+    key: &Value,
+    leaves: &mut B,
+) -> Result<(), Stop>
+    requires valid { IsValid any_rule (tree_of node.now) }
+    requires below { (n : ℕ) → In n (leaves_of (tree_of node.now)) →
+        n < length (B.working leaves.old) }
+    requires only { IsOnlyLeaf (tree_of node.now) leaf }
+    requires in_tree { In leaf (leaves_of (tree_of node.now)) }
+    requires small { length (bytes_of key.now) ≤ MAX_KEY_LEN }
+    ensures internal { (R : List Record) (old : Record) → B.whole leaves.old →
+        old.key ≡ key.now ∷ [] → IsSet (tree_form any_rule (tree_of node.now)) R → In old R →
+        IsInternal any_rule (tree_of node.now) R (B.working leaves.old) → OnOk result
+        (IsInternal any_rule (tree_of node.now) (changed R (Option.Some old) Option.None)
+        (B.working leaves.new)) }
+    ensures others { (n : ℕ) → B.whole leaves.old → ¬ IsErrOf result Stop.Fault →
+        ¬ In n (leaves_of (tree_of node.now)) →
+        map_at (B.working leaves.new) n ≡ map_at (B.working leaves.old) n }
+    ensures keeps { Keeps B.View leaves.old leaves.new }
+    ensures ends { Ends B.View (B.whole leaves.old) leaves.old leaves.new result }
+    ensures not_full { ¬ IsErrOf result Stop.Full }
+{
+    let _node = node;
+    let mut span = whole_span();
+    span.lo.set_value(key);
+    leaves.remove(alloc, leaf, span.lo.as_slice())
+}
+
+/// Puts a record into the only leaf of a node, in the place of the one with its key.
+pub(crate) fn put_alone<B: Leaves>(
+    alloc: Global,
+    node: &Node<AnyMapping>,
+    leaf: u32,
+    new: &Rec,
+    leaves: &mut B,
+) -> Result<(), Stop>
+    requires valid { IsValid any_rule (tree_of node.now) }
+    requires below { (n : ℕ) → In n (leaves_of (tree_of node.now)) →
+        n < length (B.working leaves.old) }
+    requires only { IsOnlyLeaf (tree_of node.now) leaf }
+    requires fits { IsOf (tree_form any_rule (tree_of node.now)) new.now }
+    ensures internal { (R : List Record) (old : Record) → B.whole leaves.old →
+        IsSet (tree_form any_rule (tree_of node.now)) R → In old R → old.key ≡ new.now.key →
+        IsInternal any_rule (tree_of node.now) R (B.working leaves.old) → OnOk result
+        (IsInternal any_rule (tree_of node.now)
+        (changed R (Option.Some old) (Option.Some new.now)) (B.working leaves.new)) }
+    ensures others { (n : ℕ) → B.whole leaves.old → ¬ IsErrOf result Stop.Fault →
+        ¬ In n (leaves_of (tree_of node.now)) →
+        map_at (B.working leaves.new) n ≡ map_at (B.working leaves.old) n }
+    ensures keeps { Keeps B.View leaves.old leaves.new }
+    ensures ends { Ends B.View (B.whole leaves.old) leaves.old leaves.new result }
+    ensures full { B.whole leaves.old → IsErrOf result Stop.Full →
+        IsCrowdedBy (B.limit leaves.old)
+        (entry_count (B.working leaves.old)
+        + length (entries_of any_rule (tree_of node.now) new.now)) }
+{
+    let entries = node.entries_of(alloc, new)?;
+    let entry = &entries[0];
+    leaves.put(alloc, leaf, entry.key.as_slice(), entry.body.as_slice())
+}
