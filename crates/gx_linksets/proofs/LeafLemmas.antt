@@ -1,9 +1,8 @@
 -- No link has more leaves than there are.
-use Rattle.std.proofs.Common.{◌≡◌, ◌<◌, ◌≤◌, ℕ, suc, List, [], ◌∷◌, ◌++◌, ◌⊎◌, Bool, true, false, length, inl, inr, refl}
-use Rattle.std.specs.Prelude.{◌||◌}
+use Rattle.std.proofs.Common.{◌≡◌, ◌<◌, ◌≤◌, ℕ, suc, List, [], ◌∷◌, ◌++◌, Bool, true, false, length, inl, inr, refl}
 use Rattle.std.specs.List.{AllByRecursion, IsDistinct, list_any}
 use Rattle.std.proofs.Math.Dec.{eqb}
-use Rattle.std.proofs.lemmas.Bool.{eqb-true}
+use Rattle.std.proofs.lemmas.Bool.{eqb-true, or_cases}
 use Rattle.std.proofs.lemmas.Map.Steps.{length-le_from_distinct_below}
 use Rattle.gx_values.specs.declared.records.Form.{Form}
 use Rattle.gx_schema.specs.declared.schema.Schema.{Schema}
@@ -42,13 +41,9 @@ module _ {M : Type 0} (rule : M → Rule) where
     kids_once forms no_kids valid = tt
     kids_once forms (kid t ks) valid = once_joined (leaves_of t) (kids_leaves ks) (leaves_once t valid.1) (kids_once (λ c. forms (suc c)) ks valid.3) valid.2
 
-either : (a b : Bool) → (a || b) ≡ true → (a ≡ true) ⊎ (b ≡ true)
-either true b is = inl refl
-either false b is = inr is
-
 among : (n : ℕ) (xs : List ℕ) → list_any (eqb n) xs ≡ true → In n xs
 among n [] is = absurd cc
-among n (x ∷ xs) is = elim (either (eqb n x) (list_any (eqb n) xs) is) [
+among n (x ∷ xs) is = elim (or_cases (eqb n x) (list_any (eqb n) xs) is) [
   | inl e ↦ inl (eqb-true n x e)
   | inr rest ↦ inr (among n xs rest)
 ]
