@@ -8,7 +8,7 @@ ghost use Rattle.gx_planner.specs.Plans.{least_plan};
 ghost use Rattle.gx_planner.specs.Texts.{plan_text};
 ghost use Rattle.gx_commands.specs.declared.command.LineWhy.{LineWhy};
 ghost use Rattle.gx_play.specs.Plays.{IsBadAt, is_play_fault};
-ghost use Rattle.gx_play.specs.Say.{OnlySays};
+ghost use Rattle.gx_play.specs.Say.{OnlySays, SameDevices};
 ghost use Rattle.gx_explain.specs.Explained.{command_text};
 ghost use Rattle.gx_explain.specs.Explaining.{fields_in, IsLineExplained, HasEndCause, SaysPlans};
 
@@ -36,7 +36,7 @@ struct ExplainedLine {
 /// before the next line is read. On a device that tells its content: after `Ok` and `Line` exactly
 /// the plans up to there were said; after `Stop` those of the first lines, and after `Stop(Fault)` a
 /// front of them. Of a stop, `Fault` comes only where the count of faults rose, and the other one is
-/// `NoMemory`.
+/// `NoMemory`. No block is written.
 pub fn explain_lines<D: Device>(
     alloc: Global,
     schema: &Schema,
@@ -53,6 +53,7 @@ pub fn explain_lines<D: Device>(
     ensures counted { is_play_fault result ≡ false → D.faults device.new ≡ D.faults device.old }
     ensures later { D.faults device.old ≤ D.faults device.new }
     ensures rest { OnlySays (D.content device.old) (D.content device.new) }
+    ensures devices { SameDevices (D.content device.old) (D.content device.new) }
 {
     let mut lines = ScriptLines::new(script);
     let mut number = 0u32;

@@ -16,7 +16,7 @@ use gx_types::Built;
 use std::alloc::Global;
 
 /// Hears the script of a schema whose files are stored in these nodes and says the plan of each `find`,
-/// and why it ends early. No line is carried out, and no device is attached.
+/// and why it ends early. No line is carried out, no block is written, and no device is attached.
 pub fn explain_script<M: Machine>(
     alloc: Global,
     schema: &Schema,
@@ -29,6 +29,7 @@ pub fn explain_script<M: Machine>(
         IsScriptExplained schema.now (fields_in schema.now built.now.files)
         (M.content machine.old) (M.content machine.new) result }
     ensures heard { IsTrue M.tells → result ≡ Status.Done → (M.content machine.new).script ≡ [] }
+    ensures blocks { (M.content machine.new).now.blocks ≡ (M.content machine.old).now.blocks }
     ensures shelf { (M.content machine.new).now.shelf ≡ (M.content machine.old).now.shelf }
     ensures outside { result ≡ Status.Outside → Rose (M.faults machine.old) (M.faults machine.new) }
     ensures counted { result ≢ Status.Outside → M.faults machine.new ≡ M.faults machine.old }
@@ -54,6 +55,7 @@ fn explain_heard<M: Machine>(
         (script_lines (M.content machine.old).script) (M.content machine.old)
         (M.content machine.new) result }
     ensures heard { IsTrue M.tells → result ≡ Ok tt → (M.content machine.new).script ≡ [] }
+    ensures blocks { (M.content machine.new).now.blocks ≡ (M.content machine.old).now.blocks }
     ensures shelf { (M.content machine.new).now.shelf ≡ (M.content machine.old).now.shelf }
     ensures cause { IfErr result (HasEndCause (M.faults machine.old) (M.faults machine.new)) }
     ensures counted { is_play_fault result ≡ false → M.faults machine.new ≡ M.faults machine.old }

@@ -14,6 +14,7 @@ loop-line-init g c =
       few = omega (arith, subst (λ ls. length ls.lines ≤ 16777217) (sym c.new-lines.ensures.lines) (few_lines c.args.script.now));
       so_far = λ told. subst (λ ls. IsSoFar c.args.schema.now indexed all ls 0 false (content c.args.device.now) (content c.args.device.now)) (sym c.new-lines.ensures.lines) (at_start c.args.schema.now indexed all (content c.args.device.now));
       rest = record { script = refl; aside = refl; shelf = refl };
+      devices = record { blocks = refl; shelf = refl };
       counted = refl;
     }
 
@@ -31,6 +32,10 @@ loop-line-preserved g c =
         script = c.say_all.ensures.says.rest.script ∙ c.loop-line.invariant.rest.script;
         aside = c.say_all.ensures.says.rest.aside ∙ c.loop-line.invariant.rest.aside;
         shelf = c.say_all.ensures.says.rest.shelf ∙ c.loop-line.invariant.rest.shelf;
+      };
+      devices = record {
+        blocks = c.say_all.ensures.devices.blocks ∙ c.loop-line.invariant.devices.blocks;
+        shelf = c.say_all.ensures.devices.shelf ∙ c.loop-line.invariant.devices.shelf;
       };
       counted = c.in-Ok.ensures.says.counted ∙ c.loop-line.invariant.counted;
     }
