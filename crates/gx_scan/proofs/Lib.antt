@@ -12,3 +12,4 @@ pub mod WhereLemmas
 mod DistinctLemmas
 mod KeyLemmas
 pub mod StepLemmas
+pub mod SearchedLemmas

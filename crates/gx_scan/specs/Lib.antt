@@ -6,3 +6,4 @@ pub mod Scan
 pub mod Within
 pub mod Where
 pub mod Steps
+pub mod Searched

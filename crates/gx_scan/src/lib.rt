@@ -12,6 +12,7 @@ mod conditions;
 mod places;
 mod records;
 mod scan;
+mod searched;
 mod within;
 
 pub use by_index::rows_where;

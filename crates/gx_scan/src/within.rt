@@ -13,7 +13,7 @@ ghost use Rattle.gx_scan.specs.Files.{IsInternal, HasFile, IsStorable, IsTreeFor
 ghost use Rattle.gx_scan.specs.Within.{AreAdded};
 ghost use Rattle.gx_scan.specs.Steps.{HaveAtMost, rows_inside};
 
-use crate::by_entries::{add_by_entries, are_few};
+use crate::by_entries::{FEW_PLACES, add_by_entries};
 use crate::by_records::add_by_records;
 use crate::places::places_of;
 use gx_commands::Cond;
@@ -58,8 +58,13 @@ pub fn rows_within<B: Leaves>(
         (B.whole leaves.old × HasFile file.now (tree_of node.now) (B.working leaves.old))
         leaves.old leaves.new result }
 {
-    match places_of(alloc, node)? {
-        Some(places) if are_few(&places) || !is_one_key(span) => {
+    let most = if is_one_key(span) {
+        FEW_PLACES
+    } else {
+        usize::MAX
+    };
+    match places_of(alloc, node, most)? {
+        Some(places) => {
             let mut entries = Entries::new(alloc);
             add_by_entries(
                 alloc,
@@ -73,7 +78,7 @@ pub fn rows_within<B: Leaves>(
                 rows,
             )
         }
-        _ => add_by_records(alloc, file, node, span, conds, leaves, rows),
+        None => add_by_records(alloc, file, node, span, conds, leaves, rows),
     }
 }
 
