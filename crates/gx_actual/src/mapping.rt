@@ -68,6 +68,10 @@ impl Mapping for Actual {
         false
     }
 
+    fn only_searched(&self, _span: &Span) -> Option<u16> {
+        Some(0)
+    }
+
     fn indexes(&self, _field: &Name) -> Option<u16> {
         None
     }

@@ -1,2 +1,4 @@
 mod PlaceLemmas
 mod GatherLemmas
+mod KeyLemmas
+mod SearchLemmas

@@ -42,7 +42,7 @@ at_most x y v less le = by_order (value_cmp y v) refl le
     by_order Equal is e = ap is_le (ap (value_cmp x) (sym (value_cmp_same y v (sym is))) ∙ less)
     by_order Greater is e = cc
 
-each_at : {A : Type 0} (P : A → Type 0) (xs : List A) (i : ℕ) (d : A) → AllByRecursion P xs → i < length xs → P (get_or xs i d)
+pub each_at : {A : Type 0} (P : A → Type 0) (xs : List A) (i : ℕ) (d : A) → AllByRecursion P xs → i < length xs → P (get_or xs i d)
 each_at P [] i d all lt = absurd (omega arith)
 each_at P (x ∷ xs) zero d all lt = all.0
 each_at P (x ∷ xs) (suc i) d all lt = each_at P xs i d all.1 (omega arith)

@@ -48,11 +48,6 @@ abbrev pub begins_after : Option Value → List ℕ → Bool
 begins_after None hi = false
 begins_after (Some bound) hi = is_gt (slice_cmp nat_cmp (take (length hi) (bytes_of bound)) hi)
 
--- the bytes of the bound, where there is one, can stand in a key
-abbrev pub IsNarrow : Option Value → Type 0
-IsNarrow None = Unit {0}
-IsNarrow (Some bound) = length (bytes_of bound) ≤ 400
-
 -- ---- each of the conditions has one proof at most
 
 IsPlace-prop : (at : Where) (form : Form) → IsProp (IsPlace at form)

@@ -19,14 +19,14 @@ use Rattle.gx_partition.specs.Bounds.{child_of, lower_of, upper_of}
 -- ---- orders
 
 -- an order that has an answer has no other
-above : {A : Type 0} {R : A → A → Ordering} → IsTotalOrder R → (x y : A) → R x y ≡ Less → R y x ≡ Greater
+pub above : {A : Type 0} {R : A → A → Ordering} → IsTotalOrder R → (x y : A) → R x y ≡ Less → R y x ≡ Greater
 above total x y less = total.antisymm y x ∙ ap ordering_reverse less
 
-below : {A : Type 0} {R : A → A → Ordering} → IsTotalOrder R → (x y : A) → R x y ≡ Greater → R y x ≡ Less
+pub below : {A : Type 0} {R : A → A → Ordering} → IsTotalOrder R → (x y : A) → R x y ≡ Greater → R y x ≡ Less
 below total x y greater = total.antisymm y x ∙ ap ordering_reverse greater
 
 -- what stands before something at most a third stands before the third
-before : (a b c : List ℕ) → slice_cmp nat_cmp a b ≡ Less → is_le (slice_cmp nat_cmp b c) ≡ true → slice_cmp nat_cmp a c ≡ Less
+pub before : (a b c : List ℕ) → slice_cmp nat_cmp a b ≡ Less → is_le (slice_cmp nat_cmp b c) ≡ true → slice_cmp nat_cmp a c ≡ Less
 before a b c less at_most = by_order (slice_cmp nat_cmp b c) refl at_most
   where
     by_order : (o : Ordering) → o ≡ slice_cmp nat_cmp b c → is_le o ≡ true → slice_cmp nat_cmp a c ≡ Less
@@ -102,7 +102,7 @@ lower_fits k bounds (suc i) b fit e = fits_at k bounds i b fit e
 
 -- ---- keys that begin with a value
 
-is_greater : (o : Ordering) → is_gt o ≡ true → o ≡ Greater
+pub is_greater : (o : Ordering) → is_gt o ≡ true → o ≡ Greater
 is_greater Less e = cc
 is_greater Equal e = cc
 is_greater Greater e = refl
@@ -116,7 +116,7 @@ before_span k v b lo hi rest key f g up at_most =
     ap (λ o. is_le o && is_le (slice_cmp nat_cmp (take (length hi) (bytes_of v ++ rest)) hi)) low
 
 -- the fronts of two lists have their order, or are the same
-fronts : (n : ℕ) (a c : List ℕ) → is_le (slice_cmp nat_cmp a c) ≡ true → is_le (slice_cmp nat_cmp (take n a) (take n c)) ≡ true
+pub fronts : (n : ℕ) (a c : List ℕ) → is_le (slice_cmp nat_cmp a c) ≡ true → is_le (slice_cmp nat_cmp (take n a) (take n c)) ≡ true
 fronts zero a c le = refl
 fronts (suc n) [] [] le = refl
 fronts (suc n) [] (y ∷ c) le = refl

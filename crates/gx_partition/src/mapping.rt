@@ -1,6 +1,8 @@
 // The layer's mapping.
-ghost use Rattle.std.specs.Prelude.{◌≡◌};
+ghost use Rattle.std.specs.Prelude.{◌≡◌, ℕ, IfSome, IfNone};
 ghost use Rattle.gx_mapping.specs.Rule.{IsOf};
+ghost use Rattle.gx_mapping.specs.Searched.{IsAlone};
+ghost use Rattle.gx_partition.specs.declared.place.Where.TheVariants as place;
 ghost use Rattle.gx_partition.specs.Places.{value_at};
 ghost use Rattle.gx_partition.specs.Bounds.{child_of};
 ghost use Rattle.gx_partition.specs.Rules.{form_of, at_of, bounds_of, whole_of, rule_of};
@@ -8,7 +10,7 @@ ghost use Rattle.gx_partition.specs.Laws.{partition_laws};
 
 use crate::layer::Partition;
 use crate::place::{Where, value_of};
-use crate::ranges::{begins_after, child_of, ends_before, lower_of, upper_of};
+use crate::ranges::{begins_after, child_of, ends_before, first_from, lower_of, upper_of};
 use gx_mapping::{Mapping, Part, Parts, Whole, has_field};
 use gx_values::{Form, Name, NoMemory, Rec, Span, Values};
 use std::alloc::Global;
@@ -77,6 +79,13 @@ impl Mapping for Partition {
         }
     }
 
+    fn only_searched(&self, span: &Span) -> Option<u16> {
+        match self.at {
+            Where::Key(0) => self.only_by_key(span),
+            _ => self.bounds.0.is_empty().then_some(0),
+        }
+    }
+
     fn indexes(&self, _field: &Name) -> Option<u16> {
         None
     }
@@ -93,6 +102,26 @@ impl Partition {
         ensures { result ≡ child_of (bounds_of self.now) (value_at (at_of self.now) rec.now) }
     {
         child_of(&self.bounds, value_of(self.at, rec))
+    }
+
+    // The one child that is searched, where the field is the first of the key.
+    fn only_by_key(&self, span: &Span) -> Option<u16>
+        requires { at_of self.now ≡ place.Key 0 }
+        ensures alone { IfSome result (IsAlone (rule_of self.now) span.now) }
+        ensures none { IfNone result ((c : ℕ) → ¬ IsAlone (rule_of self.now) span.now c) }
+    {
+        let child = first_from(&self.bounds, &span.lo);
+        if begins_after(lower_of(&self.bounds, child), &span.hi) {
+            return None;
+        }
+        let Some(upper) = upper_of(&self.bounds, child) else {
+            return Some(child);
+        };
+        if begins_after(Some(upper), &span.hi) {
+            Some(child)
+        } else {
+            None
+        }
     }
 
     // The record of the part, where its value belongs to the part's child.

@@ -1,12 +1,14 @@
 // The ranges of the children.
-ghost use Rattle.std.specs.Prelude.{◌≡◌, ◌<◌, length, option_map};
-ghost use Rattle.std.specs.Ordering.{is_le};
-ghost use Rattle.std.specs.List.Sorted.{IsStrictlySortedBy};
+ghost use Rattle.std.specs.Prelude.{◌≡◌, ◌<◌, ◌≤◌, ◌∷◌, ◌++◌, [], Some, true, false, length, take, option_map};
+ghost use Rattle.std.specs.Ordering.{nat_cmp, is_le};
+ghost use Rattle.std.specs.Cmp.Lexicographic.{slice_cmp};
+ghost use Rattle.std.specs.List.Sorted.{IsStrictlySortedBy, IsPartitionedBy, IsPartitionPoint};
 ghost use Rattle.gx_values.specs.Values.{value_cmp};
-ghost use Rattle.gx_partition.specs.Bounds.{child_of, lower_of, upper_of, ends_before, begins_after, IsNarrow};
+ghost use Rattle.gx_values.specs.Keys.{bytes_of, rank_of};
+ghost use Rattle.gx_partition.specs.Bounds.{child_of, lower_of, upper_of, ends_before, begins_after};
 
-use arrayvec::ArrayVec;
 use gx_values::{KeyBuf, Value, Values, compare};
+use std::cmp::Ordering;
 
 /// The child of the records with this value: how many bounds are at or below it.
 pub(crate) fn child_of(bounds: &Values, value: &Value) -> u16
@@ -38,28 +40,88 @@ pub(crate) fn upper_of(bounds: &Values, child: u16) -> Option<&Value>
 
 /// Whether keys that begin with a value below the bound all stand before `lo`.
 pub(crate) fn ends_before(bound: Option<&Value>, lo: &KeyBuf) -> bool
-    requires { IsNarrow (option_map (λ bound. bound.now) bound) }
     ensures { result ≡ ends_before (option_map (λ bound. bound.now) bound.entry) lo.now }
 {
     let Some(bound) = bound else {
         return false;
     };
-    let mut key = KeyBuf(ArrayVec::new());
-    key.set_value(bound);
-    key.as_slice().cmp(lo.as_slice()).is_le()
+    compare_bytes(bound, lo.as_slice()).is_le()
 }
 
 /// Whether keys that begin with a value from the bound on all stand behind those that begin with `hi`.
 pub(crate) fn begins_after(bound: Option<&Value>, hi: &KeyBuf) -> bool
-    requires { IsNarrow (option_map (λ bound. bound.now) bound) }
     ensures { result ≡ begins_after (option_map (λ bound. bound.now) bound.entry) hi.now }
 {
     let Some(bound) = bound else {
         return false;
     };
-    let mut key = KeyBuf(ArrayVec::new());
-    key.set_value(bound);
-    let hi = hi.as_slice();
-    let front = &key.as_slice()[..key.as_slice().len().min(hi.len())];
-    front.cmp(hi).is_gt()
+    compare_front(bound, hi.as_slice()).is_gt()
+}
+
+/// How many children have all their keys before `lo`.
+pub(crate) fn first_from(bounds: &Values, lo: &KeyBuf) -> u16
+    requires parted { IsPartitionedBy (λ bound. ends_before (Some bound) lo.now) bounds.now }
+    requires few { length bounds.now < 65535 }
+    ensures few { result ≤ length bounds.now }
+    ensures point { IsPartitionPoint (λ bound. ends_before (Some bound) lo.now ≡ true)
+        (λ bound. ends_before (Some bound) lo.now ≡ false) bounds.now result }
+{
+    bounds.0.partition_point(
+        |bound: &Value| -> bool
+            ensures { result ≡ ends_before (Some bound.now) lo.entry.now }
+        { ends_before(Some(bound), lo) },
+    ) as u16
+}
+
+// Compares the bytes of a key of one value with bytes.
+fn compare_bytes(value: &Value, bytes: &[u8]) -> Ordering
+    ensures { result ≡ slice_cmp nat_cmp (bytes_of value.now) bytes.now }
+{
+    match value {
+        Value::Int(n) => rank(*n).to_be_bytes().as_slice().cmp(bytes),
+        Value::Text(text) | Value::Bytes(text) => compare_text(text.as_slice(), bytes),
+    }
+}
+
+// The same of a text, behind which one 0 stands.
+fn compare_text(text: &[u8], bytes: &[u8]) -> Ordering
+    ensures { result ≡ slice_cmp nat_cmp (text.now ++ 0 ∷ []) bytes.now }
+{
+    let (front, rest) = bytes.split_at(text.len().min(bytes.len()));
+    match text.cmp(front) {
+        Ordering::Equal => [0].as_slice().cmp(rest),
+        order => order,
+    }
+}
+
+// The same of as many of the first bytes of the key as there are bytes.
+fn compare_front(value: &Value, bytes: &[u8]) -> Ordering
+    ensures { result ≡ slice_cmp nat_cmp (take (length bytes.now) (bytes_of value.now)) bytes.now }
+{
+    match value {
+        Value::Int(n) => {
+            let key = rank(*n).to_be_bytes();
+            key[..bytes.len().min(key.len())].cmp(bytes)
+        }
+        Value::Text(text) | Value::Bytes(text) => compare_text_front(text.as_slice(), bytes),
+    }
+}
+
+fn compare_text_front(text: &[u8], bytes: &[u8]) -> Ordering
+    ensures { result ≡ slice_cmp nat_cmp (take (length bytes.now) (text.now ++ 0 ∷ [])) bytes.now }
+{
+    match text.get(..bytes.len()) {
+        Some(front) => front.cmp(bytes),
+        None => compare_text(text, bytes),
+    }
+}
+
+// How many ints are below 0.
+const HALF: u64 = 1 << 63;
+
+// How many ints are below this one.
+fn rank(n: i64) -> u64
+    ensures { result ≡ rank_of n }
+{
+    n.cast_unsigned().wrapping_add(HALF)
 }

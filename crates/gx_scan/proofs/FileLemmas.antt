@@ -166,7 +166,7 @@ span_of_key file k span keyed kind fit lo hi = record {
 -- ---- what a selection finds
 
 -- the key of a record is inside the span of one key exactly where it is that key
-inside_key : (file : FileDef) (k q : Value) → IsKeyKind (key_kind file) → Fits (key_kind file) k → Fits (key_kind file) q → is_inside (bytes_of k) (bytes_of k) (key_of (q ∷ [])) ≡ eq_by_cmp value_cmp k q
+pub inside_key : (file : FileDef) (k q : Value) → IsKeyKind (key_kind file) → Fits (key_kind file) k → Fits (key_kind file) q → is_inside (bytes_of k) (bytes_of k) (key_of (q ∷ [])) ≡ eq_by_cmp value_cmp k q
 inside_key file k q kind fit fits = ap (is_inside (bytes_of k) (bytes_of k)) (append-nil (bytes_of q)) ∙ inside_one (key_kind file) k q kind fit fits ∙ ap is_eq (key_order (key_kind file) k q kind fit fits)
 
 one_ascends : (o : Option Rec) → Ascends rec_cmp (list_of_one o)

@@ -14,3 +14,4 @@ pub mod WhereLemmas
 mod DistinctLemmas
 mod KeyLemmas
 pub mod StepLemmas
+pub mod SearchedLemmas

@@ -7,3 +7,4 @@ pub mod Scan
 pub mod Within
 pub mod Where
 pub mod Steps
+pub mod Searched

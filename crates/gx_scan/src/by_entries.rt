@@ -28,14 +28,9 @@ use gx_types::AnyMapping;
 use gx_values::{Span, Value};
 use std::alloc::Global;
 
-// In so many leaves an entry is looked for as fast as the node puts a record together.
-const FEW_PLACES: usize = 3;
-
-/// Whether one key is looked for at each of these places. Of more leaves, the node asks those alone that
-/// may have the key.
-pub(crate) fn are_few(places: &[Place]) -> bool {
-    places.len() <= FEW_PLACES
-}
+/// In so many leaves an entry is looked for as fast as the node puts a record together. Of more leaves, the
+/// node asks those alone that may have the key.
+pub(crate) const FEW_PLACES: usize = 3;
 
 /// What is used again where one key after another is looked up.
 #[derive(Drop)]

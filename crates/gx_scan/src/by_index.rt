@@ -18,7 +18,7 @@ ghost use Rattle.gx_scan.specs.Entries.{ArePlaces};
 ghost use Rattle.gx_scan.specs.Where.{AreNamed, AreAddedWhere, rows_at_key};
 ghost use Rattle.gx_scan.specs.Steps.{HaveAtMost, rows_with};
 
-use crate::by_entries::{KeyProbe, add_at_key, are_few};
+use crate::by_entries::{FEW_PLACES, KeyProbe, add_at_key};
 use crate::by_records::{into_row, meets_all};
 use crate::places::{Place, places_of};
 use crate::records::find_record;
@@ -69,7 +69,7 @@ pub fn rows_where<B: Leaves>(
         (B.whole leaves.old × HasFile file.now (tree_of node.now) (B.working leaves.old))
         leaves.old leaves.new result }
 {
-    let places = places_of(alloc, node)?;
+    let places = places_of(alloc, node, FEW_PLACES)?;
     let name = field_name(file, field);
     let mut keys = Keys::new(alloc);
     node.keys_where(alloc, leaves, name, span, &mut keys)?;
@@ -164,9 +164,7 @@ fn add_by_key<B: Leaves>(
     let Some(key) = key.0.first() else {
         unreachable!()
     };
-    if let Some(places) = places
-        && are_few(places)
-    {
+    if let Some(places) = places {
         return add_at_key(alloc, file, node, places, key, probe, conds, leaves, rows);
     }
     let Some(rec) = find_record(alloc, file, node, key, leaves)? else {

@@ -14,11 +14,13 @@ ghost use Rattle.gx_scan.specs.Entries.{ArePlaces};
 ghost use Rattle.gx_scan.specs.Records.{list_of_one};
 ghost use Rattle.gx_scan.specs.Steps.{HaveAtMost};
 
-use crate::by_entries::{KeyProbe, add_at_key, are_few};
+use crate::by_entries::{FEW_PLACES, KeyProbe, add_at_key};
 use crate::by_groups::values_by_groups;
 use crate::groups::groups_of;
 use crate::places::{Place, places_of};
-use crate::records::find_record;
+use crate::records::{find_record, set_key};
+use crate::searched::searched_node;
+use crate::within::whole_span;
 use gx_ports::{Leaves, Stop};
 use gx_rows::Row;
 use gx_schema::FileDef;
@@ -56,14 +58,42 @@ pub fn find_values<B: Leaves>(
         (B.whole leaves.old × HasFile file.now (tree_of node.now) (B.working leaves.old))
         leaves.old leaves.new result }
 {
+    let mut span = whole_span();
+    set_key(&mut span, key);
+    let node = searched_node(node, &span);
+    values_in(alloc, file, node, key, leaves)
+}
+
+// The same of the node that is searched.
+fn values_in<B: Leaves>(
+    alloc: Global,
+    file: &FileDef,
+    node: &Node<AnyMapping>,
+    key: &Value,
+    leaves: &mut B,
+) -> Result<Option<Values>, Stop>
+    requires tree { IsTreeFor file.now (tree_of node.now) (length (B.working leaves.old)) }
+    requires storable { IsStorable file.now }
+    requires key { Fits (key_kind file.now) key.now }
+    ensures found { (f : FileMap) → B.whole leaves.old →
+        IsInternal file.now (tree_of node.now) (B.working leaves.old) f →
+        IfOk result (λ found. found ≡ fin.get f key.now) }
+    ensures fits { IfOk result (λ found. IfSome found (AreFit (data_fields file.now))) }
+    ensures steps { (f : FileMap) (most : ℕ) → B.whole leaves.old →
+        IsInternal file.now (tree_of node.now) (B.working leaves.old) f →
+        HaveAtMost most (tree_of node.now) f → OnOk result
+        (B.work leaves.new
+        ≤ B.work leaves.old + (length (leaves_of (tree_of node.now)) + most)) }
+    ensures reads { ReadsMaps B.View
+        (B.whole leaves.old × HasFile file.now (tree_of node.now) (B.working leaves.old))
+        leaves.old leaves.new result }
+{
     if let Some(groups) = groups_of(alloc, node)? {
         return values_by_groups(alloc, file, node, &groups, key, leaves);
     }
-    match places_of(alloc, node)? {
-        Some(places) if are_few(&places) => {
-            values_by_entry(alloc, file, node, &places, key, leaves)
-        }
-        _ => values_by_record(alloc, file, node, key, leaves),
+    match places_of(alloc, node, FEW_PLACES)? {
+        Some(places) => values_by_entry(alloc, file, node, &places, key, leaves),
+        None => values_by_record(alloc, file, node, key, leaves),
     }
 }
 

@@ -59,7 +59,7 @@ fn only_place(alloc: Global, node: &Node<AnyMapping>) -> Result<Option<Place>, N
         (λ found. IfSome found (λ p. ArePlaces 0 (tree_of node.now) (p ∷ []))) }
     ensures plain { IfOk result (λ found. IfSome found (λ p. p.codes ≡ [])) }
 {
-    match places_of(alloc, node)? {
+    match places_of(alloc, node, 1)? {
         Some(places) => Ok(alone(places)),
         None => Ok(None),
     }

@@ -15,6 +15,7 @@ mod joined;
 mod places;
 mod records;
 mod scan;
+mod searched;
 mod within;
 
 pub use by_index::rows_where;

@@ -37,11 +37,12 @@ pub struct Above {
 }
 
 /// The places of the records of a file's node: the leaves that they are gathered from, each once. `None`:
-/// some layer splits its records, or codes a value that isn't in a body. `NoMemory`: there was none for
-/// the places.
+/// they are more than `most`, or some layer splits its records, or codes a value that isn't in a body.
+/// `NoMemory`: there was none for the places.
 pub(crate) fn places_of(
     alloc: Global,
     node: &Node<AnyMapping>,
+    most: usize,
 ) -> Result<Option<Vec<Place>>, NoMemory>
     requires valid { IsValid any_rule (tree_of node.now) }
     requires plain { AreKeyFields (tree_form any_rule (tree_of node.now)).fields }
@@ -53,18 +54,20 @@ pub(crate) fn places_of(
         layers: 0,
         codes: Codes::none(alloc),
     };
-    if add_places(alloc, node, &above, &mut places)? {
+    if add_places(alloc, node, &above, most, &mut places)? {
         Ok(Some(places))
     } else {
         Ok(None)
     }
 }
 
-// The same of a node below others, and whether each of its records stands whole in one place.
+// The same of a node below others, and whether each of its records stands whole in one place, and the
+// places aren't more than `most`.
 fn add_places(
     alloc: Global,
     node: &Node<AnyMapping>,
     above: &Above,
+    most: usize,
     places: &mut Vec<Place>,
 ) -> Result<bool, NoMemory>
     requires valid { IsValid any_rule (tree_of node.now) }
@@ -74,6 +77,9 @@ fn add_places(
         (added : List ThePlace) × (places.new.items ≡ places.old.items ++ added)
         × ArePlacesBelow above.now.layers above.now.codes (tree_of node.now) added) }
 {
+    if places.len() >= most {
+        return Ok(false);
+    }
     match node {
         Node::Leaf(node) => {
             if above.layers == 0 && !above.codes.is_empty() {
@@ -93,7 +99,7 @@ fn add_places(
             for child in 0..layer.mapping.kids() {
                 if layer.mapping.holds_rest(child) {
                     let kid = &layer.kids[child as usize];
-                    if !add_places(alloc, kid, &below, places)? {
+                    if !add_places(alloc, kid, &below, most, places)? {
                         return Ok(false);
                     }
                 }

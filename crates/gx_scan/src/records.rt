@@ -16,6 +16,7 @@ ghost use Rattle.gx_scan.specs.Files.{IsInternal, HasFile, IsStorable, IsTreeFor
 ghost use Rattle.gx_scan.specs.Records.{record_at, list_of_one};
 ghost use Rattle.gx_scan.specs.Steps.{HaveAtMost};
 
+use crate::searched::searched_node;
 use crate::within::whole_span;
 use gx_gather::Recs;
 use gx_ports::{Leaves, Stop};
@@ -71,11 +72,42 @@ pub fn find_record<B: Leaves>(
         (B.whole leaves.old × HasFile file.now (tree_of node.now) (B.working leaves.old))
         leaves.old leaves.new result }
 {
-    let _file = file;
     let mut span = whole_span();
     set_key(&mut span, key);
+    let node = searched_node(node, &span);
+    record_inside(alloc, file, node, key, &span, leaves)
+}
+
+// The same by the span of the key.
+fn record_inside<B: Leaves>(
+    alloc: Global,
+    file: &FileDef,
+    node: &Node<AnyMapping>,
+    key: &Value,
+    span: &Span,
+    leaves: &mut B,
+) -> Result<Option<Rec>, Stop>
+    requires tree { IsTreeFor file.now (tree_of node.now) (length (B.working leaves.old)) }
+    requires storable { IsStorable file.now }
+    requires key { Fits (key_kind file.now) key.now }
+    requires lo { span.now.lo ≡ bytes_of key.now }
+    requires hi { span.now.hi ≡ bytes_of key.now }
+    ensures found { (f : FileMap) → B.whole leaves.old →
+        IsInternal file.now (tree_of node.now) (B.working leaves.old) f →
+        IfOk result (λ found. found ≡ record_at f key.now) }
+    ensures fits { IfOk result (λ found. IfSome found (IsOf (file_form file.now))) }
+    ensures steps { (f : FileMap) (most : ℕ) → B.whole leaves.old →
+        IsInternal file.now (tree_of node.now) (B.working leaves.old) f →
+        HaveAtMost most (tree_of node.now) f → OnOk result
+        (B.work leaves.new
+        ≤ B.work leaves.old + (length (leaves_of (tree_of node.now)) + most)) }
+    ensures reads { ReadsMaps B.View
+        (B.whole leaves.old × HasFile file.now (tree_of node.now) (B.working leaves.old))
+        leaves.old leaves.new result }
+{
+    let (_, _) = (file, key);
     let mut found = Recs::new(alloc);
-    node.select(alloc, leaves, &span, &mut found)?;
+    node.select(alloc, leaves, span, &mut found)?;
     Ok(last_record(found))
 }
 

@@ -13,7 +13,7 @@ ghost use Rattle.gx_scan.specs.Files.{IsInternal, HasFile, IsStorable, IsTreeFor
 ghost use Rattle.gx_scan.specs.Within.{AreAdded};
 ghost use Rattle.gx_scan.specs.Steps.{HaveAtMost, rows_inside};
 
-use crate::by_entries::{add_by_entries, are_few};
+use crate::by_entries::{FEW_PLACES, add_by_entries};
 use crate::by_groups::add_by_groups;
 use crate::by_records::add_by_records;
 use crate::groups::groups_of;
@@ -64,8 +64,13 @@ pub fn rows_within<B: Leaves>(
     if let Some(groups) = groups_of(alloc, node)? {
         return add_by_groups(alloc, file, node, &groups, span, conds, leaves, rows);
     }
-    match places_of(alloc, node)? {
-        Some(places) if are_few(&places) || !is_one_key(span) => {
+    let most = if is_one_key(span) {
+        FEW_PLACES
+    } else {
+        usize::MAX
+    };
+    match places_of(alloc, node, most)? {
+        Some(places) => {
             let mut entries = Entries::new(alloc);
             add_by_entries(
                 alloc,
@@ -79,7 +84,7 @@ pub fn rows_within<B: Leaves>(
                 rows,
             )
         }
-        _ => add_by_records(alloc, file, node, span, conds, leaves, rows),
+        None => add_by_records(alloc, file, node, span, conds, leaves, rows),
     }
 }
 

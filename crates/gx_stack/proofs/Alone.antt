@@ -18,32 +18,9 @@ use Rattle.gx_gather.proofs.Made.{fit_length, nothing_left}
 use Rattle.gx_gather.proofs.Each.{each_those, made_of_each}
 use Rattle.gx_stack.specs.Tree.{Tree, Kids, layer, entries_of, kid_entries, entry_total}
 use Rattle.gx_stack.specs.Internal.{IsSet, child_records}
-use Rattle.gx_stack.specs.Selected.{IsKeySpan, IsSelection, IsOnly, IsAlone, is_searched}
+use Rattle.gx_mapping.specs.Searched.{IsAlone, is_searched}
+use Rattle.gx_stack.specs.Selected.{IsKeySpan, IsSelection}
 use Rattle.gx_stack.proofs.Selects.{AreParts, within, no_parts, searched_rest, child_found, child_left, selection_from, set_within, all_made, plus_one, weight, child_weight, data_weight}
-
--- ---- the search for the one child
-
-pub only_begins : (rule : Rule) (span : Span) → IsOnly rule span 0 None
-only_begins rule span = λ d lt. absurd (omega arith)
-
-pub only_found : (rule : Rule) (span : Span) (n : ℕ) → IsOnly rule span n None
-    → is_searched rule span n ≡ true → IsOnly rule span (n + 1) (Some n)
-only_found rule span n none is = (omega arith, is, λ d lt other. none d (omega (arith, other)))
-
-pub only_passed : (rule : Rule) (span : Span) (n : ℕ) (only : Option ℕ) → IsOnly rule span n only
-    → is_searched rule span n ≡ false → IsOnly rule span (n + 1) only
-only_passed rule span n None none not_here = λ d lt. elim (nat_cases d n) [
-  | inl e ↦ ap (is_searched rule span) e ∙ not_here
-  | inr other ↦ none d (omega (arith, other))
-]
-only_passed rule span n (Some c) one not_here = (
-  (let below = one.0 in omega arith),
-  one.1,
-  λ d lt apart. elim (nat_cases d n) [
-    | inl e ↦ ap (is_searched rule span) e ∙ not_here
-    | inr other ↦ one.2 d (omega (arith, other)) apart
-  ],
-)
 
 -- ---- the keys of the child are those of the records
 

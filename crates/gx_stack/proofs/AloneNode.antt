@@ -13,7 +13,8 @@ use Rattle.gx_stack.specs.declared.node.Node.TheVariants as V
 use Rattle.gx_stack.specs.Tree.{leaves_of, entries_of, kid_entries, entry_total, tree_form, IsValid}
 use Rattle.gx_stack.specs.Seen.{tree_of, kids_from}
 use Rattle.gx_stack.specs.Internal.{IsSet, IsInternal, HasSet, child_records}
-use Rattle.gx_stack.specs.Selected.{IsKeySpan, IsSelection, IsFound, IsAlone}
+use Rattle.gx_mapping.specs.Searched.{IsAlone}
+use Rattle.gx_stack.specs.Selected.{IsKeySpan, IsSelection, IsFound}
 use Rattle.gx_stack.proofs.Seen.{seen_layer, layer_form, child_there, child_valid, child_internal, kid_entries_at}
 use Rattle.gx_stack.proofs.Children.{child_set}
 use Rattle.gx_stack.proofs.Selects.{leaves_below_more, leaves_below_all, span_of_child}

@@ -14,7 +14,7 @@ use crate::entries::{
     LeafEntry, body_entry, body_record, into_entry, leaf_entry, put_new, remove_others,
 };
 use crate::read::select_leaf;
-use crate::searched::{is_searched, only_searched};
+use crate::searched::is_searched;
 use gx_gather::{Recs, add_parts, gather_each, gather_parts};
 use gx_mapping::{Mapping, Parts};
 use gx_ports::{Leaves, Stop};
@@ -308,7 +308,7 @@ impl<M: Mapping> Node<M> {
                     let first = &layer.kids[0];
                     return first.select(alloc, leaves, span, out);
                 }
-                if let Some(child) = only_searched(&layer.mapping, span) {
+                if let Some(child) = layer.mapping.only_searched(span) {
                     let from = out.0.len();
                     let only = &layer.kids[child as usize];
                     only.select(alloc, leaves, span, out)?;

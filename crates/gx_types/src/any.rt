@@ -193,6 +193,18 @@ impl Mapping for AnyMapping {
         }
     }
 
+    fn only_searched(&self, span: &Span) -> Option<u16> {
+        match self {
+            AnyMapping::Actual(mapping) => mapping.only_searched(span),
+            AnyMapping::Encode(mapping) => mapping.only_searched(span),
+            AnyMapping::Segment(mapping) => mapping.only_searched(span),
+            AnyMapping::Transpose(mapping) => mapping.only_searched(span),
+            AnyMapping::Partition(mapping) => mapping.only_searched(span),
+            AnyMapping::Divide(mapping) => mapping.only_searched(span),
+            AnyMapping::Index(mapping) => mapping.only_searched(span),
+        }
+    }
+
     fn indexes(&self, field: &Name) -> Option<u16> {
         match self {
             AnyMapping::Actual(mapping) => mapping.indexes(field),

@@ -1,39 +1,48 @@
-use Rattle.std.proofs.Common.{◌∙◌, ◌++◌, List, sym, ap, subst, arith}
-use Rattle.gx_values.specs.declared.records.Rec.{Rec}
-use Rattle.gx_stack.specs.Internal.{IsSet}
-use Rattle.gx_stack.specs.Selected.{IsKeySpan}
-use Rattle.gx_scan.specs.Files.{records_of}
-use Rattle.gx_scan.specs.Records.{record_at}
+use Rattle.std.proofs.Common.{◌≡◌, subst, arith, List, Option}
+use Rattle.std.specs.Option.{option_map}
+use Rattle.gx_scan.specs.Files.{rec_of}
+use Rattle.std.proofs.lemmas.Result.{on_ok_weaker}
+use Rattle.std.specs.Prelude.{IfOk}
+use Rattle.gx_values.specs.declared.values.Value.{Value}
 use Rattle.gx_stack.specs.Seen.{tree_of}
-use Rattle.gx_stack.proofs.PassLemmas.{reads_given}
-use Rattle.gx_scan.proofs.FileLemmas.{span_of_key, set_of, one_found}
-use Rattle.gx_scan.proofs.StepLemmas.{one_total}
+use Rattle.gx_stack.proofs.PassLemmas.{reads_weaker}
+use Rattle.gx_scan.proofs.SearchedLemmas.{key_part, key_same}
 use Rattle.gx_scan.proofs.records.find_record.Goals as goal
 
-pub select-requires-clause-span : goal.select-requires-clause-span
-select-requires-clause-span g c =
-    subst (λ form. IsKeySpan form c.set_key.new.span) (sym c.requires.tree.form) (span_of_key c.args.file.now c.args.key.now c.set_key.new.span c.requires.storable.keyed c.requires.storable.key c.requires.key c.set_key.ensures.lo c.set_key.ensures.hi)
-
-pub returns-in_err-select-clause-reads : goal.returns-in_err-select-clause-reads
-returns-in_err-select-clause-reads g c =
-    reads_given g.B.View c.from_residual.result c.from_residual.ensures.1
-    (λ sound.
-    let f = sound.1.0 in
-    let set = subst (λ form. IsSet form (records_of f)) (sym c.requires.tree.form) (set_of c.args.file.now f c.requires.storable.keyed sound.1.1.fit) in
-    (sound.0, (records_of f, set, sound.1.1.held)))
-    c.in_err-select.ensures.reads
+pub record_inside-requires-clause-tree : goal.record_inside-requires-clause-tree
+record_inside-requires-clause-tree g c = c.searched_node-node.ensures.tree c.args.file.now _ c.requires.tree
 
 pub returns-clause-found : goal.returns-clause-found
 returns-clause-found g c = λ f whole is.
-    let found = c.in_ok-select.ensures.found in
-    let set = subst (λ form. IsSet form (records_of f)) (sym c.requires.tree.form) (set_of c.args.file.now f c.requires.storable.keyed is.fit) in
-    let one = one_found c.args.file.now f c.args.key.now c.set_key.new.span found.found c.requires.storable.keyed c.requires.storable.key c.requires.key is.fit c.set_key.ensures.lo c.set_key.ensures.hi (found.selected whole (records_of f) set is.held) in
-    c.last_record.ensures.last (record_at f c.args.key.now) (found.appended ∙ ap (λ (before : List Rec). before ++ found.found) c.new-found.ensures ∙ one)
+    let t = tree_of c.args.node.now in
+    let u = tree_of c.searched_node-node.result.now in
+    let maps = g.B.View.working c.args.leaves.now in
+    let span = c.set_key.new.span in
+    let part = key_part c.args.file.now c.args.key.now span c.requires.storable c.requires.key c.set_key.ensures.lo c.set_key.ensures.hi
+    t u c.searched_node-node.ensures _ c.requires.tree maps f is in
+    let same = key_same c.args.file.now c.args.key.now span c.requires.storable c.requires.key c.set_key.ensures.lo c.set_key.ensures.hi
+    t u c.searched_node-node.ensures _ c.requires.tree maps f is in
+    subst (λ (o : Option (List Value)). IfOk c.record_inside.result (λ found. found ≡ option_map (λ values. rec_of (c.args.key.now, values)) o)) same
+    (c.record_inside.ensures.found part.part whole part.held)
 
 pub returns-clause-steps : goal.returns-clause-steps
 returns-clause-steps g c = λ f most whole is few.
-    let found = c.in_ok-select.ensures.found in
-    let set = subst (λ form. IsSet form (records_of f)) (sym c.requires.tree.form) (set_of c.args.file.now f c.requires.storable.keyed is.fit) in
-    let those = found.selected whole (records_of f) set is.held in
-    let one = one_found c.args.file.now f c.args.key.now c.set_key.new.span found.found c.requires.storable.keyed c.requires.storable.key c.requires.key is.fit c.set_key.ensures.lo c.set_key.ensures.hi those in
-    omega (arith, found.few_steps, one_total (tree_of c.args.node.now) f most (record_at f c.args.key.now) found.found one few (λ r h. (those.sound r h).0))
+    let t = tree_of c.args.node.now in
+    let u = tree_of c.searched_node-node.result.now in
+    let maps = g.B.View.working c.args.leaves.now in
+    let span = c.set_key.new.span in
+    let part = key_part c.args.file.now c.args.key.now span c.requires.storable c.requires.key c.set_key.ensures.lo c.set_key.ensures.hi
+    t u c.searched_node-node.ensures _ c.requires.tree maps f is in
+    let fewer = c.searched_node-node.ensures.leaves in
+    on_ok_weaker c.record_inside.result (λ steps. omega (arith, steps, fewer)) (c.record_inside.ensures.steps part.part most whole part.held (part.few most few))
+
+pub returns-clause-reads : goal.returns-clause-reads
+returns-clause-reads g c =
+    let t = tree_of c.args.node.now in
+    let u = tree_of c.searched_node-node.result.now in
+    let maps = g.B.View.working c.args.leaves.now in
+    let span = c.set_key.new.span in
+    reads_weaker g.B.View (λ sound.
+    let part = key_part c.args.file.now c.args.key.now span c.requires.storable c.requires.key c.set_key.ensures.lo c.set_key.ensures.hi
+    t u c.searched_node-node.ensures _ c.requires.tree maps sound.1.0 sound.1.1 in
+    (sound.0, (part.part, part.held))) c.record_inside.ensures.reads
