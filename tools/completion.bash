@@ -4,7 +4,7 @@ _genesis() {
     local word=${COMP_WORDS[COMP_CWORD]}
     COMPREPLY=()
     case $COMP_CWORD in
-        1) mapfile -t COMPREPLY < <(compgen -W 'check try explain make run inspect work --prove --which --version --help' -- "$word") ;;
+        1) mapfile -t COMPREPLY < <(compgen -W 'check try explain make run inspect work --prove --which --version' -- "$word") ;;
         2 | 3) [[ ${COMP_WORDS[1]} == @(check|try|explain|make|run|inspect|work) ]] &&
             mapfile -t COMPREPLY < <(compgen -f -- "$word") ;;
         4) [[ ${COMP_WORDS[1]} == @(make|run|inspect) ]] &&

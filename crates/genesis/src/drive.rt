@@ -38,8 +38,8 @@ impl Drive {
         })
     }
 
-    /// A device of so many blocks of zeros, in a new file of that path. Where it can't be made whole, the
-    /// file is removed again.
+    /// A device of so many blocks of zeros, in a new file of that path, whose name is on the disk. Where it
+    /// can't be made whole, the file is removed again.
     pub fn make<R: Files<File = File>>(
         files: &R,
         path: &str,
@@ -56,7 +56,7 @@ impl Drive {
             Ok(file) => file,
             Err(error) => return Err(make_stop(&error)),
         };
-        if fill(&file, blocks).is_err() {
+        if fill(&file, blocks).is_err() || sync_folder(files, path).is_err() {
             let _ = fs::remove_file(files, path);
             return Err(AttachStop::Fault);
         }
@@ -101,6 +101,16 @@ fn alone(drive: Drive) -> Result<Drive, AttachStop>
 fn fill(file: &File, blocks: u32) -> io::Result<()> {
     file.set_len(u64::from(blocks) * BLOCK_BYTES)?;
     file.sync_all()
+}
+
+// A new name in the folder of the path is on the disk.
+fn sync_folder<R: Files<File = File>>(files: &R, path: &str) -> io::Result<()> {
+    let folder = match path.rsplit_once('/') {
+        None => ".",
+        Some((folder, _)) if folder.is_empty() => "/",
+        Some((folder, _)) => folder,
+    };
+    fs::open(files, folder)?.sync_all()
 }
 
 fn open_stop(error: &io::Error) -> AttachStop
