@@ -30,6 +30,10 @@ SaysFront P old new = (text : List ℕ) × P text × ((count : ℕ) × (new.now.
 abbrev pub SaysKeeping : (List ℕ → State → Type 0) → (State → Type 0) → Content → Content → Type 0
 SaysKeeping P Holds old new = (text : List ℕ) × (kept : State) × P text kept × (new.now.said ≡ old.now.said ++ text) × Holds kept
 
+-- a front of such a text was said, and the state that goes with it is held
+abbrev pub SaysFrontKeeping : (List ℕ → State → Type 0) → (State → Type 0) → Content → Content → Type 0
+SaysFrontKeeping P Holds old new = (text : List ℕ) × (kept : State) × P text kept × ((count : ℕ) × (new.now.said ≡ old.now.said ++ take count text)) × Holds kept
+
 -- ---- of a schema, a start state and a script
 
 -- the play of a whole script from a state on: its answers, its last states and its end
@@ -110,10 +114,9 @@ pub record IsFullText (schema : Schema) (ds : List DefinitionTree) (limit : Opti
   pub text_is : text ≡ answers ++ full_line
   pub kept_is : kept ≡ final.kept
 
--- one of these
-abbrev pub IsPlayedText : Schema → List DefinitionTree → Option Limits → State → List ℕ → List ℕ → Type 0
-IsPlayedText schema ds limit start script text =
-    (kept : State)
-    × (((end : End) × IsPlayText schema start script end text kept)
+-- one of these, of a play that doesn't end well
+abbrev pub IsUnfinishedText : Schema → List DefinitionTree → Option Limits → State → List ℕ → List ℕ → State → Type 0
+IsUnfinishedText schema ds limit start script text kept =
+    IsStoppedText schema start script text kept
     ⊎ IsShortText schema start script text kept
-    ⊎ IsFullText schema ds limit start script text kept)
+    ⊎ IsFullText schema ds limit start script text kept
