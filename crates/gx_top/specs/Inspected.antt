@@ -58,7 +58,6 @@ IsFoundText t device before after text = IsInspectText t device before after tex
 abbrev pub IsInspected : Task → List ℕ → Content → Content → Status → Type 0
 IsInspected t device old new status.Done = Says (IsInspectText t device old new) old new
 IsInspected t device old new status.Device = Says (IsWrongText t device old) old new
-IsInspected t device old new status.Memory = Says (λ text. text ≡ memory_line) old new
 IsInspected t device old new status.Outside = SaysFront (IsFoundText t device old new) old new
 IsInspected t device old new other = ⊥
 

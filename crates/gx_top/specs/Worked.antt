@@ -81,7 +81,6 @@ abbrev pub IsWorked : Task → List ℕ → ℕ → ℕ → Content → Content 
 IsWorked t device blocks records old new status.Done = IsFreeFor t device blocks old × Says (IsWorkText t device blocks records new) old new
 IsWorked t device blocks records old new status.Full = IsFreeFor t device blocks old × Says (IsWorkFull t device blocks records new) old new
 IsWorked t device blocks records old new status.Device = Says (IsUnmadeText t device blocks old) old new
-IsWorked t device blocks records old new status.Memory = Says (λ text. text ≡ memory_line) old new
 IsWorked t device blocks records old new status.Outside = SaysFront (IsWorkedText t device blocks records old new) old new
 IsWorked t device blocks records old new other = ⊥
 
