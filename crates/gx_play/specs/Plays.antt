@@ -26,7 +26,7 @@ use Rattle.gx_engine.specs.Steps.{IsAt, IsReady, IsShortFor, is_commit, schema_o
 use Rattle.gx_play.specs.declared.ending.Ending.{Ending}
 use Rattle.gx_play.specs.declared.ending.Ending.TheVariants as ending
 use Rattle.gx_play.specs.Endings.{ending_of}
-use Rattle.gx_play.specs.Played.{IsPlay, AreFirst, IsShortAt, IsFullAt}
+use Rattle.gx_play.specs.Played.{IsPlay, AreFirst, IsShortAt, MayBeFullAt}
 use Rattle.gx_play.specs.declared.play.PlayEnd.{PlayEnd}
 use Rattle.gx_play.specs.declared.play.PlayEnd.TheVariants as play_end
 use Rattle.gx_play.specs.declared.play.Answers.{Answers}
@@ -212,7 +212,7 @@ pub record IsPlayedFirst (schema : Schema) (start : State) (Holds : State → Ty
 pub record IsPlayedFull (schema : Schema) (built : Built) (limit : Option Limits) (start : State) (Holds : State → Type 0) (script before now : List ℕ) : Type 0 where
   pub answers : List ℕ
   pub final : Playing
-  pub full : IsFullAt schema built limit start script answers final
+  pub full : MayBeFullAt schema built limit start script answers final
   pub said : now ≡ before ++ answers
   pub holds : Holds final.kept
 

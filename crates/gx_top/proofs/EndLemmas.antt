@@ -22,11 +22,11 @@ use Rattle.gx_play.specs.declared.summary.Summary.{Summary}
 use Rattle.gx_play.specs.Endings.{status_of, memory_line, device_line, made_line, IsOutside, IsPlayEnding, IsEnded, IsFinished}
 use Rattle.gx_requests.specs.Requests.{IsRefused, IsSummary, IsUnprepared}
 use Rattle.gx_play.specs.Say.{IsCut, SameDevices}
-use Rattle.gx_play.specs.Played.{Says, SaysFront, SaysKeeping, IsPlayText, IsStoppedText, IsShortText, IsFullText}
+use Rattle.gx_play.specs.Played.{SaysText, SaysFront, SaysKeeping, IsPlayText, IsStoppedText, IsMemoryText, IsFullText}
 use Rattle.gx_play.specs.Plays.{IsPlayedAs}
 use Rattle.gx_top.specs.Tasks.{Task, IsTask, HasDevice, IsFrom, IsLeft, StartsAlike, IsOnlyRecovered}
 use Rattle.gx_top.specs.Devices.{IsToMake, IsWrong, IsBefore, SaysWrong}
-use Rattle.gx_top.specs.Tries.{IsDoneText, IsOtherText, IsPlayCut, CanPlayTo, IsSaid, IsEnd, IsDueStatus, IsAsDue}
+use Rattle.gx_top.specs.Tries.{IsDoneText, IsOtherText, IsPlayCut, CanPlayTo, IsSaid, IsOutcome, IsDueStatus, IsAsDue}
 use Rattle.gx_requests.specs.Words.{explaining, making}
 use Rattle.gx_top.specs.Explained.{IsToExplain}
 use Rattle.gx_top.proofs.StayLemmas.{devices_same, starts_same}
@@ -138,7 +138,7 @@ unprepared_said words old mid new before now why status.Script is unsaid starts 
 unprepared_said words old mid new before now why status.Full is unsaid starts e = absurd (not_full (status_of why) (unplayed words old before now why is) (e.status_is (λ f. cc) (λ f. cc)))
 unprepared_said words old mid new before now why status.Device is unsaid starts e = absurd (not_device (status_of why) (unplayed words old before now why is) (e.status_is (λ f. cc) (λ f. cc)))
 
-pub unprepared_end : (words : List (List ℕ)) (old mid new : Content) (before now : ℕ) (why : Ending) (s : Status) → IsUnprepared words old.aside.texts before now why → SameContent old mid → SameDevices mid new → IsEnded why mid new s → IsEnd words old new s
+pub unprepared_end : (words : List (List ℕ)) (old mid new : Content) (before now : ℕ) (why : Ending) (s : Status) → IsUnprepared words old.aside.texts before now why → SameContent old mid → SameDevices mid new → IsEnded why mid new s → IsOutcome words old new s
 unprepared_end words old mid new before now why s is same devices e = record {
   said = unprepared_said words old mid new before now why s is (ap (λ n. n.said) same.now) (λ t. starts_same t old new (λ name. devices_same mid new devices name ∙ ap (λ n. device_at n name) same.now)) e;
   heard = λ done t task limit start from. absurd (not_done (status_of why) (unplayed words old before now why is) (sym done ∙ e.status_is (done_not_outside s done) (done_not_memory s done)));
@@ -193,7 +193,7 @@ check_said words old mid new summary status.Device is unsaid e = absurd (never (
     never : status.Device ≡ status.Done → ⊥
     never f = cc
 
-pub check_end : (words : List (List ℕ)) (old mid new : Content) (summary : Summary) (s : Status) → IsSummary words old.aside.texts summary → mid.now.said ≡ old.now.said → mid.script ≡ old.script → IsEnded (ending.Accepted summary) mid new s → IsEnd words old new s
+pub check_end : (words : List (List ℕ)) (old mid new : Content) (summary : Summary) (s : Status) → IsSummary words old.aside.texts summary → mid.now.said ≡ old.now.said → mid.script ≡ old.script → IsEnded (ending.Accepted summary) mid new s → IsOutcome words old new s
 check_end words old mid new summary s is unsaid unheard e = record {
   said = check_said words old mid new summary s is unsaid e;
   heard = λ done t task limit start from. absurd (checked_no_task words old t task (is.0, is.1, is.2, is.3));
@@ -314,9 +314,9 @@ device_outside e = absurd (never e)
     never : status.Device ≡ status.Outside → ⊥
     never f = cc
 
-unhad_done : (words : List (List ℕ)) (old mid new : Content) (why : Ending) → IsUnhad words old why → mid.now.said ≡ old.now.said → IsEnded why mid new status.Done → Says (IsDoneText words old) old new
+unhad_done : (words : List (List ℕ)) (old mid new : Content) (why : Ending) → IsUnhad words old why → mid.now.said ≡ old.now.said → IsEnded why mid new status.Done → SaysText (IsDoneText words old) old new
 unhad_done words old mid new why is unsaid =
-    by_unhad words old (λ w. IsEnded w mid new status.Done → Says (IsDoneText words old) old new) why is
+    by_unhad words old (λ w. IsEnded w mid new status.Done → SaysText (IsDoneText words old) old new) why is
     (λ blocks pages make pages_are e. (made_line blocks pages, made_done words old blocks pages make pages_are, e.said (λ f. cc) (λ f. cc) ∙ ap (λ t. t ++ made_line blocks pages) unsaid))
     (λ wrong device early e. no_done (e.status_is (λ f. cc) (λ f. cc)))
     (λ e. done_memory (e.status_is (λ f. cc) (λ f. cc)))
@@ -382,7 +382,7 @@ unhad_unexplained words old mid new why is r =
     (λ e. done_memory (e.status_is (λ f. cc) (λ f. cc)))
     (λ e. done_outside (e.status_is (λ f. cc) (λ f. cc)))
 
-pub unhad_end : (words : List (List ℕ)) (old mid new : Content) (why : Ending) (s : Status) → IsUnhad words old why → mid.now.said ≡ old.now.said → mid.script ≡ old.script → (why ≢ ending.Fault → (t : Task) → IsTask words old.aside.texts t → StartsAlike t old new) → ((t : Task) → IsTask words old.aside.texts t → IsOnlyRecovered t old new) → IsEnded why mid new s → IsEnd words old new s
+pub unhad_end : (words : List (List ℕ)) (old mid new : Content) (why : Ending) (s : Status) → IsUnhad words old why → mid.now.said ≡ old.now.said → mid.script ≡ old.script → (why ≢ ending.Fault → (t : Task) → IsTask words old.aside.texts t → StartsAlike t old new) → ((t : Task) → IsTask words old.aside.texts t → IsOnlyRecovered t old new) → IsEnded why mid new s → IsOutcome words old new s
 unhad_end words old mid new why s is unsaid unheard starts recovered e = record {
   said = unhad_said words old mid new why s is unsaid starts recovered e;
   heard_explained = λ done r. absurd (unhad_unexplained words old mid new why is r (subst (IsEnded why mid new) done e));
@@ -449,7 +449,7 @@ unhad_due words old mid new why s t is task e due can outside = by_due due can (
 abbrev Row : Task → Option Limits → State → Content → Content → Status → Type 0
 Row t limit start old new status.Done = SaysKeeping (IsPlayText t.schema start old.script good) (IsLeft t new) old new
 Row t limit start old new status.Script = SaysKeeping (IsStoppedText t.schema start old.script) (IsLeft t new) old new
-Row t limit start old new status.Memory = SaysKeeping (IsShortText t.schema start old.script) (IsLeft t new) old new
+Row t limit start old new status.Memory = SaysKeeping (IsMemoryText t.schema start old.script) (IsLeft t new) old new
 Row t limit start old new status.Full = SaysKeeping (IsFullText t.schema t.definitions limit start old.script) (IsLeft t new) old new
 Row t limit start old new status.Outside = IsPlayCut t limit start old new
 Row t limit start old new status.Refused = ⊥
@@ -591,7 +591,7 @@ run_heard : (words : List (List ℕ)) (t : Task) (old mid new : Content) (played
 run_heard words t old mid new (Ok x) s r done limit start from = ap (λ (c : Content). c.script) r.finished.1 ∙ r.heard limit start from refl
 run_heard words t old mid new (Err why) s r done limit start from = absurd (subst IsStopStatus (sym (r.finished.status_is (done_not_outside s done) (done_not_memory s done)) ∙ done) (stop_status why r.play_ending))
 
-pub run_end : (words : List (List ℕ)) (t : Task) (old mid new : Content) (played : Result (Unit {0}) Ending) (s : Status) → IsRun words t old mid new played s → IsEnd words old new s
+pub run_end : (words : List (List ℕ)) (t : Task) (old mid new : Content) (played : Result (Unit {0}) Ending) (s : Status) → IsRun words t old mid new played s → IsOutcome words old new s
 run_end words t old mid new played s r = record {
   said = run_said words t old mid new played s r;
   heard = λ done u other limit start from. run_heard words t old mid new played s r done limit start (subst (λ v. IsFrom v old limit start) (one_task words old.aside.texts u t other r.task) from);

@@ -12,14 +12,14 @@ use Rattle.gx_play.specs.declared.ending.Ending.TheVariants as ending
 use Rattle.gx_play.specs.declared.status.Status.{Status}
 use Rattle.gx_play.specs.declared.status.Status.TheVariants as status
 use Rattle.gx_play.specs.Endings.{status_of, memory_line, device_line, IsEnded}
-use Rattle.gx_play.specs.Played.{Says, SaysFront}
+use Rattle.gx_play.specs.Played.{SaysText, SaysFront}
 use Rattle.gx_play.specs.Say.{IsCut, SameDevices}
 use Rattle.gx_requests.specs.Words.{Action, inspecting}
 use Rattle.gx_top.specs.Tasks.{Task, IsHeldOn}
 use Rattle.gx_top.specs.Devices.{IsWrongOn}
 use Rattle.gx_top.specs.Found.{IsTold}
 use Rattle.gx_top.specs.Inspected.{IsToInspect, inspected, IsInspectText, IsWrongText, IsFoundText, IsInspected}
-use Rattle.gx_top.specs.Tries.{IsSaid, IsEnd, IsDueStatus, IsAsDue}
+use Rattle.gx_top.specs.Tries.{IsSaid, IsOutcome, IsDueStatus, IsAsDue}
 use Rattle.gx_top.proofs.StayLemmas.{devices_same}
 use Rattle.gx_top.proofs.CompleteLemmas.{one_acceptance, task_not_inspected, checked_not_inspected, made_not_inspected, explained_not_inspected, wrong_not_inspected, inspected_not_refused, inspected_not_worked, held_not_wrong}
 
@@ -114,9 +114,9 @@ module _ (t : Task) (device : List ℕ) (old mid new : Content) (why : Ending) (
       (λ e. cut_front memory_line (inr (inr refl)) (e.cut refl))
       (λ e. (memory_line, inr (inr refl), (0, e.silent refl ∙ unsaid ∙ sym (append-nil old.now.said))))
 
-  wrong_said : IsEnded why mid new status.Device → Says (IsWrongText t device old) old new
+  wrong_said : IsEnded why mid new status.Device → SaysText (IsWrongText t device old) old new
   wrong_said =
-      by_uninspected t device old (λ w. IsEnded w mid new status.Device → Says (IsWrongText t device old) old new) why is
+      by_uninspected t device old (λ w. IsEnded w mid new status.Device → SaysText (IsWrongText t device old) old new) why is
       (λ wrong found e. (device_line wrong, (wrong, found, refl), e.said (λ f. cc) (λ f. cc) ∙ ap (λ s. s ++ device_line wrong) unsaid))
       (λ e. memory_device (e.status_is (λ f. cc) (λ f. cc)))
       (λ e. outside_device (e.status_is (λ f. cc) (λ f. cc)))
@@ -175,7 +175,7 @@ inspect_said words old new status.Script is = absurd is.1
 inspect_said words old new status.Refused is = absurd is.1
 inspect_said words old new status.Full is = absurd is.1
 
-pub inspect_end : (words : List (List ℕ)) (old new : Content) (s : Status) → InspectsOr words old new s → new.script ≡ old.script → IsEnd words old new s
+pub inspect_end : (words : List (List ℕ)) (old new : Content) (s : Status) → InspectsOr words old new s → new.script ≡ old.script → IsOutcome words old new s
 inspect_end words old new s is unheard = record {
   said = inspect_said words old new s is;
   heard = λ done t task limit start from. absurd (task_not_inspected words old.aside.texts t task is.0);

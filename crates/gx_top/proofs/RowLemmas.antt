@@ -18,7 +18,7 @@ use Rattle.gx_play.specs.declared.ending.Ending.TheVariants as ending
 use Rattle.gx_play.specs.declared.status.Status.TheVariants as status
 use Rattle.gx_play.specs.Endings.{line_of, status_of, memory_line, full_line}
 use Rattle.gx_play.specs.Say.{IsCut}
-use Rattle.gx_play.specs.Played.{SaysKeeping, SaysFrontKeeping, IsPlay, AreFirst, IsPlayText, IsStoppedText, IsShortText, IsFullText, IsUnfinishedText}
+use Rattle.gx_play.specs.Played.{SaysKeeping, SaysFrontKeeping, IsPlay, AreFirst, IsPlayText, IsStoppedText, IsMemoryText, IsFullText, IsUnfinishedText}
 use Rattle.gx_play.specs.Plays.{IsPlayedOut, IsPlayedFirst, IsPlayedFull, IsPlayedFront, IsPlayedAs}
 use Rattle.gx_top.proofs.EntryLemmas.{full_by_state}
 use Rattle.gx_explain.proofs.BehindLemmas.{behind, front_behind}
@@ -142,7 +142,7 @@ module _ (schema : Schema) (ds : List DefinitionTree) (built : Built) (limit : O
   -- ---- the answers of the first lines, and that there was no memory
 
   abbrev Short : Type 0
-  Short = SaysKeeping (IsShortText schema start old.script) Holds old new
+  Short = SaysKeeping (IsMemoryText schema start old.script) Holds old new
 
   abbrev first_of_full : (full : IsPlayedFull schema built limit start Holds old.script old.now.said mid.now.said) → AreFirst schema start old.script full.answers
   first_of_full full = record { ran = full.full.ran; later = full.full.later; parts = full.full.parts; final = full.final; runs = full.full.runs }

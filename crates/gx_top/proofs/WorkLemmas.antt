@@ -21,7 +21,7 @@ use Rattle.gx_play.specs.declared.ending.Ending.TheVariants as ending
 use Rattle.gx_play.specs.declared.status.Status.{Status}
 use Rattle.gx_play.specs.declared.status.Status.TheVariants as status
 use Rattle.gx_play.specs.Endings.{status_of, memory_line, full_line, device_line, line_of, IsEnded}
-use Rattle.gx_play.specs.Played.{SaysFront, IsFullAt}
+use Rattle.gx_play.specs.Played.{SaysFront, MayBeFullAt}
 use Rattle.gx_play.specs.Say.{IsCut, SameDevices}
 use Rattle.gx_requests.specs.declared.opened.Stored.{Stored}
 use Rattle.gx_requests.specs.Checked.{IsStoredFor}
@@ -32,7 +32,7 @@ use Rattle.gx_operations.specs.Making.{IsUnmakable}
 use Rattle.gx_top.specs.Found.{IsTold}
 use Rattle.gx_top.specs.Worked.{IsToWork, worked, IsWorkText, IsWorkFull, IsWorkedText, IsFreeFor, IsWorked, CanWork, IsUnworkable, IsWorkFirst, HoldsWork, LeavesWorked, LeavesWorkedBy}
 use Rattle.gx_operations.specs.Working.{IsSettledOf, HoldsFirst, IsPlayedOn, IsNewDevice, IsWorking}
-use Rattle.gx_top.specs.Tries.{IsSaid, IsEnd, IsDueStatus, IsAsDue}
+use Rattle.gx_top.specs.Tries.{IsSaid, IsOutcome, IsDueStatus, IsAsDue}
 use Rattle.gx_top.proofs.EntryLemmas.{full_by_state}
 use Rattle.gx_top.proofs.StayLemmas.{devices_same}
 use Rattle.gx_top.proofs.MakeLemmas.{not_both}
@@ -100,7 +100,7 @@ work_said words old new status.Memory w = inl (record {
 work_said words old new status.Script w = absurd w.row
 work_said words old new status.Refused w = absurd w.row
 
-pub work_end : (words : List (List ℕ)) (old new : Content) (s : Status) → WorksOr words old new s → new.script ≡ old.script → IsEnd words old new s
+pub work_end : (words : List (List ℕ)) (old new : Content) (s : Status) → WorksOr words old new s → new.script ≡ old.script → IsOutcome words old new s
 work_end words old new s w unheard = record {
   said = work_said words old new s w;
   heard = λ done t task limit start from. absurd (task_not_worked words old.aside.texts t w.blocks w.records task w.request);
@@ -280,7 +280,7 @@ module _ (words : List (List ℕ)) (device digits number : List ℕ) (count reco
           final = out.final;
           full = full_by_state work_schema p.definitions x.built (Some (limits_on p.typing.specs count)) (empty_state work_schema) (work_script records) out.answers out.final
               (subst (λ (k : Schema). IsBuiltOf k p.definitions x.built) is_work p.trees)
-              (subst (λ (ks : List LeafSpec). IsFullAt work_schema x.built (Some (limits_on ks count)) (empty_state work_schema) (work_script records) out.answers out.final) p.specs_are out.full);
+              (subst (λ (ks : List LeafSpec). MayBeFullAt work_schema x.built (Some (limits_on ks count)) (empty_state work_schema) (work_script records) out.answers out.final) p.specs_are out.full);
           settled = settled_on made.left.0 out.final.kept made.left.1 out.holds;
           count = made.many;
           text_is = refl;

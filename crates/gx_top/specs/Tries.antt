@@ -17,7 +17,7 @@ use Rattle.gx_play.specs.declared.status.Status.TheVariants as status
 use Rattle.gx_play.specs.Endings.{line_of, status_of, memory_line}
 use Rattle.gx_requests.specs.Requests.{IsRefused, IsAccepted}
 use Rattle.gx_play.specs.Summaries.{summary_of, accepted_line}
-use Rattle.gx_play.specs.Played.{Says, SaysFront, SaysKeeping, SaysFrontKeeping, IsPlay, IsPlayText, IsStoppedText, IsShortText, IsFull, IsFullText, IsUnfinishedText}
+use Rattle.gx_play.specs.Played.{SaysText, SaysFront, SaysKeeping, SaysFrontKeeping, IsPlay, IsPlayText, IsStoppedText, IsMemoryText, MayBeFull, IsFullText, IsUnfinishedText}
 use Rattle.gx_play.specs.Plays.{IsPlayedFront}
 use Rattle.gx_top.specs.Tasks.{Task, IsTask, HasDevice, IsFrom, IsLeft, StartsAlike, IsOnlyRecovered}
 use Rattle.gx_top.specs.Explained.{IsToExplain, Explains, IsExplainable}
@@ -87,16 +87,16 @@ pub record SaysMemory (words : List (List ℕ)) (old new : Content) : Type 0 whe
 
 -- what was said, by the status
 abbrev pub IsSaid : List (List ℕ) → Content → Content → Status → Type 0
-IsSaid words old new status.Done = Says (IsDoneText words old) old new ⊎ Plays (λ t limit s. IsPlayText t.schema s old.script good) words old new ⊎ Explains words old new status.Done ⊎ Inspects words old new status.Done ⊎ Works words old new status.Done
+IsSaid words old new status.Done = SaysText (IsDoneText words old) old new ⊎ Plays (λ t limit s. IsPlayText t.schema s old.script good) words old new ⊎ Explains words old new status.Done ⊎ Inspects words old new status.Done ⊎ Works words old new status.Done
 IsSaid words old new status.Script = Plays (λ t limit s. IsStoppedText t.schema s old.script) words old new ⊎ Explains words old new status.Script
-IsSaid words old new status.Refused = Says (IsRefusalText words old) old new
-IsSaid words old new status.Memory = SaysMemory words old new ⊎ Plays (λ t limit s. IsShortText t.schema s old.script) words old new ⊎ Explains words old new status.Memory
+IsSaid words old new status.Refused = SaysText (IsRefusalText words old) old new
+IsSaid words old new status.Memory = SaysMemory words old new ⊎ Plays (λ t limit s. IsMemoryText t.schema s old.script) words old new ⊎ Explains words old new status.Memory
 IsSaid words old new status.Full = Plays (λ t limit s. IsFullText t.schema t.definitions limit s old.script) words old new ⊎ Works words old new status.Full
 IsSaid words old new status.Device = ((why : DeviceWhy) × IsWrong words old why × SaysWrong why old new) ⊎ Inspects words old new status.Device ⊎ Works words old new status.Device
 IsSaid words old new status.Outside = SaysOther words old new ⊎ PlaysFront words old new ⊎ Explains words old new status.Outside ⊎ Inspects words old new status.Outside ⊎ Works words old new status.Outside
 
 -- the same, and what was heard: the script to its end where all of it was played or explained, and none of it where none is to be
-pub record IsEnd (words : List (List ℕ)) (old new : Content) (s : Status) : Type 0 where
+pub record IsOutcome (words : List (List ℕ)) (old new : Content) (s : Status) : Type 0 where
   pub said : IsSaid words old new s
   pub heard : s ≡ status.Done → (t : Task) → IsTask words old.aside.texts t → (limit : Option Limits) (start : State) → IsFrom t old limit start → new.script ≡ []
   pub heard_explained : s ≡ status.Done → IsToExplain words old.aside.texts → new.script ≡ []
@@ -112,7 +112,7 @@ pub record CanPlayTo (t : Task) (before : Content) (end : End) : Type 0 where
   pub answers : List ℕ
   pub final : Playing
   pub play : IsPlay t.schema start before.script answers final end
-  pub roomy : (first : List ℕ) (p : Playing) → ¬ IsFull t.schema t.definitions limit start before.script first p
+  pub roomy : (first : List ℕ) (p : Playing) → ¬ MayBeFull t.schema t.definitions limit start before.script first p
 
 abbrev pub IsPlayable : List (List ℕ) → Content → End → Type 0
 IsPlayable words before end = (t : Task) × IsTask words before.aside.texts t × CanPlayTo t before end

@@ -7,7 +7,7 @@ ghost use Rattle.gx_top.specs.Inspected.{LeavesInspectedBy};
 ghost use Rattle.gx_top.specs.Worked.{LeavesWorkedBy};
 ghost use Rattle.gx_top.specs.Stays.{LeavesAllBy};
 ghost use Rattle.gx_requests.specs.Requests.{IsFree};
-ghost use Rattle.gx_top.specs.Tries.{IsEnd, IsAsDue, CountsOutside};
+ghost use Rattle.gx_top.specs.Tries.{IsOutcome, IsAsDue, CountsOutside};
 
 use crate::check::check;
 use crate::explain::explain;
@@ -95,7 +95,7 @@ use std::alloc::Global;
 pub fn top<M: Machine + Drop>(alloc: Global, words: &[String], machine: M) -> (Status, M)
     // What was said, and what was heard.
     ensures said { IsTrue M.tells → IsFree (texts_of words.now) (M.content machine) →
-        IsEnd (texts_of words.now) (M.content machine) (M.content result.1) result.0 }
+        IsOutcome (texts_of words.now) (M.content machine) (M.content result.1) result.0 }
     // When each status is due.
     ensures due { IsTrue M.tells → IsFree (texts_of words.now) (M.content machine) →
         IsAsDue (texts_of words.now) (M.content machine) result.0 }
