@@ -24,8 +24,8 @@ use Rattle.gx_play.specs.declared.status.Status.TheVariants as status
 use Rattle.gx_play.specs.Endings.{line_of, memory_line, ending_of, IsEnded}
 use Rattle.gx_play.specs.Plays.{IsHeard, HasCause}
 use Rattle.gx_play.specs.Say.{IsCut}
-use Rattle.gx_play.specs.Played.{Says, SaysFront}
-use Rattle.gx_explain.specs.Explained.{indexed_fields, IsExplainEnd, IsExplainedTo, AreFirstExplained, IsShortText, IsSomeText, IsScriptExplained}
+use Rattle.gx_play.specs.Played.{SaysText, SaysFront}
+use Rattle.gx_explain.specs.Explained.{indexed_fields, IsExplainEnd, IsExplainedTo, AreFirstExplained, IsMemoryExplanation, IsSomeText, IsScriptExplained}
 use Rattle.gx_explain.specs.Explaining.{fields_in, SaysPlans}
 use Rattle.gx_play.proofs.OverLemmas.{heard_lines, long_stops}
 use Rattle.gx_explain.proofs.BehindLemmas.{behind, front_behind, taken}
@@ -43,7 +43,7 @@ front_within old new text line is =
 module _ (schema : Schema) (indexed : ℕ → List Bool) where
   -- ---- what was heard of a script
 
-  said_from : (P : List ℕ → Type 0) (old mid new : Content) → mid.now.said ≡ old.now.said → Says P mid new → Says P old new
+  said_from : (P : List ℕ → Type 0) (old mid new : Content) → mid.now.said ≡ old.now.said → SaysText P mid new → SaysText P old new
   said_from P old mid new same is = (is.0, is.1, is.2 ∙ ap (λ t. t ++ is.0) same)
 
   -- nothing was said before
@@ -85,7 +85,7 @@ module _ (schema : Schema) (indexed : ℕ → List Bool) where
   unfolding longest_script
   heard_whole script left heard old new result is said ok = by_end is.end
     where
-      to : Says (IsExplainedTo schema indexed (script_lines heard) good) old new
+      to : SaysText (IsExplainedTo schema indexed (script_lines heard) good) old new
       to = subst (SaysPlans schema indexed (script_lines heard) old new) ok said
 
       by_end : ((left ≡ []) ⊎ (16777216 < length heard)) → left ≡ []
@@ -94,7 +94,7 @@ module _ (schema : Schema) (indexed : ℕ → List Bool) where
 
   -- ---- behind the plans, the line of the end
 
-  pub done_said : (old new : Content) → Says (IsExplainedTo schema indexed (script_lines old.script) good) old new → IsScriptExplained schema indexed old new status.Done
+  pub done_said : (old new : Content) → SaysText (IsExplainedTo schema indexed (script_lines old.script) good) old new → IsScriptExplained schema indexed old new status.Done
   done_said old new is = (is.0, record { plans = is.0; explained = is.1; text_is = sym (append-nil is.0) }, is.2)
 
   -- what was explained are the first lines
@@ -108,20 +108,20 @@ module _ (schema : Schema) (indexed : ℕ → List Bool) where
       parts_of all ran (Ok None) first = ([], first.0 ∙ sym (append-nil ran))
       parts_of all ran (Err why) first = ([], first.0 ∙ sym (append-nil ran))
 
-  short_said : (old mid new : Content) → Says (AreFirstExplained schema indexed (script_lines old.script)) old mid → new.now.said ≡ mid.now.said ++ memory_line → Says (IsShortText schema indexed old.script) old new
+  short_said : (old mid new : Content) → SaysText (AreFirstExplained schema indexed (script_lines old.script)) old mid → new.now.said ≡ mid.now.said ++ memory_line → SaysText (IsMemoryExplanation schema indexed old.script) old new
   short_said old mid new is said = (is.0 ++ memory_line, record { plans = is.0; explained = is.1; text_is = refl }, behind old.now.said mid.now.said new.now.said is.0 memory_line is.2 said)
 
-  short_front : (old mid new : Content) (n : ℕ) → Says (AreFirstExplained schema indexed (script_lines old.script)) old mid → new.now.said ≡ mid.now.said ++ take n memory_line → SaysFront (IsSomeText schema indexed old.script) old new
+  short_front : (old mid new : Content) (n : ℕ) → SaysText (AreFirstExplained schema indexed (script_lines old.script)) old mid → new.now.said ≡ mid.now.said ++ take n memory_line → SaysFront (IsSomeText schema indexed old.script) old new
   short_front old mid new n is said = (
     is.0 ++ memory_line,
     inr (record { plans = is.0; explained = is.1; text_is = refl }),
     (length is.0 + n, front_behind old.now.said mid.now.said new.now.said is.0 memory_line n is.2 said),
   )
 
-  firsts : (old mid : Content) (number : ℕ) (why : LineWhy) → Says (IsExplainedTo schema indexed (script_lines old.script) (stopped number why)) old mid → Says (AreFirstExplained schema indexed (script_lines old.script)) old mid
+  firsts : (old mid : Content) (number : ℕ) (why : LineWhy) → SaysText (IsExplainedTo schema indexed (script_lines old.script) (stopped number why)) old mid → SaysText (AreFirstExplained schema indexed (script_lines old.script)) old mid
   firsts old mid number why is = (is.0, first_of (script_lines old.script) (stopped number why) is.0 is.1, is.2)
 
-  line_front : (old mid new : Content) (number : ℕ) (why : LineWhy) → Says (IsExplainedTo schema indexed (script_lines old.script) (stopped number why)) old mid → IsCut (line_of (ending.Line number why)) memory_line mid new → SaysFront (IsSomeText schema indexed old.script) old new
+  line_front : (old mid new : Content) (number : ℕ) (why : LineWhy) → SaysText (IsExplainedTo schema indexed (script_lines old.script) (stopped number why)) old mid → IsCut (line_of (ending.Line number why)) memory_line mid new → SaysFront (IsSomeText schema indexed old.script) old new
   line_front old mid new number why is (n, inl said) = (
     is.0 ++ line_of (ending.Line number why),
     inl (stopped number why, record { plans = is.0; explained = is.1; text_is = refl }),
@@ -129,7 +129,7 @@ module _ (schema : Schema) (indexed : ℕ → List Bool) where
   )
   line_front old mid new number why is (n, inr said) = short_front old mid new n (firsts old mid number why is) said
 
-  memory_front : (old mid new : Content) → Says (AreFirstExplained schema indexed (script_lines old.script)) old mid → IsCut memory_line memory_line mid new → SaysFront (IsSomeText schema indexed old.script) old new
+  memory_front : (old mid new : Content) → SaysText (AreFirstExplained schema indexed (script_lines old.script)) old mid → IsCut memory_line memory_line mid new → SaysFront (IsSomeText schema indexed old.script) old new
   memory_front old mid new is (n, inl said) = short_front old mid new n is said
   memory_front old mid new is (n, inr said) = short_front old mid new n is said
 
@@ -140,7 +140,7 @@ module _ (schema : Schema) (indexed : ℕ → List Bool) where
     front_within old new is.0 memory_line (is.2.0, silent ∙ is.2.1),
   )
 
-  line_said : (old mid new : Content) (number : ℕ) (why : LineWhy) (s : Status) → Says (IsExplainedTo schema indexed (script_lines old.script) (stopped number why)) old mid → IsEnded (ending.Line number why) mid new s → IsScriptExplained schema indexed old new s
+  line_said : (old mid new : Content) (number : ℕ) (why : LineWhy) (s : Status) → SaysText (IsExplainedTo schema indexed (script_lines old.script) (stopped number why)) old mid → IsEnded (ending.Line number why) mid new s → IsScriptExplained schema indexed old new s
   line_said old mid new number why status.Script is e = (
     is.0 ++ line_of (ending.Line number why),
     (number, why, record { plans = is.0; explained = is.1; text_is = refl }),
@@ -165,7 +165,7 @@ module _ (schema : Schema) (indexed : ℕ → List Bool) where
       never : status.Device ≡ status.Script → ⊥
       never f = cc
 
-  memory_said : (old mid new : Content) (s : Status) → Says (AreFirstExplained schema indexed (script_lines old.script)) old mid → IsEnded ending.NoMemory mid new s → IsScriptExplained schema indexed old new s
+  memory_said : (old mid new : Content) (s : Status) → SaysText (AreFirstExplained schema indexed (script_lines old.script)) old mid → IsEnded ending.NoMemory mid new s → IsScriptExplained schema indexed old new s
   memory_said old mid new status.Memory is e = short_said old mid new is (e.memory refl)
   memory_said old mid new status.Outside is e = memory_front old mid new is (e.cut refl)
   memory_said old mid new status.Script is e = absurd (never (e.status_is (λ f. cc) (λ f. cc)))

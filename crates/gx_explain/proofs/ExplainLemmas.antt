@@ -15,7 +15,7 @@ use Rattle.gx_explain.specs.declared.explanation.ExplainedLine.{ExplainedLine}
 use Rattle.gx_play.specs.declared.play.PlayEnd.{PlayEnd}
 use Rattle.gx_play.specs.declared.play.PlayEnd.TheVariants as play_end
 use Rattle.gx_play.specs.Plays.{IsBadAt, IsLineEnd}
-use Rattle.gx_play.specs.Played.{Says, SaysFront}
+use Rattle.gx_play.specs.Played.{SaysText, SaysFront}
 use Rattle.gx_explain.specs.Explained.{command_text, AreExplained, IsExplainEnd, IsExplainedTo, AreFirstExplained}
 use Rattle.gx_explain.specs.Explaining.{IsLineExplained, SaysPlans}
 
@@ -76,7 +76,7 @@ module _ (schema : Schema) (indexed : ℕ → List Bool) where
 
   -- ---- the end
 
-  ended : (all left : Lines) (number : ℕ) (inside : Bool) (next : Result (Option (List ℕ)) LineWhy) (end : End) (old new : Content) → (so : IsSoFar all left number inside old new) → AreFirstLines all so.ran next → IsExplainEnd schema inside number next end → Says (IsExplainedTo schema indexed all end) old new
+  ended : (all left : Lines) (number : ℕ) (inside : Bool) (next : Result (Option (List ℕ)) LineWhy) (end : End) (old new : Content) → (so : IsSoFar all left number inside old new) → AreFirstLines all so.ran next → IsExplainEnd schema inside number next end → SaysText (IsExplainedTo schema indexed all end) old new
   ended all left number inside next end old new so first ends = (
     so.text,
     record { ran = so.ran; next = next; first = first; inside = inside; explained = so.explained; ends = subst (λ n. IsExplainEnd schema inside n next end) (sym so.many) ends },
@@ -90,11 +90,11 @@ module _ (schema : Schema) (indexed : ℕ → List Bool) where
     so.stop_is ∙ ap (λ (ls : Lines). ls.stop) left_is,
   )
 
-  pub at_end : (all left : Lines) (number : ℕ) (inside : Bool) (old new : Content) → IsSoFar all left number inside old new → left ≡ no_lines → Says (IsExplainedTo schema indexed all good) old new
+  pub at_end : (all left : Lines) (number : ℕ) (inside : Bool) (old new : Content) → IsSoFar all left number inside old new → left ≡ no_lines → SaysText (IsExplainedTo schema indexed all good) old new
   at_end all left number inside old new so left_is = ended all left number inside (Ok None) good old new so (all_ran all left number inside None old new left_is so) refl
 
   -- where the line behind can't be had
-  at_stop : (all left : Lines) (number n : ℕ) (inside : Bool) (reason : LineWhy) (old new : Content) → IsSoFar all left number inside old new → n ≡ number + 1 → left ≡ stopped_lines reason → Says (IsExplainedTo schema indexed all (stopped n reason)) old new
+  at_stop : (all left : Lines) (number n : ℕ) (inside : Bool) (reason : LineWhy) (old new : Content) → IsSoFar all left number inside old new → n ≡ number + 1 → left ≡ stopped_lines reason → SaysText (IsExplainedTo schema indexed all (stopped n reason)) old new
   at_stop all left number n inside reason old new so n_is left_is =
       ended all left number inside (Err reason) (stopped n reason) old new so
       (all_ran all left number inside (Some reason) old new left_is so) (ap (λ k. stopped k reason) n_is)
@@ -105,7 +105,7 @@ module _ (schema : Schema) (indexed : ℕ → List Bool) where
   at_line_end all left number inside (play_end.Stop stop) result old new so result_is is = absurd is
 
   -- at a line that means no command, or one that may not stand there
-  at_bad_line : (all before left : Lines) (number : ℕ) (inside : Bool) (line : List ℕ) (reason : LineWhy) (old new : Content) → before ≡ with_line line left → IsSoFar all before number inside old new → IsBadLine schema inside line reason → Says (IsExplainedTo schema indexed all (stopped (number + 1) reason)) old new
+  at_bad_line : (all before left : Lines) (number : ℕ) (inside : Bool) (line : List ℕ) (reason : LineWhy) (old new : Content) → before ≡ with_line line left → IsSoFar all before number inside old new → IsBadLine schema inside line reason → SaysText (IsExplainedTo schema indexed all (stopped (number + 1) reason)) old new
   at_bad_line all before left number inside line reason old new before_is so bad =
       ended all before number inside (Ok (Some line)) (stopped (number + 1) reason) old new so
       (left.lines, so.lines_are ∙ ap (λ (ls : Lines). so.ran ++ ls.lines) before_is) (reason, bad, refl)
@@ -118,7 +118,7 @@ module _ (schema : Schema) (indexed : ℕ → List Bool) where
   at_line all before left number inside line (play_end.Line n reason) result old new before_is so result_is bad unread =
       let at = bad n reason refl in
       subst (λ r. SaysPlans schema indexed all old new r) (sym result_is)
-      (subst (λ k. Says (IsExplainedTo schema indexed all (stopped k reason)) old new) (sym at.0)
+      (subst (λ k. SaysText (IsExplainedTo schema indexed all (stopped k reason)) old new) (sym at.0)
       (at_bad_line all before left number inside line reason old new before_is so at.1))
   at_line all before left number inside line (play_end.Stop why) result old new before_is so result_is bad unread =
       subst (λ r. SaysPlans schema indexed all old new r) (sym (result_is ∙ ap (λ s. Err (play_end.Stop s)) (unread why refl)))

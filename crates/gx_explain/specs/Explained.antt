@@ -18,7 +18,7 @@ use Rattle.gx_model.specs.Runs.{IsBadLine, AreFirstLines}
 use Rattle.gx_play.specs.declared.status.Status.{Status}
 use Rattle.gx_play.specs.declared.status.Status.TheVariants as status
 use Rattle.gx_play.specs.Endings.{memory_line}
-use Rattle.gx_play.specs.Played.{Says, SaysFront}
+use Rattle.gx_play.specs.Played.{SaysText, SaysFront}
 
 -- for each field of the file of this number whether it is indexed in the file's term
 abbrev pub indexed_fields : Schema → List DefinitionTree → ℕ → List Bool
@@ -75,23 +75,23 @@ pub record IsExplainText (schema : Schema) (indexed : ℕ → List Bool) (script
   pub text_is : text ≡ plans ++ end_text end
 
 -- the same, where it ends at a line
-abbrev pub IsStoppedText : Schema → (ℕ → List Bool) → List ℕ → List ℕ → Type 0
-IsStoppedText schema indexed script text = (number : ℕ) × (why : LineWhy) × IsExplainText schema indexed script (stopped number why) text
+abbrev pub IsStoppedExplanation : Schema → (ℕ → List Bool) → List ℕ → List ℕ → Type 0
+IsStoppedExplanation schema indexed script text = (number : ℕ) × (why : LineWhy) × IsExplainText schema indexed script (stopped number why) text
 
 -- what is said of its first lines, and then the line that there was no memory
-pub record IsShortText (schema : Schema) (indexed : ℕ → List Bool) (script : List ℕ) (text : List ℕ) : Type 0 where
+pub record IsMemoryExplanation (schema : Schema) (indexed : ℕ → List Bool) (script : List ℕ) (text : List ℕ) : Type 0 where
   pub plans : List ℕ
   pub explained : AreFirstExplained schema indexed (script_lines script) plans
   pub text_is : text ≡ plans ++ memory_line
 
 -- one of these
 abbrev pub IsSomeText : Schema → (ℕ → List Bool) → List ℕ → List ℕ → Type 0
-IsSomeText schema indexed script text = ((end : End) × IsExplainText schema indexed script end text) ⊎ IsShortText schema indexed script text
+IsSomeText schema indexed script text = ((end : End) × IsExplainText schema indexed script end text) ⊎ IsMemoryExplanation schema indexed script text
 
 -- what was said of the script, by the status
 abbrev pub IsScriptExplained : Schema → (ℕ → List Bool) → Content → Content → Status → Type 0
-IsScriptExplained schema indexed old new status.Done = Says (IsExplainText schema indexed old.script good) old new
-IsScriptExplained schema indexed old new status.Script = Says (IsStoppedText schema indexed old.script) old new
-IsScriptExplained schema indexed old new status.Memory = Says (IsShortText schema indexed old.script) old new
+IsScriptExplained schema indexed old new status.Done = SaysText (IsExplainText schema indexed old.script good) old new
+IsScriptExplained schema indexed old new status.Script = SaysText (IsStoppedExplanation schema indexed old.script) old new
+IsScriptExplained schema indexed old new status.Memory = SaysText (IsMemoryExplanation schema indexed old.script) old new
 IsScriptExplained schema indexed old new status.Outside = SaysFront (IsSomeText schema indexed old.script) old new
 IsScriptExplained schema indexed old new other = ⊥

@@ -18,7 +18,7 @@ use Rattle.gx_explain.specs.declared.explanation.ExplainedLine.{ExplainedLine}
 use Rattle.gx_play.specs.declared.play.PlayEnd.{PlayEnd}
 use Rattle.gx_play.specs.declared.play.PlayEnd.TheVariants as play_end
 use Rattle.gx_explain.specs.Explained.{command_text, IsExplainedTo, AreFirstExplained}
-use Rattle.gx_play.specs.Played.{Says, SaysFront}
+use Rattle.gx_play.specs.Played.{SaysText, SaysFront}
 use Rattle.gx_play.specs.Plays.{HasCause}
 
 -- for each field of the file of this number whether it is indexed in the file's node
@@ -41,8 +41,8 @@ HasEndCause before now (play_end.Stop why) = HasCause before now why
 
 -- what was said of the lines of a script, where explaining them ends so
 abbrev pub SaysPlans : Schema → (ℕ → List Bool) → Lines → Content → Content → Result (Unit {0}) PlayEnd → Type 0
-SaysPlans schema indexed all old new (Ok x) = Says (IsExplainedTo schema indexed all good) old new
-SaysPlans schema indexed all old new (Err (play_end.Line number why)) = Says (IsExplainedTo schema indexed all (stopped number why)) old new
-SaysPlans schema indexed all old new (Err (play_end.Stop stop.NoMemory)) = Says (AreFirstExplained schema indexed all) old new
+SaysPlans schema indexed all old new (Ok x) = SaysText (IsExplainedTo schema indexed all good) old new
+SaysPlans schema indexed all old new (Err (play_end.Line number why)) = SaysText (IsExplainedTo schema indexed all (stopped number why)) old new
+SaysPlans schema indexed all old new (Err (play_end.Stop stop.NoMemory)) = SaysText (AreFirstExplained schema indexed all) old new
 SaysPlans schema indexed all old new (Err (play_end.Stop stop.Fault)) = SaysFront (AreFirstExplained schema indexed all) old new
 SaysPlans schema indexed all old new (Err (play_end.Stop other)) = ⊥

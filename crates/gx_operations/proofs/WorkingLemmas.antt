@@ -7,7 +7,7 @@ use Rattle.gx_ports.specs.LeafMaps.{LeafMap, Limits}
 use Rattle.gx_model.specs.States.{State, empty_state}
 use Rattle.gx_work.specs.Schema.{work_schema}
 use Rattle.gx_work.specs.Workload.{work_script}
-use Rattle.gx_play.specs.Played.{IsFullAt}
+use Rattle.gx_play.specs.Played.{MayBeFullAt}
 use Rattle.gx_working.specs.Worked.{IsWorkedAs}
 use Rattle.gx_store.specs.Device.{IsMadeOn, IsNoneOrEmpty, IsSize, ReadAlike, Reopens}
 use Rattle.gx_store.specs.Making.{IsUnmade}
@@ -121,7 +121,7 @@ played_on x count records after limit Holds (Ok line) same settled is = record {
 played_on x count records after limit Holds (Err ending.Full) same settled is = record {
   answers = is.answers;
   final = is.final;
-  full = subst (λ (l : Option Limits). IsFullAt work_schema x.built l (empty_state work_schema) (work_script records) is.answers is.final) same is.full;
+  full = subst (λ (l : Option Limits). MayBeFullAt work_schema x.built l (empty_state work_schema) (work_script records) is.answers is.final) same is.full;
   holds = settled is.final.kept is.holds;
 }
 played_on x count records after limit Holds (Err ending.NoMemory) same settled is = inr (record {

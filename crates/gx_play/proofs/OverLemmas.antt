@@ -18,7 +18,7 @@ use Rattle.gx_model.specs.States.{State}
 use Rattle.gx_model.specs.Play.{Playing, End, good, stopped, start_at}
 use Rattle.gx_model.specs.Runs.{IsEnd, AreFirstLines, IsPlayFrom}
 use Rattle.gx_engine.specs.declared.engine.Engine.{Engine}
-use Rattle.gx_engine.specs.Steps.{schema_of, built_of, leaves_of}
+use Rattle.gx_engine.specs.Steps.{IsAt, schema_of, built_of, leaves_of}
 use Rattle.gx_play.specs.declared.ending.DeviceWhy.{DeviceWhy}
 use Rattle.gx_play.specs.declared.ending.DeviceWhy.TheVariants as device_why
 use Rattle.gx_play.specs.declared.ending.Ending.{Ending}
@@ -27,7 +27,7 @@ use Rattle.gx_play.specs.declared.play.PlayEnd.{PlayEnd}
 use Rattle.gx_play.specs.declared.play.PlayEnd.TheVariants as play_end
 use Rattle.gx_play.specs.Endings.{ending_of, IsOutside, IsPlayEnding}
 use Rattle.gx_play.specs.Played.{AreFirst}
-use Rattle.gx_play.specs.Plays.{IsPlayedUp, IsPlayedPart, IsPlayedTo, IsPlayedOut, IsPlayedFirst, IsPlayedFull, IsPlayedFront, IsPlayedAs, IsEndingOf, KeepsState, IsHeard}
+use Rattle.gx_play.specs.Plays.{IsPlayedUp, IsPlayedPart, IsPlayedTo, IsPlayedOut, IsPlayedFirst, IsPlayedFull, IsPlayedFront, IsPlayedAs, IsEndingOf, IsCommitLine, KeepsState, IsHeard}
 use Rattle.gx_play.proofs.PlayLemmas.{kept_at}
 
 -- what was heard has the lines of the whole script
@@ -95,13 +95,20 @@ module _ {S : Type 0} (g : Ghosts S) (start : State) (script left heard before :
     holds = part.kept (λ f. cc);
   }
 
-  first_front : (why : Stop) → IsPlayedPart g (start_at start) (script_lines heard) e f why → IsPlayedFront (schema_of e) start script before Spoken
-  first_front why part = record {
+  first_front : IsPlayedPart g (start_at start) (script_lines heard) e f stop.Fault → IsPlayedFront (schema_of e) start Kept script before Spoken
+  first_front part = record {
     answers = part.text;
-    first = first_answers why part;
+    first = first_answers stop.Fault part;
     count = part.front.0;
     said = part.front.1 ∙ ap (λ t. t ++ take part.front.0 part.text) unsaid;
+    holds = kept_or_commit (part.failed refl);
   }
+    where
+      kept_or_commit : (IsAt g part.final f ⊎ ((Spoken ≡ (g.content (leaves_of e)).now.said ++ part.text) × (Kept part.final.kept ⊎ IsCommitLine (schema_of e) part.later)))
+          → Kept part.final.kept ⊎ ((Spoken ≡ before ++ part.text) × IsCommitLine (schema_of e) part.later)
+      kept_or_commit (inl at) = inl (kept_at g part.final e f schema_is built_is at)
+      kept_or_commit (inr (said, inl kept)) = inl kept
+      kept_or_commit (inr (said, inr commit)) = inr (said ∙ ap (λ t. t ++ part.text) unsaid, commit)
 
   abbrev As : Result (Unit {0}) Ending → Type 0
   As = IsPlayedAs (schema_of e) (built_of e) (g.limit (leaves_of e)) start Kept script before Spoken
@@ -111,7 +118,7 @@ module _ {S : Type 0} (g : Ghosts S) (start : State) (script left heard before :
   played_as (Ok x) result result_is sound to = subst As (sym result_is) (played_out good to)
   played_as (Err (play_end.Line number why)) result result_is sound to = subst As (sym result_is) (played_out (stopped number why) to)
   played_as (Err (play_end.Stop stop.NoMemory)) result result_is sound to = subst As (sym result_is) (first_whole stop.NoMemory (λ f. cc) to)
-  played_as (Err (play_end.Stop stop.Fault)) result result_is sound to = subst As (sym result_is) (first_front stop.Fault to)
+  played_as (Err (play_end.Stop stop.Fault)) result result_is sound to = subst As (sym result_is) (first_front to)
   played_as (Err (play_end.Stop stop.Full)) result result_is sound to = subst As (sym result_is) (first_full to)
   played_as (Err (play_end.Stop (stop.Damaged block))) result result_is sound to = absurd (sound block refl)
 
@@ -131,7 +138,11 @@ held_as schema built limit start Holds Other script before now (Ok x) other is =
 held_as schema built limit start Holds Other script before now (Err (ending.Line number why)) other is = record { answers = is.answers; final = is.final; play = is.play; said = is.said; holds = other is.final.kept is.holds }
 held_as schema built limit start Holds Other script before now (Err ending.NoMemory) other is = record { answers = is.answers; first = is.first; said = is.said; holds = other is.first.final.kept is.holds }
 held_as schema built limit start Holds Other script before now (Err ending.Full) other is = record { answers = is.answers; final = is.final; full = is.full; said = is.said; holds = other is.final.kept is.holds }
-held_as schema built limit start Holds Other script before now (Err ending.Fault) other is = is
+held_as schema built limit start Holds Other script before now (Err ending.Fault) other is = record { answers = is.answers; first = is.first; count = is.count; said = is.said; holds = left is.holds }
+  where
+    left : (Holds is.first.final.kept ⊎ ((now ≡ before ++ is.answers) × IsCommitLine schema is.first.later)) → Other is.first.final.kept ⊎ ((now ≡ before ++ is.answers) × IsCommitLine schema is.first.later)
+    left (inl held) = inl (other is.first.final.kept held)
+    left (inr commit) = inr commit
 held_as schema built limit start Holds Other script before now (Err ending.Words) other is = is
 held_as schema built limit start Holds Other script before now (Err (ending.Missing name)) other is = is
 held_as schema built limit start Holds Other script before now (Err (ending.TooLong name)) other is = is
@@ -148,7 +159,7 @@ abbrev none_played : (schema : Schema) (start : State) (script : List ℕ) → A
 none_played schema start script = record { ran = []; later = (script_lines script).lines; parts = refl; final = start_at start; runs = (refl, refl) }
 
 pub unheard : (schema : Schema) (built : Built) (limit : Option Limits) (start : State) (Holds : State → Type 0) (script before said : List ℕ) (low high : ℕ) (why : Ending) → said ≡ before → IsOutside low high why → Holds start → IsPlayedAs schema built limit start Holds script before said (Err why)
-unheard schema built limit start Holds script before said low high ending.Fault unsaid is holds = record { answers = []; first = none_played schema start script; count = 0; said = unsaid ∙ sym (append-nil before) }
+unheard schema built limit start Holds script before said low high ending.Fault unsaid is holds = record { answers = []; first = none_played schema start script; count = 0; said = unsaid ∙ sym (append-nil before); holds = inl holds }
 unheard schema built limit start Holds script before said low high ending.NoMemory unsaid is holds = record { answers = []; first = none_played schema start script; said = unsaid ∙ sym (append-nil before); holds = holds }
 unheard schema built limit start Holds script before said low high ending.Words unsaid is holds = is
 unheard schema built limit start Holds script before said low high (ending.Missing name) unsaid is holds = is

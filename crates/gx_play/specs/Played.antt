@@ -19,8 +19,8 @@ use Rattle.gx_play.specs.Built.{IsBuiltOf}
 use Rattle.gx_play.specs.Endings.{memory_line, full_line}
 
 -- such a text was said
-abbrev pub Says : (List ℕ → Type 0) → Content → Content → Type 0
-Says P old new = (text : List ℕ) × P text × (new.now.said ≡ old.now.said ++ text)
+abbrev pub SaysText : (List ℕ → Type 0) → Content → Content → Type 0
+SaysText P old new = (text : List ℕ) × P text × (new.now.said ≡ old.now.said ++ text)
 
 -- a front of such a text was said
 abbrev pub SaysFront : (List ℕ → Type 0) → Content → Content → Type 0
@@ -29,6 +29,10 @@ SaysFront P old new = (text : List ℕ) × P text × ((count : ℕ) × (new.now.
 -- such a text was said, and the state that goes with it is held
 abbrev pub SaysKeeping : (List ℕ → State → Type 0) → (State → Type 0) → Content → Content → Type 0
 SaysKeeping P Holds old new = (text : List ℕ) × (kept : State) × P text kept × (new.now.said ≡ old.now.said ++ text) × Holds kept
+
+-- a front of such a text was said, and the state that goes with it is held
+abbrev pub SaysFrontKeeping : (List ℕ → State → Type 0) → (State → Type 0) → Content → Content → Type 0
+SaysFrontKeeping P Holds old new = (text : List ℕ) × (kept : State) × P text kept × ((count : ℕ) × (new.now.said ≡ old.now.said ++ take count text)) × Holds kept
 
 -- ---- of a schema, a start state and a script
 
@@ -53,7 +57,7 @@ abbrev pub IsStoppedText : Schema → State → List ℕ → List ℕ → State 
 IsStoppedText schema start script text kept = (number : ℕ) × (why : LineWhy) × IsPlayText schema start script (stopped number why) text kept
 
 -- the answers of the script's first lines, then the line that there was no memory, and the state that these lines kept
-pub record IsShortText (schema : Schema) (start : State) (script text : List ℕ) (kept : State) : Type 0 where
+pub record IsMemoryText (schema : Schema) (start : State) (script text : List ℕ) (kept : State) : Type 0 where
   pub answers : List ℕ
   pub first : AreFirst schema start script answers
   pub text_is : text ≡ answers ++ memory_line
@@ -85,7 +89,7 @@ pub record IsShortAt (schema : Schema) (built : Built) (limit : Option Limits) (
   pub short : IsShortWith schema built limit p (entry_count maps) lines
 
 -- The script's first lines run from a state, with these answers, and the pages may be too few for the command of the next one.
-pub record IsFullAt (schema : Schema) (built : Built) (limit : Option Limits) (start : State) (script answers : List ℕ) (final : Playing) : Type 0 where
+pub record MayBeFullAt (schema : Schema) (built : Built) (limit : Option Limits) (start : State) (script answers : List ℕ) (final : Playing) : Type 0 where
   pub ran : List (List ℕ)
   pub later : List (List ℕ)
   pub parts : (script_lines script).lines ≡ ran ++ later
@@ -93,7 +97,7 @@ pub record IsFullAt (schema : Schema) (built : Built) (limit : Option Limits) (s
   pub short : IsShortAt schema built limit final later
 
 -- such a moment of the play, over nodes that the definitions mean: by the entries of the states alone
-pub record IsFull (schema : Schema) (ds : List DefinitionTree) (limit : Option Limits) (start : State) (script answers : List ℕ) (final : Playing) : Type 0 where
+pub record MayBeFull (schema : Schema) (ds : List DefinitionTree) (limit : Option Limits) (start : State) (script answers : List ℕ) (final : Playing) : Type 0 where
   pub built : Built
   pub trees : IsBuiltOf schema ds built
   pub ran : List (List ℕ)
@@ -106,14 +110,13 @@ pub record IsFull (schema : Schema) (ds : List DefinitionTree) (limit : Option L
 pub record IsFullText (schema : Schema) (ds : List DefinitionTree) (limit : Option Limits) (start : State) (script text : List ℕ) (kept : State) : Type 0 where
   pub answers : List ℕ
   pub final : Playing
-  pub full : IsFull schema ds limit start script answers final
+  pub full : MayBeFull schema ds limit start script answers final
   pub text_is : text ≡ answers ++ full_line
   pub kept_is : kept ≡ final.kept
 
--- one of these
-abbrev pub IsPlayedText : Schema → List DefinitionTree → Option Limits → State → List ℕ → List ℕ → Type 0
-IsPlayedText schema ds limit start script text =
-    (kept : State)
-    × (((end : End) × IsPlayText schema start script end text kept)
-    ⊎ IsShortText schema start script text kept
-    ⊎ IsFullText schema ds limit start script text kept)
+-- one of these, of a play that doesn't end well
+abbrev pub IsUnfinishedText : Schema → List DefinitionTree → Option Limits → State → List ℕ → List ℕ → State → Type 0
+IsUnfinishedText schema ds limit start script text kept =
+    IsStoppedText schema start script text kept
+    ⊎ IsMemoryText schema start script text kept
+    ⊎ IsFullText schema ds limit start script text kept

@@ -26,7 +26,7 @@ use Rattle.gx_engine.specs.Steps.{IsAt, IsReady, IsShortFor, is_commit, schema_o
 use Rattle.gx_play.specs.declared.ending.Ending.{Ending}
 use Rattle.gx_play.specs.declared.ending.Ending.TheVariants as ending
 use Rattle.gx_play.specs.Endings.{ending_of}
-use Rattle.gx_play.specs.Played.{IsPlay, AreFirst, IsShortAt, IsFullAt}
+use Rattle.gx_play.specs.Played.{IsPlay, AreFirst, IsShortAt, MayBeFullAt}
 use Rattle.gx_play.specs.declared.play.PlayEnd.{PlayEnd}
 use Rattle.gx_play.specs.declared.play.PlayEnd.TheVariants as play_end
 use Rattle.gx_play.specs.declared.play.Answers.{Answers}
@@ -212,16 +212,18 @@ pub record IsPlayedFirst (schema : Schema) (start : State) (Holds : State → Ty
 pub record IsPlayedFull (schema : Schema) (built : Built) (limit : Option Limits) (start : State) (Holds : State → Type 0) (script before now : List ℕ) : Type 0 where
   pub answers : List ℕ
   pub final : Playing
-  pub full : IsFullAt schema built limit start script answers final
+  pub full : MayBeFullAt schema built limit start script answers final
   pub said : now ≡ before ++ answers
   pub holds : Holds final.kept
 
--- a front of the answers of its first lines was said
-pub record IsPlayedFront (schema : Schema) (start : State) (script before now : List ℕ) : Type 0 where
+-- A front of the answers of its first lines was said. The last state that these lines kept is held; or all of their answers
+-- was said, and the next line is a commit.
+pub record IsPlayedFront (schema : Schema) (start : State) (Holds : State → Type 0) (script before now : List ℕ) : Type 0 where
   pub answers : List ℕ
   pub first : AreFirst schema start script answers
   pub count : ℕ
   pub said : now ≡ before ++ take count answers
+  pub holds : Holds first.final.kept ⊎ ((now ≡ before ++ answers) × IsCommitLine schema first.later)
 
 -- how the play of a script ended, before the line of the end is said
 abbrev pub IsPlayedAs : Schema → Built → Option Limits → State → (State → Type 0) → List ℕ → List ℕ → List ℕ → Result (Unit {0}) Ending → Type 0
@@ -229,7 +231,7 @@ IsPlayedAs schema built limit start Holds script before now (Ok x) = IsPlayedOut
 IsPlayedAs schema built limit start Holds script before now (Err (ending.Line number why)) = IsPlayedOut schema start Holds script before now (stopped number why)
 IsPlayedAs schema built limit start Holds script before now (Err ending.NoMemory) = IsPlayedFirst schema start Holds script before now
 IsPlayedAs schema built limit start Holds script before now (Err ending.Full) = IsPlayedFull schema built limit start Holds script before now
-IsPlayedAs schema built limit start Holds script before now (Err ending.Fault) = IsPlayedFront schema start script before now
+IsPlayedAs schema built limit start Holds script before now (Err ending.Fault) = IsPlayedFront schema start Holds script before now
 IsPlayedAs schema built limit start Holds script before now (Err _) = ⊥
 
 -- what an end of the play means for the request

@@ -22,11 +22,11 @@ use Rattle.gx_play.specs.declared.summary.Summary.{Summary}
 use Rattle.gx_play.specs.Endings.{status_of, memory_line, device_line, made_line, IsOutside, IsPlayEnding, IsEnded, IsFinished}
 use Rattle.gx_requests.specs.Requests.{IsRefused, IsSummary, IsUnprepared}
 use Rattle.gx_play.specs.Say.{IsCut, SameDevices}
-use Rattle.gx_play.specs.Played.{Says, SaysFront, SaysKeeping, IsPlayText, IsStoppedText, IsShortText, IsFullText, IsPlayedText}
+use Rattle.gx_play.specs.Played.{SaysText, SaysFront, SaysKeeping, IsPlayText, IsStoppedText, IsMemoryText, IsFullText}
 use Rattle.gx_play.specs.Plays.{IsPlayedAs}
-use Rattle.gx_top.specs.Tasks.{Task, IsTask, HasDevice, IsFrom, IsLeft, StartsAlike}
+use Rattle.gx_top.specs.Tasks.{Task, IsTask, HasDevice, IsFrom, IsLeft, StartsAlike, IsOnlyRecovered}
 use Rattle.gx_top.specs.Devices.{IsToMake, IsWrong, IsBefore, SaysWrong}
-use Rattle.gx_top.specs.Tries.{IsDoneText, IsOtherText, CanPlayTo, IsSaid, IsEnd, IsDueStatus, IsAsDue}
+use Rattle.gx_top.specs.Tries.{IsDoneText, IsOtherText, IsPlayCut, CanPlayTo, IsSaid, IsOutcome, IsDueStatus, IsAsDue}
 use Rattle.gx_requests.specs.Words.{explaining, making}
 use Rattle.gx_top.specs.Explained.{IsToExplain}
 use Rattle.gx_top.proofs.StayLemmas.{devices_same, starts_same}
@@ -132,18 +132,19 @@ not_device s (inr (inr is)) e = never (e ∙ is)
 unprepared_said : (words : List (List ℕ)) (old mid new : Content) (before now : ℕ) (why : Ending) (s : Status) → IsUnprepared words old.aside.texts before now why → mid.now.said ≡ old.now.said → ((t : Task) → StartsAlike t old new) → IsEnded why mid new s → IsSaid words old new s
 unprepared_said words old mid new before now why status.Refused is unsaid starts e = refused_says words old mid new before now why is (sym (e.status_is (λ f. cc) (λ f. cc))) (e.said (λ f. cc) (λ f. cc)) unsaid
 unprepared_said words old mid new before now why status.Memory is unsaid starts e = inl (memory_says words old mid new (e.memory refl) unsaid (λ t task. starts t))
-unprepared_said words old mid new before now why status.Outside is unsaid starts e = inl (unprepared_front words old mid new before now why is e.silent (e.cut refl) unsaid)
+unprepared_said words old mid new before now why status.Outside is unsaid starts e = inl (record { said = unprepared_front words old mid new before now why is e.silent (e.cut refl) unsaid; starts = λ t task. inl (starts t) })
 unprepared_said words old mid new before now why status.Done is unsaid starts e = absurd (not_done (status_of why) (unplayed words old before now why is) (e.status_is (λ f. cc) (λ f. cc)))
 unprepared_said words old mid new before now why status.Script is unsaid starts e = absurd (not_script (status_of why) (unplayed words old before now why is) (e.status_is (λ f. cc) (λ f. cc)))
 unprepared_said words old mid new before now why status.Full is unsaid starts e = absurd (not_full (status_of why) (unplayed words old before now why is) (e.status_is (λ f. cc) (λ f. cc)))
 unprepared_said words old mid new before now why status.Device is unsaid starts e = absurd (not_device (status_of why) (unplayed words old before now why is) (e.status_is (λ f. cc) (λ f. cc)))
 
-pub unprepared_end : (words : List (List ℕ)) (old mid new : Content) (before now : ℕ) (why : Ending) (s : Status) → IsUnprepared words old.aside.texts before now why → SameContent old mid → SameDevices mid new → IsEnded why mid new s → IsEnd words old new s
+pub unprepared_end : (words : List (List ℕ)) (old mid new : Content) (before now : ℕ) (why : Ending) (s : Status) → IsUnprepared words old.aside.texts before now why → SameContent old mid → SameDevices mid new → IsEnded why mid new s → IsOutcome words old new s
 unprepared_end words old mid new before now why s is same devices e = record {
   said = unprepared_said words old mid new before now why s is (ap (λ n. n.said) same.now) (λ t. starts_same t old new (λ name. devices_same mid new devices name ∙ ap (λ n. device_at n name) same.now)) e;
   heard = λ done t task limit start from. absurd (not_done (status_of why) (unplayed words old before now why is) (sym done ∙ e.status_is (done_not_outside s done) (done_not_memory s done)));
   heard_explained = λ done r. absurd (not_done (status_of why) (unplayed words old before now why is) (sym done ∙ e.status_is (done_not_outside s done) (done_not_memory s done)));
   unheard = λ none other. e.script ∙ same.script;
+  unheard_wrong = λ wrong. e.script ∙ same.script;
 }
 
 pub unprepared_due : (words : List (List ℕ)) (old mid new : Content) (before now : ℕ) (why : Ending) (s : Status) → IsUnprepared words old.aside.texts before now why → IsEnded why mid new s → IsAsDue words old s
@@ -175,7 +176,7 @@ unprepared_due words old mid new before now why s is e due can outside = by_due 
 check_said : (words : List (List ℕ)) (old mid new : Content) (summary : Summary) (s : Status) → IsSummary words old.aside.texts summary → mid.now.said ≡ old.now.said → IsEnded (ending.Accepted summary) mid new s → IsSaid words old new s
 check_said words old mid new summary status.Done is unsaid e = inl (check_done words old mid new summary is unsaid (e.said (λ f. cc) (λ f. cc)))
 check_said words old mid new summary status.Memory is unsaid e = inl (memory_says words old mid new (e.memory refl) unsaid (λ t task. absurd (checked_no_task words old t task (is.0, is.1, is.2, is.3))))
-check_said words old mid new summary status.Outside is unsaid e = inl (check_front words old mid new summary is unsaid (e.cut refl))
+check_said words old mid new summary status.Outside is unsaid e = inl (record { said = check_front words old mid new summary is unsaid (e.cut refl); starts = λ t task. absurd (checked_no_task words old t task (is.0, is.1, is.2, is.3)) })
 check_said words old mid new summary status.Refused is unsaid e = absurd (never (e.status_is (λ f. cc) (λ f. cc)))
   where
     never : status.Refused ≡ status.Done → ⊥
@@ -193,12 +194,13 @@ check_said words old mid new summary status.Device is unsaid e = absurd (never (
     never : status.Device ≡ status.Done → ⊥
     never f = cc
 
-pub check_end : (words : List (List ℕ)) (old mid new : Content) (summary : Summary) (s : Status) → IsSummary words old.aside.texts summary → mid.now.said ≡ old.now.said → mid.script ≡ old.script → IsEnded (ending.Accepted summary) mid new s → IsEnd words old new s
+pub check_end : (words : List (List ℕ)) (old mid new : Content) (summary : Summary) (s : Status) → IsSummary words old.aside.texts summary → mid.now.said ≡ old.now.said → mid.script ≡ old.script → IsEnded (ending.Accepted summary) mid new s → IsOutcome words old new s
 check_end words old mid new summary s is unsaid unheard e = record {
   said = check_said words old mid new summary s is unsaid e;
   heard = λ done t task limit start from. absurd (checked_no_task words old t task (is.0, is.1, is.2, is.3));
   heard_explained = λ done r. absurd (checked_not_explained words old (is.0, is.1, is.2, is.3) r);
   unheard = λ none other. e.script ∙ unheard;
+  unheard_wrong = λ wrong. e.script ∙ unheard;
 }
 
 pub check_due : (words : List (List ℕ)) (old mid new : Content) (summary : Summary) (s : Status) → IsSummary words old.aside.texts summary → IsEnded (ending.Accepted summary) mid new s → IsAsDue words old s
@@ -314,9 +316,9 @@ device_outside e = absurd (never e)
     never : status.Device ≡ status.Outside → ⊥
     never f = cc
 
-unhad_done : (words : List (List ℕ)) (old mid new : Content) (why : Ending) → IsUnhad words old why → mid.now.said ≡ old.now.said → IsEnded why mid new status.Done → Says (IsDoneText words old) old new
+unhad_done : (words : List (List ℕ)) (old mid new : Content) (why : Ending) → IsUnhad words old why → mid.now.said ≡ old.now.said → IsEnded why mid new status.Done → SaysText (IsDoneText words old) old new
 unhad_done words old mid new why is unsaid =
-    by_unhad words old (λ w. IsEnded w mid new status.Done → Says (IsDoneText words old) old new) why is
+    by_unhad words old (λ w. IsEnded w mid new status.Done → SaysText (IsDoneText words old) old new) why is
     (λ blocks pages make pages_are e. (made_line blocks pages, made_done words old blocks pages make pages_are, e.said (λ f. cc) (λ f. cc) ∙ ap (λ t. t ++ made_line blocks pages) unsaid))
     (λ wrong device early e. no_done (e.status_is (λ f. cc) (λ f. cc)))
     (λ e. done_memory (e.status_is (λ f. cc) (λ f. cc)))
@@ -333,14 +335,37 @@ unhad_device words old mid new why is unsaid =
     (λ e. device_memory (e.status_is (λ f. cc) (λ f. cc)))
     (λ e. device_outside (e.status_is (λ f. cc) (λ f. cc)))
 
-unhad_said : (words : List (List ℕ)) (old mid new : Content) (why : Ending) (s : Status) → IsUnhad words old why → mid.now.said ≡ old.now.said → (s ≡ status.Memory → (t : Task) → IsTask words old.aside.texts t → StartsAlike t old new) → IsEnded why mid new s → IsSaid words old new s
-unhad_said words old mid new why status.Done is unsaid starts e = inl (unhad_done words old mid new why is unsaid e)
-unhad_said words old mid new why status.Memory is unsaid starts e = inl (memory_says words old mid new (e.memory refl) unsaid (starts refl))
-unhad_said words old mid new why status.Outside is unsaid starts e = inl (unhad_front words old mid new why is unsaid e)
-unhad_said words old mid new why status.Device is unsaid starts e = inl (unhad_device words old mid new why is unsaid e)
-unhad_said words old mid new why status.Script is unsaid starts e = absurd (subst IsUnhadStatus (sym (e.status_is (λ f. cc) (λ f. cc))) (unhad_status words old why is))
-unhad_said words old mid new why status.Refused is unsaid starts e = absurd (subst IsUnhadStatus (sym (e.status_is (λ f. cc) (λ f. cc))) (unhad_status words old why is))
-unhad_said words old mid new why status.Full is unsaid starts e = absurd (subst IsUnhadStatus (sym (e.status_is (λ f. cc) (λ f. cc))) (unhad_status words old why is))
+-- unless a call failed, the device on which a script was to be played holds the states that it held
+abbrev Starts : List (List ℕ) → Content → Content → Ending → Type 0
+Starts words old new why = why ≢ ending.Fault → (t : Task) → IsTask words old.aside.texts t → StartsAlike t old new
+
+-- and no block of it was written but by recovery
+abbrev Recovered : List (List ℕ) → Content → Content → Type 0
+Recovered words old new = (t : Task) → IsTask words old.aside.texts t → IsOnlyRecovered t old new
+
+unhad_starts : (words : List (List ℕ)) (old mid new : Content) (why : Ending) → IsUnhad words old why → mid.now.said ≡ old.now.said → Starts words old new why → Recovered words old new → IsEnded why mid new status.Outside → (t : Task) → IsTask words old.aside.texts t → StartsAlike t old new ⊎ ((new.now.said ≡ old.now.said) × IsOnlyRecovered t old new)
+unhad_starts words old mid new why is unsaid starts recovered e t task =
+    by_unhad words old (λ w. Starts words old new w → IsEnded w mid new status.Outside → StartsAlike t old new ⊎ ((new.now.said ≡ old.now.said) × IsOnlyRecovered t old new)) why is
+    (λ blocks pages make pages_are from ended. inl (from (λ f. cc) t task))
+    (λ wrong device early from ended. inl (from (λ f. cc) t task))
+    (λ from ended. inl (from (λ f. cc) t task))
+    (λ from ended. inr (ended.silent refl ∙ unsaid, recovered t task))
+    starts e
+
+never_fault : (why : Ending) (mid new : Content) → IsEnded why mid new status.Memory → why ≢ ending.Fault
+never_fault why mid new e f = never (e.fault f)
+  where
+    never : status.Memory ≡ status.Outside → ⊥
+    never g = cc
+
+unhad_said : (words : List (List ℕ)) (old mid new : Content) (why : Ending) (s : Status) → IsUnhad words old why → mid.now.said ≡ old.now.said → Starts words old new why → Recovered words old new → IsEnded why mid new s → IsSaid words old new s
+unhad_said words old mid new why status.Done is unsaid starts recovered e = inl (unhad_done words old mid new why is unsaid e)
+unhad_said words old mid new why status.Memory is unsaid starts recovered e = inl (memory_says words old mid new (e.memory refl) unsaid (starts (never_fault why mid new e)))
+unhad_said words old mid new why status.Outside is unsaid starts recovered e = inl (record { said = unhad_front words old mid new why is unsaid e; starts = unhad_starts words old mid new why is unsaid starts recovered e })
+unhad_said words old mid new why status.Device is unsaid starts recovered e = inl (unhad_device words old mid new why is unsaid e)
+unhad_said words old mid new why status.Script is unsaid starts recovered e = absurd (subst IsUnhadStatus (sym (e.status_is (λ f. cc) (λ f. cc))) (unhad_status words old why is))
+unhad_said words old mid new why status.Refused is unsaid starts recovered e = absurd (subst IsUnhadStatus (sym (e.status_is (λ f. cc) (λ f. cc))) (unhad_status words old why is))
+unhad_said words old mid new why status.Full is unsaid starts recovered e = absurd (subst IsUnhadStatus (sym (e.status_is (λ f. cc) (λ f. cc))) (unhad_status words old why is))
 
 -- where the script was to be played, nothing is done
 unhad_undone : (words : List (List ℕ)) (old mid new : Content) (why : Ending) (t : Task) → IsUnhad words old why → IsTask words old.aside.texts t → IsEnded why mid new status.Done → ⊥
@@ -359,12 +384,13 @@ unhad_unexplained words old mid new why is r =
     (λ e. done_memory (e.status_is (λ f. cc) (λ f. cc)))
     (λ e. done_outside (e.status_is (λ f. cc) (λ f. cc)))
 
-pub unhad_end : (words : List (List ℕ)) (old mid new : Content) (why : Ending) (s : Status) → IsUnhad words old why → mid.now.said ≡ old.now.said → mid.script ≡ old.script → (s ≡ status.Memory → (t : Task) → IsTask words old.aside.texts t → StartsAlike t old new) → IsEnded why mid new s → IsEnd words old new s
-unhad_end words old mid new why s is unsaid unheard starts e = record {
-  said = unhad_said words old mid new why s is unsaid starts e;
+pub unhad_end : (words : List (List ℕ)) (old mid new : Content) (why : Ending) (s : Status) → IsUnhad words old why → mid.now.said ≡ old.now.said → mid.script ≡ old.script → (why ≢ ending.Fault → (t : Task) → IsTask words old.aside.texts t → StartsAlike t old new) → ((t : Task) → IsTask words old.aside.texts t → IsOnlyRecovered t old new) → IsEnded why mid new s → IsOutcome words old new s
+unhad_end words old mid new why s is unsaid unheard starts recovered e = record {
+  said = unhad_said words old mid new why s is unsaid starts recovered e;
   heard_explained = λ done r. absurd (unhad_unexplained words old mid new why is r (subst (IsEnded why mid new) done e));
   heard = λ done t task limit start from. absurd (unhad_undone words old mid new why t is task (subst (IsEnded why mid new) done e));
   unheard = λ none other. e.script ∙ unheard;
+  unheard_wrong = λ wrong. e.script ∙ unheard;
 }
 
 -- of a script that was to be played, where its device wasn't had, there was no memory for its line, or the device is wrong
@@ -426,9 +452,9 @@ unhad_due words old mid new why s t is task e due can outside = by_due due can (
 abbrev Row : Task → Option Limits → State → Content → Content → Status → Type 0
 Row t limit start old new status.Done = SaysKeeping (IsPlayText t.schema start old.script good) (IsLeft t new) old new
 Row t limit start old new status.Script = SaysKeeping (IsStoppedText t.schema start old.script) (IsLeft t new) old new
-Row t limit start old new status.Memory = SaysKeeping (IsShortText t.schema start old.script) (IsLeft t new) old new
+Row t limit start old new status.Memory = SaysKeeping (IsMemoryText t.schema start old.script) (IsLeft t new) old new
 Row t limit start old new status.Full = SaysKeeping (IsFullText t.schema t.definitions limit start old.script) (IsLeft t new) old new
-Row t limit start old new status.Outside = SaysFront (IsPlayedText t.schema t.definitions limit start old.script) old new
+Row t limit start old new status.Outside = IsPlayCut t limit start old new
 Row t limit start old new status.Refused = ⊥
 Row t limit start old new status.Device = ⊥
 
@@ -467,12 +493,6 @@ stop_status ending.TextsTooLong is = absurd is
 stop_status (ending.Accepted summary) is = absurd is
 stop_status (ending.Made blocks pages) is = absurd is
 
-not_fault : (why : Ending) (old new : Content) → IsEnded why old new status.Memory → why ≢ ending.Fault
-not_fault why old new e f = never (e.fault f)
-  where
-    never : status.Memory ≡ status.Outside → ⊥
-    never g = cc
-
 -- where it began with a state, no damage was found
 device_unplayed : (why : Ending) {P : Type 0} (t : Task) (Holds : State → Type 0) (built : Built) (limit : Option Limits) (start : State) (script before now : List ℕ) → IsPlayedAs t.schema built limit start Holds script before now (Err why) → status.Device ≡ status_of why → P
 device_unplayed (ending.Line number reason) t Holds built limit start script before now is e = absurd (never e)
@@ -504,7 +524,7 @@ module _ (t : Task) (built : Built) (trees : IsBuiltOf t.schema t.definitions bu
   stop_row why status.Done is ends e = absurd (subst IsStopStatus (sym (e.status_is (λ f. cc) (λ f. cc))) (stop_status why ends))
   stop_row why status.Refused is ends e = absurd (subst IsStopStatus (sym (e.status_is (λ f. cc) (λ f. cc))) (stop_status why ends))
   stop_row why status.Script is ends e = stopped_row t.schema t.definitions built limit start (IsLeft t new) trees old mid new why is (e.said (λ f. cc) (λ f. cc)) (sym (e.status_is (λ f. cc) (λ f. cc)))
-  stop_row why status.Memory is ends e = short_row t.schema t.definitions built limit start (IsLeft t new) trees old mid new why is (not_fault why mid new e) (e.memory refl)
+  stop_row why status.Memory is ends e = short_row t.schema t.definitions built limit start (IsLeft t new) trees old mid new why is (never_fault why mid new e) (e.memory refl)
   stop_row why status.Full is ends e = full_row t.schema t.definitions built limit start (IsLeft t new) trees old mid new why is (e.said (λ f. cc) (λ f. cc)) (sym (e.status_is (λ f. cc) (λ f. cc)))
   stop_row why status.Outside is ends e = front_row t.schema t.definitions built limit start (IsLeft t new) trees old mid new why is e.silent (e.cut refl)
   stop_row why status.Device is ends e = device_unplayed why t (IsLeft t new) built limit start old.script old.now.said mid.now.said is (e.status_is (λ f. cc) (λ f. cc))
@@ -574,12 +594,13 @@ run_heard : (words : List (List ℕ)) (t : Task) (old mid new : Content) (played
 run_heard words t old mid new (Ok x) s r done limit start from = ap (λ (c : Content). c.script) r.finished.1 ∙ r.heard limit start from refl
 run_heard words t old mid new (Err why) s r done limit start from = absurd (subst IsStopStatus (sym (r.finished.status_is (done_not_outside s done) (done_not_memory s done)) ∙ done) (stop_status why r.play_ending))
 
-pub run_end : (words : List (List ℕ)) (t : Task) (old mid new : Content) (played : Result (Unit {0}) Ending) (s : Status) → IsRun words t old mid new played s → IsEnd words old new s
+pub run_end : (words : List (List ℕ)) (t : Task) (old mid new : Content) (played : Result (Unit {0}) Ending) (s : Status) → IsRun words t old mid new played s → IsOutcome words old new s
 run_end words t old mid new played s r = record {
   said = run_said words t old mid new played s r;
   heard = λ done u other limit start from. run_heard words t old mid new played s r done limit start (subst (λ v. IsFrom v old limit start) (one_task words old.aside.texts u t other r.task) from);
   heard_explained = λ done q. absurd (task_not_explained words old.aside.texts t r.task q);
   unheard = λ none other. absurd (none t r.task);
+  unheard_wrong = λ wrong. absurd (r.right wrong.why wrong.is_before wrong.wrong);
 }
 
 -- ---- the status that is due

@@ -47,7 +47,7 @@ use Rattle.gx_scan.specs.Files.{records_of}
 use Rattle.gx_model.specs.Play.{Playing, seen_state, next_of}
 use Rattle.gx_model.specs.States.{File, State}
 use Rattle.gx_play.specs.Built.{IsBuiltOf}
-use Rattle.gx_play.specs.Played.{AreFirst, IsFullAt, IsFull}
+use Rattle.gx_play.specs.Played.{AreFirst, MayBeFullAt, MayBeFull}
 use Rattle.gx_states.proofs.CountLemmas.{crowded_more}
 use Rattle.gx_states.specs.Internal.{AreInternal, entries_from, owner_count, link_entries_from, state_entries}
 use Rattle.gx_top.specs.Needs.{need, AreEnough}
@@ -319,7 +319,7 @@ few_entries schema ds built maps s trees many is =
 
 -- a device that is full by the entries of its leaves is full by those of the state
 pub full_by_state : (schema : Schema) (ds : List DefinitionTree) (built : Built) (limit : Option Limits) (start : State) (script answers : List ℕ) (final : Playing) → IsBuiltOf schema ds built
-    → IsFullAt schema built limit start script answers final → IsFull schema ds limit start script answers final
+    → MayBeFullAt schema built limit start script answers final → MayBeFull schema ds limit start script answers final
 full_by_state schema ds built limit start script answers final trees full =
     let at = full.short in
     let few = few_entries schema ds built at.maps (seen_state final) trees at.many at.before in
@@ -407,7 +407,7 @@ same_entries schema ds x y s a b =
     )
 
 -- where the pages are enough, no moment of the play is full
-pub never_full : (schema : Schema) (ds : List DefinitionTree) (built : Built) (l : Limits) (start : State) (script answers : List ℕ) (final : Playing) → IsBuiltOf schema ds built → AreEnough schema built l start script → ¬ IsFull schema ds (Some l) start script answers final
+pub never_full : (schema : Schema) (ds : List DefinitionTree) (built : Built) (l : Limits) (start : State) (script answers : List ℕ) (final : Playing) → IsBuiltOf schema ds built → AreEnough schema built l start script → ¬ MayBeFull schema ds (Some l) start script answers final
 never_full schema ds built l start script answers final trees enough full =
     let at = full.short in
     let first : AreFirst schema start script answers = record { ran = full.ran; later = full.later; parts = full.parts; final = final; runs = full.runs } in

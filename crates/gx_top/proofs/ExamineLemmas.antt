@@ -34,14 +34,14 @@ use Rattle.gx_top.specs.Devices.{IsWrongOn, IsBefore}
 use Rattle.gx_top.specs.Ran.{StaysWrong}
 use Rattle.gx_operations.specs.Examined.{IsExamined}
 use Rattle.gx_top.specs.Found.{IsTold}
-use Rattle.gx_top.specs.Inspected.{IsToInspect, inspected, IsInspected, IsStoredOn, LeavesInspected, LeavesInspectedBy}
+use Rattle.gx_top.specs.Inspected.{IsToInspect, inspected, IsStoredOn, LeavesInspected, LeavesInspectedBy}
 use Rattle.gx_top.proofs.StoredLemmas.{same_internal}
 use Rattle.gx_top.proofs.StayLemmas.{devices_same, ReadsAlike, reads_itself, reads_between, held_still}
 use Rattle.gx_top.proofs.CompleteLemmas.{same_words, had_not_wrong}
 use Rattle.gx_operations.proofs.NameLemmas.{other_at}
 use Rattle.gx_top.proofs.RanLemmas.{stays_itself}
 use Rattle.gx_top.proofs.UnopenedLemmas.{IsTried, not_failed, gone, stays}
-use Rattle.gx_top.proofs.InspectLemmas.{device_once, one_inspection, IsUninspected, uninspected_row, IsFoundOf, found_row}
+use Rattle.gx_top.proofs.InspectLemmas.{IsInspectedOr, device_once, one_inspection, IsUninspected, uninspected_row, IsFoundOf, found_row}
 
 -- ---- a device that was opened
 
@@ -82,8 +82,8 @@ stored_still t device old new maps reads stored =
     let is = reads.alike stored.0 stored.1 in
     (is.0, is.1, reopens_alike (schema_text t.schema) (equation_text t.definitions) t.typing.specs maps stored.0 is.0 is.2 stored.2)
 
-refused_never : (t : Task) (device : List ℕ) (old new : Content) (s : Status) → IsInspected t device old new s → s ≡ status.Refused → ⊥
-refused_never t device old new s row e = subst (IsInspected t device old new) e row
+refused_never : (t : Task) (device : List ℕ) (old new : Content) (s : Status) → IsInspectedOr t device old new s → s ≡ status.Refused → ⊥
+refused_never t device old new s row e = subst (IsInspectedOr t device old new) e row
 
 module _ (words : List (List ℕ)) (device : List ℕ) (x : Stored) (old middle : Content) (p : IsStoredFor words old.aside.texts (inspecting device) x) (same : SameContent old middle) where
   abbrev pub Request : IsToInspect words old.aside.texts
@@ -133,7 +133,7 @@ module _ (words : List (List ℕ)) (device : List ℕ) (x : Stored) (old middle 
   unopened_why unopened.NoMemory is = tt
 
   module _ (mid new : Content) (why : Unopened) (s : Status) (tried : IsTried device p.typing.specs middle mid why) (devices : SameDevices mid new) (is : IsUnopened device (schema_text x.schema) (equation_text p.definitions) p.typing.specs middle why) (ended : IsEnded (unopened_ending why) mid new s) where
-    pub unopened_row : IsInspected Asked device old new s
+    pub unopened_row : IsInspectedOr Asked device old new s
     unopened_row = uninspected_row Asked device old mid new (unopened_ending why) (unopened_why why is) (tried.attaches.said ∙ ap (λ n. n.said) same.now) s ended
 
     pub unopened_script : new.script ≡ old.script
@@ -220,7 +220,7 @@ module _ (words : List (List ℕ)) (device : List ℕ) (x : Stored) (old middle 
     found_by (Err (ending.Line number why)) f = absurd f
     found_by (Err (ending.Made blocks pages)) f = absurd f
 
-    pub examined_row : (new : Content) (s : Status) → SameDevices mid new → IsTold found mid new s → IsInspected Asked device old new s
+    pub examined_row : (new : Content) (s : Status) → SameDevices mid new → IsTold found mid new s → IsInspectedOr Asked device old new s
     examined_row new s devices told = found_row Asked device old mid new found s (found_by found seen.examined) unsaid devices told
 
     pub examined_script : (new : Content) → new.script ≡ mid.script → new.script ≡ old.script

@@ -8,11 +8,11 @@ use Rattle.gx_types.specs.declared.built.Built.{Built}
 use Rattle.gx_model.specs.Play.{End, good, stopped}
 use Rattle.gx_play.specs.declared.status.Status.{Status}
 use Rattle.gx_play.specs.declared.status.Status.TheVariants as status
-use Rattle.gx_explain.specs.Explained.{indexed_fields, IsExplainText, IsStoppedText, IsShortText, IsSomeText, IsScriptExplained}
+use Rattle.gx_explain.specs.Explained.{indexed_fields, IsExplainText, IsStoppedExplanation, IsMemoryExplanation, IsSomeText, IsScriptExplained}
 use Rattle.gx_top.specs.Explained.{IsToExplain, Explains, IsExplainable}
 use Rattle.gx_explain.specs.Explaining.{fields_in}
 use Rattle.gx_requests.specs.Checked.{IsPrepared}
-use Rattle.gx_top.specs.Tries.{IsSaid, IsEnd, IsDueStatus, IsAsDue}
+use Rattle.gx_top.specs.Tries.{IsSaid, IsOutcome, IsDueStatus, IsAsDue}
 use Rattle.gx_requests.specs.Words.{explaining}
 use Rattle.gx_top.proofs.CompleteLemmas.{one_acceptance, accepted_not_refused, task_not_explained, checked_not_explained, made_not_explained, wrong_not_explained, explained_not_inspected, explained_not_worked}
 use Rattle.gx_explain.proofs.ExplainEndLemmas.{same_fields}
@@ -55,8 +55,8 @@ ends_so words old new s end r is due other =
 -- nothing was heard or said before
 pub explained_from : (schema : Schema) (indexed : ℕ → List Bool) (old mid new : Content) (s : Status) → mid.script ≡ old.script → mid.now.said ≡ old.now.said → IsScriptExplained schema indexed mid new s → IsScriptExplained schema indexed old new s
 explained_from schema indexed old mid new status.Done script said is = (is.0, subst (λ t. IsExplainText schema indexed t good is.0) script is.1, is.2 ∙ ap (λ t. t ++ is.0) said)
-explained_from schema indexed old mid new status.Script script said is = (is.0, subst (λ t. IsStoppedText schema indexed t is.0) script is.1, is.2 ∙ ap (λ t. t ++ is.0) said)
-explained_from schema indexed old mid new status.Memory script said is = (is.0, subst (λ t. IsShortText schema indexed t is.0) script is.1, is.2 ∙ ap (λ t. t ++ is.0) said)
+explained_from schema indexed old mid new status.Script script said is = (is.0, subst (λ t. IsStoppedExplanation schema indexed t is.0) script is.1, is.2 ∙ ap (λ t. t ++ is.0) said)
+explained_from schema indexed old mid new status.Memory script said is = (is.0, subst (λ t. IsMemoryExplanation schema indexed t is.0) script is.1, is.2 ∙ ap (λ t. t ++ is.0) said)
 explained_from schema indexed old mid new status.Outside script said is = (is.0, subst (λ t. IsSomeText schema indexed t is.0) script is.1, (is.2.0, is.2.1 ∙ ap (λ t. t ++ take is.2.0 is.0) said))
 explained_from schema indexed old mid new status.Refused script said is = absurd is
 explained_from schema indexed old mid new status.Full script said is = absurd is
@@ -81,12 +81,13 @@ explain_said words old new status.Refused is = absurd is.1
 explain_said words old new status.Full is = absurd is.1
 explain_said words old new status.Device is = absurd is.1
 
-pub explain_end : (words : List (List ℕ)) (old new : Content) (s : Status) → Explains words old new s → (s ≡ status.Done → new.script ≡ []) → IsEnd words old new s
+pub explain_end : (words : List (List ℕ)) (old new : Content) (s : Status) → Explains words old new s → (s ≡ status.Done → new.script ≡ []) → IsOutcome words old new s
 explain_end words old new s is heard = record {
   said = explain_said words old new s is;
   heard = λ done t task limit start from. absurd (task_not_explained words old.aside.texts t task is.0);
   heard_explained = λ done r. heard done;
   unheard = λ none other. absurd (other is.0);
+  unheard_wrong = λ wrong. absurd (wrong_not_explained words old wrong.why wrong.wrong is.0);
 }
 
 pub explain_due : (words : List (List ℕ)) (old new : Content) (s : Status) → Explains words old new s → IsAsDue words old s

@@ -12,16 +12,25 @@ use Rattle.gx_play.specs.declared.ending.Ending.TheVariants as ending
 use Rattle.gx_play.specs.declared.status.Status.{Status}
 use Rattle.gx_play.specs.declared.status.Status.TheVariants as status
 use Rattle.gx_play.specs.Endings.{status_of, memory_line, device_line, IsEnded}
-use Rattle.gx_play.specs.Played.{Says, SaysFront}
+use Rattle.gx_play.specs.Played.{SaysText, SaysFront}
 use Rattle.gx_play.specs.Say.{IsCut, SameDevices}
 use Rattle.gx_requests.specs.Words.{Action, inspecting}
 use Rattle.gx_top.specs.Tasks.{Task, IsHeldOn}
 use Rattle.gx_top.specs.Devices.{IsWrongOn}
 use Rattle.gx_top.specs.Found.{IsTold}
-use Rattle.gx_top.specs.Inspected.{IsToInspect, inspected, IsInspectText, IsWrongText, IsFoundText, IsInspected, Inspects}
-use Rattle.gx_top.specs.Tries.{IsSaid, IsEnd, IsDueStatus, IsAsDue}
+use Rattle.gx_top.specs.Inspected.{IsToInspect, inspected, IsInspectText, IsWrongText, IsFoundText, IsInspected}
+use Rattle.gx_top.specs.Tries.{IsSaid, IsOutcome, IsDueStatus, IsAsDue}
 use Rattle.gx_top.proofs.StayLemmas.{devices_same}
 use Rattle.gx_top.proofs.CompleteLemmas.{one_acceptance, task_not_inspected, checked_not_inspected, made_not_inspected, explained_not_inspected, wrong_not_inspected, inspected_not_refused, inspected_not_worked, held_not_wrong}
+
+-- ---- what was said of the device, or that there was no memory
+
+abbrev pub IsInspectedOr : Task → List ℕ → Content → Content → Status → Type 0
+IsInspectedOr t device old new status.Memory = new.now.said ≡ old.now.said ++ memory_line
+IsInspectedOr t device old new s = IsInspected t device old new s
+
+abbrev pub InspectsOr : List (List ℕ) → Content → Content → Status → Type 0
+InspectsOr words old new s = (r : IsToInspect words old.aside.texts) × IsInspectedOr (inspected r) r.device old new s
 
 -- ---- the words ask for one device to be inspected
 
@@ -105,16 +114,16 @@ module _ (t : Task) (device : List ℕ) (old mid new : Content) (why : Ending) (
       (λ e. cut_front memory_line (inr (inr refl)) (e.cut refl))
       (λ e. (memory_line, inr (inr refl), (0, e.silent refl ∙ unsaid ∙ sym (append-nil old.now.said))))
 
-  wrong_said : IsEnded why mid new status.Device → Says (IsWrongText t device old) old new
+  wrong_said : IsEnded why mid new status.Device → SaysText (IsWrongText t device old) old new
   wrong_said =
-      by_uninspected t device old (λ w. IsEnded w mid new status.Device → Says (IsWrongText t device old) old new) why is
+      by_uninspected t device old (λ w. IsEnded w mid new status.Device → SaysText (IsWrongText t device old) old new) why is
       (λ wrong found e. (device_line wrong, (wrong, found, refl), e.said (λ f. cc) (λ f. cc) ∙ ap (λ s. s ++ device_line wrong) unsaid))
       (λ e. memory_device (e.status_is (λ f. cc) (λ f. cc)))
       (λ e. outside_device (e.status_is (λ f. cc) (λ f. cc)))
 
-  pub uninspected_row : (s : Status) → IsEnded why mid new s → IsInspected t device old new s
+  pub uninspected_row : (s : Status) → IsEnded why mid new s → IsInspectedOr t device old new s
   uninspected_row status.Device e = wrong_said e
-  uninspected_row status.Memory e = (memory_line, refl, e.memory refl ∙ ap (λ s. s ++ memory_line) unsaid)
+  uninspected_row status.Memory e = e.memory refl ∙ ap (λ s. s ++ memory_line) unsaid
   uninspected_row status.Outside e = front e
   uninspected_row status.Done e = absurd (subst IsStop (sym (e.status_is (λ f. cc) (λ f. cc))) (uninspected_status t device old why is))
   uninspected_row status.Refused e = absurd (subst IsStop (sym (e.status_is (λ f. cc) (λ f. cc))) (uninspected_status t device old why is))
@@ -144,34 +153,35 @@ text_later t device old mid new text same is = record {
   text_is = is.text_is;
 }
 
-told_row : (t : Task) (device : List ℕ) (old mid new : Content) (text : List ℕ) (s : Status) → IsInspectText t device old new text → mid.now.said ≡ old.now.said → IsTold (Ok text) mid new s → IsInspected t device old new s
-told_row t device old mid new text s is unsaid (inl told) = subst (IsInspected t device old new) (sym told.0) (text, is, told.1 ∙ ap (λ l. l ++ text) unsaid)
-told_row t device old mid new text s is unsaid (inr told) = subst (IsInspected t device old new) (sym told.0) (text, inl is, (told.1.0, told.1.1 ∙ ap (λ l. l ++ take told.1.0 text) unsaid))
+told_row : (t : Task) (device : List ℕ) (old mid new : Content) (text : List ℕ) (s : Status) → IsInspectText t device old new text → mid.now.said ≡ old.now.said → IsTold (Ok text) mid new s → IsInspectedOr t device old new s
+told_row t device old mid new text s is unsaid (inl told) = subst (IsInspectedOr t device old new) (sym told.0) (text, is, told.1 ∙ ap (λ l. l ++ text) unsaid)
+told_row t device old mid new text s is unsaid (inr told) = subst (IsInspectedOr t device old new) (sym told.0) (text, inl is, (told.1.0, told.1.1 ∙ ap (λ l. l ++ take told.1.0 text) unsaid))
 
-pub found_row : (t : Task) (device : List ℕ) (old mid new : Content) (found : Result (List ℕ) Ending) (s : Status) → IsFoundOf t device old mid found → mid.now.said ≡ old.now.said → SameDevices mid new → IsTold found mid new s → IsInspected t device old new s
+pub found_row : (t : Task) (device : List ℕ) (old mid new : Content) (found : Result (List ℕ) Ending) (s : Status) → IsFoundOf t device old mid found → mid.now.said ≡ old.now.said → SameDevices mid new → IsTold found mid new s → IsInspectedOr t device old new s
 found_row t device old mid new (Ok text) s is unsaid same told = told_row t device old mid new text s (text_later t device old mid new text same is) unsaid told
 found_row t device old mid new (Err why) s is unsaid same told = uninspected_row t device old mid new why is unsaid s told
 
 -- ---- how the request ends
 
-inspect_said : (words : List (List ℕ)) (old new : Content) (s : Status) → Inspects words old new s → IsSaid words old new s
+inspect_said : (words : List (List ℕ)) (old new : Content) (s : Status) → InspectsOr words old new s → IsSaid words old new s
 inspect_said words old new status.Done is = inr (inr (inr (inl is)))
 inspect_said words old new status.Device is = inr (inl is)
 inspect_said words old new status.Outside is = inr (inr (inr (inl is)))
 inspect_said words old new status.Memory is = inl (record {
-  said = is.1.2 ∙ ap (λ l. old.now.said ++ l) is.1.1;
+  said = is.1;
   starts = λ t task. absurd (task_not_inspected words old.aside.texts t task is.0);
 })
 inspect_said words old new status.Script is = absurd is.1
 inspect_said words old new status.Refused is = absurd is.1
 inspect_said words old new status.Full is = absurd is.1
 
-pub inspect_end : (words : List (List ℕ)) (old new : Content) (s : Status) → Inspects words old new s → new.script ≡ old.script → IsEnd words old new s
+pub inspect_end : (words : List (List ℕ)) (old new : Content) (s : Status) → InspectsOr words old new s → new.script ≡ old.script → IsOutcome words old new s
 inspect_end words old new s is unheard = record {
   said = inspect_said words old new s is;
   heard = λ done t task limit start from. absurd (task_not_inspected words old.aside.texts t task is.0);
   heard_explained = λ done r. absurd (explained_not_inspected words old.aside.texts r is.0);
   unheard = λ none other. unheard;
+  unheard_wrong = λ wrong. unheard;
 }
 
 -- ---- the status that is due
@@ -185,7 +195,7 @@ held_right device t before limit s device_why.Size is held = held_not_wrong devi
 held_right device t before limit s device_why.NoDatabase is held = held_not_wrong device t before limit s device_why.NoDatabase tt is held
 held_right device t before limit s (device_why.OtherEquation place) is held = held_not_wrong device t before limit s (device_why.OtherEquation place) tt is held
 
-sound_status : (t : Task) (device : List ℕ) (old new : Content) (limit : Option Limits) (state : State) (s : Status) → IsHeldOn t device old limit state → IsInspected t device old new s → s ≢ status.Outside → (s ≡ status.Done) ⊎ (s ≡ status.Memory)
+sound_status : (t : Task) (device : List ℕ) (old new : Content) (limit : Option Limits) (state : State) (s : Status) → IsHeldOn t device old limit state → IsInspectedOr t device old new s → s ≢ status.Outside → (s ≡ status.Done) ⊎ (s ≡ status.Memory)
 sound_status t device old new limit state status.Done held row outside = inl refl
 sound_status t device old new limit state status.Memory held row outside = inr refl
 sound_status t device old new limit state status.Device held row outside = absurd (held_right device t old limit state row.1.0 row.1.1 held)
@@ -194,7 +204,7 @@ sound_status t device old new limit state status.Script held row outside = absur
 sound_status t device old new limit state status.Refused held row outside = absurd row
 sound_status t device old new limit state status.Full held row outside = absurd row
 
-unsound_status : (t : Task) (device : List ℕ) (old new : Content) (s : Status) → ((limit : Option Limits) (state : State) → ¬ IsHeldOn t device old limit state) → IsInspected t device old new s → s ≢ status.Outside → (s ≡ status.Device) ⊎ (s ≡ status.Memory)
+unsound_status : (t : Task) (device : List ℕ) (old new : Content) (s : Status) → ((limit : Option Limits) (state : State) → ¬ IsHeldOn t device old limit state) → IsInspectedOr t device old new s → s ≢ status.Outside → (s ≡ status.Device) ⊎ (s ≡ status.Memory)
 unsound_status t device old new status.Device none row outside = inl refl
 unsound_status t device old new status.Memory none row outside = inr refl
 unsound_status t device old new status.Done none row outside = absurd (none row.1.limit row.1.state row.1.held)
@@ -204,12 +214,12 @@ unsound_status t device old new status.Refused none row outside = absurd row
 unsound_status t device old new status.Full none row outside = absurd row
 
 -- the same, as another reading of the words has it
-row_of : (words : List (List ℕ)) (old new : Content) (s : Status) (r : IsToInspect words old.aside.texts) → Inspects words old new s → IsInspected (inspected r) r.device old new s
+row_of : (words : List (List ℕ)) (old new : Content) (s : Status) (r : IsToInspect words old.aside.texts) → InspectsOr words old new s → IsInspectedOr (inspected r) r.device old new s
 row_of words old new s r is =
     let same = one_inspection words old.aside.texts is.0 r in
-    subst (λ (x : Task × List ℕ). IsInspected x.0 x.1 old new s) (λ i. (same.tasks i, same.devices i)) is.1
+    subst (λ (x : Task × List ℕ). IsInspectedOr x.0 x.1 old new s) (λ i. (same.tasks i, same.devices i)) is.1
 
-pub inspect_due : (words : List (List ℕ)) (old new : Content) (s : Status) → Inspects words old new s → IsAsDue words old s
+pub inspect_due : (words : List (List ℕ)) (old new : Content) (s : Status) → InspectsOr words old new s → IsAsDue words old s
 inspect_due words old new s is due can outside = by_due due can
   where
     by_due : (due : Status) → IsDueStatus words old due → (s ≡ due) ⊎ (s ≡ status.Memory)

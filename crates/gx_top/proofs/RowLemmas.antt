@@ -1,7 +1,7 @@
 -- What was said of a script that was played: its answers, and behind them the line of its end.
-use Rattle.std.proofs.Common.{◌≡◌, ℕ, ◌+◌, List, [], ◌∷◌, ◌++◌, length, take, Result, Ok, Err, Option, Some, None, refl, sym, ap, ◌∙◌, arith, inl, inr}
-use Rattle.std.specs.Prelude.{◌≢◌, min}
-use Rattle.std.proofs.lemmas.List.{append-nil, take-append-le}
+use Rattle.std.proofs.Common.{◌≡◌, ℕ, ◌+◌, List, [], ◌∷◌, ◌++◌, length, take, Result, Ok, Err, Option, Some, None, refl, sym, subst, ◌∙◌, inl, inr}
+use Rattle.std.specs.Prelude.{◌⊎◌, ◌≢◌}
+use Rattle.std.proofs.lemmas.List.{append-nil}
 use Rattle.gx_device.specs.Content.{Content}
 use Rattle.gx_ports.specs.LeafMaps.{Limits}
 use Rattle.gx_schema.specs.declared.schema.Schema.{Schema}
@@ -18,10 +18,10 @@ use Rattle.gx_play.specs.declared.ending.Ending.TheVariants as ending
 use Rattle.gx_play.specs.declared.status.Status.TheVariants as status
 use Rattle.gx_play.specs.Endings.{line_of, status_of, memory_line, full_line}
 use Rattle.gx_play.specs.Say.{IsCut}
-use Rattle.gx_play.specs.Played.{SaysFront, SaysKeeping, IsPlay, AreFirst, IsPlayText, IsStoppedText, IsShortText, IsFullText, IsPlayedText}
+use Rattle.gx_play.specs.Played.{SaysKeeping, SaysFrontKeeping, IsPlay, AreFirst, IsPlayText, IsStoppedText, IsMemoryText, IsFullText, IsUnfinishedText}
 use Rattle.gx_play.specs.Plays.{IsPlayedOut, IsPlayedFirst, IsPlayedFull, IsPlayedFront, IsPlayedAs}
 use Rattle.gx_top.proofs.EntryLemmas.{full_by_state}
-use Rattle.gx_explain.proofs.BehindLemmas.{behind, front_behind, taken}
+use Rattle.gx_explain.proofs.BehindLemmas.{behind, front_behind}
 
 -- the answers of a play are those of the first lines that ran
 first_parts : (all : Lines) (ran : List (List ℕ)) (next : Result (Option (List ℕ)) LineWhy) → AreFirstLines all ran next → (later : List (List ℕ)) × (all.lines ≡ ran ++ later)
@@ -46,7 +46,7 @@ module _ (schema : Schema) (ds : List DefinitionTree) (built : Built) (limit : O
       → ((number : ℕ) (reason : LineWhy) → IsPlayedOut schema start Holds old.script old.now.said mid.now.said (stopped number reason) → P (ending.Line number reason))
       → (IsPlayedFirst schema start Holds old.script old.now.said mid.now.said → P ending.NoMemory)
       → (IsPlayedFull schema built limit start Holds old.script old.now.said mid.now.said → P ending.Full)
-      → (IsPlayedFront schema start old.script old.now.said mid.now.said → P ending.Fault)
+      → (IsPlayedFront schema start Holds old.script old.now.said mid.now.said → P ending.Fault)
       → P why
   by_end P (ending.Line number reason) is line memory full fault = line number reason is
   by_end P ending.NoMemory is line memory full fault = memory is
@@ -142,7 +142,7 @@ module _ (schema : Schema) (ds : List DefinitionTree) (built : Built) (limit : O
   -- ---- the answers of the first lines, and that there was no memory
 
   abbrev Short : Type 0
-  Short = SaysKeeping (IsShortText schema start old.script) Holds old new
+  Short = SaysKeeping (IsMemoryText schema start old.script) Holds old new
 
   abbrev first_of_full : (full : IsPlayedFull schema built limit start Holds old.script old.now.said mid.now.said) → AreFirst schema start old.script full.answers
   first_of_full full = record { ran = full.full.ran; later = full.full.later; parts = full.full.parts; final = full.final; runs = full.full.runs }
@@ -166,47 +166,51 @@ module _ (schema : Schema) (ds : List DefinitionTree) (built : Built) (limit : O
 
   -- ---- a front of one of these
 
-  abbrev Front : Type 0
-  Front = SaysFront (IsPlayedText schema ds limit start old.script) old new
+  -- after a fault no line is said
+  abbrev Cut : Type 0
+  Cut = IsPlayedFront schema start Holds old.script old.now.said new.now.said
 
-  short_front : (answers : List ℕ) (first : AreFirst schema start old.script answers) (n : ℕ) → mid.now.said ≡ old.now.said ++ answers → new.now.said ≡ mid.now.said ++ take n memory_line → Front
-  short_front answers first n is said = (
+  abbrev Front : Type 0
+  Front = SaysFrontKeeping (IsUnfinishedText schema ds limit start old.script) Holds old new
+
+  short_front : (answers : List ℕ) (first : AreFirst schema start old.script answers) (n : ℕ) → mid.now.said ≡ old.now.said ++ answers → Holds first.final.kept → new.now.said ≡ mid.now.said ++ take n memory_line → Front
+  short_front answers first n is holds said = (
     answers ++ memory_line,
-    (first.final.kept, inr (inl (record { answers = answers; first = first; text_is = refl; kept_is = refl }))),
+    first.final.kept,
+    inr (inl (record { answers = answers; first = first; text_is = refl; kept_is = refl })),
     (length answers + n, front_behind old.now.said mid.now.said new.now.said answers memory_line n is said),
+    holds,
   )
 
   line_front : (number : ℕ) (reason : LineWhy) → IsPlayedOut schema start Holds old.script old.now.said mid.now.said (stopped number reason) → (n : ℕ) → new.now.said ≡ mid.now.said ++ take n (line_of (ending.Line number reason)) → Front
   line_front number reason out n said = (
     out.answers ++ line_of (ending.Line number reason),
-    (out.final.kept, inl (stopped number reason, record { answers = out.answers; final = out.final; play = out.play; text_is = refl; kept_is = refl })),
+    out.final.kept,
+    inl (number, reason, record { answers = out.answers; final = out.final; play = out.play; text_is = refl; kept_is = refl }),
     (length out.answers + n, front_behind old.now.said mid.now.said new.now.said out.answers (line_of (ending.Line number reason)) n out.said said),
+    out.holds,
   )
 
   full_front : (full : IsPlayedFull schema built limit start Holds old.script old.now.said mid.now.said) (n : ℕ) → new.now.said ≡ mid.now.said ++ take n full_line → Front
   full_front full n said = (
     full.answers ++ full_line,
-    (full.final.kept, inr (inr (full_text full))),
+    full.final.kept,
+    inr (inr (full_text full)),
     (length full.answers + n, front_behind old.now.said mid.now.said new.now.said full.answers full_line n full.said said),
+    full.holds,
   )
 
-  -- a front of the first answers is one of them and the line
-  fault_front : IsPlayedFront schema start old.script old.now.said mid.now.said → new.now.said ≡ mid.now.said → Front
-  fault_front front same =
-      let m = min front.count (length front.answers) in (
-        front.answers ++ memory_line,
-        (front.first.final.kept, inr (inl (record { answers = front.answers; first = front.first; text_is = refl; kept_is = refl }))),
-        (m, same ∙ front.said ∙ ap (λ t. old.now.said ++ t) (taken front.answers front.count m refl ∙ sym (take-append-le m front.answers memory_line (omega arith)))),
-      )
+  fault_front : IsPlayedFront schema start Holds old.script old.now.said mid.now.said → new.now.said ≡ mid.now.said → Cut
+  fault_front front same = subst (λ said. IsPlayedFront schema start Holds old.script old.now.said said) (sym same) front
 
-  cut_of : (answers : List ℕ) (first : AreFirst schema start old.script answers) (line : List ℕ) → mid.now.said ≡ old.now.said ++ answers → IsCut line memory_line mid new → ((n : ℕ) → new.now.said ≡ mid.now.said ++ take n line → Front) → Front
-  cut_of answers first line is (n, inl said) own = own n said
-  cut_of answers first line is (n, inr said) own = short_front answers first n is said
+  cut_of : (answers : List ℕ) (first : AreFirst schema start old.script answers) (line : List ℕ) → mid.now.said ≡ old.now.said ++ answers → Holds first.final.kept → IsCut line memory_line mid new → ((n : ℕ) → new.now.said ≡ mid.now.said ++ take n line → Front) → Front
+  cut_of answers first line is holds (n, inl said) own = own n said
+  cut_of answers first line is holds (n, inr said) own = short_front answers first n is holds said
 
-  pub front_row : (why : Ending) → As (Err why) → (why ≡ ending.Fault → new.now.said ≡ mid.now.said) → IsCut (line_of why) memory_line mid new → Front
+  pub front_row : (why : Ending) → As (Err why) → (why ≡ ending.Fault → new.now.said ≡ mid.now.said) → IsCut (line_of why) memory_line mid new → Cut ⊎ Front
   front_row why is =
-      by_end (λ w. (w ≡ ending.Fault → new.now.said ≡ mid.now.said) → IsCut (line_of w) memory_line mid new → Front) why is
-      (λ number reason out same cut. cut_of out.answers (all_first schema start old.script out.answers out.final (stopped number reason) out.play) (line_of (ending.Line number reason)) out.said cut (λ n said. line_front number reason out n said))
-      (λ first same cut. cut_of first.answers first.first memory_line first.said cut (λ n said. short_front first.answers first.first n first.said said))
-      (λ full same cut. cut_of full.answers (first_of_full full) full_line full.said cut (λ n said. full_front full n said))
-      (λ front same cut. fault_front front (same refl))
+      by_end (λ w. (w ≡ ending.Fault → new.now.said ≡ mid.now.said) → IsCut (line_of w) memory_line mid new → Cut ⊎ Front) why is
+      (λ number reason out same cut. inr (cut_of out.answers (all_first schema start old.script out.answers out.final (stopped number reason) out.play) (line_of (ending.Line number reason)) out.said out.holds cut (λ n said. line_front number reason out n said)))
+      (λ first same cut. inr (cut_of first.answers first.first memory_line first.said first.holds cut (λ n said. short_front first.answers first.first n first.said first.holds said)))
+      (λ full same cut. inr (cut_of full.answers (first_of_full full) full_line full.said full.holds cut (λ n said. full_front full n said)))
+      (λ front same cut. inl (fault_front front (same refl)))

@@ -9,7 +9,7 @@ use Rattle.gx_play.specs.declared.ending.Ending.TheVariants as ending
 use Rattle.gx_play.specs.declared.status.Status.TheVariants as status
 use Rattle.gx_play.specs.declared.summary.Summary.{Summary}
 use Rattle.gx_play.specs.Endings.{line_of, status_of, memory_line, IsOutside}
-use Rattle.gx_play.specs.Played.{Says, SaysFront}
+use Rattle.gx_play.specs.Played.{SaysText, SaysFront}
 use Rattle.gx_play.specs.Summaries.{accepted_line}
 use Rattle.gx_requests.specs.Requests.{IsRefused, IsSummary, IsUnprepared}
 use Rattle.gx_play.specs.Say.{IsCut}
@@ -21,7 +21,7 @@ use Rattle.gx_top.specs.Tries.{IsRefusalText, IsAcceptedText, IsDoneText, IsOthe
 accepted_text : (words : List (List ℕ)) (before : Content) (summary : Summary) → IsSummary words before.aside.texts summary → IsAcceptedText words before (accepted_line summary)
 accepted_text words before summary is = (is.0, is.1, is.2, is.3, ap accepted_line is.4)
 
-pub check_done : (words : List (List ℕ)) (old mid new : Content) (summary : Summary) → IsSummary words old.aside.texts summary → mid.now.said ≡ old.now.said → new.now.said ≡ mid.now.said ++ accepted_line summary → Says (IsDoneText words old) old new
+pub check_done : (words : List (List ℕ)) (old mid new : Content) (summary : Summary) → IsSummary words old.aside.texts summary → mid.now.said ≡ old.now.said → new.now.said ≡ mid.now.said ++ accepted_line summary → SaysText (IsDoneText words old) old new
 check_done words old mid new summary is unsaid said = (accepted_line summary, inl (accepted_text words old summary is), said ∙ ap (λ t. t ++ accepted_line summary) unsaid)
 
 -- ---- a request that isn't carried out
@@ -65,7 +65,7 @@ not_outside before now (ending.Made blocks pages) is e = is
 not_outside before now ending.TextsTooLong is e = is
 not_outside before now (ending.Line number why) is e = is
 
-pub refused_says : (words : List (List ℕ)) (old mid new : Content) (before now : ℕ) (why : Ending) → IsUnprepared words old.aside.texts before now why → status_of why ≡ status.Refused → new.now.said ≡ mid.now.said ++ line_of why → mid.now.said ≡ old.now.said → Says (IsRefusalText words old) old new
+pub refused_says : (words : List (List ℕ)) (old mid new : Content) (before now : ℕ) (why : Ending) → IsUnprepared words old.aside.texts before now why → status_of why ≡ status.Refused → new.now.said ≡ mid.now.said ++ line_of why → mid.now.said ≡ old.now.said → SaysText (IsRefusalText words old) old new
 refused_says words old mid new before now why (inl is) e said unsaid = (line_of why, record { ending = why; refused = is; status_is = e; text_is = refl }, said ∙ ap (λ t. t ++ line_of why) unsaid)
 refused_says words old mid new before now why (inr is) e said unsaid = absurd (not_outside before now why is e)
 

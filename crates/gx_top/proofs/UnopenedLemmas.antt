@@ -11,13 +11,12 @@ use Rattle.gx_play.specs.declared.ending.DeviceWhy.{DeviceWhy}
 use Rattle.gx_play.specs.declared.ending.DeviceWhy.TheVariants as device_why
 use Rattle.gx_play.specs.declared.ending.Ending.TheVariants as ending
 use Rattle.gx_play.specs.declared.status.Status.{Status}
-use Rattle.gx_play.specs.declared.status.Status.TheVariants as status
 use Rattle.gx_play.specs.Endings.{unopened_ending, IsEnded}
 use Rattle.gx_play.specs.Say.{SameDevices}
 use Rattle.gx_requests.specs.declared.opened.Stored.{Stored}
 use Rattle.gx_requests.specs.Checked.{IsStoredFor}
 use Rattle.gx_requests.specs.Words.{running}
-use Rattle.gx_top.specs.Tasks.{Task, IsTask, StartsAlike}
+use Rattle.gx_top.specs.Tasks.{Task, IsTask, StartsAlike, IsOnlyRecovered}
 use Rattle.gx_top.specs.Devices.{IsWrongOn, IsWrong}
 use Rattle.gx_top.specs.Ran.{StaysWrong, LeavesRun}
 use Rattle.gx_top.proofs.StayLemmas.{devices_same, ReadsAlike, reads_between, starts_alike}
@@ -77,20 +76,27 @@ module _ (words : List (List ℕ)) (device : List ℕ) (x : Stored) (old middle 
   abbrev Asked : Task
   Asked = Run words device x old middle p same
 
-  -- where it reads as before, a script is played from the same states
-  pub unopened_starts : (mid new : Content) (why : Unopened) (s : Status) → IsTried device p.typing.specs middle mid why → SameDevices mid new → (unopened_ending why ≡ ending.Fault → s ≡ status.Outside) → s ≡ status.Memory → (t : Task) → IsTask words old.aside.texts t → StartsAlike t old new
-  unopened_starts mid new why s tried devices fault memory t task = starts_alike t old new here
-    where
-      never : status.Memory ≡ status.Outside → ⊥
-      never f = cc
+  same_device : (t : Task) (other : List ℕ) → IsTask words old.aside.texts t → t.action ≡ running other → device ≡ other
+  same_device t other task is = device_once device other (ap (λ (u : Task). u.action) (one_task words old.aside.texts Asked t (run_is_task words device x old middle p same) task) ∙ is)
 
+  -- where it reads as before, a script is played from the same states
+  pub unopened_starts : (mid new : Content) (why : Unopened) → IsTried device p.typing.specs middle mid why → SameDevices mid new → (unopened_ending why ≡ ending.Fault → ⊥) → (t : Task) → IsTask words old.aside.texts t → StartsAlike t old new
+  unopened_starts mid new why tried devices fault t task = starts_alike t old new here
+    where
       reads : ReadsAlike device middle mid
-      reads = record { absent = tried.absent; alike = tried.kept (not_failed why (λ f. never (sym memory ∙ fault f))) }
+      reads = record { absent = tried.absent; alike = tried.kept (not_failed why fault) }
 
       here : (other : List ℕ) → t.action ≡ running other → ReadsAlike other old new
       here other is =
-          subst (λ d. ReadsAlike d old new) (device_once device other (ap (λ (u : Task). u.action) (one_task words old.aside.texts Asked t (run_is_task words device x old middle p same) task) ∙ is))
+          subst (λ d. ReadsAlike d old new) (same_device t other task is)
           (reads_between device old middle mid new (ap (λ n. device_at n device) same.now) (devices_same mid new devices device) reads)
+
+  -- whatever happened, no block was written but by recovery
+  pub unopened_recovered : (mid new : Content) (why : Unopened) → IsTried device p.typing.specs middle mid why → SameDevices mid new → (t : Task) → IsTask words old.aside.texts t → IsOnlyRecovered t old new
+  unopened_recovered mid new why tried devices t task other is blocks there =
+      let here = same_device t other task is in
+      let after = tried.recovered blocks (ap (λ n. device_at n device) same.now ∙ ap (λ d. device_at old.now d) here ∙ there) in
+      subst (λ d. OfBlocks d new (IsRecoveryOf blocks)) here (after.0, devices_same mid new devices device ∙ after.1, after.2)
 
   wrong_here : (wrong : DeviceWhy) → IsWrong words old wrong → IsWrongOn device Asked old wrong
   wrong_here wrong (inl run) =

@@ -21,7 +21,7 @@ use Rattle.gx_play.specs.declared.ending.Ending.TheVariants as ending
 use Rattle.gx_play.specs.declared.status.Status.{Status}
 use Rattle.gx_play.specs.declared.status.Status.TheVariants as status
 use Rattle.gx_play.specs.Endings.{status_of, memory_line, full_line, device_line, line_of, IsEnded}
-use Rattle.gx_play.specs.Played.{SaysFront, IsFullAt}
+use Rattle.gx_play.specs.Played.{SaysFront, MayBeFullAt}
 use Rattle.gx_play.specs.Say.{IsCut, SameDevices}
 use Rattle.gx_requests.specs.declared.opened.Stored.{Stored}
 use Rattle.gx_requests.specs.Checked.{IsStoredFor}
@@ -30,13 +30,25 @@ use Rattle.gx_top.specs.Tasks.{Task, IsSettledOn}
 use Rattle.gx_operations.specs.Settled.{limits_on}
 use Rattle.gx_operations.specs.Making.{IsUnmakable}
 use Rattle.gx_top.specs.Found.{IsTold}
-use Rattle.gx_top.specs.Worked.{IsToWork, worked, IsWorkText, IsWorkFull, IsWorkedText, IsFreeFor, IsWorked, Works, CanWork, IsUnworkable, IsWorkFirst, HoldsWork, LeavesWorked, LeavesWorkedBy}
+use Rattle.gx_top.specs.Worked.{IsToWork, worked, IsWorkText, IsWorkFull, IsWorkedText, IsFreeFor, IsWorked, CanWork, IsUnworkable, IsWorkFirst, HoldsWork, LeavesWorked, LeavesWorkedBy}
 use Rattle.gx_operations.specs.Working.{IsSettledOf, HoldsFirst, IsPlayedOn, IsNewDevice, IsWorking}
-use Rattle.gx_top.specs.Tries.{IsSaid, IsEnd, IsDueStatus, IsAsDue}
+use Rattle.gx_top.specs.Tries.{IsSaid, IsOutcome, IsDueStatus, IsAsDue}
 use Rattle.gx_top.proofs.EntryLemmas.{full_by_state}
 use Rattle.gx_top.proofs.StayLemmas.{devices_same}
 use Rattle.gx_top.proofs.MakeLemmas.{not_both}
 use Rattle.gx_top.proofs.CompleteLemmas.{same_words, one_acceptance, task_not_worked, checked_not_worked, made_not_worked, explained_not_worked, inspected_not_worked, wrong_not_worked, worked_not_refused}
+
+-- ---- what was said of the workload, or that there was no memory
+
+abbrev pub IsWorkedOr : Task → List ℕ → ℕ → ℕ → Content → Content → Status → Type 0
+IsWorkedOr t device blocks records old new status.Memory = new.now.said ≡ old.now.said ++ memory_line
+IsWorkedOr t device blocks records old new s = IsWorked t device blocks records old new s
+
+pub record WorksOr (words : List (List ℕ)) (old new : Content) (s : Status) : Type 0 where
+  pub blocks : ℕ
+  pub records : ℕ
+  pub request : IsToWork words old.aside.texts blocks records
+  pub row : IsWorkedOr (worked request) request.device blocks records old new s
 
 -- ---- the words ask for one workload
 
@@ -69,36 +81,37 @@ one_work words texts blocks count records many r q =
     }
 
 -- what was said, as another reading of the words has it
-row_of : (words : List (List ℕ)) (old new : Content) (s : Status) (count many : ℕ) (q : IsToWork words old.aside.texts count many) (w : Works words old new s) → IsWorked (worked q) q.device count many old new s
+row_of : (words : List (List ℕ)) (old new : Content) (s : Status) (count many : ℕ) (q : IsToWork words old.aside.texts count many) (w : WorksOr words old new s) → IsWorkedOr (worked q) q.device count many old new s
 row_of words old new s count many q w =
     let same = one_work words old.aside.texts w.blocks count w.records many w.request q in
-    subst (λ (x : Task × List ℕ × ℕ × ℕ). IsWorked x.0 x.1 x.2 x.3 old new s) (λ i. (same.tasks i, same.devices i, same.counts i, same.numbers i)) w.row
+    subst (λ (x : Task × List ℕ × ℕ × ℕ). IsWorkedOr x.0 x.1 x.2 x.3 old new s) (λ i. (same.tasks i, same.devices i, same.counts i, same.numbers i)) w.row
 
 -- ---- how the request ends
 
-work_said : (words : List (List ℕ)) (old new : Content) (s : Status) → Works words old new s → IsSaid words old new s
-work_said words old new status.Done w = inr (inr (inr (inr w)))
-work_said words old new status.Full w = inr w
-work_said words old new status.Device w = inr (inr w)
-work_said words old new status.Outside w = inr (inr (inr (inr w)))
+work_said : (words : List (List ℕ)) (old new : Content) (s : Status) → WorksOr words old new s → IsSaid words old new s
+work_said words old new status.Done w = inr (inr (inr (inr (record { blocks = w.blocks; records = w.records; request = w.request; row = w.row }))))
+work_said words old new status.Full w = inr (record { blocks = w.blocks; records = w.records; request = w.request; row = w.row })
+work_said words old new status.Device w = inr (inr (record { blocks = w.blocks; records = w.records; request = w.request; row = w.row }))
+work_said words old new status.Outside w = inr (inr (inr (inr (record { blocks = w.blocks; records = w.records; request = w.request; row = w.row }))))
 work_said words old new status.Memory w = inl (record {
-  said = w.row.2 ∙ ap (λ l. old.now.said ++ l) w.row.1;
+  said = w.row;
   starts = λ t task. absurd (task_not_worked words old.aside.texts t w.blocks w.records task w.request);
 })
 work_said words old new status.Script w = absurd w.row
 work_said words old new status.Refused w = absurd w.row
 
-pub work_end : (words : List (List ℕ)) (old new : Content) (s : Status) → Works words old new s → new.script ≡ old.script → IsEnd words old new s
+pub work_end : (words : List (List ℕ)) (old new : Content) (s : Status) → WorksOr words old new s → new.script ≡ old.script → IsOutcome words old new s
 work_end words old new s w unheard = record {
   said = work_said words old new s w;
   heard = λ done t task limit start from. absurd (task_not_worked words old.aside.texts t w.blocks w.records task w.request);
   heard_explained = λ done r. absurd (explained_not_worked words old.aside.texts w.blocks w.records r w.request);
   unheard = λ none other. unheard;
+  unheard_wrong = λ wrong. unheard;
 }
 
 -- ---- the status that is due
 
-can_status : (words : List (List ℕ)) (old new : Content) (s : Status) (can : CanWork words old) → IsWorked (worked can.request) can.request.device can.blocks can.records old new s → s ≢ status.Outside → (s ≡ status.Done) ⊎ (s ≡ status.Memory)
+can_status : (words : List (List ℕ)) (old new : Content) (s : Status) (can : CanWork words old) → IsWorkedOr (worked can.request) can.request.device can.blocks can.records old new s → s ≢ status.Outside → (s ≡ status.Done) ⊎ (s ≡ status.Memory)
 can_status words old new status.Done can row outside = inl refl
 can_status words old new status.Memory can row outside = inr refl
 can_status words old new status.Full can row outside = absurd (can.roomy row.1.1.answers row.1.1.final row.1.1.full)
@@ -107,7 +120,7 @@ can_status words old new status.Outside can row outside = absurd (outside refl)
 can_status words old new status.Script can row outside = absurd row
 can_status words old new status.Refused can row outside = absurd row
 
-unworkable_status : (words : List (List ℕ)) (old new : Content) (s : Status) (un : IsUnworkable words old) → IsWorked (worked un.request) un.request.device un.blocks un.records old new s → s ≢ status.Outside → (s ≡ status.Device) ⊎ (s ≡ status.Memory)
+unworkable_status : (words : List (List ℕ)) (old new : Content) (s : Status) (un : IsUnworkable words old) → IsWorkedOr (worked un.request) un.request.device un.blocks un.records old new s → s ≢ status.Outside → (s ≡ status.Device) ⊎ (s ≡ status.Memory)
 unworkable_status words old new status.Device un row outside = inl refl
 unworkable_status words old new status.Memory un row outside = inr refl
 unworkable_status words old new status.Done un row outside = absurd (not_both un.request.typing.specs un.request.device un.blocks old un.why row.0.0 row.0.1 un.wrong)
@@ -116,7 +129,7 @@ unworkable_status words old new status.Outside un row outside = absurd (outside 
 unworkable_status words old new status.Script un row outside = absurd row
 unworkable_status words old new status.Refused un row outside = absurd row
 
-pub work_due : (words : List (List ℕ)) (old new : Content) (s : Status) → Works words old new s → IsAsDue words old s
+pub work_due : (words : List (List ℕ)) (old new : Content) (s : Status) → WorksOr words old new s → IsAsDue words old s
 work_due words old new s w due can outside = by_due due can
   where
     by_due : (due : Status) → IsDueStatus words old due → (s ≡ due) ⊎ (s ≡ status.Memory)
@@ -268,7 +281,7 @@ module _ (words : List (List ℕ)) (device digits number : List ℕ) (count reco
           final = out.final;
           full = full_by_state work_schema p.definitions x.built (Some (limits_on p.typing.specs count)) (empty_state work_schema) (work_script records) out.answers out.final
               (subst (λ (k : Schema). IsBuiltOf k p.definitions x.built) is_work p.trees)
-              (subst (λ (ks : List LeafSpec). IsFullAt work_schema x.built (Some (limits_on ks count)) (empty_state work_schema) (work_script records) out.answers out.final) p.specs_are out.full);
+              (subst (λ (ks : List LeafSpec). MayBeFullAt work_schema x.built (Some (limits_on ks count)) (empty_state work_schema) (work_script records) out.answers out.final) p.specs_are out.full);
           settled = settled_on made.left.0 out.final.kept made.left.1 out.holds;
           count = made.many;
           text_is = refl;
@@ -285,7 +298,7 @@ module _ (words : List (List ℕ)) (device digits number : List ℕ) (count reco
     -- ---- by the status
 
     abbrev Row : Status → Type 0
-    Row = IsWorked Asked device count records old new
+    Row = IsWorkedOr Asked device count records old new
 
     cut_front : (line : List ℕ) → IsWorkedText Asked device count records old new line → IsCut line memory_line mid new → SaysFront (IsWorkedText Asked device count records old new) old new
     cut_front line found (n, inl said) = (line, found, (n, said ∙ ap (λ s. s ++ take n line) said_before))
@@ -294,7 +307,7 @@ module _ (words : List (List ℕ)) (device digits number : List ℕ) (count reco
     -- an ending whose line is said with its status
     ended : (why : Ending) (s : Status) → IsWorkedText Asked device count records old new (line_of why) → (new.now.said ≡ mid.now.said ++ line_of why → Row (status_of why)) → IsEnded why mid new s → Row s
     ended why status.Outside found main e = cut_front (line_of why) found (e.cut refl)
-    ended why status.Memory found main e = (memory_line, refl, e.memory refl ∙ ap (λ s. s ++ memory_line) said_before)
+    ended why status.Memory found main e = e.memory refl ∙ ap (λ s. s ++ memory_line) said_before
     ended why status.Done found main e = subst Row (sym (e.status_is (λ f. cc) (λ f. cc))) (main (e.said (λ f. cc) (λ f. cc)))
     ended why status.Refused found main e = subst Row (sym (e.status_is (λ f. cc) (λ f. cc))) (main (e.said (λ f. cc) (λ f. cc)))
     ended why status.Script found main e = subst Row (sym (e.status_is (λ f. cc) (λ f. cc))) (main (e.said (λ f. cc) (λ f. cc)))
@@ -306,7 +319,7 @@ module _ (words : List (List ℕ)) (device digits number : List ℕ) (count reco
         ended (ending.Device why) s (inr (inr (inl (why, unmade why is.0, refl)))) (λ said. (device_line why, (why, unmade why is.0, refl), said ∙ ap (λ t. t ++ device_line why) said_before)) e
     not_played ending.Full s is e =
         ended ending.Full s (inr (inl (full_of is))) (λ said. (free_for (λ after. IsPlayedOn x count records after (Err ending.Full)) is, (full_line, full_of is, said ∙ ap (λ t. t ++ full_line) said_before))) e
-    not_played ending.NoMemory s is e = ended ending.NoMemory s (inr (inr (inr refl))) (λ said. (memory_line, refl, said ∙ ap (λ t. t ++ memory_line) said_before)) e
+    not_played ending.NoMemory s is e = ended ending.NoMemory s (inr (inr (inr refl))) (λ said. said ∙ ap (λ t. t ++ memory_line) said_before) e
     not_played ending.Fault s is e = subst Row (sym (e.fault refl)) (memory_line, inr (inr (inr refl)), (0, e.silent refl ∙ said_before ∙ sym (append-nil old.now.said)))
     not_played ending.Words s is e = absurd is
     not_played (ending.Missing name) s is e = absurd is
@@ -327,7 +340,7 @@ module _ (words : List (List ℕ)) (device digits number : List ℕ) (count reco
     work_row (Ok line) s is told = played_row line s is told
     work_row (Err why) s is told = not_played why s is told
 
-    pub working_of : (r : Result (List ℕ) Ending) (s : Status) → IsWorking x device count records middle mid r → IsTold r mid new s → Works words old new s
+    pub working_of : (r : Result (List ℕ) Ending) (s : Status) → IsWorking x device count records middle mid r → IsTold r mid new s → WorksOr words old new s
     working_of r s is told = record { blocks = count; records = records; request = Request; row = work_row r s is told }
 
     -- ---- what is left of the devices

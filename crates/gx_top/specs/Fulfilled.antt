@@ -6,11 +6,11 @@ use Rattle.gx_play.specs.declared.status.Status.{Status}
 use Rattle.gx_requests.specs.declared.opened.Stored.{Stored}
 use Rattle.gx_requests.specs.Checked.{IsStoredFor}
 use Rattle.gx_requests.specs.Words.{Action}
-use Rattle.gx_top.specs.Tries.{IsEnd, IsAsDue}
+use Rattle.gx_top.specs.Tries.{IsOutcome, IsAsDue}
 
 -- what was said and heard, that the status is due, and what is left of the devices
 pub record IsFulfilled (Leaves : Content → Content → Status → Type 0) (words : List (List ℕ)) (old new : Content) (s : Status) : Type 0 where
-  pub said : IsEnd words old new s
+  pub said : IsOutcome words old new s
   pub due : IsAsDue words old s
   pub left : Leaves old new s
 

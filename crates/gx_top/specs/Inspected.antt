@@ -15,7 +15,7 @@ use Rattle.gx_play.specs.declared.ending.DeviceWhy.{DeviceWhy}
 use Rattle.gx_play.specs.declared.status.Status.{Status}
 use Rattle.gx_play.specs.declared.status.Status.TheVariants as status
 use Rattle.gx_play.specs.Endings.{device_line, memory_line}
-use Rattle.gx_play.specs.Played.{Says, SaysFront}
+use Rattle.gx_play.specs.Played.{SaysText, SaysFront}
 use Rattle.gx_play.specs.Say.{SameDevices}
 use Rattle.gx_requests.specs.Words.{inspecting, request_words}
 use Rattle.gx_requests.specs.Requests.{IsAccepted}
@@ -56,9 +56,8 @@ IsFoundText t device before after text = IsInspectText t device before after tex
 
 -- what was said of the device, and nothing else, by the status
 abbrev pub IsInspected : Task → List ℕ → Content → Content → Status → Type 0
-IsInspected t device old new status.Done = Says (IsInspectText t device old new) old new
-IsInspected t device old new status.Device = Says (IsWrongText t device old) old new
-IsInspected t device old new status.Memory = Says (λ text. text ≡ memory_line) old new
+IsInspected t device old new status.Done = SaysText (IsInspectText t device old new) old new
+IsInspected t device old new status.Device = SaysText (IsWrongText t device old) old new
 IsInspected t device old new status.Outside = SaysFront (IsFoundText t device old new) old new
 IsInspected t device old new other = ⊥
 

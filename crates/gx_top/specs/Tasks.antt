@@ -12,7 +12,7 @@ use Rattle.gx_play.specs.Built.{IsBuiltOf}
 use Rattle.gx_model.specs.States.{State, empty_state}
 use Rattle.gx_states.specs.Internal.{AreInternal}
 use Rattle.gx_store.specs.Device.{Reopens, IsSettled}
-use Rattle.gx_store.specs.Opening.{AreOpened}
+use Rattle.gx_store.specs.Opening.{AreOpened, IsRecoveryOf}
 use Rattle.gx_store.specs.Store.{OfBlocks}
 use Rattle.gx_requests.specs.Words.{Action, checking, trying, explaining, making, running, inspecting, working}
 use Rattle.gx_requests.specs.Requests.{IsAccepted}
@@ -94,6 +94,10 @@ IsFrom t before limit s = IsStart t.action t before limit s
 -- the states from which it is played are the same
 abbrev pub StartsAlike : Task → Content → Content → Type 0
 StartsAlike t old new = (limit : Option Limits) (s : State) → IsFrom t old limit s ↔ IsFrom t new limit s
+
+-- no block of the device on which it is to be played was written but those that recovery writes
+abbrev pub IsOnlyRecovered : Task → Content → Content → Type 0
+IsOnlyRecovered t old new = (device : List ℕ) → t.action ≡ running device → (blocks : List (List ℕ)) → device_at old.now device ≡ Some blocks → OfBlocks device new (IsRecoveryOf blocks)
 
 -- ---- what is left of it
 

@@ -17,8 +17,9 @@ use Rattle.gx_play.specs.declared.status.Status.TheVariants as status
 use Rattle.gx_play.specs.Endings.{line_of, status_of, memory_line}
 use Rattle.gx_requests.specs.Requests.{IsRefused, IsAccepted}
 use Rattle.gx_play.specs.Summaries.{summary_of, accepted_line}
-use Rattle.gx_play.specs.Played.{Says, SaysFront, SaysKeeping, IsPlay, IsPlayText, IsStoppedText, IsShortText, IsFull, IsFullText, IsPlayedText}
-use Rattle.gx_top.specs.Tasks.{Task, IsTask, HasDevice, IsFrom, IsLeft, StartsAlike}
+use Rattle.gx_play.specs.Played.{SaysText, SaysFront, SaysKeeping, SaysFrontKeeping, IsPlay, IsPlayText, IsStoppedText, IsMemoryText, MayBeFull, IsFullText, IsUnfinishedText}
+use Rattle.gx_play.specs.Plays.{IsPlayedFront}
+use Rattle.gx_top.specs.Tasks.{Task, IsTask, HasDevice, IsFrom, IsLeft, StartsAlike, IsOnlyRecovered}
 use Rattle.gx_top.specs.Explained.{IsToExplain, Explains, IsExplainable}
 use Rattle.gx_top.specs.Inspected.{Inspects, IsSoundDevice, IsUnsoundDevice}
 use Rattle.gx_top.specs.Worked.{Works, CanWork, IsUnworkable}
@@ -47,6 +48,12 @@ IsDoneText words before text = IsAcceptedText words before text ⊎ IsMadeText w
 abbrev pub IsOtherText : List (List ℕ) → Content → List ℕ → Type 0
 IsOtherText words before text = IsRefusalText words before text ⊎ (text ≡ memory_line) ⊎ IsDoneText words before text ⊎ IsDeviceText words before text
 
+-- A front of one of these was said. A device on which a script is to be played holds the states that it held; or nothing was said, and no
+-- block of it was written but those that recovery writes.
+pub record SaysOther (words : List (List ℕ)) (old new : Content) : Type 0 where
+  pub said : SaysFront (IsOtherText words old) old new
+  pub starts : (t : Task) → IsTask words old.aside.texts t → StartsAlike t old new ⊎ ((new.now.said ≡ old.now.said) × IsOnlyRecovered t old new)
+
 -- ---- texts of scripts that are played
 
 -- The device of the task, which the words ask for, was opened under its texts. From each state from which it is played: such a
@@ -56,11 +63,19 @@ Plays P words old new =
     (t : Task) × IsTask words old.aside.texts t × HasDevice t old
     × ((limit : Option Limits) (s : State) → IsFrom t old limit s → SaysKeeping (P t limit s) (IsLeft t new) old new)
 
--- the same of a front of a text that a play may say
+-- A call failed while the script was played from this state, or while the line of its end was said. A front of the answers of its first
+-- lines was said, and the state that these kept is left; or all of their answers was, and the next line is a commit. Or a front was said
+-- of the text of a play that doesn't end well, and the state that goes with it is left.
+abbrev pub IsPlayCut : Task → Option Limits → State → Content → Content → Type 0
+IsPlayCut t limit start old new =
+    IsPlayedFront t.schema start (IsLeft t new) old.script old.now.said new.now.said
+    ⊎ SaysFrontKeeping (IsUnfinishedText t.schema t.definitions limit start old.script) (IsLeft t new) old new
+
+-- the same of the task that the words ask for, from each state from which it is played
 abbrev pub PlaysFront : List (List ℕ) → Content → Content → Type 0
 PlaysFront words old new =
     (t : Task) × IsTask words old.aside.texts t × HasDevice t old
-    × ((limit : Option Limits) (s : State) → IsFrom t old limit s → SaysFront (IsPlayedText t.schema t.definitions limit s old.script) old new)
+    × ((limit : Option Limits) (s : State) → IsFrom t old limit s → IsPlayCut t limit s old new)
 
 -- The line that there was no memory was said, and nothing else. A device on which a script is to be played holds the states that
 -- it held.
@@ -72,20 +87,22 @@ pub record SaysMemory (words : List (List ℕ)) (old new : Content) : Type 0 whe
 
 -- what was said, by the status
 abbrev pub IsSaid : List (List ℕ) → Content → Content → Status → Type 0
-IsSaid words old new status.Done = Says (IsDoneText words old) old new ⊎ Plays (λ t limit s. IsPlayText t.schema s old.script good) words old new ⊎ Explains words old new status.Done ⊎ Inspects words old new status.Done ⊎ Works words old new status.Done
+IsSaid words old new status.Done = SaysText (IsDoneText words old) old new ⊎ Plays (λ t limit s. IsPlayText t.schema s old.script good) words old new ⊎ Explains words old new status.Done ⊎ Inspects words old new status.Done ⊎ Works words old new status.Done
 IsSaid words old new status.Script = Plays (λ t limit s. IsStoppedText t.schema s old.script) words old new ⊎ Explains words old new status.Script
-IsSaid words old new status.Refused = Says (IsRefusalText words old) old new
-IsSaid words old new status.Memory = SaysMemory words old new ⊎ Plays (λ t limit s. IsShortText t.schema s old.script) words old new ⊎ Explains words old new status.Memory
+IsSaid words old new status.Refused = SaysText (IsRefusalText words old) old new
+IsSaid words old new status.Memory = SaysMemory words old new ⊎ Plays (λ t limit s. IsMemoryText t.schema s old.script) words old new ⊎ Explains words old new status.Memory
 IsSaid words old new status.Full = Plays (λ t limit s. IsFullText t.schema t.definitions limit s old.script) words old new ⊎ Works words old new status.Full
 IsSaid words old new status.Device = ((why : DeviceWhy) × IsWrong words old why × SaysWrong why old new) ⊎ Inspects words old new status.Device ⊎ Works words old new status.Device
-IsSaid words old new status.Outside = SaysFront (IsOtherText words old) old new ⊎ PlaysFront words old new ⊎ Explains words old new status.Outside ⊎ Inspects words old new status.Outside ⊎ Works words old new status.Outside
+IsSaid words old new status.Outside = SaysOther words old new ⊎ PlaysFront words old new ⊎ Explains words old new status.Outside ⊎ Inspects words old new status.Outside ⊎ Works words old new status.Outside
 
--- the same, and what was heard: the script to its end where all of it was played or explained, and none of it where none is to be
-pub record IsEnd (words : List (List ℕ)) (old new : Content) (s : Status) : Type 0 where
+-- The same, and what was heard: the script to its end where all of it was played or explained, and none of it where none is to be, or
+-- where the device is wrong.
+pub record IsOutcome (words : List (List ℕ)) (old new : Content) (s : Status) : Type 0 where
   pub said : IsSaid words old new s
   pub heard : s ≡ status.Done → (t : Task) → IsTask words old.aside.texts t → (limit : Option Limits) (start : State) → IsFrom t old limit start → new.script ≡ []
   pub heard_explained : s ≡ status.Done → IsToExplain words old.aside.texts → new.script ≡ []
   pub unheard : ((t : Task) → ¬ IsTask words old.aside.texts t) → ¬ IsToExplain words old.aside.texts → new.script ≡ old.script
+  pub unheard_wrong : IsWrongDevice words old → new.script ≡ old.script
 
 -- ---- when each status is due
 
@@ -97,7 +114,7 @@ pub record CanPlayTo (t : Task) (before : Content) (end : End) : Type 0 where
   pub answers : List ℕ
   pub final : Playing
   pub play : IsPlay t.schema start before.script answers final end
-  pub roomy : (first : List ℕ) (p : Playing) → ¬ IsFull t.schema t.definitions limit start before.script first p
+  pub roomy : (first : List ℕ) (p : Playing) → ¬ MayBeFull t.schema t.definitions limit start before.script first p
 
 abbrev pub IsPlayable : List (List ℕ) → Content → End → Type 0
 IsPlayable words before end = (t : Task) × IsTask words before.aside.texts t × CanPlayTo t before end

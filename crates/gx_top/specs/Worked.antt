@@ -17,7 +17,7 @@ use Rattle.gx_play.specs.declared.ending.DeviceWhy.{DeviceWhy}
 use Rattle.gx_play.specs.declared.status.Status.{Status}
 use Rattle.gx_play.specs.declared.status.Status.TheVariants as status
 use Rattle.gx_play.specs.Endings.{device_line, full_line, memory_line}
-use Rattle.gx_play.specs.Played.{Says, SaysFront, IsPlay, AreFirst, IsFull}
+use Rattle.gx_play.specs.Played.{SaysText, SaysFront, IsPlay, AreFirst, MayBeFull}
 use Rattle.gx_play.specs.Say.{SameDevices}
 use Rattle.gx_requests.specs.Words.{working, request_words, IsCount, IsRecordCount, IsCounted}
 use Rattle.gx_requests.specs.Requests.{IsAccepted}
@@ -58,7 +58,7 @@ pub record IsWorkText (t : Task) (device : List ℕ) (blocks records : ℕ) (aft
 pub record IsWorkFull (t : Task) (device : List ℕ) (blocks records : ℕ) (after : Content) (text : List ℕ) : Type 0 where
   pub answers : List ℕ
   pub final : Playing
-  pub full : IsFull work_schema t.definitions (Some (limits_on t.typing.specs blocks)) (empty_state work_schema) (work_script records) answers final
+  pub full : MayBeFull work_schema t.definitions (Some (limits_on t.typing.specs blocks)) (empty_state work_schema) (work_script records) answers final
   pub settled : IsSettledOn t device after final.kept
   pub count : length settled.blocks ≡ blocks
   pub text_is : text ≡ full_line
@@ -78,10 +78,9 @@ IsFreeFor t device blocks before = IsSize t.typing.specs blocks × (device_at be
 
 -- what was said, and nothing else, by the status
 abbrev pub IsWorked : Task → List ℕ → ℕ → ℕ → Content → Content → Status → Type 0
-IsWorked t device blocks records old new status.Done = IsFreeFor t device blocks old × Says (IsWorkText t device blocks records new) old new
-IsWorked t device blocks records old new status.Full = IsFreeFor t device blocks old × Says (IsWorkFull t device blocks records new) old new
-IsWorked t device blocks records old new status.Device = Says (IsUnmadeText t device blocks old) old new
-IsWorked t device blocks records old new status.Memory = Says (λ text. text ≡ memory_line) old new
+IsWorked t device blocks records old new status.Done = IsFreeFor t device blocks old × SaysText (IsWorkText t device blocks records new) old new
+IsWorked t device blocks records old new status.Full = IsFreeFor t device blocks old × SaysText (IsWorkFull t device blocks records new) old new
+IsWorked t device blocks records old new status.Device = SaysText (IsUnmadeText t device blocks old) old new
 IsWorked t device blocks records old new status.Outside = SaysFront (IsWorkedText t device blocks records old new) old new
 IsWorked t device blocks records old new other = ⊥
 
@@ -100,7 +99,7 @@ pub record CanWork (words : List (List ℕ)) (before : Content) : Type 0 where
   pub records : ℕ
   pub request : IsToWork words before.aside.texts blocks records
   pub right : (why : DeviceWhy) → ¬ IsUnmakable request.typing.specs request.device blocks before why
-  pub roomy : (answers : List ℕ) (final : Playing) → ¬ IsFull work_schema request.definitions (Some (limits_on request.typing.specs blocks)) (empty_state work_schema) (work_script records) answers final
+  pub roomy : (answers : List ℕ) (final : Playing) → ¬ MayBeFull work_schema request.definitions (Some (limits_on request.typing.specs blocks)) (empty_state work_schema) (work_script records) answers final
 
 -- no such device can be made
 pub record IsUnworkable (words : List (List ℕ)) (before : Content) : Type 0 where

@@ -2,7 +2,7 @@
 ghost use Rattle.std.specs.Prelude.{◌≡◌, ◌≢◌, ◌≤◌, IsTrue};
 ghost use Rattle.gx_device.specs.Faults.{Rose};
 ghost use Rattle.gx_requests.specs.Words.{checking, request_words};
-ghost use Rattle.gx_top.specs.Tries.{IsEnd, IsAsDue};
+ghost use Rattle.gx_top.specs.Tries.{IsOutcome, IsAsDue};
 
 use gx_device::Machine;
 use gx_play::{Ending, Status, end, summarize};
@@ -13,7 +13,7 @@ use std::alloc::Global;
 /// where they aren't. No script is heard, and no device is attached.
 pub fn check<M: Machine>(alloc: Global, schema: &str, equation: &str, machine: &mut M) -> Status
     ensures said { IsTrue M.tells →
-        IsEnd (request_words checking schema.now equation.now) (M.content machine.old)
+        IsOutcome (request_words checking schema.now equation.now) (M.content machine.old)
         (M.content machine.new) result }
     ensures due { IsTrue M.tells →
         IsAsDue (request_words checking schema.now equation.now) (M.content machine.old) result }

@@ -2,7 +2,7 @@
 ghost use Rattle.std.specs.Prelude.{◌≡◌, ◌≢◌, ◌≤◌, Ok, IsTrue};
 ghost use Rattle.gx_device.specs.Faults.{Rose};
 ghost use Rattle.gx_requests.specs.Words.{explaining, request_words};
-ghost use Rattle.gx_top.specs.Tries.{IsEnd, IsAsDue};
+ghost use Rattle.gx_top.specs.Tries.{IsOutcome, IsAsDue};
 
 use gx_device::Machine;
 use gx_explain::explain_script;
@@ -14,7 +14,7 @@ use std::alloc::Global;
 /// where the request is refused. No line of the script is carried out, and no device is attached.
 pub fn explain<M: Machine>(alloc: Global, schema: &str, equation: &str, machine: &mut M) -> Status
     ensures said { IsTrue M.tells →
-        IsEnd (request_words explaining schema.now equation.now) (M.content machine.old)
+        IsOutcome (request_words explaining schema.now equation.now) (M.content machine.old)
         (M.content machine.new) result }
     ensures due { IsTrue M.tells →
         IsAsDue (request_words explaining schema.now equation.now) (M.content machine.old) result }

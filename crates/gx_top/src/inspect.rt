@@ -5,7 +5,7 @@ ghost use Rattle.gx_store.specs.Store.{CanAttach};
 ghost use Rattle.gx_requests.specs.Words.{inspecting, request_words};
 ghost use Rattle.gx_requests.specs.Checked.{IsStored};
 ghost use Rattle.gx_top.specs.Inspected.{LeavesInspected};
-ghost use Rattle.gx_top.specs.Tries.{IsEnd, IsAsDue, CountsOutside};
+ghost use Rattle.gx_top.specs.Tries.{IsOutcome, IsAsDue, CountsOutside};
 ghost use Rattle.gx_top.specs.Fulfilled.{Fulfils};
 
 use crate::finish::tell;
@@ -30,7 +30,7 @@ pub fn inspect<M: Machine + Drop>(
     machine: M,
 ) -> (Status, M)
     ensures said { CanAttach M.tells (M.content machine) →
-        IsEnd (request_words (inspecting device.now) schema.now equation.now) (M.content machine)
+        IsOutcome (request_words (inspecting device.now) schema.now equation.now) (M.content machine)
         (M.content result.1) result.0 }
     ensures due { CanAttach M.tells (M.content machine) →
         IsAsDue (request_words (inspecting device.now) schema.now equation.now) (M.content machine)

@@ -13,7 +13,7 @@ ghost use Rattle.gx_store.specs.Device.{Reopens};
 ghost use Rattle.gx_requests.specs.Words.{texts_of};
 ghost use Rattle.gx_play.specs.Built.{IsBuiltOf};
 ghost use Rattle.gx_play.specs.Endings.{line_of};
-ghost use Rattle.gx_play.specs.Played.{IsFull};
+ghost use Rattle.gx_play.specs.Played.{MayBeFull};
 ghost use Rattle.gx_requests.specs.Requests.{IsRefused};
 ghost use Rattle.gx_top.specs.Needs.{AreEnough};
 ghost use Rattle.gx_top.specs.Tries.{IsWholeText, PlayOneScript};
@@ -52,5 +52,5 @@ pub fn enough_pages(script: &[u8])
         (start : State) (answers : List ℕ) (final : Playing)
         → IsBuiltOf schema ds built
         → AreEnough schema built limits start script.now
-        → ¬ IsFull schema ds (Some limits) start script.now answers final }
+        → ¬ MayBeFull schema ds (Some limits) start script.now answers final }
 {}

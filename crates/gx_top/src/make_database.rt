@@ -4,7 +4,7 @@ ghost use Rattle.gx_device.specs.Faults.{Rose};
 ghost use Rattle.gx_store.specs.Store.{CanAttach};
 ghost use Rattle.gx_requests.specs.Words.{IsCount, making, request_words};
 ghost use Rattle.gx_top.specs.Made.{LeavesMade};
-ghost use Rattle.gx_top.specs.Tries.{IsEnd, IsAsDue};
+ghost use Rattle.gx_top.specs.Tries.{IsOutcome, IsAsDue};
 
 use gx_device::Machine;
 use gx_operations::make_stored;
@@ -26,7 +26,7 @@ pub fn make_database<M: Machine + Drop>(
     machine: M,
 ) -> (Status, M)
     ensures said { CanAttach M.tells (M.content machine) → (digits : List ℕ) → IsCount digits blocks →
-        IsEnd (request_words (making device.now digits) schema.now equation.now)
+        IsOutcome (request_words (making device.now digits) schema.now equation.now)
         (M.content machine) (M.content result.1) result.0 }
     ensures due { CanAttach M.tells (M.content machine) → (digits : List ℕ) → IsCount digits blocks →
         IsAsDue (request_words (making device.now digits) schema.now equation.now)

@@ -7,7 +7,7 @@ ghost use Rattle.gx_top.specs.Inspected.{LeavesInspectedBy};
 ghost use Rattle.gx_top.specs.Worked.{LeavesWorkedBy};
 ghost use Rattle.gx_top.specs.Stays.{LeavesAllBy};
 ghost use Rattle.gx_requests.specs.Requests.{IsFree};
-ghost use Rattle.gx_top.specs.Tries.{IsEnd, IsAsDue, CountsOutside};
+ghost use Rattle.gx_top.specs.Tries.{IsOutcome, IsAsDue, CountsOutside};
 
 use crate::check::check;
 use crate::explain::explain;
@@ -58,9 +58,13 @@ use std::alloc::Global;
 ///
 /// After `Done`, `Script`, `Full` and `Memory` of `run` the device is settled with the last state that the
 /// lines kept which were answered; after `Memory` where none was, it may also hold exactly the states that
-/// it held. After `Refused` all devices are as they were. With any status but `Outside` so is one of another
-/// size or with no magic, and one of other texts reads as before, and no block of it was written but by
-/// recovery. Whatever it answers, no device is made, and those of other names are as they were.
+/// it held. After `Outside` it is settled with the last state that first lines kept, and these are all of
+/// whose answers anything was said; or all of their answers was said, and the next line is a commit. Where
+/// no line was answered, it may hold the states that it held, or nothing was said and no block of it was
+/// written but by recovery. After `Refused` all devices are as they were. With any status but
+/// `Outside` so is one of another size or with no magic, and one of other texts reads as before, and
+/// no block of it was written but by recovery. Whatever it answers, no device is made, and those of
+/// other names are as they were.
 ///
 /// After `Done` of `inspect` the device is settled with the state that it held. With any status but
 /// `Outside` one that held a state holds it, one that can be opened is opened with what it held, one that
@@ -91,7 +95,7 @@ use std::alloc::Global;
 pub fn top<M: Machine + Drop>(alloc: Global, words: &[String], machine: M) -> (Status, M)
     // What was said, and what was heard.
     ensures said { IsTrue M.tells → IsFree (texts_of words.now) (M.content machine) →
-        IsEnd (texts_of words.now) (M.content machine) (M.content result.1) result.0 }
+        IsOutcome (texts_of words.now) (M.content machine) (M.content result.1) result.0 }
     // When each status is due.
     ensures due { IsTrue M.tells → IsFree (texts_of words.now) (M.content machine) →
         IsAsDue (texts_of words.now) (M.content machine) result.0 }

@@ -5,7 +5,7 @@ ghost use Rattle.gx_store.specs.Store.{CanAttach};
 ghost use Rattle.gx_requests.specs.Words.{running, request_words};
 ghost use Rattle.gx_requests.specs.Checked.{IsStored};
 ghost use Rattle.gx_top.specs.Ran.{LeavesRun};
-ghost use Rattle.gx_top.specs.Tries.{IsEnd, IsAsDue, CountsOutside};
+ghost use Rattle.gx_top.specs.Tries.{IsOutcome, IsAsDue, CountsOutside};
 ghost use Rattle.gx_top.specs.Fulfilled.{Fulfils};
 
 use crate::finish::finish;
@@ -20,9 +20,10 @@ use std::alloc::Global;
 /// names, from the state that the device holds; or says the reason where the request is refused or
 /// the device is another than was asked for. Where the device held a state, it is settled after
 /// `Done`, `Script` and `Full`, and after `Memory` where the answer of a line was said, with the last
-/// state that was kept; after `Memory` with no answer so, or it holds what it held. With any status but
-/// `Outside` a device that is wrong stays as it was, but that recovery may have settled one of other
-/// texts. No line is answered on one that is wrong. None is made, devices of other names stay, and after
+/// state that was kept; after `Memory` with no answer so, or it holds what it held. After `Outside` it is
+/// settled so for the lines of whose answers anything was said, unless the next line is a commit; or no
+/// line was answered. With any status but `Outside` a device that is wrong stays as it was, but that
+/// recovery may have settled one of other texts. No line is answered on one that is wrong. None is made, devices of other names stay, and after
 /// `Refused` all.
 pub fn run_script<M: Machine + Drop>(
     alloc: Global,
@@ -32,7 +33,7 @@ pub fn run_script<M: Machine + Drop>(
     machine: M,
 ) -> (Status, M)
     ensures said { CanAttach M.tells (M.content machine) →
-        IsEnd (request_words (running device.now) schema.now equation.now) (M.content machine)
+        IsOutcome (request_words (running device.now) schema.now equation.now) (M.content machine)
         (M.content result.1) result.0 }
     ensures due { CanAttach M.tells (M.content machine) →
         IsAsDue (request_words (running device.now) schema.now equation.now) (M.content machine)

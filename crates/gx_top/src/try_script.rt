@@ -2,7 +2,7 @@
 ghost use Rattle.std.specs.Prelude.{◌≡◌, ◌≢◌, ◌≤◌, Ok, IsTrue};
 ghost use Rattle.gx_device.specs.Faults.{Rose};
 ghost use Rattle.gx_requests.specs.Words.{trying, request_words};
-ghost use Rattle.gx_top.specs.Tries.{IsEnd, IsAsDue};
+ghost use Rattle.gx_top.specs.Tries.{IsOutcome, IsAsDue};
 
 use crate::finish::finish;
 use gx_device::Machine;
@@ -20,7 +20,7 @@ pub fn try_script<M: Machine + Drop>(
     machine: M,
 ) -> (Status, M)
     ensures said { IsTrue M.tells →
-        IsEnd (request_words trying schema.now equation.now) (M.content machine)
+        IsOutcome (request_words trying schema.now equation.now) (M.content machine)
         (M.content result.1) result.0 }
     ensures due { IsTrue M.tells →
         IsAsDue (request_words trying schema.now equation.now) (M.content machine) result.0 }

@@ -9,7 +9,7 @@ ghost use Rattle.gx_requests.specs.Checked.{IsStored, IsStoredFor};
 ghost use Rattle.gx_requests.specs.Requests.{IsUnprepared};
 ghost use Rattle.gx_play.specs.Endings.{is_fault};
 ghost use Rattle.gx_top.specs.Worked.{LeavesWorked};
-ghost use Rattle.gx_top.specs.Tries.{IsEnd, IsAsDue, CountsOutside};
+ghost use Rattle.gx_top.specs.Tries.{IsOutcome, IsAsDue, CountsOutside};
 ghost use Rattle.gx_top.specs.Fulfilled.{Fulfils};
 
 use crate::finish::tell;
@@ -37,7 +37,7 @@ pub fn work<M: Machine + Drop>(
     requires { records ≤ 10000 }
     ensures said { CanAttach M.tells (M.content machine) → (digits number : List ℕ) →
         IsCount digits blocks → IsRecordCount number records →
-        IsEnd (request_words (working device.now digits number) [] equation.now)
+        IsOutcome (request_words (working device.now digits number) [] equation.now)
         (M.content machine) (M.content result.1) result.0 }
     ensures due { CanAttach M.tells (M.content machine) → (digits number : List ℕ) →
         IsCount digits blocks → IsRecordCount number records →

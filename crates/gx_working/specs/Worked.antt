@@ -9,7 +9,7 @@ use Rattle.gx_work.specs.Workload.{work_script}
 use Rattle.gx_work.specs.Summary.{work_text}
 use Rattle.gx_play.specs.declared.ending.Ending.{Ending}
 use Rattle.gx_play.specs.declared.ending.Ending.TheVariants as ending
-use Rattle.gx_play.specs.Played.{IsPlay, AreFirst, IsFullAt}
+use Rattle.gx_play.specs.Played.{IsPlay, AreFirst, MayBeFullAt}
 
 -- all of the script was played from a state, this line tells what came of it, and its last kept state is held
 pub record IsWorkedOut (start : State) (Holds : State → Type 0) (records : ℕ) (line : List ℕ) : Type 0 where
@@ -29,7 +29,7 @@ pub record IsWorkedFirst (start : State) (Holds : State → Type 0) (records : �
 pub record IsWorkedFull (built : Built) (limit : Option Limits) (start : State) (Holds : State → Type 0) (records : ℕ) : Type 0 where
   pub answers : List ℕ
   pub final : Playing
-  pub full : IsFullAt work_schema built limit start (work_script records) answers final
+  pub full : MayBeFullAt work_schema built limit start (work_script records) answers final
   pub holds : Holds final.kept
 
 -- how the play ended; it ends at no line, and finds no damage

@@ -6,8 +6,7 @@ use Rattle.gx_store.specs.Device.{IsHeadOf, IsSettled}
 use Rattle.gx_store.specs.Opening.{HaveDatabase, IsUnopened}
 use Rattle.gx_store.specs.Store.{machine_of}
 use Rattle.gx_play.specs.Endings.{IsEnded}
-use Rattle.gx_top.specs.Inspected.{Inspects}
-use Rattle.gx_top.proofs.InspectLemmas.{inspect_end, inspect_due}
+use Rattle.gx_top.proofs.InspectLemmas.{InspectsOr, inspect_end, inspect_due}
 use Rattle.gx_top.proofs.ExamineLemmas.{IsSeen, reopens_before, Request, typed_texts, unopened_row, unopened_script, unopened_left, examined_row, examined_script, examined_left}
 use Rattle.gx_top.proofs.UnopenedLemmas.{IsTried}
 use Rattle.gx_top.proofs.inspect.inspect_stored.Goals as goal
@@ -41,7 +40,7 @@ returns-in-Ok-clause-fulfilled g c = λ can words old same stored.
           (subst (λ (k : List LeafSpec). IsSettled schema equation k (kept_of store) mid.now.blocks) c.in-Ok.ensures.specs
           (c.examine_store-found.ensures.settled (schema, equation) (subst (λ k. IsHeadOf schema equation k (head_of store)) (sym c.in-Ok.ensures.specs) (c.in-Ok.ensures.head can)) ((c.in-Ok.ensures.just_opened can).was_whole whole)));
     }) in
-    let row : Inspects words old after c.tell-status.result = (Request words c.args.device.now x old middle stored same, examined_row words c.args.device.now x old middle stored same opened mid (working_of store) whole found seen after c.tell-status.result c.tell-status.ensures.devices (c.tell-status.ensures.told can.told)) in
+    let row : InspectsOr words old after c.tell-status.result = (Request words c.args.device.now x old middle stored same, examined_row words c.args.device.now x old middle stored same opened mid (working_of store) whole found seen after c.tell-status.result c.tell-status.ensures.devices (c.tell-status.ensures.told can.told)) in
     record {
       said = inspect_end words old after c.tell-status.result row
           (examined_script words c.args.device.now x old middle stored same opened mid (working_of store) whole found seen after c.tell-status.ensures.rest.script);
@@ -75,7 +74,7 @@ returns-in-Err-clause-fulfilled g c = λ can words old same stored.
       silent = c.end-status.ensures.silent can.told;
       script = c.end-status.ensures.rest.script;
     }) in
-    let row : Inspects words old after c.end-status.result = (Request words c.args.device.now x old middle stored same, unopened_row words c.args.device.now x old middle stored same mid after c.in-Err.why c.end-status.result tried c.end-status.ensures.devices un ended) in
+    let row : InspectsOr words old after c.end-status.result = (Request words c.args.device.now x old middle stored same, unopened_row words c.args.device.now x old middle stored same mid after c.in-Err.why c.end-status.result tried c.end-status.ensures.devices un ended) in
     record {
       said = inspect_end words old after c.end-status.result row
           (unopened_script words c.args.device.now x old middle stored same mid after c.in-Err.why c.end-status.result tried c.end-status.ensures.devices un ended);

@@ -16,7 +16,9 @@ returns-in-Ok-clause-said g c = λ can digits counted.
     (unhad words c.args.device.now digits c.args.blocks c.in-Ok.stored old mid after after (c.in-Ok.ensures.ready can.told (making c.args.device.now digits) (_, counted)) counted c.in-Ok.ensures.content.now c.make_stored-machine.result.0 (c.make_stored-machine.ensures.made free))
     ((c.make_stored-machine.ensures.attaches free).said ∙ ap (λ n. n.said) c.in-Ok.ensures.content.now)
     ((c.make_stored-machine.ensures.attaches free).script ∙ c.in-Ok.ensures.content.script)
-    (λ memory t task. absurd (not_played words old.aside.texts c.args.blocks t
+    (λ other t task. absurd (not_played words old.aside.texts c.args.blocks t
+    (to_make words old.aside.texts c.args.device.now digits c.args.blocks c.in-Ok.stored (c.in-Ok.ensures.ready can.told (making c.args.device.now digits) (_, counted)) counted) task))
+    (λ t task. absurd (not_played words old.aside.texts c.args.blocks t
     (to_make words old.aside.texts c.args.device.now digits c.args.blocks c.in-Ok.stored (c.in-Ok.ensures.ready can.told (making c.args.device.now digits) (_, counted)) counted) task))
     (record {
       status_is = c.end-status.ensures.status;

@@ -1,5 +1,5 @@
 use Rattle.std.proofs.Common.{[], refl, sym, subst, inl}
-use Rattle.gx_top.specs.Tries.{IsEnd, IsAsDue}
+use Rattle.gx_top.specs.Tries.{IsOutcome, IsAsDue}
 use Rattle.gx_requests.specs.Words.{texts_of, checking, trying, explaining, making, running, inspecting, working, IsRequest}
 use Rattle.gx_play.specs.declared.ending.Ending.TheVariants as ending
 use Rattle.gx_top.proofs.EndLemmas.{unprepared_end, unprepared_due}
@@ -13,7 +13,7 @@ use Rattle.gx_top.proofs.request.top.Goals as goal
 
 pub returns-in-Some-Check-clause-said : goal.returns-in-Some-Check-clause-said
 returns-in-Some-Check-clause-said g c = λ told free.
-    subst (λ w. IsEnd w (g.M.Device.content c.args.machine) (g.M.Device.content c.check-status.new.machine) c.check-status.result) (sym (subst (IsRequest (texts_of c.args.words.now)) c.in-Some-Check.field-0-is c.in-Some-Check.ensures.some)) (c.check-status.ensures.said told)
+    subst (λ w. IsOutcome w (g.M.Device.content c.args.machine) (g.M.Device.content c.check-status.new.machine) c.check-status.result) (sym (subst (IsRequest (texts_of c.args.words.now)) c.in-Some-Check.field-0-is c.in-Some-Check.ensures.some)) (c.check-status.ensures.said told)
 
 pub returns-in-Some-Check-clause-due : goal.returns-in-Some-Check-clause-due
 returns-in-Some-Check-clause-due g c = λ told free.
@@ -21,7 +21,7 @@ returns-in-Some-Check-clause-due g c = λ told free.
 
 pub returns-in-Some-Try-clause-said : goal.returns-in-Some-Try-clause-said
 returns-in-Some-Try-clause-said g c = λ told free.
-    subst (λ w. IsEnd w (g.M.Device.content c.args.machine) (g.M.Device.content c.try_script.result.1) c.try_script.result.0) (sym (subst (IsRequest (texts_of c.args.words.now)) c.in-Some-Try.field-0-is c.in-Some-Try.ensures.some)) (c.try_script.ensures.said told)
+    subst (λ w. IsOutcome w (g.M.Device.content c.args.machine) (g.M.Device.content c.try_script.result.1) c.try_script.result.0) (sym (subst (IsRequest (texts_of c.args.words.now)) c.in-Some-Try.field-0-is c.in-Some-Try.ensures.some)) (c.try_script.ensures.said told)
 
 pub returns-in-Some-Try-clause-due : goal.returns-in-Some-Try-clause-due
 returns-in-Some-Try-clause-due g c = λ told free.
@@ -29,12 +29,12 @@ returns-in-Some-Try-clause-due g c = λ told free.
 
 pub returns-in-Some-Explain-clause-said : goal.returns-in-Some-Explain-clause-said
 returns-in-Some-Explain-clause-said g c = λ told free.
-    subst (λ w. IsEnd w (g.M.Device.content c.args.machine) (g.M.Device.content c.explain-status.new.machine) c.explain-status.result) (sym (subst (IsRequest (texts_of c.args.words.now)) c.in-Some-Explain.field-0-is c.in-Some-Explain.ensures.some)) (c.explain-status.ensures.said told)
+    subst (λ w. IsOutcome w (g.M.Device.content c.args.machine) (g.M.Device.content c.explain-status.new.machine) c.explain-status.result) (sym (subst (IsRequest (texts_of c.args.words.now)) c.in-Some-Explain.field-0-is c.in-Some-Explain.ensures.some)) (c.explain-status.ensures.said told)
 
 pub returns-in-Some-Make-clause-said : goal.returns-in-Some-Make-clause-said
 returns-in-Some-Make-clause-said g c = λ told free.
     let is = subst (IsRequest (texts_of c.args.words.now)) c.in-Some-Make.field-0-is c.in-Some-Make.ensures.some in
-    subst (λ w. IsEnd w (g.M.Device.content c.args.machine) (g.M.Device.content c.make_database.result.1) c.make_database.result.0) (sym is.2)
+    subst (λ w. IsOutcome w (g.M.Device.content c.args.machine) (g.M.Device.content c.make_database.result.1) c.make_database.result.0) (sym is.2)
     (c.make_database.ensures.said (record { told = told; free = free (making _ is.0) _ _ tt is.2 }) is.0 is.1)
 
 pub returns-in-Some-Explain-clause-due : goal.returns-in-Some-Explain-clause-due
@@ -50,7 +50,7 @@ returns-in-Some-Make-clause-due g c = λ told free.
 pub returns-in-Some-Run-clause-said : goal.returns-in-Some-Run-clause-said
 returns-in-Some-Run-clause-said g c = λ told free.
     let is = subst (IsRequest (texts_of c.args.words.now)) c.in-Some-Run.field-0-is c.in-Some-Run.ensures.some in
-    subst (λ w. IsEnd w (g.M.Device.content c.args.machine) (g.M.Device.content c.run_script.result.1) c.run_script.result.0) (sym is)
+    subst (λ w. IsOutcome w (g.M.Device.content c.args.machine) (g.M.Device.content c.run_script.result.1) c.run_script.result.0) (sym is)
     (c.run_script.ensures.said (record { told = told; free = free (running _) _ _ tt is }))
 
 pub returns-in-Some-Run-clause-due : goal.returns-in-Some-Run-clause-due
@@ -141,7 +141,7 @@ returns-in-None-clause-ran g c = λ told device schema equation too free. absurd
 pub returns-in-Some-Inspect-clause-said : goal.returns-in-Some-Inspect-clause-said
 returns-in-Some-Inspect-clause-said g c = λ told free.
     let is = subst (IsRequest (texts_of c.args.words.now)) c.in-Some-Inspect.field-0-is c.in-Some-Inspect.ensures.some in
-    subst (λ w. IsEnd w (g.M.Device.content c.args.machine) (g.M.Device.content c.inspect.result.1) c.inspect.result.0) (sym is)
+    subst (λ w. IsOutcome w (g.M.Device.content c.args.machine) (g.M.Device.content c.inspect.result.1) c.inspect.result.0) (sym is)
     (c.inspect.ensures.said (record { told = told; free = free (inspecting _) _ _ tt is }))
 
 pub returns-in-Some-Inspect-clause-due : goal.returns-in-Some-Inspect-clause-due
@@ -191,7 +191,7 @@ returns-in-Some-Make-clause-inspected g c = λ told.
 pub returns-in-Some-Work-clause-said : goal.returns-in-Some-Work-clause-said
 returns-in-Some-Work-clause-said g c = λ told free.
     let is = subst (IsRequest (texts_of c.args.words.now)) c.in-Some-Work.field-0-is c.in-Some-Work.ensures.some in
-    subst (λ w. IsEnd w (g.M.Device.content c.args.machine) (g.M.Device.content c.work.result.1) c.work.result.0) (sym is.4)
+    subst (λ w. IsOutcome w (g.M.Device.content c.args.machine) (g.M.Device.content c.work.result.1) c.work.result.0) (sym is.4)
     (c.work.ensures.said (record { told = told; free = free (working _ is.0 is.1) [] _ tt is.4 }) is.0 is.1 is.2 is.3)
 
 pub returns-in-Some-Work-clause-due : goal.returns-in-Some-Work-clause-due

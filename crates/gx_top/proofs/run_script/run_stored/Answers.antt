@@ -15,7 +15,7 @@ use Rattle.gx_top.proofs.EndLemmas.{IsUnhad, run_end, run_due, unhad_end, unhad_
 use Rattle.gx_operations.proofs.StoreLemmas.{limit_on}
 use Rattle.gx_top.proofs.TaskLemmas.{run_task, run_is_task, not_wrong, device_run, on_store_told, opened_told, unopened_told, unopened_unhad}
 use Rattle.gx_top.proofs.RanLemmas.{played_left}
-use Rattle.gx_top.proofs.UnopenedLemmas.{IsTried, unopened_starts, unopened_left}
+use Rattle.gx_top.proofs.UnopenedLemmas.{IsTried, unopened_starts, unopened_recovered, unopened_left}
 use Rattle.gx_top.proofs.run_script.run_stored.Goals as goal
 
 pub returns-in-Ok-clause-fulfilled : goal.returns-in-Ok-clause-fulfilled
@@ -88,9 +88,8 @@ returns-in-Err-clause-fulfilled g c = λ can words old same stored.
           unhad
           ((c.in-Err.ensures.attaches can).said ∙ ap (λ n. n.said) same.now)
           ((c.in-Err.ensures.attaches can).script ∙ same.script)
-          (unopened_starts words c.args.device.now c.args.stored old middle stored same mid after c.in-Err.why c.end-status.result
-          tried
-          c.end-status.ensures.devices (λ f. c.end-status.ensures.fault (c.unopened_ending.ensures ∙ f)))
+          (λ other. unopened_starts words c.args.device.now c.args.stored old middle stored same mid after c.in-Err.why tried c.end-status.ensures.devices (λ f. other (c.unopened_ending.ensures ∙ f)))
+          (unopened_recovered words c.args.device.now c.args.stored old middle stored same mid after c.in-Err.why tried c.end-status.ensures.devices)
           ended;
       due = unhad_due words old mid after c.unopened_ending.result c.end-status.result
           (run_task words old.aside.texts c.args.device.now c.args.stored stored)
