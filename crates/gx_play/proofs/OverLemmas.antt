@@ -101,14 +101,14 @@ module _ {S : Type 0} (g : Ghosts S) (start : State) (script left heard before :
     first = first_answers stop.Fault part;
     count = part.front.0;
     said = part.front.1 ∙ ap (λ t. t ++ take part.front.0 part.text) unsaid;
-    holds = left (part.failed refl);
+    holds = kept_or_commit (part.failed refl);
   }
     where
-      left : (IsAt g part.final f ⊎ ((Spoken ≡ (g.content (leaves_of e)).now.said ++ part.text) × (Kept part.final.kept ⊎ IsCommitLine (schema_of e) part.later)))
+      kept_or_commit : (IsAt g part.final f ⊎ ((Spoken ≡ (g.content (leaves_of e)).now.said ++ part.text) × (Kept part.final.kept ⊎ IsCommitLine (schema_of e) part.later)))
           → Kept part.final.kept ⊎ ((Spoken ≡ before ++ part.text) × IsCommitLine (schema_of e) part.later)
-      left (inl at) = inl (kept_at g part.final e f schema_is built_is at)
-      left (inr (said, inl kept)) = inl kept
-      left (inr (said, inr commit)) = inr (said ∙ ap (λ t. t ++ part.text) unsaid, commit)
+      kept_or_commit (inl at) = inl (kept_at g part.final e f schema_is built_is at)
+      kept_or_commit (inr (said, inl kept)) = inl kept
+      kept_or_commit (inr (said, inr commit)) = inr (said ∙ ap (λ t. t ++ part.text) unsaid, commit)
 
   abbrev As : Result (Unit {0}) Ending → Type 0
   As = IsPlayedAs (schema_of e) (built_of e) (g.limit (leaves_of e)) start Kept script before Spoken

@@ -144,6 +144,7 @@ unprepared_end words old mid new before now why s is same devices e = record {
   heard = λ done t task limit start from. absurd (not_done (status_of why) (unplayed words old before now why is) (sym done ∙ e.status_is (done_not_outside s done) (done_not_memory s done)));
   heard_explained = λ done r. absurd (not_done (status_of why) (unplayed words old before now why is) (sym done ∙ e.status_is (done_not_outside s done) (done_not_memory s done)));
   unheard = λ none other. e.script ∙ same.script;
+  unheard_wrong = λ wrong. e.script ∙ same.script;
 }
 
 pub unprepared_due : (words : List (List ℕ)) (old mid new : Content) (before now : ℕ) (why : Ending) (s : Status) → IsUnprepared words old.aside.texts before now why → IsEnded why mid new s → IsAsDue words old s
@@ -199,6 +200,7 @@ check_end words old mid new summary s is unsaid unheard e = record {
   heard = λ done t task limit start from. absurd (checked_no_task words old t task (is.0, is.1, is.2, is.3));
   heard_explained = λ done r. absurd (checked_not_explained words old (is.0, is.1, is.2, is.3) r);
   unheard = λ none other. e.script ∙ unheard;
+  unheard_wrong = λ wrong. e.script ∙ unheard;
 }
 
 pub check_due : (words : List (List ℕ)) (old mid new : Content) (summary : Summary) (s : Status) → IsSummary words old.aside.texts summary → IsEnded (ending.Accepted summary) mid new s → IsAsDue words old s
@@ -388,6 +390,7 @@ unhad_end words old mid new why s is unsaid unheard starts recovered e = record 
   heard_explained = λ done r. absurd (unhad_unexplained words old mid new why is r (subst (IsEnded why mid new) done e));
   heard = λ done t task limit start from. absurd (unhad_undone words old mid new why t is task (subst (IsEnded why mid new) done e));
   unheard = λ none other. e.script ∙ unheard;
+  unheard_wrong = λ wrong. e.script ∙ unheard;
 }
 
 -- of a script that was to be played, where its device wasn't had, there was no memory for its line, or the device is wrong
@@ -597,6 +600,7 @@ run_end words t old mid new played s r = record {
   heard = λ done u other limit start from. run_heard words t old mid new played s r done limit start (subst (λ v. IsFrom v old limit start) (one_task words old.aside.texts u t other r.task) from);
   heard_explained = λ done q. absurd (task_not_explained words old.aside.texts t r.task q);
   unheard = λ none other. absurd (none t r.task);
+  unheard_wrong = λ wrong. absurd (r.right wrong.why wrong.is_before wrong.wrong);
 }
 
 -- ---- the status that is due

@@ -87,6 +87,7 @@ explain_end words old new s is heard = record {
   heard = λ done t task limit start from. absurd (task_not_explained words old.aside.texts t task is.0);
   heard_explained = λ done r. heard done;
   unheard = λ none other. absurd (other is.0);
+  unheard_wrong = λ wrong. absurd (wrong_not_explained words old wrong.why wrong.wrong is.0);
 }
 
 pub explain_due : (words : List (List ℕ)) (old new : Content) (s : Status) → Explains words old new s → IsAsDue words old s

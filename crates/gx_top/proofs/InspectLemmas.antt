@@ -181,6 +181,7 @@ inspect_end words old new s is unheard = record {
   heard = λ done t task limit start from. absurd (task_not_inspected words old.aside.texts t task is.0);
   heard_explained = λ done r. absurd (explained_not_inspected words old.aside.texts r is.0);
   unheard = λ none other. unheard;
+  unheard_wrong = λ wrong. unheard;
 }
 
 -- ---- the status that is due

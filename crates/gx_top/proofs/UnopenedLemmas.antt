@@ -11,7 +11,6 @@ use Rattle.gx_play.specs.declared.ending.DeviceWhy.{DeviceWhy}
 use Rattle.gx_play.specs.declared.ending.DeviceWhy.TheVariants as device_why
 use Rattle.gx_play.specs.declared.ending.Ending.TheVariants as ending
 use Rattle.gx_play.specs.declared.status.Status.{Status}
-use Rattle.gx_play.specs.declared.status.Status.TheVariants as status
 use Rattle.gx_play.specs.Endings.{unopened_ending, IsEnded}
 use Rattle.gx_play.specs.Say.{SameDevices}
 use Rattle.gx_requests.specs.declared.opened.Stored.{Stored}

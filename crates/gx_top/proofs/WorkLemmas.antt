@@ -106,6 +106,7 @@ work_end words old new s w unheard = record {
   heard = λ done t task limit start from. absurd (task_not_worked words old.aside.texts t w.blocks w.records task w.request);
   heard_explained = λ done r. absurd (explained_not_worked words old.aside.texts w.blocks w.records r w.request);
   unheard = λ none other. unheard;
+  unheard_wrong = λ wrong. unheard;
 }
 
 -- ---- the status that is due

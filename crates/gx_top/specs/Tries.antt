@@ -95,12 +95,14 @@ IsSaid words old new status.Full = Plays (λ t limit s. IsFullText t.schema t.de
 IsSaid words old new status.Device = ((why : DeviceWhy) × IsWrong words old why × SaysWrong why old new) ⊎ Inspects words old new status.Device ⊎ Works words old new status.Device
 IsSaid words old new status.Outside = SaysOther words old new ⊎ PlaysFront words old new ⊎ Explains words old new status.Outside ⊎ Inspects words old new status.Outside ⊎ Works words old new status.Outside
 
--- the same, and what was heard: the script to its end where all of it was played or explained, and none of it where none is to be
+-- The same, and what was heard: the script to its end where all of it was played or explained, and none of it where none is to be, or
+-- where the device is wrong.
 pub record IsOutcome (words : List (List ℕ)) (old new : Content) (s : Status) : Type 0 where
   pub said : IsSaid words old new s
   pub heard : s ≡ status.Done → (t : Task) → IsTask words old.aside.texts t → (limit : Option Limits) (start : State) → IsFrom t old limit start → new.script ≡ []
   pub heard_explained : s ≡ status.Done → IsToExplain words old.aside.texts → new.script ≡ []
   pub unheard : ((t : Task) → ¬ IsTask words old.aside.texts t) → ¬ IsToExplain words old.aside.texts → new.script ≡ old.script
+  pub unheard_wrong : IsWrongDevice words old → new.script ≡ old.script
 
 -- ---- when each status is due
 
