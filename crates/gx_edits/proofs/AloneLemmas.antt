@@ -1,10 +1,20 @@
 -- Records that have one leaf entry each.
-use Rattle.std.proofs.Common.{◌≡◌, ℕ, ◌<◌, List, [], ◌∷◌, ◌++◌, length, get_or, map, Option, Some, None, inl, inr, refl, sym, ap, subst, ◌∙◌, arith}
-use Rattle.std.specs.Prelude.{IfSome, ◌≢◌, ◌⊎◌}
+use Rattle.std.proofs.Common.{◌≡◌, ℕ, ◌<◌, List, [], ◌∷◌, ◌++◌, length, get_or, map, Bool, true, false, Option, Some, None, inl, inr, refl, sym, ap, subst, append-nil, ◌∙◌, arith}
+use Rattle.std.specs.Prelude.{IfSome, IsTrue, ◌↔◌, ◌≢◌, ◌⊎◌, filter, not, is_some}
 use Rattle.std.specs.List.{flat_map}
+use Rattle.std.specs.FinMap as fin
+use Rattle.std.proofs.lemmas.Bool.{true≢false}
+use Rattle.std.specs.Ordering.{is_eq, eq_by_cmp}
+use Rattle.std.specs.Cmp.Lexicographic.{nat_list_cmp_total}
 use Rattle.gx_values.specs.declared.records.Rec.{Rec}
-use Rattle.gx_values.specs.Keys.{key_of}
-use Rattle.gx_ports.specs.LeafMaps.{LeafMap, with_entry, without_entry}
+use Rattle.gx_values.specs.declared.values.Value.{Value}
+use Rattle.gx_values.specs.Values.{value_cmp, Fits}
+use Rattle.gx_values.specs.Keys.{bytes_of, key_of, is_inside}
+use Rattle.gx_values.proofs.OrderLemmas.{inside_one, key_order, value_cmp_same}
+use Rattle.gx_schema.specs.declared.schema.FileDef.{FileDef}
+use Rattle.gx_schema.specs.Lookups.{key_kind}
+use Rattle.gx_ports.specs.declared.leaves.Entry.{Entry}
+use Rattle.gx_ports.specs.LeafMaps.{LeafMap, map_at, entry_of, selected, with_entry, without_entry}
 use Rattle.gx_actual.specs.declared.layer.Actual.{Actual}
 use Rattle.gx_actual.specs.Rules.{actual_rec}
 use Rattle.gx_encode.specs.declared.layer.Encode.{Encode}
@@ -18,13 +28,16 @@ use Rattle.gx_stack.specs.declared.node.LayerNode.{LayerNode}
 use Rattle.gx_stack.specs.declared.node.Node.TheVariants as nodes
 use Rattle.gx_stack.specs.Tree.{Tree, IsValid, leaves_of, tree_form, entries_of, kid_entries, leaf_body}
 use Rattle.gx_stack.specs.Seen.{tree_of, kids_from}
-use Rattle.gx_stack.specs.Internal.{IsSet, IsInternal, changed, at, IsAt, NoneAt, remove_entries, put_entries}
-use Rattle.gx_stack.proofs.Seen.{seen_leaf, seen_layer, layer_form, child_there, child_valid, kid_entries_at}
+use Rattle.gx_stack.specs.Internal.{IsSet, IsInternal, IsUnion, changed, at, IsAt, NoneAt, remove_entries, put_entries}
+use Rattle.gx_stack.proofs.Seen.{seen_leaf, seen_layer, layer_form, child_there, child_valid, child_leaves, kid_entries_at}
 use Rattle.gx_stack.proofs.Children.{union_from_internal, internal_from_union}
 use Rattle.gx_stack.proofs.Maps.{place_cases, removed_elsewhere, removed_here, put_elsewhere, put_here}
 use Rattle.gx_stack.proofs.Unique.{entry_leaf, entries_apart}
 use Rattle.gx_stack.proofs.Without.{from_without, to_without}
-use Rattle.gx_gather.proofs.Lists.{from_each, in_each, none_some, some_same}
+use Rattle.gx_gather.proofs.Lists.{from_each, in_each, none_some, some_same, all_at, in_filter, filter_in}
+use Rattle.gx_model.specs.States.{File, IsRowOf}
+use Rattle.gx_scan.specs.Files.{rec_of, records_of, IsStorable, IsTreeFor, IsInternal as IsStored}
+use Rattle.gx_scan.proofs.FileLemmas.{same_value, value_itself, find_in, in_find, there_in, in_there, set_of}
 use Rattle.gx_types.specs.declared.any.AnyMapping.{AnyMapping}
 use Rattle.gx_types.specs.declared.any.AnyMapping.TheVariants as any
 use Rattle.gx_types.specs.Any.{any_rule, any_laws}
@@ -45,6 +58,9 @@ either_keeps m (inr x) = subst (λ k. KeepsKeys (any_rule k)) (sym x.1) (encode_
 pub leaf_only : (node : Node AnyMapping) (l : LeafNode) → node ≡ nodes.Leaf l → IsOnlyLeaf (tree_of node) l.leaf
 leaf_only node l is = λ r fits.
     (leaf_body r.fields, ap (λ t. entries_of any_rule t r) (seen_leaf node l is))
+
+pub leaf_in_tree : (node : Node AnyMapping) (l : LeafNode) → node ≡ nodes.Leaf l → In l.leaf (leaves_of (tree_of node))
+leaf_in_tree node l is = subst (λ (t : Tree AnyMapping). In l.leaf (leaves_of t)) (sym (seen_leaf node l is)) (inl refl)
 
 -- there is a first child where each record has a part
 pub first_there : (node : Node AnyMapping) (l : LayerNode AnyMapping) → node ≡ nodes.Layer l → IsValid any_rule (tree_of node) → KeepsKeys (any_rule l.mapping) → 0 < length l.kids.items
@@ -73,6 +89,10 @@ pub layer_some : (node : Node AnyMapping) (l : LayerNode AnyMapping) (k : Node A
 layer_some node l k None is valid read keeps there only = tt
 layer_some node l k (Some n) is valid read keeps there only = layer_only node l k n is valid read keeps there only
 
+pub layer_in_tree : (node : Node AnyMapping) (l : LayerNode AnyMapping) (k : Node AnyMapping) (o : Option ℕ) → node ≡ nodes.Layer l → 0 < length l.kids.items → k ≡ get_or l.kids.items 0 k → IfSome o (λ n. In n (leaves_of (tree_of k))) → IfSome o (λ n. In n (leaves_of (tree_of node)))
+layer_in_tree node l k None is there read in_tree = tt
+layer_in_tree node l k (Some n) is there read in_tree = child_leaves any_rule node l is 0 k there read n in_tree
+
 -- the leaf is one of the tree, where there is a record
 pub only_in_tree : (t : Tree AnyMapping) (n : ℕ) → IsOnlyLeaf t n → (r : Rec) → IsOf (tree_form any_rule t) r → In n (leaves_of t)
 only_in_tree t n only r fits =
@@ -92,6 +112,10 @@ leaf_is t n only r e es fits are one = ap (λ (l : List LeafEntry). (get_or l 0 
 
 pub first_in : (t : Tree AnyMapping) (r : Rec) (e : LeafEntry) (es : List LeafEntry) → es ≡ entries_of any_rule t r → es ≡ e ∷ [] → In e (entries_of any_rule t r)
 first_in t r e es are one = subst (In e) (sym one ∙ are) (inl refl)
+
+one_of : (x y : LeafEntry) → In x (y ∷ []) → x ≡ y
+one_of x y (inl is) = is
+one_of x y (inr none) = absurd none
 
 -- ---- changes of them
 
@@ -177,7 +201,66 @@ module _ (t : Tree AnyMapping) (n : ℕ) (only : IsOnlyLeaf t n) (valid : IsVali
                   in_each (entries_of any_rule t) r.0 x (changed R (Some old) (Some new)) (inr (to_without R old r.0 r.1 other)) r.2)
             ];
       })
-    where
-      one_of : (x y : LeafEntry) → In x (y ∷ []) → x ≡ y
-      one_of x y (inl is) = is
-      one_of x y (inr none) = absurd none
+
+-- ---- whether one is there
+
+-- the entries within the span of a key
+abbrev inside : Value → List ℕ × List ℕ → Bool
+inside key e = is_inside (bytes_of key) (bytes_of key) e.0
+
+abbrev those : Value → LeafMap → List (List ℕ × List ℕ)
+those key m = filter (inside key) (fin.entries m)
+
+-- where each entry is of the value, and the value has an entry, there is none exactly where there is no value
+all_told : (o : Option (List Value)) (empty : Bool) (es : List (List ℕ × List ℕ)) → ((values : List Value) → o ≡ Some values → (e : List ℕ × List ℕ) × In e es) → ((e : List ℕ × List ℕ) → In e es → (values : List Value) × (o ≡ Some values)) → (found : List Entry) → found ≡ map entry_of es → (IsTrue empty ↔ (found ≡ [])) → not empty ≡ is_some o
+all_told None true es to from found are told = refl
+all_told (Some values) false es to from found are told = refl
+all_told (Some values) true [] to from found are told = absurd (to values refl).1
+all_told (Some values) true (e ∷ es) to from found are told = absurd (omega (arith, ap length (sym are ∙ told.0 refl)))
+all_told None false [] to from found are told = absurd (true≢false (sym (told.1 are)))
+all_told None false (e ∷ es) to from found are told = absurd (none_some (from e (inl refl)).0 (from e (inl refl)).1)
+
+module _ (file : FileDef) (t : Tree AnyMapping) (n k : ℕ) (maps : List LeafMap) (f : File) (key : Value) (storable : IsStorable file) (tree : IsTreeFor file t k) (is : IsStored file t maps f) (only : IsOnlyLeaf t n) (in_tree : In n (leaves_of t)) (fit : Fits (key_kind file) key) where
+  file_set : IsSet (tree_form any_rule t) (records_of f)
+  file_set = subst (λ form. IsSet form (records_of f)) (sym tree.form) (set_of file f storable.keyed is.fit)
+
+  file_union : IsUnion any_rule t (records_of f) maps
+  file_union = union_from_internal any_rule t (records_of f) maps is.held
+
+  fits_of : (q : Value) (values : List Value) → fin.get f q ≡ Some values → Fits (key_kind file) q
+  fits_of q values found = (all_at (IsRowOf file) (fin.entries f) (q, values) is.fit (find_in value_cmp_same q values (fin.entries f) (sym (fin.get-entries f q) ∙ found))).0
+
+  within_is : (q : Value) → Fits (key_kind file) q → inside key (bytes_of q, []) ≡ eq_by_cmp value_cmp key q
+  within_is q fit_q = inside_one (key_kind file) key q storable.key fit fit_q ∙ ap is_eq (key_order (key_kind file) key q storable.key fit fit_q)
+
+  -- the record has an entry there
+  entry_there : (values : List Value) → fin.get f key ≡ Some values → (e : List ℕ × List ℕ) × In e (those key (map_at maps n))
+  entry_there values found =
+      let m = map_at maps n in
+      let r = rec_of (key, values) in
+      let h = there_in f key values found in
+      let one = only r (file_set.fits r h) in
+      let e : LeafEntry = record { leaf = n; key = key_of r.key; body = one.0 } in
+      let held = file_union.holds e (in_each (entries_of any_rule t) r e (records_of f) h (subst (In e) (sym one.1) (inl refl))) in
+      let at_key : fin.get m (bytes_of key) ≡ Some one.0 = ap (fin.get m) (sym (append-nil (bytes_of key))) ∙ held in
+      let among = find_in (fin.slice_cmp-IsAntisymmetric fin.nat_cmp-IsAntisymmetric) (bytes_of key) one.0 (fin.entries m) (sym (fin.get-entries m (bytes_of key)) ∙ at_key) in
+      ((bytes_of key, one.0), filter_in (inside key) (bytes_of key, one.0) (fin.entries m) among (within_is key fit ∙ value_itself key))
+
+  -- an entry there is that of the record
+  entry_from : (e : List ℕ × List ℕ) → In e (those key (map_at maps n)) → (values : List Value) × (fin.get f key ≡ Some values)
+  entry_from e h =
+      let m = map_at maps n in
+      let kept = in_filter (inside key) e (fin.entries m) h in
+      let found : fin.get m e.0 ≡ Some e.1 = fin.get-entries m e.0 ∙ in_find nat_list_cmp_total e (fin.entries m) (fin.entries_sorted m) kept.0 in
+      let x : LeafEntry = record { leaf = n; key = e.0; body = e.1 } in
+      let r = from_each (entries_of any_rule t) x (records_of f) (file_union.only x in_tree found) in
+      let q = in_there f r.0 r.1 in
+      let one = only r.0 (file_set.fits r.0 r.1) in
+      let y : LeafEntry = record { leaf = n; key = key_of r.0.key; body = one.0 } in
+      let key_is : e.0 ≡ bytes_of q.key = ap (λ (z : LeafEntry). z.key) (one_of x y (subst (In x) one.1 r.2)) ∙ ap (λ (z : Rec). key_of z.key) q.is ∙ append-nil (bytes_of q.key) in
+      let same = same_value key q.key (sym (within_is q.key (fits_of q.key q.values q.found)) ∙ ap (is_inside (bytes_of key) (bytes_of key)) (sym key_is) ∙ kept.1) in
+      (q.values, ap (fin.get f) same ∙ q.found)
+
+  -- so the record is there exactly where there is an entry
+  pub there_is : (lo hi : List ℕ) (found : List Entry) (empty : Bool) → lo ≡ bytes_of key → hi ≡ bytes_of key → found ≡ selected lo hi (map_at maps n) → (IsTrue empty ↔ (found ≡ [])) → not empty ≡ is_some (fin.get f key)
+  there_is lo hi found empty lo_is hi_is are told = all_told (fin.get f key) empty (those key (map_at maps n)) entry_there entry_from found (are ∙ (λ i. selected (lo_is i) (hi_is i) (map_at maps n))) told

@@ -4,6 +4,7 @@ use Rattle.std.specs.Prelude.{is_some, unwrap_or, slice_set}
 use Rattle.std.specs.List.{AllByRecursion}
 use Rattle.std.specs.Option.{option_map}
 use Rattle.std.specs.FinMap as fin
+use Rattle.std.proofs.lemmas.Bool.{true≢false}
 use Rattle.std.proofs.lemmas.List.{take_all}
 use Rattle.gx_values.specs.declared.values.Value.{Value}
 use Rattle.gx_values.specs.declared.records.Field.{Field}
@@ -46,6 +47,13 @@ none_there f k = go (fin.get f k)
     go : (o : Option (List Value)) → is_some o ≡ false → o ≡ None
     go None e = refl
     go (Some values) e = cc
+
+pub some_there : (f : File) (k : Value) → is_some (fin.get f k) ≡ true → (values : List Value) × (fin.get f k ≡ Some values)
+some_there f k = go (fin.get f k)
+  where
+    go : (o : Option (List Value)) → is_some o ≡ true → (values : List Value) × (o ≡ Some values)
+    go None e = absurd (true≢false (sym e))
+    go (Some values) e = (values, refl)
 
 -- the values of the record that was found
 pub found_values : (f : File) (k : Value) (r : Rec) → Some r ≡ record_at f k → (values : List Value) × (fin.get f k ≡ Some values) × (r ≡ rec_of (k, values))

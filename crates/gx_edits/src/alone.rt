@@ -1,19 +1,25 @@
 // Records that have one leaf entry each, under their own key: one is changed at its one place.
-ghost use Rattle.std.specs.Prelude.{◌≡◌, ◌<◌, ◌≤◌, ◌+◌, ◌∷◌, [], ℕ, List, Option, true, length, IfSome, OnOk, IsErrOf};
+ghost use Rattle.std.specs.Prelude.{◌≡◌, ◌<◌, ◌≤◌, ◌+◌, ◌∷◌, [], ℕ, List, Option, true, length, is_some, IfSome, IfOk, OnOk, IsErrOf};
+ghost use Rattle.std.specs.FinMap as fin;
+ghost use Rattle.gx_values.specs.Values.{Fits};
 ghost use Rattle.gx_values.specs.declared.records.Rec.{Rec as Record};
 ghost use Rattle.gx_values.specs.Keys.{bytes_of};
 ghost use Rattle.gx_ports.specs.LeafMaps.{map_at, entry_count, IsCrowdedBy};
-ghost use Rattle.gx_ports.specs.Calls.{Keeps, Ends};
+ghost use Rattle.gx_ports.specs.Calls.{Keeps, ReadsMaps, Ends};
 ghost use Rattle.gx_ports.specs.declared.leaves.TheConstants.{MAX_KEY_LEN};
 ghost use Rattle.gx_mapping.specs.Rule.{In, IsOf};
 ghost use Rattle.gx_stack.specs.Tree.{leaves_of, tree_form, entries_of, IsValid};
 ghost use Rattle.gx_stack.specs.Seen.{tree_of};
 ghost use Rattle.gx_stack.specs.Internal.{IsSet, IsInternal, changed};
 ghost use Rattle.gx_types.specs.Any.{any_rule};
+ghost use Rattle.gx_schema.specs.Lookups.{key_kind};
+ghost use Rattle.gx_model.specs.States.{File as FileMap};
+ghost use Rattle.gx_scan.specs.Files.{IsInternal as IsStored, IsStorable, IsTreeFor};
 ghost use Rattle.gx_edits.specs.Alone.{KeepsKeys, IsOnlyLeaf};
 
-use gx_ports::{Leaves, Stop};
+use gx_ports::{Entries, Leaves, Stop};
 use gx_scan::whole_span;
+use gx_schema::FileDef;
 use gx_stack::Node;
 use gx_types::AnyMapping;
 use gx_values::{Rec, Value};
@@ -23,7 +29,8 @@ use std::alloc::Global;
 /// entries.
 pub(crate) fn only_leaf(node: &Node<AnyMapping>) -> Option<u32>
     requires { IsValid any_rule (tree_of node.now) }
-    ensures { IfSome result (IsOnlyLeaf (tree_of node.now)) }
+    ensures only { IfSome result (IsOnlyLeaf (tree_of node.now)) }
+    ensures in_tree { IfSome result (λ leaf. In leaf (leaves_of (tree_of node.now))) }
 {
     match node {
         Node::Leaf(node) => Some(node.leaf),
@@ -45,6 +52,35 @@ fn keeps_keys(mapping: &AnyMapping) -> bool
         AnyMapping::Actual(_) | AnyMapping::Encode(_) => true,
         _ => false,
     }
+}
+
+/// Whether the file has a record with this key, each of whose records has its one entry in this leaf of the
+/// node: its values needn't be read.
+pub(crate) fn is_there<B: Leaves>(
+    alloc: Global,
+    file: &FileDef,
+    node: &Node<AnyMapping>,
+    leaf: u32,
+    key: &Value,
+    leaves: &mut B,
+) -> Result<bool, Stop>
+    requires tree { IsTreeFor file.now (tree_of node.now) (length (B.working leaves.old)) }
+    requires storable { IsStorable file.now }
+    requires only { IsOnlyLeaf (tree_of node.now) leaf }
+    requires in_tree { In leaf (leaves_of (tree_of node.now)) }
+    requires key { Fits (key_kind file.now) key.now }
+    ensures there { (f : FileMap) → B.whole leaves.old →
+        IsStored file.now (tree_of node.now) (B.working leaves.old) f →
+        IfOk result (λ there. there ≡ is_some (fin.get f key.now)) }
+    ensures reads { ReadsMaps B.View (B.whole leaves.old) leaves.old leaves.new result }
+{
+    let (_, _) = (file, node);
+    let mut span = whole_span();
+    span.lo.set_value(key);
+    span.hi.set_value(key);
+    let mut entries = Entries::new(alloc);
+    leaves.select(alloc, leaf, &span, &mut entries)?;
+    Ok(!entries.is_empty())
 }
 
 /// Takes the record with this key out of the only leaf of a node.

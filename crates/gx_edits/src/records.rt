@@ -8,8 +8,8 @@ ghost use Rattle.gx_schema.specs.Lookups.{key_kind, data_fields};
 ghost use Rattle.gx_commands.specs.Commands.{IsChangeOf};
 ghost use Rattle.gx_ports.specs.LeafMaps.{entry_count, IsCrowdedBy};
 ghost use Rattle.gx_ports.specs.Calls.{Keeps, Ends};
-ghost use Rattle.gx_mapping.specs.Rule.{IsOf};
-ghost use Rattle.gx_stack.specs.Tree.{entries_of};
+ghost use Rattle.gx_mapping.specs.Rule.{In, IsOf};
+ghost use Rattle.gx_stack.specs.Tree.{entries_of, leaves_of};
 ghost use Rattle.gx_stack.specs.Seen.{tree_of};
 ghost use Rattle.gx_types.specs.Any.{any_rule};
 ghost use Rattle.gx_typing.specs.Dues.{file_form};
@@ -17,8 +17,9 @@ ghost use Rattle.gx_model.specs.States.{File as FileMap};
 ghost use Rattle.gx_model.specs.Commands.{changed, updated, first_refusal, key_exists, no_record};
 ghost use Rattle.gx_scan.specs.Files.{rec_of, IsInternal, HasFile, IsStorable, IsTreeFor};
 ghost use Rattle.gx_edits.specs.Records.{IsEditedWhere};
+ghost use Rattle.gx_edits.specs.Alone.{IsOnlyLeaf};
 
-use crate::alone::{only_leaf, put_alone, take_alone};
+use crate::alone::{is_there, only_leaf, put_alone, take_alone};
 use gx_commands::Changes;
 use gx_pairs::Refused;
 use gx_ports::{Leaves, Stop};
@@ -104,15 +105,48 @@ pub(crate) fn delete_record<B: Leaves>(
     ensures block { (n : ℕ) → IsErrOf result (Stop.Damaged n) → B.whole leaves.old → n ≡ 0 }
     ensures not_full { ¬ IsErrOf result Stop.Full }
 {
+    if let Some(leaf) = only_leaf(node) {
+        return delete_alone(alloc, file, node, leaf, &key, leaves);
+    }
     let Some(values) = find_values(alloc, file, node, &key, leaves)? else {
         return Ok(Some(Refused::NoRecord));
     };
-    if let Some(leaf) = only_leaf(node) {
-        take_alone(alloc, node, leaf, &key, leaves)?;
-        return Ok(None);
-    }
     let old = new_record(alloc, key, values)?;
     node.replace(alloc, leaves, Some(old), None)?;
+    Ok(None)
+}
+
+// The same where each record has its one entry in this leaf of the node.
+fn delete_alone<B: Leaves>(
+    alloc: Global,
+    file: &FileDef,
+    node: &Node<AnyMapping>,
+    leaf: u32,
+    key: &Value,
+    leaves: &mut B,
+) -> Result<Option<Refused>, Stop>
+    requires tree { IsTreeFor file.now (tree_of node.now) (length (B.working leaves.old)) }
+    requires storable { IsStorable file.now }
+    requires only { IsOnlyLeaf (tree_of node.now) leaf }
+    requires in_tree { In leaf (leaves_of (tree_of node.now)) }
+    requires key { Fits (key_kind file.now) key.now }
+    ensures deleted { (f : FileMap) → B.whole leaves.old →
+        IsInternal file.now (tree_of node.now) (B.working leaves.old) f → IfOk result
+        (λ why. IsEditedWhere file.now (tree_of node.now)
+        (B.working leaves.old) (B.working leaves.new) f
+        (first_refusal ((not (is_some (fin.get f key.now)), no_record) ∷ []))
+        (fin.remove f key.now) why) }
+    ensures keeps { Keeps B.View leaves.old leaves.new }
+    ensures ends { Ends B.View
+        (B.whole leaves.old × HasFile file.now (tree_of node.now) (B.working leaves.old))
+        leaves.old leaves.new result }
+    ensures block { (n : ℕ) → IsErrOf result (Stop.Damaged n) → B.whole leaves.old → n ≡ 0 }
+    ensures not_full { ¬ IsErrOf result Stop.Full }
+{
+    if !is_there(alloc, file, node, leaf, key, leaves)? {
+        return Ok(Some(Refused::NoRecord));
+    }
+    take_alone(alloc, node, leaf, key, leaves)?;
     Ok(None)
 }
 

@@ -1,20 +1,19 @@
-use Rattle.std.proofs.Common.{◌≡◌, ◌<◌, ◌∙◌, List, Some, length, refl, sym, ap, subst, arith}
+use Rattle.std.proofs.Common.{◌≡◌, ◌<◌, ◌∙◌, List, Some, length, sym, ap, subst}
 use Rattle.std.specs.Prelude.{IfSome, not, is_some}
 use Rattle.std.specs.FinMap as fin
 use Rattle.gx_values.specs.declared.records.Rec.{Rec}
 use Rattle.gx_values.specs.Values.{AreFit}
-use Rattle.gx_schema.specs.Lookups.{key_kind, data_fields}
+use Rattle.gx_schema.specs.Lookups.{data_fields}
 use Rattle.gx_mapping.specs.Rule.{In, IsOf}
 use Rattle.gx_ports.specs.LeafMaps.{LeafMap, map_at}
+use Rattle.gx_stack.specs.Tree.{leaves_of}
 use Rattle.gx_stack.specs.Seen.{tree_of}
 use Rattle.gx_stack.specs.Internal.{IsSet, IsInternal as IsHeld}
 use Rattle.gx_types.specs.Any.{any_rule}
-use Rattle.gx_scan.specs.Files.{rec_of, records_of}
+use Rattle.gx_scan.specs.Files.{records_of}
 use Rattle.gx_scan.proofs.FileLemmas.{set_of, there_in, row_fits}
 use Rattle.gx_model.specs.Commands.{no_record}
-use Rattle.gx_scan.proofs.RecordLemmas.{key_width}
 use Rattle.gx_edits.specs.Alone.{IsOnlyLeaf}
-use Rattle.gx_edits.proofs.AloneLemmas.{only_in_tree}
 use Rattle.gx_edits.proofs.RecordLemmas.{is_done, delete_edit}
 use Rattle.gx_edits.proofs.records.delete_record.Goals as goal
 
@@ -24,8 +23,8 @@ replace-requires-clause-below g c = λ n h. subst (λ (maps : List LeafMap). n <
 pub replace-requires-clause-old_fits : goal.replace-requires-clause-old_fits
 replace-requires-clause-old_fits g c =
     let file = c.args.file.now in
-    let values = c.in-Some.values in
-    let fits = subst (λ o. IfSome o (AreFit (data_fields file))) c.in-Some.is c.in_ok-values.ensures.fits in
+    let values = c.in-Some-2.values in
+    let fits = subst (λ o. IfSome o (AreFit (data_fields file))) c.in-Some-2.is c.in_ok-values.ensures.fits in
     subst (λ form. IsOf form c.in_ok-old.old) (sym c.requires.tree.form) (subst (IsOf _) (sym c.in_ok-old.ensures) (row_fits file (c.args.key, values) c.requires.storable.keyed (c.requires.key, fits)))
 
 pub returns-clause-deleted : goal.returns-clause-deleted
@@ -33,9 +32,9 @@ returns-clause-deleted g c = λ f whole is.
     let t = tree_of c.args.node.now in
     let same = c.find_values.ensures.reads.reads.working in
     let key = c.args.key in
-    let values = c.in-Some.values in
+    let values = c.in-Some-2.values in
     let was = c.in_ok-old.ensures in
-    let there : fin.get f key ≡ Some values = sym (sym c.in-Some.is ∙ c.in_ok-values.ensures.found f whole is) in
+    let there : fin.get f key ≡ Some values = sym (sym c.in-Some-2.is ∙ c.in_ok-values.ensures.found f whole is) in
     let after = c.in_ok-values.ensures.reads.ends.whole whole in
     let set = subst (λ form. IsSet form (records_of f)) (sym c.requires.tree.form) (set_of c.args.file.now f c.requires.storable.keyed is.fit) in
     let held = subst (λ (maps : List LeafMap). IsHeld any_rule t (records_of f) maps) (sym same) is.held in
@@ -43,37 +42,10 @@ returns-clause-deleted g c = λ f whole is.
     is_done c.args.file.now t _ _ f _ no_record _ (ap (λ o. not (is_some o)) there)
     (delete_edit c.args.file.now t _ _ f key values c.in_ok-old.old c.requires.tree.valid is was done (λ n out. c.in_ok-replace.ensures.others n after (λ e. cc) out ∙ ap (λ (maps : List LeafMap). map_at maps n) same))
 
--- ---- a record that has one entry
+-- ---- records that have one entry each
 
-pub take_alone-requires-clause-below : goal.take_alone-requires-clause-below
-take_alone-requires-clause-below g c = λ n h. subst (λ (maps : List LeafMap). n < length maps) (sym c.find_values.ensures.reads.reads.working) (c.requires.tree.below n h)
+pub delete_alone-requires-clause-only : goal.delete_alone-requires-clause-only
+delete_alone-requires-clause-only g c = subst (λ o. IfSome o (IsOnlyLeaf (tree_of c.args.node.now))) c.in-Some.is c.only_leaf.ensures.only
 
-pub take_alone-requires-clause-only : goal.take_alone-requires-clause-only
-take_alone-requires-clause-only g c = subst (λ o. IfSome o (IsOnlyLeaf (tree_of c.args.node.now))) c.in-Some-only_leaf.is c.only_leaf.ensures
-
-pub take_alone-requires-clause-in_tree : goal.take_alone-requires-clause-in_tree
-take_alone-requires-clause-in_tree g c =
-    let file = c.args.file.now in
-    let t = tree_of c.args.node.now in
-    let r = rec_of (c.args.key, c.in-Some.values) in
-    let fits = subst (λ o. IfSome o (AreFit (data_fields file))) c.in-Some.is c.in_ok-values.ensures.fits in
-    let of_form = subst (λ form. IsOf form r) (sym c.requires.tree.form) (row_fits file (c.args.key, c.in-Some.values) c.requires.storable.keyed (c.requires.key, fits)) in
-    let only = subst (λ o. IfSome o (IsOnlyLeaf t)) c.in-Some-only_leaf.is c.only_leaf.ensures in
-    only_in_tree t c.in-Some-only_leaf.leaf only r of_form
-
-pub take_alone-requires-clause-small : goal.take_alone-requires-clause-small
-take_alone-requires-clause-small g c = omega (arith, key_width (key_kind c.args.file.now) c.args.key c.requires.storable.key c.requires.key, c.requires.storable.key_small)
-
-pub returns-in-Some-only_leaf-clause-deleted : goal.returns-in-Some-only_leaf-clause-deleted
-returns-in-Some-only_leaf-clause-deleted g c = λ f whole is.
-    let t = tree_of c.args.node.now in
-    let same = c.find_values.ensures.reads.reads.working in
-    let key = c.args.key in
-    let values = c.in-Some.values in
-    let there : fin.get f key ≡ Some values = sym (sym c.in-Some.is ∙ c.in_ok-values.ensures.found f whole is) in
-    let after = c.in_ok-values.ensures.reads.ends.whole whole in
-    let set = subst (λ form. IsSet form (records_of f)) (sym c.requires.tree.form) (set_of c.args.file.now f c.requires.storable.keyed is.fit) in
-    let held = subst (λ (maps : List LeafMap). IsHeld any_rule t (records_of f) maps) (sym same) is.held in
-    let done = c.in_ok-take_alone.ensures.internal (records_of f) (rec_of (key, values)) after refl set (there_in f key values there) held in
-    is_done c.args.file.now t _ _ f _ no_record _ (ap (λ o. not (is_some o)) there)
-    (delete_edit c.args.file.now t _ _ f key values (rec_of (key, values)) c.requires.tree.valid is refl done (λ n out. c.in_ok-take_alone.ensures.others n after (λ e. cc) out ∙ ap (λ (maps : List LeafMap). map_at maps n) same))
+pub delete_alone-requires-clause-in_tree : goal.delete_alone-requires-clause-in_tree
+delete_alone-requires-clause-in_tree g c = subst (λ o. IfSome o (λ n. In n (leaves_of (tree_of c.args.node.now)))) c.in-Some.is c.only_leaf.ensures.in_tree

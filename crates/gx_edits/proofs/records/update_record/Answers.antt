@@ -72,7 +72,7 @@ pub put_alone-requires-clause-below : goal.put_alone-requires-clause-below
 put_alone-requires-clause-below g c = λ n h. subst (λ (maps : List LeafMap). n < length maps) (sym c.find_values.ensures.reads.reads.working) (c.requires.tree.below n h)
 
 pub put_alone-requires-clause-only : goal.put_alone-requires-clause-only
-put_alone-requires-clause-only g c = subst (λ o. IfSome o (IsOnlyLeaf (tree_of c.args.node.now))) c.in-Some-only_leaf.is c.only_leaf.ensures
+put_alone-requires-clause-only g c = subst (λ o. IfSome o (IsOnlyLeaf (tree_of c.args.node.now))) c.in-Some-only_leaf.is c.only_leaf.ensures.only
 
 pub returns-in-Some-only_leaf-clause-updated : goal.returns-in-Some-only_leaf-clause-updated
 returns-in-Some-only_leaf-clause-updated g c = λ f whole is.
