@@ -15,7 +15,7 @@ pub record ArePlaced (index : List ℕ) (sheets : Sheets) (bucket : ℕ) (pages 
 
 -- One chain with the keys of the bucket stands there, and its pages are marked beside those that were marked before.
 abbrev pub IsVisitedBucket : Ground → ℕ → Sheets → List ℕ → ℕ → List Bool → List Bool → Type 0
-IsVisitedBucket ground owner sheets index bucket = IsPlacedChain ground owner sheets (first_of index bucket) (ArePlaced index sheets bucket)
+IsVisitedBucket the_ground owner sheets index bucket = IsPlacedChain the_ground owner sheets (first_of index bucket) (ArePlaced index sheets bucket)
 
 -- the pages tell what the device holds, and such a chain stands there of which no page is marked
 abbrev pub HasUnseenBucket : {S : Type 0} → Ghosts S → S → ℕ → List ℕ → ℕ → List Bool → Type 0
@@ -23,7 +23,7 @@ HasUnseenBucket g p owner index bucket = HasPlacedChain g p owner (first_of inde
 
 -- the chains of the first buckets were visited, and their pages are marked
 abbrev pub AreVisitedBuckets : Ground → ℕ → Sheets → List ℕ → ℕ → List Bool → Type 0
-AreVisitedBuckets ground owner sheets index = ArePlacedChains ground owner sheets (first_of index) (ArePlaced index sheets)
+AreVisitedBuckets the_ground owner sheets index = ArePlacedChains the_ground owner sheets (first_of index) (ArePlaced index sheets)
 
 -- the owner has the root, and each other page that it has is marked
 pub record IsRootAndSeen (sheets : Sheets) (owner root : ℕ) (seen : List Bool) : Type 0 where
