@@ -95,6 +95,12 @@ module _ (file : FileDef) (f : File) (k : Value) (span : Span) (kind : IsKeyKind
       let few : length within ≤ 1 = subst (λ (l : List Row). length l ≤ 1) (sym same) (met_few (meets_conds conds) (record_at f k)) in
       is.appended ∙ ap (λ (l : List Row). before ++ l) (few_same within is.added few is.those ∙ same)
 
+  -- those within it, in any order, are the one at the key
+  pub one_at_key : (rows : List Row) → IsPermutation (rows_inside span f) rows → rows ≡ row_at f k
+  one_at_key rows those =
+      let few : length (rows_inside span f) ≤ 1 = subst (λ (l : List Row). length l ≤ 1) (sym rows_at_one) (one_few (record_at f k)) in
+      few_same (rows_inside span f) rows few those ∙ rows_at_one
+
   pub steps_at_key : (leaves most before after : ℕ) → after ≤ before + (leaves + length (rows_inside span f) * most) → after ≤ before + (leaves + most)
   steps_at_key leaves most before after steps =
       let few : length (rows_inside span f) ≤ 1 = subst (λ (l : List Row). length l ≤ 1) (sym rows_at_one) (one_few (record_at f k)) in
@@ -107,6 +113,10 @@ module _ (file : FileDef) (f : File) (k : Value) (span : Span) (kind : IsKeyKind
 pub one_unfiltered : (k : Value) (o : Option (List Value)) → filter (meets_conds []) (map row_of (list_of_one (option_map (λ values. rec_of (k, values)) o))) ≡ list_of_one (option_map (λ (values : List Value). (k, values)) o)
 one_unfiltered k None = refl
 one_unfiltered k (Some values) = refl
+
+pub row_found : (k : Value) (o : Option (List Value)) → map row_of (list_of_one (option_map (λ values. rec_of (k, values)) o)) ≡ list_of_one (option_map (λ (values : List Value). (k, values)) o)
+row_found k None = refl
+row_found k (Some values) = refl
 
 pub row_values : (k : Value) (o : Option (List Value)) → option_map (λ (r : Row). r.1) (option_map (λ (values : List Value). (k, values)) o) ≡ o
 row_values k None = refl

@@ -13,5 +13,6 @@ pub mod StorableLemmas
 pub mod WhereLemmas
 mod DistinctLemmas
 mod KeyLemmas
+mod OnePlaceLemmas
 pub mod StepLemmas
 pub mod SearchedLemmas

@@ -4,6 +4,7 @@ ghost use Rattle.std.specs.Prelude.{◌≡◌, ◌<◌, ◌≤◌, ◌+◌, ◌*
 ghost use Rattle.std.specs.List.{AllByRecursion};
 ghost use Rattle.std.specs.FinMap as fin;
 ghost use Rattle.gx_values.specs.Values.{Fits, AreFit};
+ghost use Rattle.gx_values.specs.Keys.{bytes_of};
 ghost use Rattle.gx_schema.specs.Lookups.{key_kind, data_fields};
 ghost use Rattle.gx_ports.specs.Calls.{ReadsMaps};
 ghost use Rattle.gx_ports.specs.LeafMaps.{Extends, selected, map_at, counted};
@@ -21,8 +22,7 @@ use crate::by_key::last_values;
 use crate::groups::Groups;
 use crate::joined::add_joined_rows;
 use crate::places::Place;
-use crate::records::{NO_BLOCK, set_key};
-use crate::within::whole_span;
+use crate::records::NO_BLOCK;
 use gx_commands::Cond;
 use gx_ports::{Entries, Leaves, Stop};
 use gx_rows::Row;
@@ -73,19 +73,22 @@ pub(crate) fn add_by_groups<B: Leaves>(
     }
 }
 
-/// The values of the record at a key, but for the key, where there is one.
+/// The values of the record at a key, but for the key, where there is one, by the span of the key.
 pub(crate) fn values_by_groups<B: Leaves>(
     alloc: Global,
     file: &FileDef,
     node: &Node<AnyMapping>,
     groups: &Groups,
     key: &Value,
+    span: &Span,
     leaves: &mut B,
 ) -> Result<Option<Values>, Stop>
     requires groups { AreGroups (tree_of node.now) groups.now }
     requires tree { IsTreeFor file.now (tree_of node.now) (length (B.working leaves.old)) }
     requires storable { IsStorable file.now }
     requires key { Fits (key_kind file.now) key.now }
+    requires lo { span.now.lo ≡ bytes_of key.now }
+    requires hi { span.now.hi ≡ bytes_of key.now }
     ensures found { (f : FileMap) → B.whole leaves.old →
         IsInternal file.now (tree_of node.now) (B.working leaves.old) f →
         IfOk result (λ found. found ≡ fin.get f key.now) }
@@ -100,7 +103,7 @@ pub(crate) fn values_by_groups<B: Leaves>(
         leaves.old leaves.new result }
 {
     let mut rows = Vec::new(alloc);
-    add_key_by_groups(alloc, file, node, groups, key, leaves, &mut rows)?;
+    add_key_by_groups(alloc, file, node, groups, key, span, leaves, &mut rows)?;
     Ok(last_values(rows))
 }
 
@@ -111,6 +114,7 @@ fn add_key_by_groups<B: Leaves>(
     node: &Node<AnyMapping>,
     groups: &Groups,
     key: &Value,
+    span: &Span,
     leaves: &mut B,
     rows: &mut Vec<Row>,
 ) -> Result<(), Stop>
@@ -118,6 +122,8 @@ fn add_key_by_groups<B: Leaves>(
     requires tree { IsTreeFor file.now (tree_of node.now) (length (B.working leaves.old)) }
     requires storable { IsStorable file.now }
     requires key { Fits (key_kind file.now) key.now }
+    requires lo { span.now.lo ≡ bytes_of key.now }
+    requires hi { span.now.hi ≡ bytes_of key.now }
     ensures rows { (f : FileMap) → B.whole leaves.old →
         IsInternal file.now (tree_of node.now) (B.working leaves.old) f → OnOk result
         (rows.new.items
@@ -133,9 +139,8 @@ fn add_key_by_groups<B: Leaves>(
         (B.whole leaves.old × HasFile file.now (tree_of node.now) (B.working leaves.old))
         leaves.old leaves.new result }
 {
-    let mut span = whole_span();
-    set_key(&mut span, key);
-    add_by_groups(alloc, file, node, groups, &span, &[], leaves, rows)
+    let _key = key;
+    add_by_groups(alloc, file, node, groups, span, &[], leaves, rows)
 }
 
 // The entries of a place within the span, in the order of their keys.

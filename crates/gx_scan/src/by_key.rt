@@ -1,8 +1,9 @@
 // The values of the record at a key of a file, without the record where an entry has them.
-ghost use Rattle.std.specs.Prelude.{◌≡◌, ◌≤◌, ◌+◌, ℕ, Option, length, option_map, IfOk, IfSome, OnOk};
+ghost use Rattle.std.specs.Prelude.{◌≡◌, ◌≤◌, ◌+◌, ◌∷◌, [], ℕ, Option, length, option_map, IfOk, IfSome, OnOk};
 ghost use Rattle.std.specs.List.{AllByRecursion};
 ghost use Rattle.std.specs.FinMap as fin;
 ghost use Rattle.gx_values.specs.Values.{Fits, AreFit};
+ghost use Rattle.gx_values.specs.Keys.{bytes_of};
 ghost use Rattle.gx_schema.specs.Lookups.{key_kind, data_fields};
 ghost use Rattle.gx_schema.specs.declared.schema.FileDef.{FileDef as TheFile};
 ghost use Rattle.gx_ports.specs.Calls.{ReadsMaps};
@@ -14,19 +15,20 @@ ghost use Rattle.gx_scan.specs.Entries.{ArePlaces};
 ghost use Rattle.gx_scan.specs.Records.{list_of_one};
 ghost use Rattle.gx_scan.specs.Steps.{HaveAtMost};
 
-use crate::by_entries::{FEW_PLACES, KeyProbe, add_at_key};
+use crate::by_entries::{FEW_PLACES, add_by_entries};
 use crate::by_groups::values_by_groups;
+use crate::coded::values_at_place;
 use crate::groups::groups_of;
-use crate::places::{Place, places_of};
-use crate::records::{find_record, set_key};
+use crate::places::{Place, place_of, places_of};
+use crate::records::{NO_BLOCK, record_inside, set_key};
 use crate::searched::searched_node;
 use crate::within::whole_span;
-use gx_ports::{Leaves, Stop};
+use gx_ports::{Entries, Leaves, Stop};
 use gx_rows::Row;
 use gx_schema::FileDef;
 use gx_stack::Node;
 use gx_types::AnyMapping;
-use gx_values::{Value, Values};
+use gx_values::{Span, Value, Values};
 use std::alloc::Global;
 
 /// The values of the record with this key, but for the key, where there is one. Below layers that pass
@@ -62,20 +64,23 @@ pub fn find_values<B: Leaves>(
     let mut span = whole_span();
     set_key(&mut span, key);
     let node = searched_node(node, &span);
-    values_in(alloc, file, node, key, leaves)
+    values_in(alloc, file, node, key, &span, leaves)
 }
 
-// The same of the node that is searched.
+// The same of the node that is searched, by the span of the key.
 fn values_in<B: Leaves>(
     alloc: Global,
     file: &FileDef,
     node: &Node<AnyMapping>,
     key: &Value,
+    span: &Span,
     leaves: &mut B,
 ) -> Result<Option<Values>, Stop>
     requires tree { IsTreeFor file.now (tree_of node.now) (length (B.working leaves.old)) }
     requires storable { IsStorable file.now }
     requires key { Fits (key_kind file.now) key.now }
+    requires lo { span.now.lo ≡ bytes_of key.now }
+    requires hi { span.now.hi ≡ bytes_of key.now }
     ensures found { (f : FileMap) → B.whole leaves.old →
         IsInternal file.now (tree_of node.now) (B.working leaves.old) f →
         IfOk result (λ found. found ≡ fin.get f key.now) }
@@ -90,27 +95,33 @@ fn values_in<B: Leaves>(
         leaves.old leaves.new result }
 {
     if let Some(groups) = groups_of(alloc, node)? {
-        return values_by_groups(alloc, file, node, &groups, key, leaves);
+        return values_by_groups(alloc, file, node, &groups, key, span, leaves);
+    }
+    if let Some(place) = place_of(alloc, node)? {
+        return values_at(alloc, file, node, &place, key, span, leaves);
     }
     match places_of(alloc, node, FEW_PLACES)? {
-        Some(places) => values_by_entry(alloc, file, node, &places, key, leaves),
-        None => values_by_record(alloc, file, node, key, leaves),
+        Some(places) => values_by_entry(alloc, file, node, &places, key, span, leaves),
+        None => values_by_record(alloc, file, node, key, span, leaves),
     }
 }
 
-// The same by the bytes of entries, which stand at these places.
-fn values_by_entry<B: Leaves>(
+// The same by the bytes of the one entry, where all records stand at this place.
+fn values_at<B: Leaves>(
     alloc: Global,
     file: &FileDef,
     node: &Node<AnyMapping>,
-    places: &[Place],
+    place: &Place,
     key: &Value,
+    span: &Span,
     leaves: &mut B,
 ) -> Result<Option<Values>, Stop>
-    requires places { ArePlaces 0 (tree_of node.now) places.now }
+    requires place { ArePlaces 0 (tree_of node.now) (place.now ∷ []) }
     requires tree { IsTreeFor file.now (tree_of node.now) (length (B.working leaves.old)) }
     requires storable { IsStorable file.now }
     requires key { Fits (key_kind file.now) key.now }
+    requires lo { span.now.lo ≡ bytes_of key.now }
+    requires hi { span.now.hi ≡ bytes_of key.now }
     ensures found { (f : FileMap) → B.whole leaves.old →
         IsInternal file.now (tree_of node.now) (B.working leaves.old) f →
         IfOk result (λ found. found ≡ fin.get f key.now) }
@@ -124,17 +135,57 @@ fn values_by_entry<B: Leaves>(
         (B.whole leaves.old × HasFile file.now (tree_of node.now) (B.working leaves.old))
         leaves.old leaves.new result }
 {
-    let mut probe = KeyProbe::new(alloc);
+    let _key = key;
+    node.internal_is_union();
+    let mut entries = Entries::new(alloc);
+    leaves.select(alloc, place.leaf, span, &mut entries)?;
+    let Some(values) = values_at_place(alloc, file, place, &entries)? else {
+        return Err(Stop::Damaged(NO_BLOCK));
+    };
+    Ok(values)
+}
+
+// The same by the bytes of entries, which stand at these places.
+fn values_by_entry<B: Leaves>(
+    alloc: Global,
+    file: &FileDef,
+    node: &Node<AnyMapping>,
+    places: &[Place],
+    key: &Value,
+    span: &Span,
+    leaves: &mut B,
+) -> Result<Option<Values>, Stop>
+    requires places { ArePlaces 0 (tree_of node.now) places.now }
+    requires tree { IsTreeFor file.now (tree_of node.now) (length (B.working leaves.old)) }
+    requires storable { IsStorable file.now }
+    requires key { Fits (key_kind file.now) key.now }
+    requires lo { span.now.lo ≡ bytes_of key.now }
+    requires hi { span.now.hi ≡ bytes_of key.now }
+    ensures found { (f : FileMap) → B.whole leaves.old →
+        IsInternal file.now (tree_of node.now) (B.working leaves.old) f →
+        IfOk result (λ found. found ≡ fin.get f key.now) }
+    ensures fits { IfOk result (λ found. IfSome found (AreFit (data_fields file.now))) }
+    ensures steps { (f : FileMap) (most : ℕ) → B.whole leaves.old →
+        IsInternal file.now (tree_of node.now) (B.working leaves.old) f →
+        HaveAtMost most (tree_of node.now) f → OnOk result
+        (B.work leaves.new
+        ≤ B.work leaves.old + (length (leaves_of (tree_of node.now)) + most)) }
+    ensures reads { ReadsMaps B.View
+        (B.whole leaves.old × HasFile file.now (tree_of node.now) (B.working leaves.old))
+        leaves.old leaves.new result }
+{
+    let _key = key;
+    let mut entries = Entries::new(alloc);
     let mut rows = Vec::new(alloc);
-    add_at_key(
+    add_by_entries(
         alloc,
         file,
         node,
         places,
-        key,
-        &mut probe,
+        span,
         &[],
         leaves,
+        &mut entries,
         &mut rows,
     )?;
     Ok(last_values(rows))
@@ -157,11 +208,14 @@ fn values_by_record<B: Leaves>(
     file: &FileDef,
     node: &Node<AnyMapping>,
     key: &Value,
+    span: &Span,
     leaves: &mut B,
 ) -> Result<Option<Values>, Stop>
     requires tree { IsTreeFor file.now (tree_of node.now) (length (B.working leaves.old)) }
     requires storable { IsStorable file.now }
     requires key { Fits (key_kind file.now) key.now }
+    requires lo { span.now.lo ≡ bytes_of key.now }
+    requires hi { span.now.hi ≡ bytes_of key.now }
     ensures found { (f : FileMap) → B.whole leaves.old →
         IsInternal file.now (tree_of node.now) (B.working leaves.old) f →
         IfOk result (λ found. found ≡ fin.get f key.now) }
@@ -175,7 +229,7 @@ fn values_by_record<B: Leaves>(
         (B.whole leaves.old × HasFile file.now (tree_of node.now) (B.working leaves.old))
         leaves.old leaves.new result }
 {
-    match find_record(alloc, file, node, key, leaves)? {
+    match record_inside(alloc, file, node, key, span, leaves)? {
         Some(rec) => Ok(Some(rec.fields)),
         None => Ok(None),
     }

@@ -1,6 +1,6 @@
 // The records of a file among the entries of a leaf where some data fields stand by their codes. Only the
 // body of a record that meets the conditions is decoded.
-ghost use Rattle.std.specs.Prelude.{◌≡◌, ◌≤◌, ◌++◌, List, ℕ, ℤ, length, map, filter, true, IfOk, IsSomeAnd};
+ghost use Rattle.std.specs.Prelude.{◌≡◌, ◌≤◌, ◌++◌, List, ℕ, ℤ, length, map, filter, true, Option, Some, option_map, IfOk, IfSome, IsSomeAnd};
 ghost use Rattle.std.specs.List.{AllByRecursion};
 ghost use Rattle.std.specs.Int.{w64};
 ghost use Rattle.std.specs.Int.RustNames.{FitsSigned};
@@ -10,6 +10,7 @@ ghost use Rattle.gx_values.specs.declared.values.Value.TheVariants as value;
 ghost use Rattle.gx_values.specs.Values.{Fits, AreFit};
 ghost use Rattle.gx_ports.specs.LeafMaps.{entry_of, Extends};
 ghost use Rattle.gx_actual.specs.Bodies.{field_bytes, body_of, IsShort, AreShort};
+ghost use Rattle.gx_schema.specs.Lookups.{data_fields};
 ghost use Rattle.gx_encode.specs.Codes.{code_of, IsCodable};
 ghost use Rattle.gx_encode.specs.Packs.{pack};
 ghost use Rattle.gx_encode.specs.Rules.{coded};
@@ -18,19 +19,22 @@ ghost use Rattle.gx_model.specs.States.{Row as TheRow, IsRowOf};
 ghost use Rattle.gx_model.specs.Found.{meets_conds};
 ghost use Rattle.gx_scan.specs.Files.{IsStorable};
 ghost use Rattle.gx_scan.specs.Entries.{entry_of_row, IsStoredRow};
+ghost use Rattle.gx_scan.specs.Records.{list_of_one};
 ghost use Rattle.gx_scan.specs.Stored.{stored_value, stored_values, HasCode, HaveCodes};
 
 use crate::codes::Codes;
 use crate::conditions::is_chosen;
 use crate::places::Place;
 use crate::records::data_fields;
-use crate::scan::{add_chosen_rows, behind_lengths, read_row, split_bytes, split_value};
+use crate::scan::{
+    add_chosen_rows, behind_lengths, plain_values, read_row, read_values, split_bytes, split_value,
+};
 use gx_commands::Cond;
 use gx_encode::{unpack, unrle};
 use gx_ports::Entries;
 use gx_rows::Row;
 use gx_schema::FileDef;
-use gx_values::{Code, Field, Kind, NoMemory};
+use gx_values::{Code, Field, Kind, NoMemory, Values};
 use std::alloc::{AllocError, Global};
 
 /// Room for the body of a record of some short texts: most grow no further.
@@ -99,6 +103,70 @@ fn add_coded_rows(
         rows.push(row)?;
     }
     Ok(true)
+}
+
+/// The values of the one record of a place that has an entry among these, if there is one. `None`: the
+/// entry is that of no record. `NoMemory`: there was none for the values.
+pub(crate) fn values_at_place(
+    alloc: Global,
+    file: &FileDef,
+    place: &Place,
+    entries: &Entries,
+) -> Result<Option<Option<Values>>, NoMemory>
+    requires { IsStorable file.now }
+    ensures read { (one : Option TheRow) →
+        AllByRecursion (IsStoredRow file.now place.now.codes) (list_of_one one) →
+        entries.now ≡ map (λ r. entry_of (entry_of_row place.now.lengths place.now.codes r))
+        (list_of_one one) → IfOk result (λ found. found ≡ Some (option_map (λ r. r.1) one)) }
+    ensures fits { IfOk result
+        (λ found. IfSome found (λ values. IfSome values (AreFit (data_fields file.now)))) }
+{
+    if entries.is_empty() {
+        return Ok(Some(None));
+    }
+    match values_of_entry(alloc, file, place, entries.entry(0).body)? {
+        Some(values) => Ok(Some(Some(values))),
+        None => Ok(None),
+    }
+}
+
+// The values of the record whose entry at a place has this body. `None`: it is that of no record.
+fn values_of_entry(
+    alloc: Global,
+    file: &FileDef,
+    place: &Place,
+    body: &[u8],
+) -> Result<Option<Values>, NoMemory>
+    requires { IsStorable file.now }
+    ensures read { (r : TheRow) → IsStoredRow file.now place.now.codes r →
+        body.now ≡ (entry_of_row place.now.lengths place.now.codes r).1 →
+        IfOk result (λ found. found ≡ Some r.1) }
+    ensures fits { IfOk result (λ found. IfSome found (AreFit (data_fields file.now))) }
+{
+    if !place.codes.is_empty() {
+        return coded_values(alloc, file, place, body);
+    }
+    plain_values(alloc, file, place.lengths, body)
+}
+
+// The same where some fields have codes.
+fn coded_values(
+    alloc: Global,
+    file: &FileDef,
+    place: &Place,
+    body: &[u8],
+) -> Result<Option<Values>, NoMemory>
+    requires { IsStorable file.now }
+    ensures read { (r : TheRow) → IsStoredRow file.now place.now.codes r →
+        body.now ≡ (entry_of_row place.now.lengths place.now.codes r).1 →
+        IfOk result (λ found. found ≡ Some r.1) }
+    ensures fits { IfOk result (λ found. IfSome found (AreFit (data_fields file.now))) }
+{
+    let mut plain = Vec::with_capacity(alloc, PLAIN_ROOM)?;
+    if !make_plain_body(alloc, file, place, body, &mut plain)? {
+        return Ok(None);
+    }
+    read_values(alloc, file, plain.as_slice())
 }
 
 // Makes `plain` the body of the values of a record whose entry has this body, and answers whether it is

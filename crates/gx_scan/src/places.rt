@@ -1,5 +1,5 @@
 // Where the records of a file stand in its node's leaves.
-ghost use Rattle.std.specs.Prelude.{◌≡◌, ◌+◌, ◌++◌, [], List, true, IfOk, IfSome};
+ghost use Rattle.std.specs.Prelude.{◌≡◌, ◌+◌, ◌++◌, ◌∷◌, [], List, true, IfOk, IfSome};
 ghost use Rattle.gx_values.specs.Keys.{AreKeyFields};
 ghost use Rattle.gx_stack.specs.Tree.{tree_form, IsValid};
 ghost use Rattle.gx_stack.specs.Seen.{tree_of};
@@ -61,7 +61,60 @@ pub(crate) fn places_of(
     }
 }
 
-// The same of a node below others, and whether each of its records stands whole in one place, and the
+/// The one leaf that the records of a file's node are gathered from. `None`: there are more, or some layer
+/// codes a value that isn't in a body. `NoMemory`: there was none for the codes.
+pub(crate) fn place_of(alloc: Global, node: &Node<AnyMapping>) -> Result<Option<Place>, NoMemory>
+    requires valid { IsValid any_rule (tree_of node.now) }
+    requires plain { AreKeyFields (tree_form any_rule (tree_of node.now)).fields }
+    ensures { IfOk result
+        (λ found. IfSome found (λ place. ArePlaces 0 (tree_of node.now) (place ∷ []))) }
+{
+    let above = Above {
+        layers: 0,
+        codes: Codes::none(alloc),
+    };
+    place_below(alloc, node, above)
+}
+
+// The same of a node below others, which change its records so.
+fn place_below(
+    alloc: Global,
+    node: &Node<AnyMapping>,
+    changed: Above,
+) -> Result<Option<Place>, NoMemory>
+    requires valid { IsValid any_rule (tree_of node.now) }
+    requires plain { changed.layers ≡ 0 → changed.codes ≡ [] →
+        AreKeyFields (tree_form any_rule (tree_of node.now)).fields }
+    ensures { IfOk result (λ found. IfSome found
+        (λ place. ArePlacesBelow changed.layers changed.codes (tree_of node.now) (place ∷ []))) }
+{
+    match node {
+        Node::Leaf(node) => {
+            if changed.layers == 0 && !changed.codes.is_empty() {
+                return Ok(None);
+            }
+            Ok(Some(Place {
+                leaf: node.leaf,
+                lengths: changed.layers.saturating_sub(1),
+                codes: changed.codes,
+            }))
+        }
+        Node::Layer(layer) => {
+            if layer.mapping.kids() != 1 {
+                return Ok(None);
+            }
+            if !layer.mapping.holds_rest(0) {
+                return Ok(None);
+            }
+            let Some(below) = passed_on(alloc, &layer.mapping, &changed)? else {
+                return Ok(None);
+            };
+            place_below(alloc, &layer.kids[0], below)
+        }
+    }
+}
+
+// The places of a node below others, and whether each of its records stands whole in one place, and the
 // places aren't more than `most`.
 fn add_places(
     alloc: Global,

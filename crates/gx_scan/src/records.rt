@@ -78,8 +78,8 @@ pub fn find_record<B: Leaves>(
     record_inside(alloc, file, node, key, &span, leaves)
 }
 
-// The same by the span of the key.
-fn record_inside<B: Leaves>(
+/// The same by the span of the key, of the node that is searched.
+pub(crate) fn record_inside<B: Leaves>(
     alloc: Global,
     file: &FileDef,
     node: &Node<AnyMapping>,

@@ -14,6 +14,7 @@ ghost use Rattle.gx_actual.specs.Bodies.{field_bytes, body_of, IsShort, AreShort
 ghost use Rattle.gx_model.specs.States.{Row as TheRow, IsRowOf};
 ghost use Rattle.gx_model.specs.Found.{value_at, meets_conds};
 ghost use Rattle.gx_scan.specs.Files.{IsStorable};
+ghost use Rattle.gx_schema.specs.Lookups.{data_fields};
 ghost use Rattle.gx_stack.specs.Tree.{leaf_body};
 ghost use Rattle.gx_scan.specs.Entries.{entry_of_row, wrapped};
 ghost use Rattle.gx_scan.specs.Scan.{value_of};
@@ -24,7 +25,7 @@ use gx_commands::Cond;
 use gx_ports::Entries;
 use gx_rows::Row;
 use gx_schema::FileDef;
-use gx_values::{Field, Kind, NoMemory, Op, Value, read_value_key};
+use gx_values::{Field, Kind, NoMemory, Op, Value, Values, read_value_key};
 use std::alloc::Global;
 use std::cmp::Ordering;
 
@@ -97,6 +98,39 @@ pub(crate) fn read_row(
         return Ok(None);
     };
     Ok(Some(Row { key, values }))
+}
+
+// The values of the record whose entry has this body, where so many lengths stand before them. `None`: it is
+// that of no record.
+pub(crate) fn plain_values(
+    alloc: Global,
+    file: &FileDef,
+    lengths: u32,
+    body: &[u8],
+) -> Result<Option<Values>, NoMemory>
+    requires { IsStorable file.now }
+    ensures read { (r : TheRow) → IsRowOf file.now r →
+        body.now ≡ (entry_of_row lengths [] r).1 → IfOk result (λ found. found ≡ Some r.1) }
+    ensures fits { IfOk result (λ found. IfSome found (AreFit (data_fields file.now))) }
+{
+    match behind_lengths(body, lengths) {
+        Some(values) => read_values(alloc, file, values),
+        None => Ok(None),
+    }
+}
+
+// The values of a body. `None`: it is that of no record.
+pub(crate) fn read_values(
+    alloc: Global,
+    file: &FileDef,
+    body: &[u8],
+) -> Result<Option<Values>, NoMemory>
+    requires { IsStorable file.now }
+    ensures read { (r : TheRow) → IsRowOf file.now r → body.now ≡ body_of r.1 →
+        IfOk result (λ found. found ≡ Some r.1) }
+    ensures fits { IfOk result (λ found. IfSome found (AreFit (data_fields file.now))) }
+{
+    read_body(alloc, data_fields(file), body)
 }
 
 // Whether the record of an entry meets every condition. `None`: the entry is that of no record.
