@@ -25,6 +25,9 @@ pub struct Leaf {
     made: Vec<Key>,
     // its changes of cells that stood there, the last one last
     undos: Vec<Undo>,
+    // whether the last key that was looked for was past all: then the next one may be too, and is first
+    // compared with the last
+    ascending: bool,
 }
 
 impl Model for Leaf {
@@ -49,6 +52,7 @@ impl Leaf {
             cells: BTreeMap::new(alloc),
             made: Vec::new(alloc),
             undos: Vec::new(alloc),
+            ascending: true,
         }
     }
 
@@ -71,12 +75,14 @@ impl Leaf {
         remove_body(&mut self.cells, &mut self.undos, key)
     }
 
-    pub fn select(&self, alloc: Global, span: &Span, out: &mut Entries) -> Result<(), NoMemory>
+    pub fn select(&mut self, alloc: Global, span: &Span, out: &mut Entries) -> Result<(), NoMemory>
         ensures ok { OnOk result
-            (out.new ≡ out.old ++ selected span.now.lo span.now.hi self.now.working) }
+            (out.new ≡ out.old ++ selected span.now.lo span.now.hi self.old.working) }
         ensures extends { Extends out.old out.new }
+        ensures same { self.new ≡ self.old }
     {
-        select_cells(alloc, &self.cells, span, out)
+        self.ascending = select_cells(alloc, &self.cells, self.ascending, span, out)?;
+        Ok(())
     }
 
     pub fn settle(&mut self, end: End)
@@ -237,32 +243,36 @@ fn take_out(cells: &mut BTreeMap<Key, Cell>, made: &mut Vec<Key>)
     }
 }
 
-// Appends the entries inside the span: they stand together, from its lower end on.
+// Appends the entries inside the span: they stand together, from its lower end on. Answers whether that is
+// past all keys; where it may be, it is first compared with the last one.
 fn select_cells(
     alloc: Global,
     cells: &BTreeMap<Key, Cell>,
+    ascending: bool,
     span: &Span,
     out: &mut Entries,
-) -> Result<(), NoMemory>
+) -> Result<bool, NoMemory>
     requires { IsAscending cells.now.entries }
     ensures ok { OnOk result
         (out.new ≡ out.old ++ selected span.now.lo span.now.hi (bodies (cells_of cells.now.entries))) }
     ensures extends { Extends out.old out.new }
 {
     let lo = Key::from_slice(alloc, span.lo.as_slice())?;
-    if is_past_all(cells, &lo) {
-        return Ok(());
+    if ascending && is_past_all(cells, &lo) {
+        return Ok(true);
     }
+    let mut is_past = true;
     for (key, cell) in cells.range(lo..) {
+        is_past = false;
         let bytes = key.as_slice();
         if !is_up_to(span.hi.as_slice(), bytes) {
-            return Ok(());
+            return Ok(false);
         }
         if let Some(body) = cell.as_slice() {
             out.push(bytes, body)?;
         }
     }
-    Ok(())
+    Ok(is_past)
 }
 
 // Whether the key is known to be past each key of the leaf, as one that comes in ascending order is.
