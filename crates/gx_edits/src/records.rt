@@ -7,7 +7,7 @@ ghost use Rattle.gx_values.specs.declared.values.Value.{Value as TheValue};
 ghost use Rattle.gx_schema.specs.Lookups.{key_kind, data_fields};
 ghost use Rattle.gx_commands.specs.Commands.{IsChangeOf};
 ghost use Rattle.gx_ports.specs.LeafMaps.{entry_count, IsCrowdedBy};
-ghost use Rattle.gx_ports.specs.Calls.{Keeps, Ends};
+ghost use Rattle.gx_ports.specs.Calls.{Keeps, ReadsMaps, Ends};
 ghost use Rattle.gx_mapping.specs.Rule.{In, IsOf};
 ghost use Rattle.gx_stack.specs.Tree.{entries_of, leaves_of};
 ghost use Rattle.gx_stack.specs.Seen.{tree_of};
@@ -42,6 +42,30 @@ fn new_record(alloc: Global, key: Value, values: Values) -> Result<Rec, NoMemory
     })
 }
 
+// Whether the file has a record with this key. Where each record has one entry its values aren't read.
+fn has_record<B: Leaves>(
+    alloc: Global,
+    file: &FileDef,
+    node: &Node<AnyMapping>,
+    key: &Value,
+    leaves: &mut B,
+) -> Result<bool, Stop>
+    requires tree { IsTreeFor file.now (tree_of node.now) (length (B.working leaves.old)) }
+    requires storable { IsStorable file.now }
+    requires key { Fits (key_kind file.now) key.now }
+    ensures there { (f : FileMap) → B.whole leaves.old →
+        IsInternal file.now (tree_of node.now) (B.working leaves.old) f →
+        IfOk result (λ there. there ≡ is_some (fin.get f key.now)) }
+    ensures reads { ReadsMaps B.View
+        (B.whole leaves.old × HasFile file.now (tree_of node.now) (B.working leaves.old))
+        leaves.old leaves.new result }
+{
+    match only_leaf(node) {
+        Some(leaf) => is_there(alloc, file, node, leaf, key, leaves),
+        None => Ok(find_record(alloc, file, node, key, leaves)?.is_some()),
+    }
+}
+
 /// Puts a new record into the file's node, or answers why it doesn't.
 pub(crate) fn insert_record<B: Leaves>(
     alloc: Global,
@@ -73,7 +97,7 @@ pub(crate) fn insert_record<B: Leaves>(
         (entry_count (B.working leaves.old)
         + length (entries_of any_rule (tree_of node.now) (rec_of (key, values)))) }
 {
-    if find_record(alloc, file, node, &key, leaves)?.is_some() {
+    if has_record(alloc, file, node, &key, leaves)? {
         return Ok(Some(Refused::KeyExists));
     }
     let new = new_record(alloc, key, values)?;
