@@ -7,6 +7,7 @@ ghost use Rattle.gx_values.specs.Values.{value_cmp};
 ghost use Rattle.gx_values.specs.Keys.{bytes_of, rank_of};
 ghost use Rattle.gx_partition.specs.Bounds.{child_of, lower_of, upper_of, ends_before, begins_after};
 
+use gx_order::compare_bytes;
 use gx_values::{KeyBuf, Value, Values, compare};
 use std::cmp::Ordering;
 
@@ -45,7 +46,7 @@ pub(crate) fn ends_before(bound: Option<&Value>, lo: &KeyBuf) -> bool
     let Some(bound) = bound else {
         return false;
     };
-    compare_bytes(bound, lo.as_slice()).is_le()
+    compare_key(bound, lo.as_slice()).is_le()
 }
 
 /// Whether keys that begin with a value from the bound on all stand behind those that begin with `hi`.
@@ -74,11 +75,11 @@ pub(crate) fn first_from(bounds: &Values, lo: &KeyBuf) -> u16
 }
 
 // Compares the bytes of a key of one value with bytes.
-fn compare_bytes(value: &Value, bytes: &[u8]) -> Ordering
+fn compare_key(value: &Value, bytes: &[u8]) -> Ordering
     ensures { result ≡ slice_cmp nat_cmp (bytes_of value.now) bytes.now }
 {
     match value {
-        Value::Int(n) => rank(*n).to_be_bytes().as_slice().cmp(bytes),
+        Value::Int(n) => compare_bytes(&rank(*n).to_be_bytes(), bytes),
         Value::Text(text) | Value::Bytes(text) => compare_text(text.as_slice(), bytes),
     }
 }
@@ -88,7 +89,7 @@ fn compare_text(text: &[u8], bytes: &[u8]) -> Ordering
     ensures { result ≡ slice_cmp nat_cmp (text.now ++ 0 ∷ []) bytes.now }
 {
     let (front, rest) = bytes.split_at(text.len().min(bytes.len()));
-    match text.cmp(front) {
+    match compare_bytes(text, front) {
         Ordering::Equal => [0].as_slice().cmp(rest),
         order => order,
     }
@@ -101,7 +102,7 @@ fn compare_front(value: &Value, bytes: &[u8]) -> Ordering
     match value {
         Value::Int(n) => {
             let key = rank(*n).to_be_bytes();
-            key[..bytes.len().min(key.len())].cmp(bytes)
+            compare_bytes(&key[..bytes.len().min(key.len())], bytes)
         }
         Value::Text(text) | Value::Bytes(text) => compare_text_front(text.as_slice(), bytes),
     }
@@ -111,7 +112,7 @@ fn compare_text_front(text: &[u8], bytes: &[u8]) -> Ordering
     ensures { result ≡ slice_cmp nat_cmp (take (length bytes.now) (text.now ++ 0 ∷ [])) bytes.now }
 {
     match text.get(..bytes.len()) {
-        Some(front) => front.cmp(bytes),
+        Some(front) => compare_bytes(front, bytes),
         None => compare_text(text, bytes),
     }
 }

@@ -12,5 +12,5 @@ returns-in-Int c =
     let key : c.to_be_bytes-key.result ≡ bytes_of c.args.value.now = search rules in
     let least : c.min.result ≡ min (length bytes) (length c.to_be_bytes-key.result) =
     c.min.ensures ∙ ap (λ (xs : List ℕ). min (length bytes) (length xs)) (sym c.to_be_bytes-key.ensures) in
-    c.cmp.ensures ∙ ap (λ xs. slice_cmp nat_cmp xs bytes)
+    c.compare_bytes.ensures ∙ ap (λ xs. slice_cmp nat_cmp xs bytes)
     (least_take c.min.result (length bytes) c.to_be_bytes-key.result least ∙ ap (take (length bytes)) key)
