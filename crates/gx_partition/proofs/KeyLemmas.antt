@@ -1,10 +1,12 @@
 -- The bytes of a key beside other bytes.
-use Rattle.std.proofs.Common.{◌≡◌, ℕ, zero, suc, ◌≤◌, List, [], ◌∷◌, ◌++◌, length, take, drop, refl, sym, ap, ◌∙◌, arith}
+use Rattle.std.proofs.Common.{◌≡◌, ℕ, zero, suc, ◌^◌, ◌<◌, ◌≤◌, List, [], ◌∷◌, ◌++◌, length, take, drop, refl, sym, ap, ◌∙◌, arith, append-nil}
 use Rattle.std.specs.Prelude.{min}
+use Rattle.std.specs.Int.{w64, to_be_bytes}
 use Rattle.std.specs.Ordering.{nat_cmp, ordering_then}
 use Rattle.std.specs.declared.cmp.Ordering.{Ordering}
 use Rattle.std.specs.declared.cmp.Ordering.TheVariants.{Less, Equal, Greater}
 use Rattle.std.specs.Cmp.Lexicographic.{slice_cmp}
+use Rattle.gx_order.proofs.OrderLemmas.{bytes_order, cmp_less, front_order}
 
 then_then : (a b c : Ordering) → ordering_then a (ordering_then b c) ≡ ordering_then (ordering_then a b) c
 then_then Less b c = refl
@@ -58,3 +60,18 @@ pub first_counts : (o p : Ordering) → (o ≡ Equal → ⊥) → o ≡ ordering
 first_counts Less p other = refl
 first_counts Equal p other = absurd (other refl)
 first_counts Greater p other = refl
+
+no_bytes : (rest : List ℕ) → slice_cmp nat_cmp [] rest ≡ nat_cmp 0 (length rest)
+no_bytes [] = refl
+no_bytes (x ∷ rest) = sym (cmp_less 0 (length (x ∷ rest)) (omega arith))
+
+-- a number is compared with the one that the bytes begin with, and then nothing with the others
+pub number_cmp : (n m : ℕ) (bytes rest : List ℕ) → n < 2 ^ 64 → m < 2 ^ 64
+    → bytes ≡ to_be_bytes w64 m ++ rest
+    → ordering_then (nat_cmp n m) (nat_cmp 0 (length rest))
+    ≡ slice_cmp nat_cmp (to_be_bytes w64 n) bytes
+number_cmp n m bytes rest small below is =
+    sym (ap (slice_cmp nat_cmp (to_be_bytes w64 n)) is
+    ∙ ap (λ (l : List ℕ). slice_cmp nat_cmp l (to_be_bytes w64 m ++ rest)) (sym (append-nil (to_be_bytes w64 n)))
+    ∙ front_order (to_be_bytes w64 n) (to_be_bytes w64 m) [] rest refl
+    ∙ (λ i. ordering_then (bytes_order n m small below i) (no_bytes rest i)))

@@ -1,5 +1,6 @@
 // The ranges of the children.
-ghost use Rattle.std.specs.Prelude.{◌≡◌, ◌<◌, ◌≤◌, ◌∷◌, ◌++◌, [], Some, true, false, length, take, option_map};
+ghost use Rattle.std.specs.Prelude.{◌≡◌, ◌^◌, ◌<◌, ◌≤◌, ◌∷◌, ◌++◌, [], Some, true, false, length, take, option_map, IfSome};
+ghost use Rattle.std.specs.Int.{w64, to_be_bytes};
 ghost use Rattle.std.specs.Ordering.{nat_cmp, is_le};
 ghost use Rattle.std.specs.Cmp.Lexicographic.{slice_cmp};
 ghost use Rattle.std.specs.List.Sorted.{IsStrictlySortedBy, IsPartitionedBy, IsPartitionPoint};
@@ -20,8 +21,25 @@ pub(crate) fn child_of(bounds: &Values, value: &Value) -> u16
     bounds.0.partition_point(
         |bound: &Value| -> bool
             ensures { result ≡ is_le (value_cmp bound.now value.entry.now) }
-        { compare(bound, value).is_le() },
+        { is_at_most(bound, value) },
     ) as u16
+}
+
+// Whether the bound is at or below the value.
+fn is_at_most(bound: &Value, value: &Value) -> bool
+    ensures { result ≡ is_le (value_cmp bound.now value.now) }
+{
+    match (bound, value) {
+        (Value::Int(bound), Value::Int(value)) => bound.cmp(value).is_le(),
+        _ => is_other_at_most(bound, value),
+    }
+}
+
+#[inline(never)]
+fn is_other_at_most(bound: &Value, value: &Value) -> bool
+    ensures { result ≡ is_le (value_cmp bound.now value.now) }
+{
+    compare(bound, value).is_le()
 }
 
 /// The bound that the child's values are at least.
@@ -79,12 +97,40 @@ fn compare_key(value: &Value, bytes: &[u8]) -> Ordering
     ensures { result ≡ slice_cmp nat_cmp (bytes_of value.now) bytes.now }
 {
     match value {
-        Value::Int(n) => compare_bytes(&rank(*n).to_be_bytes(), bytes),
+        Value::Int(n) => compare_number(rank(*n), bytes),
         Value::Text(text) | Value::Bytes(text) => compare_text(text.as_slice(), bytes),
     }
 }
 
+// The same of a number in eight bytes, beside the number that the bytes begin with.
+fn compare_number(number: u64, bytes: &[u8]) -> Ordering
+    ensures { result ≡ slice_cmp nat_cmp (to_be_bytes w64 number) bytes.now }
+{
+    match first_number(bytes) {
+        Some((first, rest)) => number.cmp(&first).then(0.cmp(&rest.len())),
+        None => compare_all(number, bytes),
+    }
+}
+
+// The number that the bytes begin with, in eight bytes, and the bytes behind it.
+fn first_number(bytes: &[u8]) -> Option<(u64, &[u8])>
+    ensures { IfSome result
+        (λ found. (found.0 < 2 ^ 64) × (bytes.now ≡ to_be_bytes w64 found.0 ++ found.1.now)) }
+{
+    let (front, rest) = bytes.split_first_chunk::<INT_BYTES>()?;
+    Some((u64::from_be_bytes(*front), rest))
+}
+
+// Kept apart, as all that calls a comparison of slices: that of numbers then needs no frame.
+#[inline(never)]
+fn compare_all(number: u64, bytes: &[u8]) -> Ordering
+    ensures { result ≡ slice_cmp nat_cmp (to_be_bytes w64 number) bytes.now }
+{
+    number.to_be_bytes().as_slice().cmp(bytes)
+}
+
 // The same of a text, behind which one 0 stands.
+#[inline(never)]
 fn compare_text(text: &[u8], bytes: &[u8]) -> Ordering
     ensures { result ≡ slice_cmp nat_cmp (text.now ++ 0 ∷ []) bytes.now }
 {
@@ -100,14 +146,21 @@ fn compare_front(value: &Value, bytes: &[u8]) -> Ordering
     ensures { result ≡ slice_cmp nat_cmp (take (length bytes.now) (bytes_of value.now)) bytes.now }
 {
     match value {
-        Value::Int(n) => {
-            let key = rank(*n).to_be_bytes();
-            compare_bytes(&key[..bytes.len().min(key.len())], bytes)
-        }
+        Value::Int(n) if bytes.len() >= INT_BYTES => compare_number(rank(*n), bytes),
+        Value::Int(n) => compare_short(rank(*n), bytes),
         Value::Text(text) | Value::Bytes(text) => compare_text_front(text.as_slice(), bytes),
     }
 }
 
+#[inline(never)]
+fn compare_short(number: u64, bytes: &[u8]) -> Ordering
+    requires { length bytes.now < 8 }
+    ensures { result ≡ slice_cmp nat_cmp (take (length bytes.now) (to_be_bytes w64 number)) bytes.now }
+{
+    number.to_be_bytes()[..bytes.len()].cmp(bytes)
+}
+
+#[inline(never)]
 fn compare_text_front(text: &[u8], bytes: &[u8]) -> Ordering
     ensures { result ≡ slice_cmp nat_cmp (take (length bytes.now) (text.now ++ 0 ∷ [])) bytes.now }
 {
@@ -116,6 +169,9 @@ fn compare_text_front(text: &[u8], bytes: &[u8]) -> Ordering
         None => compare_text(text, bytes),
     }
 }
+
+// How many bytes the key of an int has.
+const INT_BYTES: usize = 8;
 
 // How many ints are below 0.
 const HALF: u64 = 1 << 63;
