@@ -1,5 +1,5 @@
 // Nodes: trees of mappings, with leaves below.
-ghost use Rattle.std.specs.Prelude.{◌≡◌, ◌≢◌, ◌<◌, ◌≤◌, ◌+◌, ◌++◌, ◌∷◌, [], ◌↔◌, List, ℕ, Option, None, length, take, drop, OnOk, IsErrOf, IfOk};
+ghost use Rattle.std.specs.Prelude.{◌≡◌, ◌≢◌, ◌<◌, ◌≤◌, ◌+◌, ◌++◌, ◌∷◌, [], ◌↔◌, List, ℕ, Option, None, true, length, take, drop, OnOk, IsErrOf, IfOk};
 ghost use Rattle.gx_ports.specs.LeafMaps.{LeafMap, map_at, entry_count, Extends, IsCrowdedBy};
 ghost use Rattle.gx_ports.specs.Calls.{Keeps, ReadsMaps, Ends};
 ghost use Rattle.gx_values.specs.declared.records.Rec.{Rec as Record};
@@ -16,7 +16,7 @@ use crate::entries::{
 use crate::read::select_leaf;
 use crate::searched::is_searched;
 use gx_gather::{Recs, add_parts, gather_each, gather_parts};
-use gx_mapping::{Mapping, Parts};
+use gx_mapping::{Mapping, Parts, Whole};
 use gx_ports::{Leaves, Stop};
 use gx_values::{Form, NoMemory, Rec, Span};
 use std::alloc::Global;
@@ -147,6 +147,9 @@ impl<M: Mapping> Node<M> {
                     Some(whole) => {
                         let first = &layer.kids[whole.child as usize];
                         first.into_entries(alloc, rec, out)?;
+                        if is_one_part(&whole) {
+                            return Ok(());
+                        }
                         whole.others
                     }
                     None => layer.mapping.into_parts(alloc, rec)?,
@@ -352,4 +355,11 @@ fn gather_from<M: Mapping>(
     ensures not_fault { ¬ IsErrOf result Stop.Fault }
 {
     gather_each(alloc, mapping, child, &mut out.0[from..])
+}
+
+// Whether the record itself is its one part.
+fn is_one_part(whole: &Whole) -> bool
+    ensures { result ≡ true → whole.now.others ≡ [] }
+{
+    whole.others.0.is_empty()
 }

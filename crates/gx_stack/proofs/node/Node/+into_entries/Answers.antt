@@ -10,7 +10,7 @@ use Rattle.gx_stack.specs.Seen.{tree_of, kids_from}
 use Rattle.gx_stack.proofs.Seen.{seen_layer, layer_form, layer_part, child_there, child_valid, kid_lower, kid_entries_at, entries_so_far, entries_out}
 use Rattle.gx_stack.proofs.KeptLemmas.{whole_child, whole_others, whole_entries}
 use Rattle.gx_stack.proofs.BodyNode.{body_part, body_leaf, body_leaf_out, body_out}
-use Rattle.gx_stack.proofs.node.Node.+into_entries.Goals.{in-Some-2+in_ok-into_entries-in-Some-2, in-None+in_ok-parts-in-None}
+use Rattle.gx_stack.proofs.node.Node.+into_entries.Goals.{in-Some-2+in_ok-into_entries-in-Some-2+else-is_one_part, in-None+in_ok-parts-in-None}
 use Rattle.gx_stack.proofs.node.Node.+into_entries.Goals as goal
 
 pub index-first-requires-in-Some-2 : goal.index-first-requires-in-Some-2
@@ -56,7 +56,7 @@ loop-part-init g t c =
     let all : entries_of m.rule (layer l.mapping ks) rec ≡ entries_of m.rule (tree_of n) rec =
     sym (ap (λ x. entries_of m.rule x rec) (seen_layer n l c.in-Layer.is)) in
     elim c.match-branch-9.branch [
-      | in-Some-2+in_ok-into_entries-in-Some-2 w ↦ (
+      | in-Some-2+in_ok-into_entries-in-Some-2+else-is_one_part w ↦ (
           let whole = w.in-Some-2.whole in
           let is = subst (IsWhole (m.rule l.mapping) rec) w.in-Some-2.is
           c.in_ok-whole-in-Layer.ensures in
@@ -83,6 +83,31 @@ loop-part-init g t c =
             so_far = ap (λ (ps : List Part). out ++ flat_map (λ (p : Part). kid_entries m.rule ks p.child p.rec) ps) parts ∙ ap (λ es. es ++ entries_of m.rule (layer l.mapping ks) rec) same ∙ ap (λ es. was ++ es) all;
           })
     ]
+
+pub returns-then-is_one_part : goal.returns-then-is_one_part
+returns-then-is_one_part g t c =
+    let m = g.M.Mapping in
+    let l = c.in-Layer.layer in
+    let n = c.args.self.now in
+    let rec = c.args.rec in
+    let ks = kids_from (map tree_of l.kids.items) in
+    let was = c.args.out.now.items in
+    let whole = c.in-Some-2.whole in
+    let is = subst (IsWhole (m.rule l.mapping) rec) c.in-Some-2.is
+    c.in_ok-whole-in-Layer.ensures in
+    let fits = subst (λ f. IsOf f rec) (layer_form m.rule n l c.in-Layer.is) c.requires.of_form in
+    let child = whole_child (g.met.M.Mapping.laws l.mapping) rec whole fits is in
+    let k = c.index-first-in-Some-2.result.now in
+    let there = child_there m.rule n l c.in-Layer.is whole.child c.requires.valid child.0 in
+    let same = kid_entries_at m.rule l.kids.items whole.child k rec there
+    ∙ ap (λ x. entries_of m.rule (tree_of x) rec) (sym c.index-first-in-Some-2.ensures) in
+    let out = c.into_entries-in-Some-2.new.out.items in
+    let none = c.is_one_part.ensures c.if-is_one_part.true in
+    let all : entries_of m.rule (layer l.mapping ks) rec ≡ entries_of m.rule (tree_of n) rec =
+    sym (ap (λ x. entries_of m.rule x rec) (seen_layer n l c.in-Layer.is)) in
+    entries_out (λ (p : Part). kid_entries m.rule ks p.child p.rec) whole.others out _ none
+    (whole_entries m.rule l.mapping ks rec whole was out (entries_of m.rule (tree_of k) rec) is same
+    c.in_ok-into_entries-in-Some-2.ensures ∙ ap (λ es. was ++ es) all)
 
 pub index-kid-requires : goal.index-kid-requires
 index-kid-requires g t c =
