@@ -4,3 +4,4 @@ mod EndLemmas
 mod RelinkLemmas
 pub mod EditLemmas
 mod AloneLemmas
+mod BodyLemmas

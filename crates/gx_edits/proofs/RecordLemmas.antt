@@ -41,6 +41,9 @@ is_there f k found some e t = sym (t ∙ ap is_some e ∙ same (fin.get f k))
     same None = refl
     same (Some values) = refl
 
+pub missing : (f : File) (k : Value) (found : Option Rec) (some : Bool) → found ≡ record_at f k → some ≡ is_some found → some ≡ false → is_some (fin.get f k) ≡ false
+missing f k found some e t none = is_there f k found some e t ∙ none
+
 pub none_there : (f : File) (k : Value) → is_some (fin.get f k) ≡ false → fin.get f k ≡ None
 none_there f k = go (fin.get f k)
   where

@@ -1,36 +1,34 @@
 // Records that have one leaf entry each, under their own key: one is changed at its one place.
-ghost use Rattle.std.specs.Prelude.{◌≡◌, ◌<◌, ◌≤◌, ◌+◌, ◌∷◌, [], ℕ, List, Option, true, length, is_some, IfSome, IfOk, OnOk, IsErrOf};
+ghost use Rattle.std.specs.Prelude.{◌≡◌, ◌<◌, ◌+◌, ◌∷◌, [], ℕ, List, Option, true, length, is_some, IfSome, IfOk, OnOk, IsErrOf};
 ghost use Rattle.std.specs.FinMap as fin;
 ghost use Rattle.gx_values.specs.Values.{Fits};
 ghost use Rattle.gx_values.specs.declared.records.Rec.{Rec as Record};
 ghost use Rattle.gx_values.specs.Keys.{bytes_of};
 ghost use Rattle.gx_ports.specs.LeafMaps.{map_at, entry_count, IsCrowdedBy};
 ghost use Rattle.gx_ports.specs.Calls.{Keeps, ReadsMaps, Ends};
-ghost use Rattle.gx_ports.specs.declared.leaves.TheConstants.{MAX_KEY_LEN};
 ghost use Rattle.gx_mapping.specs.Rule.{In, IsOf};
 ghost use Rattle.gx_stack.specs.Tree.{leaves_of, tree_form, entries_of, IsValid};
 ghost use Rattle.gx_stack.specs.Seen.{tree_of};
-ghost use Rattle.gx_stack.specs.Internal.{IsSet, IsInternal, changed};
+ghost use Rattle.gx_stack.specs.Internal.{IsSet, IsInternal, IsChange, changed};
 ghost use Rattle.gx_types.specs.Any.{any_rule};
 ghost use Rattle.gx_schema.specs.Lookups.{key_kind};
 ghost use Rattle.gx_model.specs.States.{File as FileMap};
-ghost use Rattle.gx_scan.specs.Files.{IsInternal as IsStored, IsStorable, IsTreeFor};
+ghost use Rattle.gx_scan.specs.Files.{rec_of, IsInternal as IsStored, IsStorable, IsTreeFor};
 ghost use Rattle.gx_edits.specs.Alone.{KeepsKeys, IsOnlyLeaf};
 
+use crate::bodies::only_body;
 use gx_ports::{Entries, Leaves, Stop};
-use gx_scan::whole_span;
 use gx_schema::FileDef;
 use gx_stack::Node;
 use gx_types::AnyMapping;
-use gx_values::{Rec, Value};
+use gx_values::{KeyBuf, Span, Value, Values};
 use std::alloc::Global;
 
 /// The leaf where each record of the node has its one entry, under its own key. `None`: there may be other
 /// entries.
 pub(crate) fn only_leaf(node: &Node<AnyMapping>) -> Option<u32>
     requires { IsValid any_rule (tree_of node.now) }
-    ensures only { IfSome result (IsOnlyLeaf (tree_of node.now)) }
-    ensures in_tree { IfSome result (λ leaf. In leaf (leaves_of (tree_of node.now))) }
+    ensures { IfSome result (IsOnlyLeaf (tree_of node.now)) }
 {
     match node {
         Node::Leaf(node) => Some(node.leaf),
@@ -46,7 +44,7 @@ pub(crate) fn only_leaf(node: &Node<AnyMapping>) -> Option<u32>
 
 // Whether each record is known to have one part, for the first child and with the record's own key.
 fn keeps_keys(mapping: &AnyMapping) -> bool
-    ensures { result ≡ true → KeepsKeys (any_rule mapping.now) }
+    ensures { result ≡ true → KeepsKeys mapping.now }
 {
     match mapping {
         AnyMapping::Actual(_) | AnyMapping::Encode(_) => true,
@@ -54,49 +52,48 @@ fn keeps_keys(mapping: &AnyMapping) -> bool
     }
 }
 
-/// Whether the file has a record with this key, each of whose records has its one entry in this leaf of the
-/// node: its values needn't be read.
+/// Whether the file has a record with this key, by the span of the key. Each of its records has its one
+/// entry in this leaf of the node: its values needn't be read.
 pub(crate) fn is_there<B: Leaves>(
     alloc: Global,
     file: &FileDef,
     node: &Node<AnyMapping>,
     leaf: u32,
     key: &Value,
+    span: &Span,
     leaves: &mut B,
 ) -> Result<bool, Stop>
     requires tree { IsTreeFor file.now (tree_of node.now) (length (B.working leaves.old)) }
     requires storable { IsStorable file.now }
     requires only { IsOnlyLeaf (tree_of node.now) leaf }
-    requires in_tree { In leaf (leaves_of (tree_of node.now)) }
     requires key { Fits (key_kind file.now) key.now }
+    requires lo { span.now.lo ≡ bytes_of key.now }
+    requires hi { span.now.hi ≡ bytes_of key.now }
     ensures there { (f : FileMap) → B.whole leaves.old →
         IsStored file.now (tree_of node.now) (B.working leaves.old) f →
         IfOk result (λ there. there ≡ is_some (fin.get f key.now)) }
     ensures reads { ReadsMaps B.View (B.whole leaves.old) leaves.old leaves.new result }
 {
-    let (_, _) = (file, node);
-    let mut span = whole_span();
-    span.lo.set_value(key);
-    span.hi.set_value(key);
+    let (_, _, _) = (file, node, key);
     let mut entries = Entries::new(alloc);
-    leaves.select(alloc, leaf, &span, &mut entries)?;
+    leaves.select(alloc, leaf, span, &mut entries)?;
     Ok(!entries.is_empty())
 }
 
-/// Takes the record with this key out of the only leaf of a node.
+/// Takes the record with this key, by the span of the key, out of the only leaf of a node.
 pub(crate) fn take_alone<B: Leaves>(
     alloc: Global,
     node: &Node<AnyMapping>,
     leaf: u32,
     key: &Value,
+    span: &Span,
     leaves: &mut B,
 ) -> Result<(), Stop>
     requires valid { IsValid any_rule (tree_of node.now) }
     requires below { (n : ℕ) → In n (leaves_of (tree_of node.now)) →
         n < length (B.working leaves.old) }
     requires only { IsOnlyLeaf (tree_of node.now) leaf }
-    requires in_tree { In leaf (leaves_of (tree_of node.now)) }
-    requires small { length (bytes_of key.now) ≤ MAX_KEY_LEN }
+    requires lo { span.now.lo ≡ bytes_of key.now }
     ensures internal { (R : List Record) (old : Record) → B.whole leaves.old →
         old.key ≡ key.now ∷ [] → IsSet (tree_form any_rule (tree_of node.now)) R → In old R →
         IsInternal any_rule (tree_of node.now) R (B.working leaves.old) → OnOk result
@@ -109,30 +106,33 @@ pub(crate) fn take_alone<B: Leaves>(
     ensures ends { Ends B.View (B.whole leaves.old) leaves.old leaves.new result }
     ensures not_full { ¬ IsErrOf result Stop.Full }
 {
-    let _node = node;
-    let mut span = whole_span();
-    span.lo.set_value(key);
+    let (_, _) = (node, key);
     leaves.remove(alloc, leaf, span.lo.as_slice())
 }
 
-/// Puts a record into the only leaf of a node, in the place of the one with its key.
+/// Puts the record of this key, by its bytes, and these data into the only leaf of a node, in the place of
+/// what is there at the key.
 pub(crate) fn put_alone<B: Leaves>(
     alloc: Global,
     node: &Node<AnyMapping>,
     leaf: u32,
-    new: &Rec,
+    key: &Value,
+    bytes: &KeyBuf,
+    fields: Values,
     leaves: &mut B,
 ) -> Result<(), Stop>
     requires valid { IsValid any_rule (tree_of node.now) }
     requires below { (n : ℕ) → In n (leaves_of (tree_of node.now)) →
         n < length (B.working leaves.old) }
     requires only { IsOnlyLeaf (tree_of node.now) leaf }
-    requires fits { IsOf (tree_form any_rule (tree_of node.now)) new.now }
-    ensures internal { (R : List Record) (old : Record) → B.whole leaves.old →
-        IsSet (tree_form any_rule (tree_of node.now)) R → In old R → old.key ≡ new.now.key →
+    requires bytes { bytes.now ≡ bytes_of key.now }
+    requires fits { IsOf (tree_form any_rule (tree_of node.now)) (rec_of (key.now, fields)) }
+    ensures internal { (R : List Record) (old : Option Record) → B.whole leaves.old →
+        IsSet (tree_form any_rule (tree_of node.now)) R →
+        IsChange R old (Option.Some (rec_of (key.now, fields))) →
         IsInternal any_rule (tree_of node.now) R (B.working leaves.old) → OnOk result
         (IsInternal any_rule (tree_of node.now)
-        (changed R (Option.Some old) (Option.Some new.now)) (B.working leaves.new)) }
+        (changed R old (Option.Some (rec_of (key.now, fields)))) (B.working leaves.new)) }
     ensures others { (n : ℕ) → B.whole leaves.old → ¬ IsErrOf result Stop.Fault →
         ¬ In n (leaves_of (tree_of node.now)) →
         map_at (B.working leaves.new) n ≡ map_at (B.working leaves.old) n }
@@ -141,9 +141,9 @@ pub(crate) fn put_alone<B: Leaves>(
     ensures full { B.whole leaves.old → IsErrOf result Stop.Full →
         IsCrowdedBy (B.limit leaves.old)
         (entry_count (B.working leaves.old)
-        + length (entries_of any_rule (tree_of node.now) new.now)) }
+        + length (entries_of any_rule (tree_of node.now) (rec_of (key.now, fields)))) }
 {
-    let entries = node.entries_of(alloc, new)?;
-    let entry = &entries[0];
-    leaves.put(alloc, leaf, entry.key.as_slice(), entry.body.as_slice())
+    let _key = key;
+    let body = only_body(alloc, node, fields)?;
+    leaves.put(alloc, leaf, bytes.as_slice(), body.as_slice())
 }

@@ -2,6 +2,7 @@
 #![tactic(auto)]
 
 mod alone;
+mod bodies;
 mod edits;
 mod links;
 mod records;

@@ -8,8 +8,8 @@ ghost use Rattle.gx_schema.specs.Lookups.{key_kind, data_fields};
 ghost use Rattle.gx_commands.specs.Commands.{IsChangeOf};
 ghost use Rattle.gx_ports.specs.LeafMaps.{entry_count, IsCrowdedBy};
 ghost use Rattle.gx_ports.specs.Calls.{Keeps, ReadsMaps, Ends};
-ghost use Rattle.gx_mapping.specs.Rule.{In, IsOf};
-ghost use Rattle.gx_stack.specs.Tree.{entries_of, leaves_of};
+ghost use Rattle.gx_mapping.specs.Rule.{IsOf};
+ghost use Rattle.gx_stack.specs.Tree.{entries_of};
 ghost use Rattle.gx_stack.specs.Seen.{tree_of};
 ghost use Rattle.gx_types.specs.Any.{any_rule};
 ghost use Rattle.gx_typing.specs.Dues.{file_form};
@@ -20,14 +20,15 @@ ghost use Rattle.gx_edits.specs.Records.{IsEditedWhere};
 ghost use Rattle.gx_edits.specs.Alone.{IsOnlyLeaf};
 
 use crate::alone::{is_there, only_leaf, put_alone, take_alone};
+use arrayvec::ArrayVec;
 use gx_commands::Changes;
 use gx_pairs::Refused;
 use gx_ports::{Leaves, Stop};
-use gx_scan::{find_record, find_values};
+use gx_scan::{find_record, find_values, whole_span};
 use gx_schema::FileDef;
 use gx_stack::Node;
 use gx_types::AnyMapping;
-use gx_values::{NoMemory, Rec, Value, Values};
+use gx_values::{KeyBuf, NoMemory, Rec, Value, Values};
 use std::alloc::Global;
 
 // The record of a key and other values.
@@ -40,30 +41,6 @@ fn new_record(alloc: Global, key: Value, values: Values) -> Result<Rec, NoMemory
         key: Values(keys),
         fields: values,
     })
-}
-
-// Whether the file has a record with this key. Where each record has one entry its values aren't read.
-fn has_record<B: Leaves>(
-    alloc: Global,
-    file: &FileDef,
-    node: &Node<AnyMapping>,
-    key: &Value,
-    leaves: &mut B,
-) -> Result<bool, Stop>
-    requires tree { IsTreeFor file.now (tree_of node.now) (length (B.working leaves.old)) }
-    requires storable { IsStorable file.now }
-    requires key { Fits (key_kind file.now) key.now }
-    ensures there { (f : FileMap) → B.whole leaves.old →
-        IsInternal file.now (tree_of node.now) (B.working leaves.old) f →
-        IfOk result (λ there. there ≡ is_some (fin.get f key.now)) }
-    ensures reads { ReadsMaps B.View
-        (B.whole leaves.old × HasFile file.now (tree_of node.now) (B.working leaves.old))
-        leaves.old leaves.new result }
-{
-    match only_leaf(node) {
-        Some(leaf) => is_there(alloc, file, node, leaf, key, leaves),
-        None => Ok(find_record(alloc, file, node, key, leaves)?.is_some()),
-    }
 }
 
 /// Puts a new record into the file's node, or answers why it doesn't.
@@ -97,12 +74,59 @@ pub(crate) fn insert_record<B: Leaves>(
         (entry_count (B.working leaves.old)
         + length (entries_of any_rule (tree_of node.now) (rec_of (key, values)))) }
 {
-    if has_record(alloc, file, node, &key, leaves)? {
+    if let Some(leaf) = only_leaf(node) {
+        return insert_alone(alloc, file, node, leaf, &key, values, leaves);
+    }
+    if find_record(alloc, file, node, &key, leaves)?.is_some() {
         return Ok(Some(Refused::KeyExists));
     }
     let new = new_record(alloc, key, values)?;
     node.replace(alloc, leaves, None, Some(new))?;
     Ok(None)
+}
+
+// The same where each record has its one entry in this leaf of the node.
+fn insert_alone<B: Leaves>(
+    alloc: Global,
+    file: &FileDef,
+    node: &Node<AnyMapping>,
+    leaf: u32,
+    key: &Value,
+    values: Values,
+    leaves: &mut B,
+) -> Result<Option<Refused>, Stop>
+    requires tree { IsTreeFor file.now (tree_of node.now) (length (B.working leaves.old)) }
+    requires storable { IsStorable file.now }
+    requires only { IsOnlyLeaf (tree_of node.now) leaf }
+    requires key { Fits (key_kind file.now) key.now }
+    requires values { AreFit (data_fields file.now) values }
+    ensures inserted { (f : FileMap) → B.whole leaves.old →
+        IsInternal file.now (tree_of node.now) (B.working leaves.old) f → IfOk result
+        (λ why. IsEditedWhere file.now (tree_of node.now)
+        (B.working leaves.old) (B.working leaves.new) f
+        (first_refusal ((is_some (fin.get f key.now), key_exists) ∷ []))
+        (fin.insert f key.now values) why) }
+    ensures keeps { Keeps B.View leaves.old leaves.new }
+    ensures ends { Ends B.View
+        (B.whole leaves.old × HasFile file.now (tree_of node.now) (B.working leaves.old))
+        leaves.old leaves.new result }
+    ensures block { (n : ℕ) → IsErrOf result (Stop.Damaged n) → B.whole leaves.old → n ≡ 0 }
+    ensures full { (f : FileMap) → B.whole leaves.old →
+        IsInternal file.now (tree_of node.now) (B.working leaves.old) f → IsErrOf result Stop.Full →
+        (fin.get f key.now ≡ Option.None)
+        × IsCrowdedBy (B.limit leaves.old)
+        (entry_count (B.working leaves.old)
+        + length (entries_of any_rule (tree_of node.now) (rec_of (key.now, values)))) }
+{
+    let mut span = whole_span();
+    span.lo.set_value(key);
+    span.hi.set_value(key);
+    if is_there(alloc, file, node, leaf, key, &span, leaves)? {
+        Ok(Some(Refused::KeyExists))
+    } else {
+        put_alone(alloc, node, leaf, key, &span.lo, values, leaves)?;
+        Ok(None)
+    }
 }
 
 /// Takes the record with this key away, or answers why it doesn't.
@@ -152,7 +176,6 @@ fn delete_alone<B: Leaves>(
     requires tree { IsTreeFor file.now (tree_of node.now) (length (B.working leaves.old)) }
     requires storable { IsStorable file.now }
     requires only { IsOnlyLeaf (tree_of node.now) leaf }
-    requires in_tree { In leaf (leaves_of (tree_of node.now)) }
     requires key { Fits (key_kind file.now) key.now }
     ensures deleted { (f : FileMap) → B.whole leaves.old →
         IsInternal file.now (tree_of node.now) (B.working leaves.old) f → IfOk result
@@ -167,10 +190,13 @@ fn delete_alone<B: Leaves>(
     ensures block { (n : ℕ) → IsErrOf result (Stop.Damaged n) → B.whole leaves.old → n ≡ 0 }
     ensures not_full { ¬ IsErrOf result Stop.Full }
 {
-    if !is_there(alloc, file, node, leaf, key, leaves)? {
+    let mut span = whole_span();
+    span.lo.set_value(key);
+    span.hi.set_value(key);
+    if !is_there(alloc, file, node, leaf, key, &span, leaves)? {
         return Ok(Some(Refused::NoRecord));
     }
-    take_alone(alloc, node, leaf, key, leaves)?;
+    take_alone(alloc, node, leaf, key, &span, leaves)?;
     Ok(None)
 }
 
@@ -208,12 +234,14 @@ pub(crate) fn update_record<B: Leaves>(
     let Some(values) = find_values(alloc, file, node, &key, leaves)? else {
         return Ok(Some(Refused::NoRecord));
     };
-    let old = new_record(alloc, key, values)?;
     if let Some(leaf) = only_leaf(node) {
-        let new = changed_record(file, old, changes);
-        put_alone(alloc, node, leaf, &new, leaves)?;
+        let values = changed_values(file, values, changes);
+        let mut bytes = KeyBuf(ArrayVec::new());
+        bytes.set_value(&key);
+        put_alone(alloc, node, leaf, &key, &bytes, values, leaves)?;
         return Ok(None);
     }
+    let old = new_record(alloc, key, values)?;
     let gone = node.entries_of(alloc, &old)?;
     let new = changed_record(file, old, changes);
     node.replace_entries(alloc, leaves, &gone, Some(new))?;

@@ -1,14 +1,11 @@
 use Rattle.std.proofs.Common.{arith}
 use Rattle.gx_stack.proofs.Seen.{child_valid, kid_lower}
 use Rattle.gx_types.specs.Any.{any_rule}
-use Rattle.gx_edits.proofs.AloneLemmas.{first_there, leaf_only, leaf_in_tree, layer_some, layer_in_tree}
+use Rattle.gx_edits.proofs.AloneLemmas.{first_there, leaf_only, layer_some}
 use Rattle.gx_edits.proofs.alone.+only_leaf.Goals as goal
 
-pub returns-in-Leaf-clause-only : goal.returns-in-Leaf-clause-only
-returns-in-Leaf-clause-only t c = leaf_only c.args.node.now c.in-Leaf.node c.in-Leaf.is
-
-pub returns-in-Leaf-clause-in_tree : goal.returns-in-Leaf-clause-in_tree
-returns-in-Leaf-clause-in_tree t c = leaf_in_tree c.args.node.now c.in-Leaf.node c.in-Leaf.is
+pub returns-in-Leaf : goal.returns-in-Leaf
+returns-in-Leaf t c = leaf_only c.args.node.now c.in-Leaf.node c.in-Leaf.is
 
 pub index-requires : goal.index-requires
 index-requires t c =
@@ -24,17 +21,10 @@ only_leaf-requires t c =
     let v = child_valid any_rule node l c.in-Layer.is 0 k c.requires there c.index.ensures in
     (omega (arith, kid_lower any_rule node l c.in-Layer.is 0 k there c.index.ensures, c.decreases), v.1)
 
-pub returns-then-keeps_keys-clause-only : goal.returns-then-keeps_keys-clause-only
-returns-then-keeps_keys-clause-only t c =
+pub returns-then-keeps_keys : goal.returns-then-keeps_keys
+returns-then-keeps_keys t c =
     let node = c.args.node.now in
     let l = c.in-Layer.layer in
     let keeps = c.keeps_keys.ensures c.if-keeps_keys.true in
     let there = first_there node l c.in-Layer.is c.requires keeps in
-    layer_some node l c.index.result.now c.only_leaf.result c.in-Layer.is c.requires c.index.ensures keeps there c.only_leaf.ensures.only
-
-pub returns-then-keeps_keys-clause-in_tree : goal.returns-then-keeps_keys-clause-in_tree
-returns-then-keeps_keys-clause-in_tree t c =
-    let node = c.args.node.now in
-    let l = c.in-Layer.layer in
-    let there = first_there node l c.in-Layer.is c.requires (c.keeps_keys.ensures c.if-keeps_keys.true) in
-    layer_in_tree node l c.index.result.now c.only_leaf.result c.in-Layer.is there c.index.ensures c.only_leaf.ensures.in_tree
+    layer_some node l c.index.result.now c.only_leaf.result c.in-Layer.is c.index.ensures keeps there c.only_leaf.ensures

@@ -1,6 +1,5 @@
-use Rattle.std.proofs.Common.{◌<◌, ◌∙◌, List, length, refl, sym, ap, subst, arith}
+use Rattle.std.proofs.Common.{◌<◌, ◌∙◌, List, length, refl, sym, ap, subst}
 use Rattle.std.specs.Prelude.{not, is_some}
-use Rattle.gx_schema.specs.Lookups.{key_kind}
 use Rattle.gx_ports.specs.LeafMaps.{LeafMap, map_at}
 use Rattle.gx_stack.specs.Seen.{tree_of}
 use Rattle.gx_stack.specs.Internal.{IsSet, IsInternal as IsHeld}
@@ -8,15 +7,11 @@ use Rattle.gx_types.specs.Any.{any_rule}
 use Rattle.gx_model.specs.Commands.{no_record}
 use Rattle.gx_scan.specs.Files.{rec_of, records_of}
 use Rattle.gx_scan.proofs.FileLemmas.{set_of, there_in}
-use Rattle.gx_scan.proofs.RecordLemmas.{key_width}
 use Rattle.gx_edits.proofs.RecordLemmas.{is_done, delete_edit, some_there}
 use Rattle.gx_edits.proofs.records.delete_alone.Goals as goal
 
 pub take_alone-requires-clause-below : goal.take_alone-requires-clause-below
 take_alone-requires-clause-below g c = λ n h. subst (λ (maps : List LeafMap). n < length maps) (sym c.is_there.ensures.reads.reads.working) (c.requires.tree.below n h)
-
-pub take_alone-requires-clause-small : goal.take_alone-requires-clause-small
-take_alone-requires-clause-small g c = omega (arith, key_width (key_kind c.args.file.now) c.args.key.now c.requires.storable.key c.requires.key, c.requires.storable.key_small)
 
 pub returns-clause-deleted : goal.returns-clause-deleted
 returns-clause-deleted g c = λ f whole is.

@@ -6,7 +6,6 @@ use Rattle.gx_values.specs.Values.{AreFit}
 use Rattle.gx_schema.specs.Lookups.{data_fields}
 use Rattle.gx_mapping.specs.Rule.{In, IsOf}
 use Rattle.gx_ports.specs.LeafMaps.{LeafMap, map_at}
-use Rattle.gx_stack.specs.Tree.{leaves_of}
 use Rattle.gx_stack.specs.Seen.{tree_of}
 use Rattle.gx_stack.specs.Internal.{IsSet, IsInternal as IsHeld}
 use Rattle.gx_types.specs.Any.{any_rule}
@@ -45,7 +44,4 @@ returns-clause-deleted g c = λ f whole is.
 -- ---- records that have one entry each
 
 pub delete_alone-requires-clause-only : goal.delete_alone-requires-clause-only
-delete_alone-requires-clause-only g c = subst (λ o. IfSome o (IsOnlyLeaf (tree_of c.args.node.now))) c.in-Some.is c.only_leaf.ensures.only
-
-pub delete_alone-requires-clause-in_tree : goal.delete_alone-requires-clause-in_tree
-delete_alone-requires-clause-in_tree g c = subst (λ o. IfSome o (λ n. In n (leaves_of (tree_of c.args.node.now)))) c.in-Some.is c.only_leaf.ensures.in_tree
+delete_alone-requires-clause-only g c = subst (λ o. IfSome o (IsOnlyLeaf (tree_of c.args.node.now))) c.in-Some.is c.only_leaf.ensures

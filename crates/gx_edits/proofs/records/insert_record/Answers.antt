@@ -1,5 +1,5 @@
 use Rattle.std.proofs.Common.{rules, ◌<◌, ◌∙◌, List, length, sym, ap, subst}
-use Rattle.std.specs.Prelude.{◌≢◌}
+use Rattle.std.specs.Prelude.{IfSome, ◌≢◌}
 use Rattle.gx_values.specs.declared.records.Rec.{Rec}
 use Rattle.gx_mapping.specs.Rule.{In, IsOf}
 use Rattle.gx_ports.specs.LeafMaps.{LeafMap, map_at}
@@ -10,11 +10,12 @@ use Rattle.gx_scan.specs.Files.{records_of}
 use Rattle.gx_scan.proofs.FileLemmas.{set_of, row_fits}
 use Rattle.gx_model.specs.Commands.{key_exists}
 use Rattle.gx_edits.proofs.ChangeLemmas.{is_insert}
-use Rattle.gx_edits.proofs.RecordLemmas.{none_there, is_done, insert_edit, crowded_same}
+use Rattle.gx_edits.proofs.RecordLemmas.{missing, none_there, is_done, insert_edit, crowded_same}
+use Rattle.gx_edits.specs.Alone.{IsOnlyLeaf}
 use Rattle.gx_edits.proofs.records.insert_record.Goals as goal
 
 pub replace-requires-clause-below : goal.replace-requires-clause-below
-replace-requires-clause-below g c = λ n h. subst (λ (maps : List LeafMap). n < length maps) (sym c.has_record.ensures.reads.reads.working) (c.requires.tree.below n h)
+replace-requires-clause-below g c = λ n h. subst (λ (maps : List LeafMap). n < length maps) (sym c.find_record.ensures.reads.reads.working) (c.requires.tree.below n h)
 
 pub replace-requires-clause-new_fits : goal.replace-requires-clause-new_fits
 replace-requires-clause-new_fits g c =
@@ -24,18 +25,18 @@ replace-requires-clause-new_fits g c =
 pub returns-in_err-replace-clause-full : goal.returns-in_err-replace-clause-full
 returns-in_err-replace-clause-full g c = λ f whole is e.
     let t = tree_of c.args.node.now in
-    let none = none_there f c.args.key (sym (c.in_ok-has_record.ensures.there f whole is) ∙ c.if-branch.false) in
+    let none = none_there f c.args.key (missing f c.args.key c.in_ok-find_record.field-0 _ (c.in_ok-find_record.ensures.found f whole is) (c.is_some.ensures) c.if-is_some.false) in
     let new = c.in_ok-new.ensures in
-    let full = c.replace.ensures.full (c.in_ok-has_record.ensures.reads.ends.whole whole) (search rules) in
-    (none, crowded_same (g.B.View.limit c.args.leaves.now) (g.B.View.limit c.has_record.new.leaves) (g.B.View.working c.args.leaves.now) (g.B.View.working c.has_record.new.leaves) t (c.args.key, c.args.values) c.in_ok-new.new c.has_record.ensures.reads.reads.limit c.has_record.ensures.reads.reads.working new full)
+    let full = c.replace.ensures.full (c.in_ok-find_record.ensures.reads.ends.whole whole) (search rules) in
+    (none, crowded_same (g.B.View.limit c.args.leaves.now) (g.B.View.limit c.find_record.new.leaves) (g.B.View.working c.args.leaves.now) (g.B.View.working c.find_record.new.leaves) t (c.args.key, c.args.values) c.in_ok-new.new c.find_record.ensures.reads.reads.limit c.find_record.ensures.reads.reads.working new full)
 
 pub returns-clause-inserted : goal.returns-clause-inserted
 returns-clause-inserted g c = λ f whole is.
     let t = tree_of c.args.node.now in
-    let same = c.has_record.ensures.reads.reads.working in
-    let absent = sym (c.in_ok-has_record.ensures.there f whole is) ∙ c.if-branch.false in
+    let same = c.find_record.ensures.reads.reads.working in
+    let absent = missing f c.args.key c.in_ok-find_record.field-0 _ (c.in_ok-find_record.ensures.found f whole is) (c.is_some.ensures) c.if-is_some.false in
     let none = none_there f c.args.key absent in
-    let after = c.in_ok-has_record.ensures.reads.ends.whole whole in
+    let after = c.in_ok-find_record.ensures.reads.ends.whole whole in
     let new = c.in_ok-new.ensures in
     let set = subst (λ form. IsSet form (records_of f)) (sym c.requires.tree.form) (set_of c.args.file.now f c.requires.storable.keyed is.fit) in
     let held = subst (λ (maps : List LeafMap). IsHeld any_rule t (records_of f) maps) (sym same) is.held in
@@ -43,3 +44,8 @@ returns-clause-inserted g c = λ f whole is.
     let done = c.in_ok-replace.ensures.internal (records_of f) after set change held in
     is_done c.args.file.now t _ _ f _ key_exists _ absent
     (insert_edit c.args.file.now t _ _ f c.args.key c.args.values c.in_ok-new.new c.requires.tree.valid c.requires.key c.requires.values is none new done (λ n out. c.in_ok-replace.ensures.others n after (λ e. cc) out ∙ ap (λ (maps : List LeafMap). map_at maps n) same))
+
+-- ---- a record that has one entry
+
+pub insert_alone-requires-clause-only : goal.insert_alone-requires-clause-only
+insert_alone-requires-clause-only g c = subst (λ o. IfSome o (IsOnlyLeaf (tree_of c.args.node.now))) c.in-Some.is c.only_leaf.ensures

@@ -10,8 +10,9 @@ use Rattle.gx_stack.specs.Seen.{tree_of}
 use Rattle.gx_stack.specs.Internal.{IsSet, IsInternal as IsHeld}
 use Rattle.gx_types.specs.Any.{any_rule}
 use Rattle.gx_typing.specs.Dues.{file_form}
+use Rattle.gx_model.specs.States.{Row}
 use Rattle.gx_model.specs.Commands.{changed, no_record}
-use Rattle.gx_scan.specs.Files.{records_of}
+use Rattle.gx_scan.specs.Files.{rec_of, records_of}
 use Rattle.gx_scan.proofs.FileLemmas.{set_of, there_in, row_fits}
 use Rattle.gx_edits.specs.Alone.{IsOnlyLeaf}
 use Rattle.gx_edits.specs.Records.{IsEdited}
@@ -52,8 +53,8 @@ returns-clause-updated g c = λ f whole is.
     let values = c.in-Some.values in
     let changes = c.args.changes in
     let old = c.in_ok-old.old in
-    let new = c.changed_record-new-2.result in
-    let made = c.changed_record-new-2.ensures in
+    let new = c.changed_record-new.result in
+    let made = c.changed_record-new.ensures in
     let was = c.in_ok-old.ensures in
     let there : fin.get f key ≡ Some values = sym (sym c.in-Some.is ∙ c.in_ok-values.ensures.found f whole is) in
     let after = c.in_ok-values.ensures.reads.ends.whole whole in
@@ -68,11 +69,19 @@ returns-clause-updated g c = λ f whole is.
 
 -- ---- a record that has one entry
 
+pub changed_values-values-requires-clause-values : goal.changed_values-values-requires-clause-values
+changed_values-values-requires-clause-values g c = subst (λ o. IfSome o (AreFit (data_fields c.args.file.now))) c.in-Some.is c.in_ok-values.ensures.fits
+
 pub put_alone-requires-clause-below : goal.put_alone-requires-clause-below
 put_alone-requires-clause-below g c = λ n h. subst (λ (maps : List LeafMap). n < length maps) (sym c.find_values.ensures.reads.reads.working) (c.requires.tree.below n h)
 
 pub put_alone-requires-clause-only : goal.put_alone-requires-clause-only
-put_alone-requires-clause-only g c = subst (λ o. IfSome o (IsOnlyLeaf (tree_of c.args.node.now))) c.in-Some-only_leaf.is c.only_leaf.ensures.only
+put_alone-requires-clause-only g c = subst (λ o. IfSome o (IsOnlyLeaf (tree_of c.args.node.now))) c.in-Some-only_leaf.is c.only_leaf.ensures
+
+pub put_alone-requires-clause-fits : goal.put_alone-requires-clause-fits
+put_alone-requires-clause-fits g c =
+    let row : Row = (c.args.key, c.changed_values-values.result) in
+    subst (λ form. IsOf form (rec_of row)) (sym c.requires.tree.form) (row_fits c.args.file.now row c.requires.storable.keyed (c.requires.key, c.changed_values-values.ensures.fits))
 
 pub returns-in-Some-only_leaf-clause-updated : goal.returns-in-Some-only_leaf-clause-updated
 returns-in-Some-only_leaf-clause-updated g c = λ f whole is.
@@ -81,18 +90,13 @@ returns-in-Some-only_leaf-clause-updated g c = λ f whole is.
     let same = c.find_values.ensures.reads.reads.working in
     let key = c.args.key in
     let values = c.in-Some.values in
-    let changes = c.args.changes in
-    let old = c.in_ok-old.old in
-    let new = c.changed_record-new.result in
-    let made = c.changed_record-new.ensures in
-    let was = c.in_ok-old.ensures in
+    let made = c.changed_values-values.result in
     let there : fin.get f key ≡ Some values = sym (sym c.in-Some.is ∙ c.in_ok-values.ensures.found f whole is) in
     let after = c.in_ok-values.ensures.reads.ends.whole whole in
-    let is_new = rec_made old new key values changes was made.key made.fields in
     let set = subst (λ form. IsSet form (records_of f)) (sym c.requires.tree.form) (set_of file f c.requires.storable.keyed is.fit) in
     let held = subst (λ (maps : List LeafMap). IsHeld any_rule t (records_of f) maps) (sym same) is.held in
-    let done = c.in_ok-put_alone.ensures.internal (records_of f) old after set (subst (λ (r : Rec). In r (records_of f)) (sym was) (there_in f key values there)) (sym made.key) held in
+    let done = c.in_ok-put_alone.ensures.internal (records_of f) (Some (rec_of (key, values))) after set (there_in f key values there, refl) held in
     is_done file t _ _ f _ no_record _ (ap (λ o. not (is_some o)) there)
-    (subst (IsEdited file t _ _) (updated_is f key changes values (changed values changes) (sym there) refl)
-    (update_edit file t _ _ f key values (changed values changes) old new c.requires.tree.valid c.requires.key (subst (λ (r : Rec). AreFit (data_fields file) r.fields) is_new made.fits.fields) is was is_new done
+    (subst (IsEdited file t _ _) (updated_is f key c.args.changes values made (sym there) c.changed_values-values.ensures.changed)
+    (update_edit file t _ _ f key values made (rec_of (key, values)) (rec_of (key, made)) c.requires.tree.valid c.requires.key c.changed_values-values.ensures.fits is refl refl done
     (λ n out. c.in_ok-put_alone.ensures.others n after (λ e. cc) out ∙ ap (λ (maps : List LeafMap). map_at maps n) same)))

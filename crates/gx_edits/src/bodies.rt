@@ -1,0 +1,100 @@
+// The body of the one leaf entry of a record, made of its data without the record.
+ghost use Rattle.std.specs.Prelude.{◌≡◌, ◌≤◌, ◌∷◌, [], ℕ, length, IfOk};
+ghost use Rattle.gx_values.specs.Values.{AreFit};
+ghost use Rattle.gx_values.specs.declared.values.Value.TheVariants as value;
+ghost use Rattle.gx_encode.specs.Codes.{code_of, IsCodable};
+ghost use Rattle.gx_encode.specs.Forms.{changed as changed_at};
+ghost use Rattle.gx_encode.specs.Rules.{coded, field_of, form_of, used_code_of};
+ghost use Rattle.gx_stack.specs.Tree.{leaf_body, tree_form, IsValid};
+ghost use Rattle.gx_stack.specs.Seen.{tree_of};
+ghost use Rattle.gx_types.specs.Any.{any_rule};
+ghost use Rattle.gx_edits.specs.Alone.{AreDataOf, IsOnlyBody, IsOnlyLeaf};
+
+use gx_actual::body_bytes;
+use gx_encode::{Encode, pack_into, rle_into};
+use gx_mapping::Mapping;
+use gx_stack::Node;
+use gx_types::AnyMapping;
+use gx_values::{NoMemory, Octets, Value, Values};
+use std::alloc::Global;
+
+/// The body of the one entry of each record with these data: the layers keep the key, so it isn't asked
+/// for. `NoMemory`: there was none for it.
+pub(crate) fn only_body(
+    alloc: Global,
+    node: &Node<AnyMapping>,
+    fields: Values,
+) -> Result<Octets, NoMemory>
+    requires valid { IsValid any_rule (tree_of node.now) }
+    requires only { (n : ℕ) × IsOnlyLeaf (tree_of node.now) n }
+    requires of_form { AreDataOf (tree_form any_rule (tree_of node.now)) fields }
+    ensures { IfOk result (IsOnlyBody (tree_of node.now) fields) }
+{
+    match node {
+        Node::Leaf(_) => Ok(the_bytes(alloc, fields)),
+        Node::Layer(layer) => {
+            let first = &layer.kids[0];
+            match &layer.mapping {
+                AnyMapping::Actual(mapping) => {
+                    let body = body_bytes(alloc, &mapping.form().fields.0, &fields.0)?;
+                    if let Node::Leaf(_) = first {
+                        return Ok(body);
+                    }
+                    only_body(alloc, first, one_value(alloc, body)?)
+                }
+                AnyMapping::Encode(mapping) => {
+                    let made = coded_fields(alloc, mapping, fields)?;
+                    only_body(alloc, first, made)
+                }
+                _ => unreachable!(),
+            }
+        }
+    }
+}
+
+// The bytes of the only value; none where there is none.
+fn the_bytes(alloc: Global, fields: Values) -> Octets
+    requires { length fields ≤ 1 }
+    ensures { result ≡ leaf_body fields }
+{
+    let mut values = fields.0;
+    match values.pop() {
+        Some(Value::Bytes(bytes)) => bytes,
+        _ => Octets(Vec::new(alloc)),
+    }
+}
+
+// The bytes as the only value.
+fn one_value(alloc: Global, bytes: Octets) -> Result<Values, NoMemory>
+    ensures { IfOk result (λ values. values ≡ value.Bytes bytes ∷ []) }
+{
+    let mut values = Vec::with_capacity(alloc, 1)?;
+    values.push(Value::Bytes(bytes))?;
+    Ok(Values(values))
+}
+
+// The values with the code of the one that the layer has by its code, in its place.
+fn coded_fields(alloc: Global, mapping: &Encode, fields: Values) -> Result<Values, NoMemory>
+    requires { AreFit (form_of mapping.now).fields fields }
+    ensures { IfOk result (λ made. made
+        ≡ changed_at (field_of mapping.now) (coded (used_code_of mapping.now)) fields) }
+{
+    let number = usize::from(mapping.field());
+    let mut values = fields.0;
+    let code = value_code(alloc, mapping, &values[number])?;
+    values[number] = Value::Bytes(code);
+    Ok(Values(values))
+}
+
+// The code of the value. An int has one code, and so has a text.
+fn value_code(alloc: Global, mapping: &Encode, value: &Value) -> Result<Octets, NoMemory>
+    requires { IsCodable (used_code_of mapping.now) value.now }
+    ensures { IfOk result (λ bytes. bytes ≡ code_of (used_code_of mapping.now) value.now) }
+{
+    let _mapping = mapping;
+    match value {
+        Value::Int(n) => pack_into(alloc, *n),
+        Value::Text(text) => rle_into(alloc, text.as_slice()),
+        Value::Bytes(_) => unreachable!(),
+    }
+}
