@@ -1,11 +1,10 @@
 -- Fields that stand by their codes.
-use Rattle.std.proofs.Common.{[], ◌≡◌, ℕ, zero, suc, ◌+◌, ◌<◌, ◌≤◌, List, ◌∷◌, ◌++◌, length, take, drop, get_or, Option, Some, None, false, refl, sym, ap, subst, ◌∙◌, arith, append-nil, append_assoc, length-append}
+use Rattle.std.proofs.Common.{[], ◌≡◌, ℕ, zero, suc, ◌+◌, ◌<◌, ◌≤◌, List, ◌∷◌, ◌++◌, length, take, drop, get_or, Option, Some, None, false, refl, sym, ap, subst, ◌∙◌, arith, length-append}
 use Rattle.std.specs.Prelude.{pos}
 use Rattle.std.specs.Option.{is_some}
 use Rattle.std.proofs.Math.ListN.{set, replicate}
 use Rattle.std.proofs.lemmas.Bool.{true≢false}
-use Rattle.std.proofs.lemmas.List.{length-set, length-replicate, take-append-drop}
-use Rattle.std.proofs.lemmas.Grind.{flat_map-append}
+use Rattle.std.proofs.lemmas.List.{length-set, length-replicate, take_all, drop_all}
 use Rattle.gx_values.specs.declared.values.Code.{Code}
 use Rattle.gx_values.specs.declared.values.Code.TheVariants as code
 use Rattle.gx_values.specs.declared.values.Kind.TheVariants as kind
@@ -14,6 +13,7 @@ use Rattle.gx_values.specs.declared.values.Value.TheVariants as value
 use Rattle.gx_values.specs.declared.records.Field.{Field}
 use Rattle.gx_values.specs.Values.{Fits, AreFit}
 use Rattle.gx_actual.specs.Bodies.{field_bytes, body_of}
+use Rattle.gx_mapping.proofs.FieldLemmas.{fit_length}
 use Rattle.gx_encode.specs.Codes.{code_of, IsCodable}
 use Rattle.gx_encode.specs.Forms.{changed, no_value}
 use Rattle.gx_encode.specs.Rules.{coded}
@@ -119,7 +119,7 @@ pub record StoredAt (f : Field) (c : Option Code) (cs : List (Option Code)) (vs 
   pub has : HasCode c value
   pub front : rest ≡ field_bytes (stored_value c value) ++ body_of
       (stored_values (drop (i + 1) cs) (drop (i + 1) vs))
-  pub more : body_of (take (i + 1) vs) ≡ body_of (take i vs) ++ field_bytes value
+  pub more : take (i + 1) vs ≡ take i vs ++ value ∷ []
   pub is : get_or vs i none ≡ value
 
 plain_there : (fs : List Field) (vs : List Value) (i : ℕ) (d : Field) → AreFit fs vs → i < length fs
@@ -163,9 +163,7 @@ stored_there fs cs vs i f c rest fit have lt item code is =
       front = is ∙ ap body_of x.3
           ∙ (λ j. field_bytes (stored_value (sym code j) x.0) ++ body_of
           (stored_values (drop (next j) cs) (drop (next j) vs)));
-      more = ap (λ n. body_of (take n vs)) (sym next) ∙ ap body_of x.4
-          ∙ flat_map-append field_bytes (take i vs) (x.0 ∷ [])
-          ∙ ap (λ (l : List ℕ). body_of (take i vs) ++ l) (append-nil (field_bytes x.0));
+      more = ap (λ n. take n vs) (sym next) ∙ x.4;
       is = x.5;
     }
 
@@ -173,41 +171,17 @@ nothing_stored : (cs : List (Option Code)) → stored_values cs [] ≡ []
 nothing_stored [] = refl
 nothing_stored (c ∷ cs) = refl
 
--- past the last field there is no value
-pub past_fields : (fs : List Field) (cs : List (Option Code)) (vs : List Value) (i : ℕ)
-    → AreFit fs vs → length fs ≤ i → stored_values (drop i cs) (drop i vs) ≡ drop i vs
-past_fields [] cs [] zero fit le = nothing_stored cs
-past_fields [] cs [] (suc i) fit le = nothing_stored (drop (suc i) cs)
-past_fields [] cs (v ∷ vs) i fit le = absurd fit
-past_fields (f ∷ fs) cs [] i fit le = absurd fit
-past_fields (f ∷ fs) cs (v ∷ vs) zero fit le = absurd (omega arith)
-past_fields (f ∷ fs) [] (v ∷ vs) (suc i) fit le = refl
-past_fields (f ∷ fs) (c ∷ cs) (v ∷ vs) (suc i) fit le = past_fields fs cs vs i fit.1 (omega arith)
-
--- past the last code the values are as they are
-pub past_codes : (cs : List (Option Code)) (vs : List Value) (i : ℕ) → length cs ≤ i
-    → stored_values (drop i cs) (drop i vs) ≡ drop i vs
-past_codes cs vs i le =
-    ap (λ (ds : List (Option Code)). stored_values ds (drop i vs)) (none_left cs i le)
-  where
-    none_left : (cs : List (Option Code)) (i : ℕ) → length cs ≤ i → drop i cs ≡ []
-    none_left [] zero le = refl
-    none_left [] (suc i) le = refl
-    none_left (c ∷ cs) zero le = absurd (omega arith)
-    none_left (c ∷ cs) (suc i) le = none_left cs i (omega arith)
-
--- the values so far and those that are left
-pub all_values : (before plain rest pushed : List ℕ) (cs : List (Option Code)) (vs : List Value)
-    (i : ℕ) → plain ≡ before ++ body_of (take i vs)
-    → rest ≡ body_of (stored_values (drop i cs) (drop i vs))
-    → stored_values (drop i cs) (drop i vs) ≡ drop i vs → pushed ≡ plain ++ rest
-    → pushed ≡ before ++ body_of vs
-all_values before plain rest pushed cs vs i so_far left same is =
-    is ∙ (λ j. so_far j ++ (left ∙ ap body_of same) j) ∙ append_assoc before (body_of (take i vs))
-    (body_of (drop i vs))
-    ∙ ap (λ (l : List ℕ). before ++ l)
-    (sym (flat_map-append field_bytes (take i vs) (drop i vs))
-    ∙ ap body_of (take-append-drop i vs))
+-- past the last field all values are read, and nothing follows
+pub all_read : (fs : List Field) (cs : List (Option Code)) (vs read : List Value) (i : ℕ)
+    (rest : List ℕ) → AreFit fs vs → length fs ≤ i
+    → rest ≡ body_of (stored_values (drop i cs) (drop i vs)) → read ≡ take i vs
+    → (rest ≡ []) × (read ≡ vs)
+all_read fs cs vs read i rest fit le left is =
+    let past : length vs ≤ i = omega (arith, fit_length fs vs fit, le) in (
+      left ∙ ap (λ (l : List Value). body_of (stored_values (drop i cs) l)) (drop_all i vs past)
+          ∙ ap body_of (nothing_stored (drop i cs)),
+      is ∙ take_all i vs past,
+    )
 
 -- ---- texts
 

@@ -47,11 +47,18 @@ key_fits file k bytes key same read = subst (λ (j : Kind). Fits j key) same rea
 pub same_key : (k : Kind) (v w : Value) → IsKeyKind k → Fits k v → Fits k w → bytes_of v ≡ bytes_of w → v ≡ w
 same_key k v w key f g e = (value_prefix_free k key v w [] [] f g (append-nil (bytes_of v) ∙ e ∙ sym (append-nil (bytes_of w)))).0
 
+pub key_read : (file : FileDef) (k : Kind) (bytes : List ℕ) (key : Value) (r : Row)
+    → IsStorable file → k ≡ key_kind file → bytes ≡ bytes_of r.0
+    → IsRead bytes_of k bytes (Some key) → IsRowOf file r → key ≡ r.0
+key_read file k bytes key r is same be read fit =
+    same_key (key_kind file) key r.0 is.key (key_fits file k bytes key same read) fit.0
+    (read.1 ∙ be)
+
 -- what is read of a record's entry is the record
 pub row_read : (file : FileDef) (k : Kind) (key_bytes body_bytes : List ℕ) (fields : List Field) (key : Value) (vs : List Value) (r : Row) → IsStorable file → k ≡ key_kind file → fields ≡ data_fields file → key_bytes ≡ bytes_of r.0 → body_bytes ≡ body_of r.1
     → IsRead bytes_of k key_bytes (Some key) → AreRead field_bytes fields body_bytes (Some vs) → IsRowOf file r → ◌≡◌ {A = Option Row} (Some (key, vs)) (Some r)
 row_read file k key_bytes body_bytes fields key vs r is kind_same same ke be read reads fit =
-    let first : key ≡ r.0 = same_key (key_kind file) key r.0 is.key (key_fits file k key_bytes key kind_same read) fit.0 (read.1 ∙ ke) in
+    let first : key ≡ r.0 = key_read file k key_bytes key r is kind_same ke read fit in
     let others : vs ≡ r.1 = same_body (data_fields file) vs r.1 is.short (subst (λ (fs : List Field). AreFit fs vs) same reads.0) fit.1 (reads.1 ∙ be) in
     λ i. Some (first i, others i)
 

@@ -1,12 +1,13 @@
 -- The records inside a span below a layer that passes records whole.
-use Rattle.std.proofs.Common.{[], ◌≡◌, ℕ, ◌<◌, ◌≤◌, ◌+◌, List, ◌∷◌, ◌++◌, length, map, get_or, cond, nat_eq, Bool, true, false, Some, inl, inr, refl, sym, ap, subst, ◌∙◌, arith, append-nil}
-use Rattle.std.specs.Prelude.{T, ◌&&◌, not, filter}
+use Rattle.std.proofs.Common.{[], ◌≡◌, ℕ, ◌<◌, ◌≤◌, ◌+◌, List, ◌∷◌, ◌++◌, length, map, get_or, cond, nat_eq, Bool, true, false, Option, Some, inl, inr, refl, sym, ap, subst, ◌∙◌, arith, append-nil}
+use Rattle.std.specs.Prelude.{T, ◌&&◌, not, filter, Result, IfOk}
 use Rattle.std.specs.List.{flat_map}
 use Rattle.std.specs.Ordering.{eq_by_cmp, is_lt}
 use Rattle.std.specs.declared.cmp.Ordering.{Ordering}
 use Rattle.std.specs.FinMap as fin
 use Rattle.std.specs.FinMap.Entries.{below_all}
 use Rattle.std.proofs.lemmas.Bool.{true≢false, eqb-true, eq-eqb}
+use Rattle.std.proofs.lemmas.Result.{on_ok_weaker}
 use Rattle.gx_values.specs.declared.values.Value.{Value}
 use Rattle.gx_values.specs.declared.records.Rec.{Rec}
 use Rattle.gx_values.specs.declared.keys.Span.{Span}
@@ -14,6 +15,8 @@ use Rattle.gx_values.specs.Values.{value_cmp, Fits}
 use Rattle.gx_values.specs.Keys.{bytes_of, key_of, is_inside}
 use Rattle.gx_schema.specs.declared.schema.FileDef.{FileDef}
 use Rattle.gx_schema.specs.Lookups.{key_kind}
+use Rattle.gx_ports.specs.declared.stop.Stop.{Stop}
+use Rattle.gx_ports.specs.declared.view.View.{Ghosts}
 use Rattle.gx_ports.specs.LeafMaps.{LeafMap}
 use Rattle.gx_mapping.specs.declared.parts.Part.{Part}
 use Rattle.gx_mapping.specs.Rule.{In, IsOf}
@@ -26,6 +29,7 @@ use Rattle.gx_stack.specs.declared.node.Node.TheVariants as nodes
 use Rattle.gx_stack.specs.Tree.{Tree, leaves_of, tree_form, entries_of, kid_entries, IsValid}
 use Rattle.gx_stack.specs.Seen.{tree_of, kids_from}
 use Rattle.gx_stack.specs.Internal.{IsInternal, child_records, parts_for}
+use Rattle.gx_stack.proofs.PassLemmas.{reads_weaker}
 use Rattle.gx_stack.proofs.Seen.{seen_layer, layer_form, child_there, child_valid, child_leaves, child_internal, kid_entries_at}
 use Rattle.gx_stack.proofs.Selects.{leaves_below_more, leaves_below_all}
 use Rattle.gx_types.specs.declared.any.AnyMapping.{AnyMapping}
@@ -35,6 +39,7 @@ use Rattle.gx_typing.specs.Dues.{file_form}
 use Rattle.gx_model.specs.States.{File, Row, IsRowOf}
 use Rattle.gx_scan.specs.Files.{rec_of, records_of, IsStorable, IsTreeFor}
 use Rattle.gx_scan.specs.Files as files
+use Rattle.gx_scan.specs.Search.{Finds}
 use Rattle.gx_scan.specs.Searched.{IsPart, HasInside}
 use Rattle.gx_scan.proofs.FileLemmas.{first_of_both, second_of_both, inside_key, row_fits, same_value, value_itself}
 
@@ -245,3 +250,31 @@ module _ (file : FileDef) (k : Value) (span : Span) (storable : IsStorable file)
   pub key_same : fin.get key_part.part k ≡ fin.get f k
   unfolding key_part
   key_same = key_part.same k ((λ i. is_inside (lo i) (hi i) (key_of (k ∷ []))) ∙ inside_key file k k storable.key fit fit ∙ value_itself k)
+
+-- What is found at a key of the part is what the file has there.
+module _ {S T : Type 0} (g : Ghosts S) (file : FileDef) (k : Value) (span : Span)
+    (storable : IsStorable file) (fit : Fits (key_kind file) k) (lo : span.lo ≡ bytes_of k)
+    (hi : span.hi ≡ bytes_of k) (t u : Tree AnyMapping) (inside : HasInside span t u) (many : ℕ)
+    (tree : IsTreeFor file t many) where
+  pub finds_inside : (made : Option (List Value) → Option T) (IsFit : T → Type 0) (old new : S)
+      (r : Result (Option T) Stop) → Finds g file u (λ f. made (fin.get f k)) IsFit old new r
+      → Finds g file t (λ f. made (fin.get f k)) IsFit old new r
+  finds_inside made IsFit old new r x =
+      let part = λ (f : File) (is : files.IsInternal file t (g.working old) f).
+      key_part file k span storable fit lo hi t u inside many tree (g.working old) f is in
+      record {
+        found = λ f whole is.
+            let same = key_same file k span storable fit lo hi t u inside many tree
+            (g.working old) f is in
+            let own = part f is in
+            subst (λ (o : Option (List Value)). IfOk r (λ found. found ≡ made o)) same
+            (x.found own.part whole own.held);
+        fits = x.fits;
+        steps = λ f most whole is few.
+            let own = part f is in
+            on_ok_weaker r (λ steps. omega (arith, steps, inside.leaves))
+            (x.steps own.part most whole own.held (own.few most few));
+        reads = reads_weaker g (λ sound.
+            let own = part sound.1.0 sound.1.1 in
+            (sound.0, (own.part, own.held))) x.reads;
+      }

@@ -7,4 +7,5 @@ pub mod Scan
 pub mod Within
 pub mod Where
 pub mod Steps
+pub mod Search
 pub mod Searched

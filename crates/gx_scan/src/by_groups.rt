@@ -1,11 +1,10 @@
 // Finding by two groups: where a segment splits records in two leaves, the entries of both are
 // joined by their keys.
-ghost use Rattle.std.specs.Prelude.{◌≡◌, ◌<◌, ◌≤◌, ◌+◌, ◌*◌, ◌++◌, ◌∷◌, [], ℕ, filter, length, IfOk, IfSome, OnOk};
+ghost use Rattle.std.specs.Prelude.{◌≡◌, ◌<◌, ◌≤◌, ◌+◌, ◌*◌, ◌++◌, ◌∷◌, [], ℕ, filter, length, IfOk, OnOk};
 ghost use Rattle.std.specs.List.{AllByRecursion};
-ghost use Rattle.std.specs.FinMap as fin;
-ghost use Rattle.gx_values.specs.Values.{Fits, AreFit};
+ghost use Rattle.gx_values.specs.Values.{Fits};
 ghost use Rattle.gx_values.specs.Keys.{bytes_of};
-ghost use Rattle.gx_schema.specs.Lookups.{key_kind, data_fields};
+ghost use Rattle.gx_schema.specs.Lookups.{key_kind};
 ghost use Rattle.gx_ports.specs.Calls.{ReadsMaps};
 ghost use Rattle.gx_ports.specs.LeafMaps.{Extends, selected, map_at, counted};
 ghost use Rattle.gx_stack.specs.Tree.{leaves_of};
@@ -16,6 +15,7 @@ ghost use Rattle.gx_scan.specs.Groups.{AreGroups};
 ghost use Rattle.gx_model.specs.Found.{meets_conds};
 ghost use Rattle.gx_scan.specs.Within.{AreAdded};
 ghost use Rattle.gx_scan.specs.Where.{rows_at_key};
+ghost use Rattle.gx_scan.specs.Search.{FindsValues};
 ghost use Rattle.gx_scan.specs.Steps.{HaveAtMost, rows_inside};
 
 use crate::by_key::last_values;
@@ -89,18 +89,7 @@ pub(crate) fn values_by_groups<B: Leaves>(
     requires key { Fits (key_kind file.now) key.now }
     requires lo { span.now.lo ≡ bytes_of key.now }
     requires hi { span.now.hi ≡ bytes_of key.now }
-    ensures found { (f : FileMap) → B.whole leaves.old →
-        IsInternal file.now (tree_of node.now) (B.working leaves.old) f →
-        IfOk result (λ found. found ≡ fin.get f key.now) }
-    ensures fits { IfOk result (λ found. IfSome found (AreFit (data_fields file.now))) }
-    ensures steps { (f : FileMap) (most : ℕ) → B.whole leaves.old →
-        IsInternal file.now (tree_of node.now) (B.working leaves.old) f →
-        HaveAtMost most (tree_of node.now) f → OnOk result
-        (B.work leaves.new
-        ≤ B.work leaves.old + (length (leaves_of (tree_of node.now)) + most)) }
-    ensures reads { ReadsMaps B.View
-        (B.whole leaves.old × HasFile file.now (tree_of node.now) (B.working leaves.old))
-        leaves.old leaves.new result }
+    ensures { FindsValues B.View file.now (tree_of node.now) key.now leaves.old leaves.new result }
 {
     let mut rows = Vec::new(alloc);
     add_key_by_groups(alloc, file, node, groups, key, span, leaves, &mut rows)?;

@@ -1,19 +1,16 @@
 // The values of the record at a key of a file, without the record where an entry has them.
-ghost use Rattle.std.specs.Prelude.{◌≡◌, ◌≤◌, ◌+◌, ◌∷◌, [], ℕ, Option, length, option_map, IfOk, IfSome, OnOk};
+ghost use Rattle.std.specs.Prelude.{◌≡◌, ◌∷◌, [], Option, length, option_map, IfSome};
 ghost use Rattle.std.specs.List.{AllByRecursion};
-ghost use Rattle.std.specs.FinMap as fin;
 ghost use Rattle.gx_values.specs.Values.{Fits, AreFit};
 ghost use Rattle.gx_values.specs.Keys.{bytes_of};
 ghost use Rattle.gx_schema.specs.Lookups.{key_kind, data_fields};
 ghost use Rattle.gx_schema.specs.declared.schema.FileDef.{FileDef as TheFile};
-ghost use Rattle.gx_ports.specs.Calls.{ReadsMaps};
-ghost use Rattle.gx_stack.specs.Tree.{leaves_of};
 ghost use Rattle.gx_stack.specs.Seen.{tree_of};
-ghost use Rattle.gx_model.specs.States.{File as FileMap, Row as TheRow, IsRowOf};
-ghost use Rattle.gx_scan.specs.Files.{IsInternal, HasFile, IsStorable, IsTreeFor};
+ghost use Rattle.gx_model.specs.States.{Row as TheRow, IsRowOf};
+ghost use Rattle.gx_scan.specs.Files.{IsStorable, IsTreeFor};
 ghost use Rattle.gx_scan.specs.Entries.{ArePlaces};
 ghost use Rattle.gx_scan.specs.Records.{list_of_one};
-ghost use Rattle.gx_scan.specs.Steps.{HaveAtMost};
+ghost use Rattle.gx_scan.specs.Search.{FindsValues};
 
 use crate::by_entries::{FEW_PLACES, add_by_entries};
 use crate::by_groups::values_by_groups;
@@ -48,18 +45,7 @@ pub fn find_values<B: Leaves>(
     requires tree { IsTreeFor file.now (tree_of node.now) (length (B.working leaves.old)) }
     requires storable { IsStorable file.now }
     requires key { Fits (key_kind file.now) key.now }
-    ensures found { (f : FileMap) → B.whole leaves.old →
-        IsInternal file.now (tree_of node.now) (B.working leaves.old) f →
-        IfOk result (λ found. found ≡ fin.get f key.now) }
-    ensures fits { IfOk result (λ found. IfSome found (AreFit (data_fields file.now))) }
-    ensures steps { (f : FileMap) (most : ℕ) → B.whole leaves.old →
-        IsInternal file.now (tree_of node.now) (B.working leaves.old) f →
-        HaveAtMost most (tree_of node.now) f → OnOk result
-        (B.work leaves.new
-        ≤ B.work leaves.old + (length (leaves_of (tree_of node.now)) + most)) }
-    ensures reads { ReadsMaps B.View
-        (B.whole leaves.old × HasFile file.now (tree_of node.now) (B.working leaves.old))
-        leaves.old leaves.new result }
+    ensures { FindsValues B.View file.now (tree_of node.now) key.now leaves.old leaves.new result }
 {
     let mut span = whole_span();
     set_key(&mut span, key);
@@ -81,18 +67,7 @@ fn values_in<B: Leaves>(
     requires key { Fits (key_kind file.now) key.now }
     requires lo { span.now.lo ≡ bytes_of key.now }
     requires hi { span.now.hi ≡ bytes_of key.now }
-    ensures found { (f : FileMap) → B.whole leaves.old →
-        IsInternal file.now (tree_of node.now) (B.working leaves.old) f →
-        IfOk result (λ found. found ≡ fin.get f key.now) }
-    ensures fits { IfOk result (λ found. IfSome found (AreFit (data_fields file.now))) }
-    ensures steps { (f : FileMap) (most : ℕ) → B.whole leaves.old →
-        IsInternal file.now (tree_of node.now) (B.working leaves.old) f →
-        HaveAtMost most (tree_of node.now) f → OnOk result
-        (B.work leaves.new
-        ≤ B.work leaves.old + (length (leaves_of (tree_of node.now)) + most)) }
-    ensures reads { ReadsMaps B.View
-        (B.whole leaves.old × HasFile file.now (tree_of node.now) (B.working leaves.old))
-        leaves.old leaves.new result }
+    ensures { FindsValues B.View file.now (tree_of node.now) key.now leaves.old leaves.new result }
 {
     if let Some(groups) = groups_of(alloc, node)? {
         return values_by_groups(alloc, file, node, &groups, key, span, leaves);
@@ -122,18 +97,7 @@ fn values_at<B: Leaves>(
     requires key { Fits (key_kind file.now) key.now }
     requires lo { span.now.lo ≡ bytes_of key.now }
     requires hi { span.now.hi ≡ bytes_of key.now }
-    ensures found { (f : FileMap) → B.whole leaves.old →
-        IsInternal file.now (tree_of node.now) (B.working leaves.old) f →
-        IfOk result (λ found. found ≡ fin.get f key.now) }
-    ensures fits { IfOk result (λ found. IfSome found (AreFit (data_fields file.now))) }
-    ensures steps { (f : FileMap) (most : ℕ) → B.whole leaves.old →
-        IsInternal file.now (tree_of node.now) (B.working leaves.old) f →
-        HaveAtMost most (tree_of node.now) f → OnOk result
-        (B.work leaves.new
-        ≤ B.work leaves.old + (length (leaves_of (tree_of node.now)) + most)) }
-    ensures reads { ReadsMaps B.View
-        (B.whole leaves.old × HasFile file.now (tree_of node.now) (B.working leaves.old))
-        leaves.old leaves.new result }
+    ensures { FindsValues B.View file.now (tree_of node.now) key.now leaves.old leaves.new result }
 {
     let _key = key;
     node.internal_is_union();
@@ -161,18 +125,7 @@ fn values_by_entry<B: Leaves>(
     requires key { Fits (key_kind file.now) key.now }
     requires lo { span.now.lo ≡ bytes_of key.now }
     requires hi { span.now.hi ≡ bytes_of key.now }
-    ensures found { (f : FileMap) → B.whole leaves.old →
-        IsInternal file.now (tree_of node.now) (B.working leaves.old) f →
-        IfOk result (λ found. found ≡ fin.get f key.now) }
-    ensures fits { IfOk result (λ found. IfSome found (AreFit (data_fields file.now))) }
-    ensures steps { (f : FileMap) (most : ℕ) → B.whole leaves.old →
-        IsInternal file.now (tree_of node.now) (B.working leaves.old) f →
-        HaveAtMost most (tree_of node.now) f → OnOk result
-        (B.work leaves.new
-        ≤ B.work leaves.old + (length (leaves_of (tree_of node.now)) + most)) }
-    ensures reads { ReadsMaps B.View
-        (B.whole leaves.old × HasFile file.now (tree_of node.now) (B.working leaves.old))
-        leaves.old leaves.new result }
+    ensures { FindsValues B.View file.now (tree_of node.now) key.now leaves.old leaves.new result }
 {
     let _key = key;
     let mut entries = Entries::new(alloc);
@@ -216,18 +169,7 @@ fn values_by_record<B: Leaves>(
     requires key { Fits (key_kind file.now) key.now }
     requires lo { span.now.lo ≡ bytes_of key.now }
     requires hi { span.now.hi ≡ bytes_of key.now }
-    ensures found { (f : FileMap) → B.whole leaves.old →
-        IsInternal file.now (tree_of node.now) (B.working leaves.old) f →
-        IfOk result (λ found. found ≡ fin.get f key.now) }
-    ensures fits { IfOk result (λ found. IfSome found (AreFit (data_fields file.now))) }
-    ensures steps { (f : FileMap) (most : ℕ) → B.whole leaves.old →
-        IsInternal file.now (tree_of node.now) (B.working leaves.old) f →
-        HaveAtMost most (tree_of node.now) f → OnOk result
-        (B.work leaves.new
-        ≤ B.work leaves.old + (length (leaves_of (tree_of node.now)) + most)) }
-    ensures reads { ReadsMaps B.View
-        (B.whole leaves.old × HasFile file.now (tree_of node.now) (B.working leaves.old))
-        leaves.old leaves.new result }
+    ensures { FindsValues B.View file.now (tree_of node.now) key.now leaves.old leaves.new result }
 {
     match record_inside(alloc, file, node, key, span, leaves)? {
         Some(rec) => Ok(Some(rec.fields)),

@@ -1,11 +1,11 @@
 // Conditions tested on the bytes of an entry where some data fields stand by their codes. Only the values
 // that are tested are decoded.
-ghost use Rattle.std.specs.Prelude.{◌≡◌, ◌++◌, List, ℕ, pos, slice_index_or, Some, IfOk, IsSomeAnd};
+ghost use Rattle.std.specs.Prelude.{◌≡◌, List, pos, slice_index_or, Some, IfOk};
 ghost use Rattle.gx_values.specs.declared.values.Value.{Value as FieldValue};
 ghost use Rattle.gx_values.specs.declared.values.Value.TheVariants as value;
 ghost use Rattle.gx_values.specs.Values.{Fits, AreFit, value_cmp, is_met};
 ghost use Rattle.gx_values.specs.Keys.{bytes_of, IsKeyKind};
-ghost use Rattle.gx_actual.specs.Bodies.{field_bytes, body_of, IsShort, AreShort};
+ghost use Rattle.gx_actual.specs.Bodies.{body_of, AreShort};
 ghost use Rattle.gx_model.specs.States.{Row as TheRow};
 ghost use Rattle.gx_model.specs.Found.{meets_cond, meets_conds};
 ghost use Rattle.gx_scan.specs.Files.{IsStorable};
@@ -13,18 +13,18 @@ ghost use Rattle.gx_scan.specs.Entries.{entry_of_row, IsStoredRow};
 ghost use Rattle.gx_scan.specs.Stored.{stored_value, stored_values, HasCode, HaveCodes};
 ghost use Rattle.gx_scan.specs.Scan.{value_of};
 
-use crate::coded::push_plain_value;
 use crate::codes::Codes;
 use crate::places::Place;
 use crate::records::data_fields;
-use crate::scan::{ValueRef, behind_lengths, compare, holds, key_value, split_bytes, split_value};
+use crate::scan::{ValueRef, behind_lengths, compare, holds, key_value};
+use crate::stored::{decoded, split_stored};
 use gx_commands::Cond;
 use gx_schema::FileDef;
 use gx_values::{Code, Field, Kind, NoMemory};
 use std::alloc::Global;
 
 /// Whether the record of an entry of a place meets every condition. `None`: the entry is that of no record.
-/// `plain` has other bytes then. `NoMemory`: there was none to decode a value.
+/// `NoMemory`: there was none to decode a value.
 pub(crate) fn is_chosen(
     alloc: Global,
     file: &FileDef,
@@ -32,7 +32,6 @@ pub(crate) fn is_chosen(
     conds: &[Cond],
     key: &[u8],
     body: &[u8],
-    plain: &mut Vec<u8>,
 ) -> Result<Option<bool>, NoMemory>
     requires { IsStorable file.now }
     ensures { (r : TheRow) → IsStoredRow file.now place.now.codes r → key.now ≡ bytes_of r.0 →
@@ -43,7 +42,7 @@ pub(crate) fn is_chosen(
         return Ok(None);
     };
     for cond in conds {
-        let Some(is_met) = meets_one(alloc, file, &place.codes, cond, key, stored, plain)? else {
+        let Some(is_met) = meets_one(alloc, file, &place.codes, cond, key, stored)? else {
             return Ok(None);
         };
         if !is_met {
@@ -61,7 +60,6 @@ fn meets_one(
     cond: &Cond,
     key: &[u8],
     stored: &[u8],
-    plain: &mut Vec<u8>,
 ) -> Result<Option<bool>, NoMemory>
     requires { IsStorable file.now }
     ensures { (r : TheRow) → IsStoredRow file.now codes.now r → key.now ≡ bytes_of r.0 →
@@ -72,7 +70,7 @@ fn meets_one(
         return Ok(meets_key(file.fields.0[0].kind, cond, key));
     }
     let index = usize::from(cond.field) - 1;
-    meets_data(alloc, data_fields(file), codes, index, cond, stored, plain)
+    meets_data(alloc, data_fields(file), codes, index, cond, stored)
 }
 
 fn meets_key(kind: Kind, cond: &Cond, key: &[u8]) -> Option<bool>
@@ -92,7 +90,6 @@ fn meets_data(
     index: usize,
     cond: &Cond,
     stored: &[u8],
-    plain: &mut Vec<u8>,
 ) -> Result<Option<bool>, NoMemory>
     requires { AreShort fields.now }
     ensures { (vs : List FieldValue) → AreFit fields.now vs → HaveCodes codes.now vs →
@@ -103,58 +100,35 @@ fn meets_data(
     let mut rest = stored;
     for (at, field) in fields.iter().enumerate() {
         let code = codes.code_at(at);
-        if at == index {
-            return meets_front(alloc, field.kind, code, cond, rest, plain);
-        }
-        let Some(more) = behind_value(field.kind, code, rest) else {
+        let Some((front, more)) = split_stored(field.kind, code, rest) else {
             return Ok(None);
         };
+        if at == index {
+            return meets_front(alloc, field.kind, code, cond, front);
+        }
         rest = more;
     }
     Ok(Some(meets(ValueRef::Int(0), cond)))
 }
 
-// Whether the value at the front of a body, which stands there by its code if it has one, meets the
-// condition.
+// Whether the value for which this stands, by its code if it has one, meets the condition.
 fn meets_front(
     alloc: Global,
     kind: Kind,
     code: Option<Code>,
     cond: &Cond,
-    rest: &[u8],
-    plain: &mut Vec<u8>,
+    front: ValueRef<'_>,
 ) -> Result<Option<bool>, NoMemory>
-    requires { IsShort kind }
-    ensures { (v : FieldValue) (more : List ℕ) → Fits kind v → HasCode code v →
-        rest.now ≡ field_bytes (stored_value code v) ++ more → IfOk result (λ found. found
+    ensures { (v : FieldValue) → Fits kind v → HasCode code v →
+        value_of front.entry ≡ stored_value code v → IfOk result (λ found. found
         ≡ Some (is_met cond.now.op (value_cmp v cond.now.bound))) }
 {
-    plain.clear();
-    let Some(_) = push_plain_value(alloc, kind, code, rest, plain)? else {
-        return Ok(None);
+    let Some(code) = code else {
+        return Ok(Some(meets(front, cond)));
     };
-    let Some((value, _)) = split_value(kind, plain.as_slice()) else {
-        return Ok(None);
-    };
-    Ok(Some(meets(value, cond)))
-}
-
-// What follows that value.
-fn behind_value(kind: Kind, code: Option<Code>, rest: &[u8]) -> Option<&[u8]>
-    requires { IsShort kind }
-    ensures { (v : FieldValue) (more : List ℕ) → Fits kind v → HasCode code v →
-        rest.now ≡ field_bytes (stored_value code v) ++ more →
-        IsSomeAnd result (λ m. m.now ≡ more) }
-{
-    match code {
-        Some(_) => {
-            let (_, more) = split_bytes(rest)?;
-            Some(more)
-        }
-        None => {
-            let (_, more) = split_value(kind, rest)?;
-            Some(more)
-        }
+    match decoded(alloc, kind, code, front)? {
+        Some(value) => Ok(Some(gx_values::meets(&value, cond.op, &cond.bound))),
+        None => Ok(None),
     }
 }
 

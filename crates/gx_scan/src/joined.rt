@@ -17,7 +17,6 @@ ghost use Rattle.gx_scan.specs.Files.{IsStorable};
 ghost use Rattle.gx_scan.specs.Groups.{has_others, first_entry, other_entry};
 ghost use Rattle.gx_scan.specs.Scan.{value_of};
 
-use crate::coded::{PLAIN_ROOM, push_as_it_is, push_int, push_text};
 use crate::groups::Groups;
 use crate::records::data_fields;
 use crate::scan::{
@@ -29,6 +28,9 @@ use gx_rows::Row;
 use gx_schema::FileDef;
 use gx_values::{Field, Kind, NoMemory};
 use std::alloc::{AllocError, Global};
+
+// Room for the body of a record of some short texts: most grow no further.
+const PLAIN_ROOM: usize = 128;
 
 /// Appends the records of the entries that meet the conditions, in the order of the entries, and
 /// answers whether each pair of entries looked at was that of a record of the file; one that a
@@ -294,6 +296,28 @@ fn push_front<'a>(
     Ok(Some((first, more)))
 }
 
+// The same of one group.
+fn push_as_it_is<'a>(
+    kind: Kind,
+    rest: &'a [u8],
+    plain: &mut Vec<u8>,
+) -> Result<Option<&'a [u8]>, AllocError>
+    requires { IsShort kind }
+    ensures { (v : FieldValue) (more : List ℕ) → Fits kind v → rest.now ≡ field_bytes v ++ more →
+        IfOk result (λ left. IsSomeAnd left
+        (λ m. (m.now ≡ more) × (plain.new.items ≡ plain.old.items ++ field_bytes v))) }
+{
+    let Some((_, more)) = split_value(kind, rest) else {
+        return Ok(None);
+    };
+    let width = rest.len().saturating_sub(more.len());
+    let Some((front, _)) = rest.split_at_checked(width) else {
+        return Ok(None);
+    };
+    plain.extend_from_slice(front)?;
+    Ok(Some(more))
+}
+
 // The body of the defaults of the fields outside the first group.
 fn default_body(alloc: Global, fields: &[Field], mask: &[bool]) -> Result<Vec<u8>, NoMemory>
     requires { length mask.now ≡ length fields.now }
@@ -313,8 +337,8 @@ fn push_default(kind: Kind, body: &mut Vec<u8>) -> Result<(), AllocError>
     ensures { IfOk result (λ _. body.new.items ≡ body.old.items ++ field_bytes (default_in kind)) }
 {
     match kind {
-        Kind::Int => push_int(0, body),
-        Kind::Text(_) => push_text(&[], body),
+        Kind::Int => body.extend_from_slice(&[0; 8]),
+        Kind::Text(_) => body.extend_from_slice(&[0]),
         Kind::Bytes(_) => body.extend_from_slice(&[0, 0]),
     }
 }

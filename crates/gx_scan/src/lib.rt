@@ -16,6 +16,7 @@ mod places;
 mod records;
 mod scan;
 mod searched;
+mod stored;
 mod within;
 
 pub use by_index::rows_where;

@@ -1,20 +1,16 @@
 // The record at a key of a file.
-ghost use Rattle.std.specs.Prelude.{◌≡◌, ◌<◌, ◌≤◌, ◌+◌, ℕ, length, IfOk, IfSome, OnOk, Option};
+ghost use Rattle.std.specs.Prelude.{◌≡◌, ◌<◌, ◌≤◌, length, IfSome, Option};
 ghost use Rattle.gx_values.specs.Values.{Fits};
 ghost use Rattle.gx_values.specs.Keys.{bytes_of};
 ghost use Rattle.gx_values.specs.declared.records.Rec.{Rec as Record};
 ghost use Rattle.gx_schema.specs.Lookups.{key_kind, data_fields};
-ghost use Rattle.gx_ports.specs.Calls.{ReadsMaps};
 ghost use Rattle.gx_ports.specs.declared.leaves.TheConstants.{MAX_KEY_LEN};
 ghost use Rattle.gx_values.specs.declared.records.Form.{Form as TheForm};
 ghost use Rattle.gx_mapping.specs.Rule.{In, IsOf};
-ghost use Rattle.gx_stack.specs.Tree.{leaves_of};
 ghost use Rattle.gx_stack.specs.Seen.{tree_of};
-ghost use Rattle.gx_typing.specs.Dues.{file_form};
-ghost use Rattle.gx_model.specs.States.{File as FileMap};
-ghost use Rattle.gx_scan.specs.Files.{IsInternal, HasFile, IsStorable, IsTreeFor};
-ghost use Rattle.gx_scan.specs.Records.{record_at, list_of_one};
-ghost use Rattle.gx_scan.specs.Steps.{HaveAtMost};
+ghost use Rattle.gx_scan.specs.Files.{IsStorable, IsTreeFor};
+ghost use Rattle.gx_scan.specs.Records.{list_of_one};
+ghost use Rattle.gx_scan.specs.Search.{FindsRecord};
 
 use crate::searched::searched_node;
 use crate::within::whole_span;
@@ -59,18 +55,7 @@ pub fn find_record<B: Leaves>(
     requires tree { IsTreeFor file.now (tree_of node.now) (length (B.working leaves.old)) }
     requires storable { IsStorable file.now }
     requires key { Fits (key_kind file.now) key.now }
-    ensures found { (f : FileMap) → B.whole leaves.old →
-        IsInternal file.now (tree_of node.now) (B.working leaves.old) f →
-        IfOk result (λ found. found ≡ record_at f key.now) }
-    ensures fits { IfOk result (λ found. IfSome found (IsOf (file_form file.now))) }
-    ensures steps { (f : FileMap) (most : ℕ) → B.whole leaves.old →
-        IsInternal file.now (tree_of node.now) (B.working leaves.old) f →
-        HaveAtMost most (tree_of node.now) f → OnOk result
-        (B.work leaves.new
-        ≤ B.work leaves.old + (length (leaves_of (tree_of node.now)) + most)) }
-    ensures reads { ReadsMaps B.View
-        (B.whole leaves.old × HasFile file.now (tree_of node.now) (B.working leaves.old))
-        leaves.old leaves.new result }
+    ensures { FindsRecord B.View file.now (tree_of node.now) key.now leaves.old leaves.new result }
 {
     let mut span = whole_span();
     set_key(&mut span, key);
@@ -92,18 +77,7 @@ pub(crate) fn record_inside<B: Leaves>(
     requires key { Fits (key_kind file.now) key.now }
     requires lo { span.now.lo ≡ bytes_of key.now }
     requires hi { span.now.hi ≡ bytes_of key.now }
-    ensures found { (f : FileMap) → B.whole leaves.old →
-        IsInternal file.now (tree_of node.now) (B.working leaves.old) f →
-        IfOk result (λ found. found ≡ record_at f key.now) }
-    ensures fits { IfOk result (λ found. IfSome found (IsOf (file_form file.now))) }
-    ensures steps { (f : FileMap) (most : ℕ) → B.whole leaves.old →
-        IsInternal file.now (tree_of node.now) (B.working leaves.old) f →
-        HaveAtMost most (tree_of node.now) f → OnOk result
-        (B.work leaves.new
-        ≤ B.work leaves.old + (length (leaves_of (tree_of node.now)) + most)) }
-    ensures reads { ReadsMaps B.View
-        (B.whole leaves.old × HasFile file.now (tree_of node.now) (B.working leaves.old))
-        leaves.old leaves.new result }
+    ensures { FindsRecord B.View file.now (tree_of node.now) key.now leaves.old leaves.new result }
 {
     let (_, _) = (file, key);
     let mut found = Recs::new(alloc);

@@ -2,9 +2,12 @@ use Rattle.std.proofs.Common.{rules, ◌∙◌, ◌-◌, List, filter, length, m
 use Rattle.std.proofs.lemmas.List.{length-map}
 use Rattle.std.specs.List.{AllByRecursion}
 use Rattle.std.specs.Option.{option_map}
+use Rattle.std.specs.Prelude.{IfSome}
 use Rattle.std.specs.FinMap as fin
 use Rattle.gx_values.specs.declared.values.Value.{Value}
 use Rattle.gx_values.specs.Keys.{bytes_of, is_inside}
+use Rattle.gx_values.specs.Values.{AreFit}
+use Rattle.gx_schema.specs.Lookups.{data_fields}
 use Rattle.gx_gather.proofs.Lists.{some_same}
 use Rattle.gx_ports.specs.LeafMaps.{entry_of}
 use Rattle.gx_stack.specs.Seen.{tree_of}
@@ -23,84 +26,92 @@ select-requires g c =
     c.requires.tree.below c.args.place.now.leaf
     (place_there (tree_of c.args.node.now) c.args.place.now (at_one (tree_of c.args.node.now) c.args.place.now c.requires.place))
 
-pub returns-in_default-clause-reads : goal.returns-in_default-clause-reads
-returns-in_default-clause-reads g c = record {
-  reads = search rules;
-  ends = record {
-    whole = search rules;
-    later = search rules;
-    fault = search rules;
-    counted = search rules;
-    damaged = λ block stops sound.
-        let file = c.args.file.now in
-        let t = tree_of c.args.node.now in
-        let p = c.args.place.now in
-        let at = at_one t p c.requires.place in
-        let maps = g.B.View.working c.args.leaves.now in
-        let key = c.args.key.now in
-        let span = c.args.span.now in
-        let inside = λ (r : Row). is_inside span.lo span.hi (bytes_of r.0) in
-        let f = sound.1.0 in
-        let is = sound.1.1 in
-        let union = (c.internal_is_union.ensures (records_of f) maps).0 is.held in
-        let stored = place_entries file t _ maps f c.requires.storable c.requires.tree is.fit union p at in
-        let same = span_entries _ p.lengths p.codes (rows_at t p.leaf f) span.lo span.hi _ _ _ stored
-        c.new-entries.ensures (c.in_ok-select.ensures.ok sound.0) refl in
-        let fit = filter_fits (IsStoredRow file p.codes) inside (rows_at t p.leaf f)
-        (rows_stored file t _ maps f c.requires.storable c.requires.tree is.fit p at) in
-        let rows = rows_one file t _ maps f c.requires.storable c.requires.tree is p c.requires.place key span c.requires.key c.requires.lo c.requires.hi in
-        let one = option_map (λ (vs : List Value). (key, vs)) (fin.get f key) in
-        let found = c.in_ok-values.ensures.read one (subst (AllByRecursion (IsStoredRow file p.codes)) rows fit)
-        (same ∙ ap (map (λ (r : Row). entry_of (entry_of_row p.lengths p.codes r))) rows) in
-        let none = c.in_default.is in
-        cc;
+pub returns-in_default : goal.returns-in_default
+returns-in_default g c = record {
+  found = λ f whole is. tt;
+  fits = tt;
+  steps = λ f most whole is few. tt;
+  reads = record {
+    reads = search rules;
+    ends = record {
+      whole = search rules;
+      later = search rules;
+      fault = search rules;
+      counted = search rules;
+      damaged = λ block stops sound.
+          let file = c.args.file.now in
+          let t = tree_of c.args.node.now in
+          let p = c.args.place.now in
+          let at = at_one t p c.requires.place in
+          let maps = g.B.View.working c.args.leaves.now in
+          let key = c.args.key.now in
+          let span = c.args.span.now in
+          let inside = λ (r : Row). is_inside span.lo span.hi (bytes_of r.0) in
+          let f = sound.1.0 in
+          let is = sound.1.1 in
+          let union = (c.internal_is_union.ensures (records_of f) maps).0 is.held in
+          let stored = place_entries file t _ maps f c.requires.storable c.requires.tree is.fit union p at in
+          let same = span_entries _ p.lengths p.codes (rows_at t p.leaf f) span.lo span.hi _ _ _ stored
+          c.new-entries.ensures (c.in_ok-select.ensures.ok sound.0) refl in
+          let fit = filter_fits (IsStoredRow file p.codes) inside (rows_at t p.leaf f)
+          (rows_stored file t _ maps f c.requires.storable c.requires.tree is.fit p at) in
+          let rows = rows_one file t _ maps f c.requires.storable c.requires.tree is p c.requires.place key span c.requires.key c.requires.lo c.requires.hi in
+          let one = option_map (λ (vs : List Value). (key, vs)) (fin.get f key) in
+          let found = c.in_ok-values.ensures.read one (subst (AllByRecursion (IsStoredRow file p.codes)) rows fit)
+          (same ∙ ap (map (λ (r : Row). entry_of (entry_of_row p.lengths p.codes r))) rows) in
+          let none = c.in_default.is in
+          cc;
+    };
+    block = search rules;
+    not_full = search rules;
   };
-  block = search rules;
-  not_full = search rules;
 }
 
-pub returns-clause-found : goal.returns-clause-found
-returns-clause-found g c = λ f whole is.
-    let file = c.args.file.now in
-    let t = tree_of c.args.node.now in
-    let p = c.args.place.now in
-    let at = at_one t p c.requires.place in
-    let maps = g.B.View.working c.args.leaves.now in
-    let key = c.args.key.now in
-    let span = c.args.span.now in
-    let inside = λ (r : Row). is_inside span.lo span.hi (bytes_of r.0) in
-    let union = (c.internal_is_union.ensures (records_of f) maps).0 is.held in
-    let stored = place_entries file t _ maps f c.requires.storable c.requires.tree is.fit union p at in
-    let same = span_entries _ p.lengths p.codes (rows_at t p.leaf f) span.lo span.hi _ _ _ stored
-    c.new-entries.ensures (c.in_ok-select.ensures.ok whole) refl in
-    let fit = filter_fits (IsStoredRow file p.codes) inside (rows_at t p.leaf f)
-    (rows_stored file t _ maps f c.requires.storable c.requires.tree is.fit p at) in
-    let rows = rows_one file t _ maps f c.requires.storable c.requires.tree is p c.requires.place key span c.requires.key c.requires.lo c.requires.hi in
-    let one = option_map (λ (vs : List Value). (key, vs)) (fin.get f key) in
-    let found = c.in_ok-values.ensures.read one (subst (AllByRecursion (IsStoredRow file p.codes)) rows fit)
-    (same ∙ ap (map (λ (r : Row). entry_of (entry_of_row p.lengths p.codes r))) rows) in
-    some_same c.in-Some.values _ (sym c.in-Some.is ∙ found) ∙ row_values key (fin.get f key)
-
-pub returns-clause-steps : goal.returns-clause-steps
-returns-clause-steps g c = λ f most whole is few.
-    let file = c.args.file.now in
-    let t = tree_of c.args.node.now in
-    let p = c.args.place.now in
-    let at = at_one t p c.requires.place in
-    let maps = g.B.View.working c.args.leaves.now in
-    let span = c.args.span.now in
-    let rows = filter (λ (r : Row). is_inside span.lo span.hi (bytes_of r.0)) (rows_at t p.leaf f) in
-    let union = (c.internal_is_union.ensures (records_of f) maps).0 is.held in
-    let stored = place_entries file t _ maps f c.requires.storable c.requires.tree is.fit union p at in
-    let same = span_entries _ p.lengths p.codes (rows_at t p.leaf f) span.lo span.hi _ _ _ stored
-    c.new-entries.ensures (c.in_ok-select.ensures.ok whole) refl in
-    let step = counted_most _ _ (length c.select.new.out - length c.new-entries.result) (length rows) c.in_ok-select.ensures.steps
-    (omega (
-      arith,
-      ap length same,
-      length-map rows
-          (λ (r : Row). entry_of (entry_of_row p.lengths p.codes r)),
-      ap length
-          c.new-entries.ensures,
-    )) in
-    steps_one file t _ maps f c.requires.storable c.requires.tree is p c.requires.place c.args.key.now span c.requires.key c.requires.lo c.requires.hi most _ _ few step
+pub returns : goal.returns
+returns g c = record {
+  found = λ f whole is.
+      let file = c.args.file.now in
+      let t = tree_of c.args.node.now in
+      let p = c.args.place.now in
+      let at = at_one t p c.requires.place in
+      let maps = g.B.View.working c.args.leaves.now in
+      let key = c.args.key.now in
+      let span = c.args.span.now in
+      let inside = λ (r : Row). is_inside span.lo span.hi (bytes_of r.0) in
+      let union = (c.internal_is_union.ensures (records_of f) maps).0 is.held in
+      let stored = place_entries file t _ maps f c.requires.storable c.requires.tree is.fit union p at in
+      let same = span_entries _ p.lengths p.codes (rows_at t p.leaf f) span.lo span.hi _ _ _ stored
+      c.new-entries.ensures (c.in_ok-select.ensures.ok whole) refl in
+      let fit = filter_fits (IsStoredRow file p.codes) inside (rows_at t p.leaf f)
+      (rows_stored file t _ maps f c.requires.storable c.requires.tree is.fit p at) in
+      let rows = rows_one file t _ maps f c.requires.storable c.requires.tree is p c.requires.place key span c.requires.key c.requires.lo c.requires.hi in
+      let one = option_map (λ (vs : List Value). (key, vs)) (fin.get f key) in
+      let found = c.in_ok-values.ensures.read one (subst (AllByRecursion (IsStoredRow file p.codes)) rows fit)
+      (same ∙ ap (map (λ (r : Row). entry_of (entry_of_row p.lengths p.codes r))) rows) in
+      some_same c.in-Some.values _ (sym c.in-Some.is ∙ found) ∙ row_values key (fin.get f key);
+  fits = subst (λ o. IfSome o (λ values. IfSome values (AreFit (data_fields c.args.file.now)))) c.in-Some.is
+      c.in_ok-values.ensures.fits;
+  steps = λ f most whole is few.
+      let file = c.args.file.now in
+      let t = tree_of c.args.node.now in
+      let p = c.args.place.now in
+      let at = at_one t p c.requires.place in
+      let maps = g.B.View.working c.args.leaves.now in
+      let span = c.args.span.now in
+      let rows = filter (λ (r : Row). is_inside span.lo span.hi (bytes_of r.0)) (rows_at t p.leaf f) in
+      let union = (c.internal_is_union.ensures (records_of f) maps).0 is.held in
+      let stored = place_entries file t _ maps f c.requires.storable c.requires.tree is.fit union p at in
+      let same = span_entries _ p.lengths p.codes (rows_at t p.leaf f) span.lo span.hi _ _ _ stored
+      c.new-entries.ensures (c.in_ok-select.ensures.ok whole) refl in
+      let step = counted_most _ _ (length c.select.new.out - length c.new-entries.result) (length rows) c.in_ok-select.ensures.steps
+      (omega (
+        arith,
+        ap length same,
+        length-map rows
+            (λ (r : Row). entry_of (entry_of_row p.lengths p.codes r)),
+        ap length
+            c.new-entries.ensures,
+      )) in
+      steps_one file t _ maps f c.requires.storable c.requires.tree is p c.requires.place c.args.key.now span c.requires.key c.requires.lo c.requires.hi most _ _ few step;
+  reads = search rules;
+}

@@ -1,4 +1,4 @@
-use Rattle.std.proofs.Common.{length, [], ◌∷◌, ◌∙◌, ◌++◌, List, ap}
+use Rattle.std.proofs.Common.{rules, length, [], ◌∷◌, ◌∙◌, ◌++◌, List, ap}
 use Rattle.std.specs.Prelude.{option_map, filter}
 use Rattle.std.specs.FinMap as fin
 use Rattle.gx_values.specs.declared.values.Value.{Value}
@@ -10,22 +10,24 @@ use Rattle.gx_scan.specs.Where.{rows_at_key}
 use Rattle.gx_scan.proofs.KeyLemmas.{added_at_key, steps_at_key, one_unfiltered, row_values}
 use Rattle.gx_scan.proofs.by_key.values_by_entry.Goals as goal
 
-pub returns-clause-found : goal.returns-clause-found
-returns-clause-found g c = λ f whole is.
-    let key = c.args.key.now in
-    let values = fin.get f key in
-    let one = option_map (λ (vs : List Value). (key, vs)) values in
-    let rows = filter (meets_conds []) (rows_at_key f (key ∷ [])) in
-    let storable = c.requires.storable in
-    let found = added_at_key c.args.file.now f key c.args.span.now storable.key c.requires.key is.fit c.requires.lo c.requires.hi [] _ _
-    (c.in_ok-add_by_entries.ensures.rows f whole is)
-    ∙ ap (λ (before : List Row). before ++ rows) c.new-rows.ensures.items
-    ∙ one_unfiltered key values in
-    c.last_values.ensures.last one found ∙ row_values key values
-
-pub returns-clause-steps : goal.returns-clause-steps
-returns-clause-steps g c = λ f most whole is few.
-    let storable = c.requires.storable in
-    steps_at_key c.args.file.now f c.args.key.now c.args.span.now storable.key c.requires.key is.fit c.requires.lo c.requires.hi
-    (length (leaves_of (tree_of c.args.node.now))) most _ _
-    (c.in_ok-add_by_entries.ensures.steps f most whole is few)
+pub returns : goal.returns
+returns g c = record {
+  found = λ f whole is.
+      let key = c.args.key.now in
+      let values = fin.get f key in
+      let one = option_map (λ (vs : List Value). (key, vs)) values in
+      let rows = filter (meets_conds []) (rows_at_key f (key ∷ [])) in
+      let storable = c.requires.storable in
+      let found = added_at_key c.args.file.now f key c.args.span.now storable.key c.requires.key is.fit c.requires.lo c.requires.hi [] _ _
+      (c.in_ok-add_by_entries.ensures.rows f whole is)
+      ∙ ap (λ (before : List Row). before ++ rows) c.new-rows.ensures.items
+      ∙ one_unfiltered key values in
+      c.last_values.ensures.last one found ∙ row_values key values;
+  fits = search rules;
+  steps = λ f most whole is few.
+      let storable = c.requires.storable in
+      steps_at_key c.args.file.now f c.args.key.now c.args.span.now storable.key c.requires.key is.fit c.requires.lo c.requires.hi
+      (length (leaves_of (tree_of c.args.node.now))) most _ _
+      (c.in_ok-add_by_entries.ensures.steps f most whole is few);
+  reads = search rules;
+}

@@ -1,7 +1,6 @@
 use Rattle.std.proofs.Common.{◌≡◌, ◌++◌, ◌∷◌, ◌∙◌, [], List, sym, ap, true, false, subst, append_assoc}
 use Rattle.std.specs.Prelude.{IfSome}
 use Rattle.std.specs.List.{AllByRecursion}
-use Rattle.std.proofs.lemmas.Bool.{true≢false}
 use Rattle.gx_ports.specs.declared.leaves.Entry.{Entry}
 use Rattle.gx_model.specs.States.{Row, IsRowOf}
 use Rattle.gx_model.specs.Found.{meets_conds}
@@ -24,19 +23,6 @@ returns-in_default-clause-chosen c = λ rs all same.
     let none = c.in_default.is in
     cc
 
-pub returns-then-not-branch-clause-chosen : goal.returns-then-not-branch-clause-chosen
-returns-then-not-branch-clause-chosen c = λ rs all same.
-    let e : Entry =
-    record { key = c.entry-entry.result.key.now; body = c.entry-entry.result.body.now } in
-    let place = c.args.place.now in
-    let at = row_of (IsStoredRow c.args.file.now place.codes)
-    (entry_of_row place.lengths place.codes) rs c.args.entries.now c.loop-index.index e all same
-    c.entry-entry.ensures in
-    let key = ap (λ (x : Entry). x.key) at.is in
-    let body = ap (λ (x : Entry). x.body) at.is in
-    let plain = c.in_ok-make_plain_body.ensures at.row at.fits body in
-    absurd (true≢false (sym plain.0 ∙ c.if-not-branch.true))
-
 pub returns-in_default-2-clause-chosen : goal.returns-in_default-2-clause-chosen
 returns-in_default-2-clause-chosen c = λ rs all same.
     let e : Entry =
@@ -47,8 +33,7 @@ returns-in_default-2-clause-chosen c = λ rs all same.
     c.entry-entry.ensures in
     let key = ap (λ (x : Entry). x.key) at.is in
     let body = ap (λ (x : Entry). x.body) at.is in
-    let plain = c.in_ok-make_plain_body.ensures at.row at.fits body in
-    let read = c.in_ok-row.ensures.read at.row at.fits.0 key (c.as_slice.ensures.value ∙ plain.1) in
+    let read = c.in_ok-row.ensures.read at.row at.fits key body in
     let none = c.in_default-2.is in
     cc
 
@@ -89,8 +74,7 @@ loop-index-preserved c = record {
       let some = c.in-Some.is in
       let chosen = c.if-not-is_chosen.false in
       let met : meets_conds c.args.conds.now at.row ≡ true = cc in
-      let plain = c.in_ok-make_plain_body.ensures at.row at.fits body in
-      let read = c.in_ok-row.ensures.read at.row at.fits.0 key (c.as_slice.ensures.value ∙ plain.1) in
+      let read = c.in_ok-row.ensures.read at.row at.fits key body in
       let there = c.in-Some-2.is in
       let row : c.in-Some-2.row ≡ at.row = cc in
       row_kept (IsStoredRow c.args.file.now place.codes) (entry_of_row place.lengths place.codes)

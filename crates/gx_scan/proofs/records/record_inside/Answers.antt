@@ -1,4 +1,4 @@
-use Rattle.std.proofs.Common.{◌∙◌, ◌++◌, List, sym, ap, subst, arith}
+use Rattle.std.proofs.Common.{rules, ◌∙◌, ◌++◌, List, sym, ap, subst, arith}
 use Rattle.gx_values.specs.declared.records.Rec.{Rec}
 use Rattle.gx_stack.specs.Internal.{IsSet}
 use Rattle.gx_stack.specs.Selected.{IsKeySpan}
@@ -14,26 +14,32 @@ pub select-requires-clause-span : goal.select-requires-clause-span
 select-requires-clause-span g c =
     subst (λ form. IsKeySpan form c.args.span.now) (sym c.requires.tree.form) (span_of_key c.args.file.now c.args.key.now c.args.span.now c.requires.storable.keyed c.requires.storable.key c.requires.key c.requires.lo c.requires.hi)
 
-pub returns-in_err-select-clause-reads : goal.returns-in_err-select-clause-reads
-returns-in_err-select-clause-reads g c =
-    reads_given g.B.View c.from_residual.result c.from_residual.ensures.1
-    (λ sound.
-    let f = sound.1.0 in
-    let set = subst (λ form. IsSet form (records_of f)) (sym c.requires.tree.form) (set_of c.args.file.now f c.requires.storable.keyed sound.1.1.fit) in
-    (sound.0, (records_of f, set, sound.1.1.held)))
-    c.in_err-select.ensures.reads
+pub returns-in_err-select : goal.returns-in_err-select
+returns-in_err-select g c = record {
+  found = search rules;
+  fits = search rules;
+  steps = search rules;
+  reads = reads_given g.B.View c.from_residual.result c.from_residual.ensures.1
+      (λ sound.
+      let f = sound.1.0 in
+      let set = subst (λ form. IsSet form (records_of f)) (sym c.requires.tree.form) (set_of c.args.file.now f c.requires.storable.keyed sound.1.1.fit) in
+      (sound.0, (records_of f, set, sound.1.1.held)))
+      c.in_err-select.ensures.reads;
+}
 
-pub returns-clause-found : goal.returns-clause-found
-returns-clause-found g c = λ f whole is.
-    let found = c.in_ok-select.ensures.found in
-    let set = subst (λ form. IsSet form (records_of f)) (sym c.requires.tree.form) (set_of c.args.file.now f c.requires.storable.keyed is.fit) in
-    let one = one_found c.args.file.now f c.args.key.now c.args.span.now found.found c.requires.storable.keyed c.requires.storable.key c.requires.key is.fit c.requires.lo c.requires.hi (found.selected whole (records_of f) set is.held) in
-    c.last_record.ensures.last (record_at f c.args.key.now) (found.appended ∙ ap (λ (before : List Rec). before ++ found.found) c.new-found.ensures ∙ one)
-
-pub returns-clause-steps : goal.returns-clause-steps
-returns-clause-steps g c = λ f most whole is few.
-    let found = c.in_ok-select.ensures.found in
-    let set = subst (λ form. IsSet form (records_of f)) (sym c.requires.tree.form) (set_of c.args.file.now f c.requires.storable.keyed is.fit) in
-    let those = found.selected whole (records_of f) set is.held in
-    let one = one_found c.args.file.now f c.args.key.now c.args.span.now found.found c.requires.storable.keyed c.requires.storable.key c.requires.key is.fit c.requires.lo c.requires.hi those in
-    omega (arith, found.few_steps, one_total (tree_of c.args.node.now) f most (record_at f c.args.key.now) found.found one few (λ r h. (those.sound r h).0))
+pub returns : goal.returns
+returns g c = record {
+  found = λ f whole is.
+      let found = c.in_ok-select.ensures.found in
+      let set = subst (λ form. IsSet form (records_of f)) (sym c.requires.tree.form) (set_of c.args.file.now f c.requires.storable.keyed is.fit) in
+      let one = one_found c.args.file.now f c.args.key.now c.args.span.now found.found c.requires.storable.keyed c.requires.storable.key c.requires.key is.fit c.requires.lo c.requires.hi (found.selected whole (records_of f) set is.held) in
+      c.last_record.ensures.last (record_at f c.args.key.now) (found.appended ∙ ap (λ (before : List Rec). before ++ found.found) c.new-found.ensures ∙ one);
+  fits = search rules;
+  steps = λ f most whole is few.
+      let found = c.in_ok-select.ensures.found in
+      let set = subst (λ form. IsSet form (records_of f)) (sym c.requires.tree.form) (set_of c.args.file.now f c.requires.storable.keyed is.fit) in
+      let those = found.selected whole (records_of f) set is.held in
+      let one = one_found c.args.file.now f c.args.key.now c.args.span.now found.found c.requires.storable.keyed c.requires.storable.key c.requires.key is.fit c.requires.lo c.requires.hi those in
+      omega (arith, found.few_steps, one_total (tree_of c.args.node.now) f most (record_at f c.args.key.now) found.found one few (λ r h. (those.sound r h).0));
+  reads = search rules;
+}
