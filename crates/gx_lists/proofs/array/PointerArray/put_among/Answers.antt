@@ -42,7 +42,7 @@ returns-then-is_empty-clause-connected g c = λ link whole can those.
 pub returns-then-is_empty-clause-full : goal.returns-then-is_empty-clause-full
 returns-then-is_empty-clause-full g c = λ link whole can those full.
     let list : c.deref.result.now ≡ with_member c.args.member.now c.args.members.now = search rules in
-    connect_crowded g.M.Mapping.rule (tree_of c.args.self.now.tree.now) c.args.self.now.member c.requires.valid link c.args.owner.now c.args.member.now can.free c.args.members.now c.deref.result.now those list _ _ c.in_ok-new.new c.in_ok-new.ensures (c.replace.ensures.full whole full)
+    connect_crowded g.M.Mapping.rule (tree_of c.args.self.now.tree.now) c.args.self.now.member c.requires.valid link c.args.owner.now c.args.member.now can.free c.args.members.now c.deref.result.now those list _ _ c.in_ok-new.new c.in_ok-new.ensures (c.replace.ensures.replaces.full whole full)
 
 pub array_rec-requires-2-clause-members : goal.array_rec-requires-2-clause-members
 array_rec-requires-2-clause-members g c = λ m h.
@@ -82,4 +82,4 @@ returns-clause-connected g c = λ link whole can those.
 pub returns-clause-full : goal.returns-clause-full
 returns-clause-full g c = λ link whole can those full.
     let list : c.deref.result.now ≡ with_member c.args.member.now c.args.members.now = search rules in
-    connect_crowded g.M.Mapping.rule (tree_of c.args.self.now.tree.now) c.args.self.now.member c.requires.valid link c.args.owner.now c.args.member.now can.free c.args.members.now c.deref.result.now those list _ _ c.in_ok-new.new c.in_ok-new.ensures (c.replace-2.ensures.full whole full)
+    connect_crowded g.M.Mapping.rule (tree_of c.args.self.now.tree.now) c.args.self.now.member c.requires.valid link c.args.owner.now c.args.member.now can.free c.args.members.now c.deref.result.now those list _ _ c.in_ok-new.new c.in_ok-new.ensures (c.replace-2.ensures.replaces.full whole full)
