@@ -1,9 +1,9 @@
 -- Branches are read as they were written.
 use Rattle.std.proofs.Common.{◌≡◌, ◌≢◌, ℕ, ◌+◌, ◌^◌, ◌<◌, ◌≤◌, List, ◌++◌, length, take, drop, refl, sym, ap, ap₂, ◌∙◌, arith, append_assoc, length-append}
 use Rattle.std.specs.Int.{w16, w32, to_be_bytes, from_be_bytes}
-use Rattle.std.proofs.lemmas.List.{drop_at, take_at, drop-drop, length-take-le, take-append-drop}
+use Rattle.std.proofs.lemmas.List.{drop_at, take_at, drop-drop, length-take-le}
 use Rattle.gx_bytes.specs.Parts.{overwritten}
-use Rattle.gx_bytes.proofs.NumberLemmas.{from_be_bytes-front_2, from_be_bytes-front_4}
+use Rattle.gx_bytes.proofs.NumberLemmas.{from_be_bytes-front_2, from_be_bytes-front_4, same_front_2, cut_behind}
 use Rattle.gx_bytes.proofs.PartLemmas.{overwritten-overwritten}
 use Rattle.gx_bytes.proofs.RecordLemmas.{IsFormat}
 use Rattle.gx_bnode.specs.Branches.{Branch, IsFit, branch_bytes, branch_len, first_branch}
@@ -61,14 +61,9 @@ pub length_written : (branch : Branch) (rest bytes tail : List ℕ) (len : ℕ)
     → (len ≡ length branch.separator)
     × (tail ≡ branch.separator ++ (to_be_bytes w32 branch.child ++ rest))
 length_written branch rest bytes tail len is fits fit begins =
-    let separator = branch.separator in
-    let behind = separator ++ (to_be_bytes w32 branch.child ++ rest) in
-    let same : to_be_bytes w16 len ++ tail ≡ to_be_bytes w16 (length separator) ++ behind =
-    sym is ∙ begins ∙ written_parts branch rest in (
-      sym (from_be_bytes-front_2 len tail fits) ∙ ap (from_be_bytes w16) same
-          ∙ from_be_bytes-front_2 (length separator) behind (omega (arith, fit.separator)),
-      ap (λ (xs : List ℕ). drop 2 xs) same,
-    )
+    let behind = branch.separator ++ (to_be_bytes w32 branch.child ++ rest) in
+    same_front_2 len (length branch.separator) tail behind fits (omega (arith, fit.separator))
+    (sym is ∙ begins ∙ written_parts branch rest)
 
 -- bytes too short for a length begin with no branch
 pub none_short : (bytes : List ℕ) → length bytes < 2 → (branch : Branch) (rest : List ℕ)
@@ -98,11 +93,8 @@ pub branch_split : (bytes tail separator behind rest : List ℕ) (len child : �
 branch_split bytes tail separator behind rest len child is len_fits within child_fits separator_is
     behind_is rest_is =
     let size : length separator ≡ len = ap length separator_is ∙ length-take-le len tail within in
-    let whole : separator ++ (to_be_bytes w32 child ++ rest) ≡ tail =
-    ap₂ (λ (xs ys : List ℕ). xs ++ ys) separator_is (sym rest_is ∙ behind_is)
-    ∙ take-append-drop len tail in
-    let top : to_be_bytes w16 len ++ tail ≡ to_be_bytes w16 (length separator) ++ (separator ++ (to_be_bytes w32 child ++ rest)) =
-    ap₂ (λ (n : ℕ) (xs : List ℕ). to_be_bytes w16 n ++ xs) (sym size) (sym whole) in (
+    let top = cut_behind tail separator (to_be_bytes w32 child ++ rest) len within separator_is
+    (sym rest_is ∙ behind_is) in (
       record { separator = omega arith; child = child_fits },
       is ∙ top ∙ sym (written_parts (record { separator = separator; child = child }) rest),
     )

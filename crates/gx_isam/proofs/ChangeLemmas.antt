@@ -18,10 +18,10 @@ use Rattle.gx_chain.proofs.ListLemmas.{contains_here, contains_none}
 use Rattle.gx_chain.proofs.PairLemmas.{found_put, found_removed, none_put}
 use Rattle.gx_isam_index.specs.Index.{bucket_count, bucket_of, first_of}
 use Rattle.gx_isam.specs.Isam.{IsIsam}
-use Rattle.gx_isam.specs.Change.{IsHungBefore, IsSettled}
+use Rattle.gx_isam.specs.Change.{IsHungBefore, IsLeftOutIfEmpty}
 use Rattle.gx_isam.proofs.BucketLemmas.{as_isam, key_isam, bucket_others, isam_at}
 use Rattle.gx_isam.proofs.HangLemmas.{no_pages, some_there, only_entry, that_entry, hung_bucket, hung_on}
-use Rattle.gx_isam.proofs.SettleLemmas.{headed, settled}
+use Rattle.gx_isam.proofs.LeaveOutLemmas.{headed, left_out_if_empty}
 
 -- ---- the same file after calls that read
 
@@ -95,21 +95,21 @@ module _ (ground : Ground) (place : Place) (s : Sheets) (map : LeafMap) (least :
     first_is : first_of (bytes_at s place.root) bucket ≡ first
     first_is = ap (λ (b : List ℕ). first_of b bucket) (sym page_is) ∙ is
 
-    settled_index : IsSettled ground place page bucket first t u → IsSettled ground place (bytes_at s place.root) bucket first t u
-    settled_index after = subst (λ (x : List ℕ). IsSettled ground place x bucket first t u) page_is after
+    index_left_out : IsLeftOutIfEmpty ground place page bucket first t u → IsLeftOutIfEmpty ground place (bytes_at s place.root) bucket first t u
+    index_left_out after = subst (λ (x : List ℕ). IsLeftOutIfEmpty ground place x bucket first t u) page_is after
 
-    pub put_settled : (body : List ℕ) → IsPutIn ground place.owner first key body s t (h.pages bucket) → IsSettled ground place page bucket first t u → IsIsam ground place u (fin.insert map key body) × OthersStay ground place.owner s u
-    put_settled body put after =
-        let c = settled ground place s t u map least past h bucket within first first_is some put.pages put.chain put.beside (settled_index after) in (
+    pub put_left_out : (body : List ℕ) → IsPutIn ground place.owner first key body s t (h.pages bucket) → IsLeftOutIfEmpty ground place page bucket first t u → IsIsam ground place u (fin.insert map key body) × OthersStay ground place.owner s u
+    put_left_out body put after =
+        let c = left_out_if_empty ground place s t u map least past h bucket within first first_is some put.pages put.chain put.beside (index_left_out after) in (
           key_isam ground place s u map least h bucket within c.now c.bucket key at (λ k b. (k ≡ key) × (b ≡ body)) (λ k b is. is.0)
               (λ k b. (λ on. (put.entries k b).0 ((c.on k b).0 on), λ old. (c.on k b).1 ((put.entries k b).1 old)))
               (fin.insert map key body) (found_put map key there (isam_at ground place s map h) body),
           bucket_others ground place s u map least h bucket within c.now c.bucket,
         )
 
-    pub removed_settled : IsRemovedFrom ground place.owner first key s t (h.pages bucket) → IsSettled ground place page bucket first t u → IsIsam ground place u (fin.remove map key) × OthersStay ground place.owner s u
-    removed_settled less after =
-        let c = settled ground place s t u map least past h bucket within first first_is some less.pages less.chain less.beside (settled_index after) in (
+    pub removed_left_out : IsRemovedFrom ground place.owner first key s t (h.pages bucket) → IsLeftOutIfEmpty ground place page bucket first t u → IsIsam ground place u (fin.remove map key) × OthersStay ground place.owner s u
+    removed_left_out less after =
+        let c = left_out_if_empty ground place s t u map least past h bucket within first first_is some less.pages less.chain less.beside (index_left_out after) in (
           key_isam ground place s u map least h bucket within c.now c.bucket key at (λ k b. ⊥) (λ k b never. absurd never)
               (λ k b. none_put (λ on. (less.entries k b).0 ((c.on k b).0 on), λ old. (c.on k b).1 ((less.entries k b).1 old)))
               (fin.remove map key) (λ k b. none_put (found_removed map key there (isam_at ground place s map h) k b)),

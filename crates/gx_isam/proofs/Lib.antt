@@ -1,5 +1,5 @@
 pub mod BucketLemmas
-pub mod SettleLemmas
+pub mod LeaveOutLemmas
 pub mod HangLemmas
 pub mod WriteLemmas
 pub mod ChangeLemmas

@@ -41,7 +41,7 @@ use Rattle.gx_isam_index.proofs.LayoutLemmas.{apart_keys, same_entry}
 use Rattle.gx_chain.proofs.ChainsLemmas.{below_from}
 use Rattle.gx_isam.proofs.PagesLemmas.{below_few, isam_map_is}
 use Rattle.gx_isam.proofs.SelectedLemmas.{selected_those}
-use Rattle.gx_isam.proofs.SettleLemmas.{headed, left_out, on_rest}
+use Rattle.gx_isam.proofs.LeaveOutLemmas.{headed, left_out, on_rest}
 
 -- ---- other owners, over two changes
 

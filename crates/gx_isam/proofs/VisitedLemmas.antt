@@ -21,7 +21,7 @@ use Rattle.gx_isam.proofs.BucketLemmas.{once}
 use Rattle.gx_isam.proofs.HangLemmas.{no_pages}
 use Rattle.gx_isam.proofs.ChangeLemmas.{entry_first}
 use Rattle.gx_isam.proofs.LawLemmas.{isam_of}
-use Rattle.gx_isam.proofs.SettleLemmas.{headed}
+use Rattle.gx_isam.proofs.LeaveOutLemmas.{headed}
 
 -- ---- of a whole file
 

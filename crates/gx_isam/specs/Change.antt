@@ -38,6 +38,6 @@ pub record IsLeftOut (ground : Ground) (place : Place) (index : List ℕ) (bucke
   pub freed : IsOwnedAnew first 0 ground between new
 
 -- it was left out where it had no entry
-abbrev pub IsSettled : Ground → Place → List ℕ → ℕ → ℕ → Sheets → Sheets → Type 0
-IsSettled ground place index bucket first old new =
+abbrev pub IsLeftOutIfEmpty : Ground → Place → List ℕ → ℕ → ℕ → Sheets → Sheets → Type 0
+IsLeftOutIfEmpty ground place index bucket first old new =
     ((entries_at old first ≢ []) × (new ≡ old)) ⊎ ((entries_at old first ≡ []) × IsLeftOut ground place index bucket first (next_at old first) old new)

@@ -8,7 +8,7 @@ ghost use Rattle.gx_ports.specs.Sheets.{IsPast, HasNone};
 ghost use Rattle.gx_slots.specs.Page.{IsEntryPage, entries_of};
 ghost use Rattle.gx_chain.specs.Chain.{bytes_at, IsEntryAt};
 ghost use Rattle.gx_isam_index.specs.Index.{IsIndexPage, bucket_count, separators_of, first_of};
-ghost use Rattle.gx_isam.specs.Change.{IsHungBefore, IsLeftOut, IsSettled};
+ghost use Rattle.gx_isam.specs.Change.{IsHungBefore, IsLeftOut, IsLeftOutIfEmpty};
 
 use gx_chain::read_entries;
 use gx_device::Failed;
@@ -101,8 +101,8 @@ pub(crate) fn leave_out_empty<P: Pages>(
     requires first { IsPast (P.ground pages.old) first }
     requires index { IsIndexPage index.old }
     requires bucket { bucket < bucket_count index.old }
-    ensures settled { IsTrue P.tells → OnOk result
-        (IsSettled (P.ground pages.old) place.now index.old bucket first
+    ensures left_out { IsTrue P.tells → OnOk result
+        (IsLeftOutIfEmpty (P.ground pages.old) place.now index.old bucket first
         (P.working pages.old) (P.working pages.new)) }
     ensures keeps { KeepsPages P.PageView pages.old pages.new }
     ensures ends { EndsFile P.PageView (IsEntryAt P.PageView pages.old first)

@@ -1,8 +1,8 @@
 -- Separators are read as they were written.
-use Rattle.std.proofs.Common.{◌≡◌, ◌≢◌, ℕ, ◌+◌, ◌^◌, ◌<◌, ◌≤◌, List, ◌++◌, length, take, drop, refl, sym, ap, ap₂, ◌∙◌, arith, length-append}
+use Rattle.std.proofs.Common.{◌≡◌, ◌≢◌, ℕ, ◌+◌, ◌^◌, ◌<◌, ◌≤◌, List, ◌++◌, length, take, drop, refl, sym, ap, ◌∙◌, arith, length-append}
 use Rattle.std.specs.Int.{w16, to_be_bytes, from_be_bytes}
-use Rattle.std.proofs.lemmas.List.{take_at, length-take-le, take-append-drop}
-use Rattle.gx_bytes.proofs.NumberLemmas.{from_be_bytes-front_2}
+use Rattle.std.proofs.lemmas.List.{take_at, length-take-le}
+use Rattle.gx_bytes.proofs.NumberLemmas.{from_be_bytes-front_2, same_front_2, cut_behind}
 use Rattle.gx_bytes.proofs.RecordLemmas.{IsFormat}
 use Rattle.gx_isam_index.specs.Index.{IsFit, separator_bytes, first_separator}
 
@@ -54,15 +54,11 @@ pub none_unfit : (bytes tail : List ℕ) (len : ℕ) → bytes ≡ to_be_bytes w
     → len < 2 ^ 16 → length tail < len → (separator rest : List ℕ) → IsFit separator
     → bytes ≢ separator_bytes separator ++ rest
 none_unfit bytes tail len is fits few separator rest fit begins =
-    let behind = separator ++ rest in
-    let same : to_be_bytes w16 len ++ tail ≡ to_be_bytes w16 (length separator) ++ behind =
-    sym is ∙ begins ∙ written_parts separator rest in
-    let own : len ≡ length separator =
-    sym (from_be_bytes-front_2 len tail fits) ∙ ap (from_be_bytes w16) same
-    ∙ from_be_bytes-front_2 (length separator) behind fit.short in
+    let own = same_front_2 len (length separator) tail (separator ++ rest) fits fit.short
+    (sym is ∙ begins ∙ written_parts separator rest) in
     let size : length tail ≡ length separator + length rest =
-    ap length (ap (λ (xs : List ℕ). drop 2 xs) same) ∙ length-append separator rest in
-    absurd (omega (arith, own, size, few))
+    ap length own.1 ∙ length-append separator rest in
+    absurd (omega (arith, own.0, size, few))
 
 -- the bytes that stand behind a length are a separator
 pub separator_split : (bytes tail separator behind : List ℕ) (len : ℕ)
@@ -71,9 +67,5 @@ pub separator_split : (bytes tail separator behind : List ℕ) (len : ℕ)
     → IsFit separator × (bytes ≡ separator_bytes separator ++ behind)
 separator_split bytes tail separator behind len is fits within separator_is behind_is =
     let size : length separator ≡ len = ap length separator_is ∙ length-take-le len tail within in
-    let whole : separator ++ behind ≡ tail =
-    ap₂ (λ (xs ys : List ℕ). xs ++ ys) separator_is behind_is ∙ take-append-drop len tail in
-    let top : to_be_bytes w16 len ++ tail
-    ≡ to_be_bytes w16 (length separator) ++ (separator ++ behind) =
-    ap₂ (λ (n : ℕ) (xs : List ℕ). to_be_bytes w16 n ++ xs) (sym size) (sym whole) in
+    let top = cut_behind tail separator behind len within separator_is behind_is in
     (record { short = omega (arith, size, fits) }, is ∙ top ∙ sym (written_parts separator behind))

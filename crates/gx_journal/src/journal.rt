@@ -7,7 +7,7 @@ ghost use Rattle.gx_device.specs.Faults.{Rose, HasCause, Counted, IsCounted};
 ghost use Rattle.gx_layout.specs.Layout.{OnlyBlocks, Shows, home, pages_of, is_open};
 ghost use Rattle.gx_layout.specs.Head.{HasMagic, IsFormatted, DifferFirst, text_at, text_area, text_blocks};
 ghost use Rattle.gx_layout.specs.Besides.{IsImageBesides, IsUnsealed};
-ghost use Rattle.gx_layout.specs.Recovered.{Recovers, IsSettled, replayed_pages, view_now};
+ghost use Rattle.gx_layout.specs.Recovered.{Recovers, IsOfRecovery, replayed_pages, view_now};
 ghost use Rattle.gx_journal.specs.Sources.{IsCached};
 
 use crate::access::{read, write};
@@ -90,7 +90,7 @@ impl<D: Device> Journal<D> {
             (view_now (replayed_pages (D.content device).now.blocks) (D.content device))
             (D.content device) (content_left result) }
         ensures touched { IsTrue D.tells → OnlyBlocks
-            (IsSettled (pages_of (D.size device)) (D.content device).now.blocks)
+            (IsOfRecovery (pages_of (D.size device)) (D.content device).now.blocks)
             (D.content device) (content_left result) }
         ensures silent { Silent (D.content device) (content_left result) }
         ensures blocks { D.size (device_left result) ≡ D.size device }

@@ -5,7 +5,7 @@ use Rattle.gx_device.specs.Content.{Shelf, Moment, Content, block_of, is_pending
 use Rattle.gx_device.specs.Crash.{Image, IsImage, EachImage, Through, LeavesOnly, Outside}
 use Rattle.gx_device.proofs.RunLemmas.{ticked, joined, weakened, synced, outside_same, outside_joined, outside_more}
 use Rattle.gx_layout.specs.Layout.{is_open, has_bit, View, StandsFor, ReadsAs, flags, CopiedBelow, IsIn, Holds, Fits, AtRest, IsReady, IsOpened, OnlyBlocks, home}
-use Rattle.gx_layout.specs.Recovered.{Recovers, IsSettled}
+use Rattle.gx_layout.specs.Recovered.{Recovers, IsOfRecovery}
 use Rattle.gx_layout.proofs.BlockLemmas.{blocks_twice, blocks_more, blocks_read, blocks_sync}
 use Rattle.gx_layout.specs.PhaseLaws.{bool_cases, shut, set_bit, no_bit, opened_leaves, opened_homes, rest_leaves}
 use Rattle.gx_layout.proofs.CommitLemmas.{home_images, homes_ready}
@@ -178,23 +178,23 @@ back_touched P a b d bitmap r is touched =
 
 -- behind an open gate pages were copied, and the gate was written
 module _ (P : ℕ) (a b d : Content) (r : OnlyTime a b) (opened : is_open (block_of b.now 1) ≡ true) where
-  pub settled_home : OnlyBlocks (IsIn (7 + P) (flags (block_of b.now 2) P)) b d → OnlyBlocks (IsSettled P a.now.blocks) a d
+  pub settled_home : OnlyBlocks (IsIn (7 + P) (flags (block_of b.now 2) P)) b d → OnlyBlocks (IsOfRecovery P a.now.blocks) a d
   settled_home touched =
-      blocks_twice (IsSettled P a.now.blocks) a b d (blocks_read (IsSettled P a.now.blocks) a b r)
-      (subst (λ (m : Moment). OnlyBlocks (IsSettled P m.blocks) b d) r.now
-      (blocks_more (IsIn (7 + P) (flags (block_of b.now 2) P)) (IsSettled P b.now.blocks) (λ n is. (opened, inr is)) b d touched))
+      blocks_twice (IsOfRecovery P a.now.blocks) a b d (blocks_read (IsOfRecovery P a.now.blocks) a b r)
+      (subst (λ (m : Moment). OnlyBlocks (IsOfRecovery P m.blocks) b d) r.now
+      (blocks_more (IsIn (7 + P) (flags (block_of b.now 2) P)) (IsOfRecovery P b.now.blocks) (λ n is. (opened, inr is)) b d touched))
 
-  pub settled_gate : (e : Content) → OnlyBlocks (IsIn (7 + P) (flags (block_of b.now 2) P)) b d → OnlyBlocks (λ n. n ≡ 1) d e → OnlyBlocks (IsSettled P a.now.blocks) a e
+  pub settled_gate : (e : Content) → OnlyBlocks (IsIn (7 + P) (flags (block_of b.now 2) P)) b d → OnlyBlocks (λ n. n ≡ 1) d e → OnlyBlocks (IsOfRecovery P a.now.blocks) a e
   settled_gate e touched gate =
-      blocks_twice (IsSettled P a.now.blocks) a d e (settled_home touched)
-      (blocks_more (λ n. n ≡ 1) (IsSettled P a.now.blocks) (λ n is. (ap (λ (m : Moment). is_open (block_of m 1)) (sym r.now) ∙ opened, inl is)) d e gate)
+      blocks_twice (IsOfRecovery P a.now.blocks) a d e (settled_home touched)
+      (blocks_more (λ n. n ≡ 1) (IsOfRecovery P a.now.blocks) (λ n is. (ap (λ (m : Moment). is_open (block_of m 1)) (sym r.now) ∙ opened, inl is)) d e gate)
 
 -- a sync and a read come before
-pub settled_after : (P : ℕ) (a b c d : Content) → Syncs a b → OnlyTime b c → OnlyBlocks (IsSettled P c.now.blocks) c d → OnlyBlocks (IsSettled P a.now.blocks) a d
+pub settled_after : (P : ℕ) (a b c d : Content) → Syncs a b → OnlyTime b c → OnlyBlocks (IsOfRecovery P c.now.blocks) c d → OnlyBlocks (IsOfRecovery P a.now.blocks) a d
 settled_after P a b c d s r touched =
-    let free = IsSettled P a.now.blocks in
+    let free = IsOfRecovery P a.now.blocks in
     blocks_twice free a b d (blocks_sync free a b s) (blocks_twice free b c d (blocks_read free b c r)
-    (subst (λ (bs : List (List ℕ)). OnlyBlocks (IsSettled P bs) c d) (ap (λ (m : Moment). m.blocks) r.now ∙ s.blocks) touched))
+    (subst (λ (bs : List (List ℕ)). OnlyBlocks (IsOfRecovery P bs) c d) (ap (λ (m : Moment). m.blocks) r.now ∙ s.blocks) touched))
 
 -- the magic was read after a sync
 module _ (v : View) (a b c : Content) (s : Syncs a b) (r : OnlyTime b c) (room : 7 ≤ length a.now.blocks) (none : NonePending b) (reads : ReadsAs a.now v) where

@@ -25,5 +25,5 @@ abbrev pub Recovers : View → Content → Content → Type 0
 Recovers v old new = LeavesOnly (IsImage old.now) old new ⊎ AfterSync v old new
 
 -- a block that recovery may write: where the gate is open, the gate and the homes of the pages that the bitmap names
-abbrev pub IsSettled : ℕ → List (List ℕ) → ℕ → Type 0
-IsSettled P blocks n = (is_open (get_or blocks 1 []) ≡ true) × ((n ≡ 1) ⊎ IsIn (7 + P) (flags (get_or blocks 2 []) P) n)
+abbrev pub IsOfRecovery : ℕ → List (List ℕ) → ℕ → Type 0
+IsOfRecovery P blocks n = (is_open (get_or blocks 1 []) ≡ true) × ((n ≡ 1) ⊎ IsIn (7 + P) (flags (get_or blocks 2 []) P) n)

@@ -5,7 +5,7 @@ ghost use Rattle.gx_device.specs.Faults.{IsCounted};
 ghost use Rattle.gx_device.specs.Crash.{Through, Outside, LeavesOnly};
 ghost use Rattle.gx_layout.specs.Layout.{View, is_open, has_bit, IsIn, flags, StandsFor, ReadsAs, AtRest, IsReady, IsOpened, CopiedBelow, OnlyBlocks};
 ghost use Rattle.gx_layout.specs.Head.{HasMagic};
-ghost use Rattle.gx_layout.specs.Recovered.{Recovers, IsSettled};
+ghost use Rattle.gx_layout.specs.Recovered.{Recovers, IsOfRecovery};
 
 use crate::gate::close_gate;
 use crate::head::has_magic;
@@ -92,7 +92,7 @@ fn settle<D: Device>(device: &mut D, pages: u32) -> Result<(), Failed>
         → LeavesOnly (StandsFor v) (D.content device.old) (D.content device.new) }
     ensures at_rest { IsTrue D.tells → (v : View) → length v.pages ≡ pages → NonePending (D.content device.old) → ReadsAs (D.content device.old).now v
         → OnOk result (AtRest (D.content device.new).now v) }
-    ensures touched { IsTrue D.tells → OnlyBlocks (IsSettled pages (D.content device.old).now.blocks) (D.content device.old) (D.content device.new) }
+    ensures touched { IsTrue D.tells → OnlyBlocks (IsOfRecovery pages (D.content device.old).now.blocks) (D.content device.old) (D.content device.new) }
     ensures silent { Silent (D.content device.old) (D.content device.new) }
     ensures size { D.size device.new ≡ D.size device.old }
     ensures faults { IsCounted (D.faults device.old) (D.faults device.new) result }
@@ -120,7 +120,7 @@ pub fn recover<D: Device>(device: &mut D, pages: u32) -> Result<bool, Failed>
     ensures failed { IsTrue D.tells → OnErr result
         (¬ HasMagic (block_of (D.content device.old).now 0) →
         (D.content device.new).now.blocks ≡ (D.content device.old).now.blocks) }
-    ensures touched { IsTrue D.tells → OnlyBlocks (IsSettled pages (D.content device.old).now.blocks) (D.content device.old) (D.content device.new) }
+    ensures touched { IsTrue D.tells → OnlyBlocks (IsOfRecovery pages (D.content device.old).now.blocks) (D.content device.old) (D.content device.new) }
     ensures silent { Silent (D.content device.old) (D.content device.new) }
     ensures size { D.size device.new ≡ D.size device.old }
     ensures faults { IsCounted (D.faults device.old) (D.faults device.new) result }

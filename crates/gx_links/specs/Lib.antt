@@ -1,6 +1,7 @@
 pub mod Links
 pub mod Kinds
 pub mod Linksets
+pub mod Joins
 pub mod Rows
 pub mod Owners
 pub mod Pairs

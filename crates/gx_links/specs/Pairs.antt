@@ -9,8 +9,11 @@ use Rattle.gx_values.specs.declared.values.Value.{Value}
 use Rattle.gx_values.specs.declared.records.Rec.{Rec}
 use Rattle.gx_ports.specs.LeafMaps.{LeafMap}
 use Rattle.gx_mapping.specs.declared.parts.Part.{Part}
-use Rattle.gx_mapping.specs.Rule.{In, part_cmp}
+use Rattle.gx_mapping.specs.Rule.{Rule, In, part_cmp}
 use Rattle.gx_gather.specs.Gather.{part_for}
+use Rattle.gx_stack.specs.Tree.{Tree}
+use Rattle.gx_stack.specs.Internal.{HasSet}
+use Rattle.gx_stack.specs.Held.{AreHeld}
 use Rattle.gx_links.specs.declared.pairs.Owned.{Owned}
 use Rattle.gx_links.specs.Kinds.{no_value}
 use Rattle.gx_links.specs.Links.{Link, IsLink, most_members}
@@ -47,6 +50,14 @@ rows_of rows = flat_map (λ g. rows g.owner g.members)
 -- the records of two nodes, as parts
 abbrev pub two_parts : List Rec → List Rec → List Part
 two_parts A B = map (part_for 0) A ++ map (part_for 1) B
+
+-- the records that the leaves of two nodes hold, or one of the nodes holds no set of records
+abbrev pub AreBothHeld : {M : Type 0} (rule : M → Rule) → Tree M → Tree M → Type 0 → List LeafMap
+    → Option (List Rec × List Rec) → Type 0
+AreBothHeld rule first second whole maps None =
+    whole → HasSet rule first maps → HasSet rule second maps → ⊥
+AreBothHeld rule first second whole maps (Some found) =
+    AreHeld rule first whole maps found.0 × AreHeld rule second whole maps found.1
 
 -- the pair in the record of a member, with its owner in the field at an index
 abbrev pub pair_at : ℕ → Rec → Value × Value

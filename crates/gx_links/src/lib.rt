@@ -2,6 +2,7 @@
 #![tactic(auto)]
 
 mod changes;
+mod held;
 mod linkset;
 mod owners;
 mod pairs;
@@ -10,6 +11,7 @@ mod spans;
 mod told;
 
 pub use changes::{Change, replace_both};
+pub use held::held_both;
 pub use linkset::{Joining, Linkset, MOST_MEMBERS};
 pub use owners::owners_of;
 pub use pairs::{Owned, Owners, Pairs};

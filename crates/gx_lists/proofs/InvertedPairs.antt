@@ -16,7 +16,6 @@ use Rattle.gx_gather.specs.Gather.{rec_cmp, part_for}
 use Rattle.gx_gather.proofs.Lists.{from_each, in_map, from_map, all_at, all_of}
 use Rattle.gx_gather.proofs.Orders.{Ascends, ascends, not_before_itself}
 use Rattle.gx_stack.specs.Tree.{Tree, tree_form}
-use Rattle.gx_stack.specs.Internal.{IsInternal}
 use Rattle.gx_stack.specs.Held.{AreHeld}
 use Rattle.gx_ports.specs.LeafMaps.{LeafMap}
 use Rattle.gx_mapping.specs.Laws.{MappingLaws}
@@ -136,14 +135,6 @@ module _ {M : Type 0} (rule : M → Rule) (down up : Tree M) (valid : IsInverted
             let pair : (m, o) ≡ (row.member, row.owner) = is ∙ ap (λ (p : Part). owned_pair p.rec) e in
             ap (λ (q : Value × Value). fin.get link q.0) pair ∙ row.owned ∙ ap (λ (q : Value × Value). Some q.1) (sym pair)
         at link m o r is row (inr (inr j)) = absurd j
-
--- what was read before some other node is still there
-pub held_before : {M : Type 0} (rule : M → Rule) (t : Tree M) (whole still : Type 0) (maps now : List LeafMap) (found : List Rec) → (whole → still) → now ≡ maps → AreHeld rule t still now found → AreHeld rule t whole maps found
-held_before rule t whole still maps now found to same are = record {
-  fit = are.fit;
-  in_order = λ w. are.in_order (to w);
-  held = λ w. subst (IsInternal rule t found) same (are.held (to w));
-}
 
 pub inverted_held : {M : Type 0} (rule : M → Rule) → ((m : M) → MappingLaws (rule m)) → (down up : Tree M) (valid : IsInverted rule down up) (whole : Type 0) (maps : List LeafMap) (A B : List Rec) (found : Option (List (Value × Value))) → AreHeld rule down whole maps A → AreHeld rule up whole maps B → IsTold (owner_kind rule down) (member_kind rule up) inverted_rows (two_parts A B) found → ArePairs (inverted_rule rule down up) (IsHeldLink rule (two_nodes down up) inverted_rows) whole maps found
 inverted_held rule laws down up valid whole maps A B found a b told =

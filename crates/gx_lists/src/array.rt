@@ -1,18 +1,15 @@
 // Pointer arrays.
-ghost use Rattle.std.specs.Prelude.{◌≡◌, ◌<◌, ◌+◌, ℕ, [], length, IfOk, OnOk, IsErrOf};
-ghost use Rattle.std.specs.FinMap.{insert};
+ghost use Rattle.std.specs.Prelude.{◌≡◌, ◌<◌, ℕ, [], length, IfOk};
 ghost use Rattle.gx_values.specs.declared.records.Rec.{Rec as Record};
 ghost use Rattle.gx_values.specs.declared.values.Value.{Value as FieldValue};
 ghost use Rattle.gx_values.specs.Values.{Fits};
-ghost use Rattle.gx_ports.specs.LeafMaps.{map_at, entry_count, IsCrowdedBy};
-ghost use Rattle.gx_ports.specs.Calls.{Keeps, Ends};
 ghost use Rattle.gx_mapping.specs.Rule.{In, IsOf};
 ghost use Rattle.gx_stack.specs.Tree.{tree_form};
 ghost use Rattle.gx_stack.specs.Seen.{tree_of};
-ghost use Rattle.gx_links.specs.Links.{Link, members_of};
-ghost use Rattle.gx_links.specs.Linksets.{CanConnect};
+ghost use Rattle.gx_links.specs.Links.{members_of};
+ghost use Rattle.gx_links.specs.Joins.{Joins};
 ghost use Rattle.gx_links.specs.Pairs.{IsTold, two_parts};
-ghost use Rattle.gx_links.specs.Rows.{owner_entries, IsHeldLink, owner_kind};
+ghost use Rattle.gx_links.specs.Rows.{IsHeldLink, owner_kind};
 ghost use Rattle.gx_lists.specs.Arrays.{one_node, array_rows, array_rule, IsArray};
 
 use crate::array_pairs::{cut_owners, is_each_once, pairs_by_member};
@@ -150,28 +147,10 @@ impl<'a, M: Mapping> PointerArray<'a, M> {
         requires member { Fits self.now.member member.now }
         requires members { (m : FieldValue) → In m members.now → Fits self.now.member m }
         requires room { length members.now < MOST_MEMBERS }
-        ensures connected { (link : Link) → B.whole leaves.old →
-            CanConnect (array_rule M.rule (tree_of self.now.tree.now) self.now.member)
-            (IsHeldLink M.rule (one_node (tree_of self.now.tree.now)) array_rows)
-            (B.working leaves.old) link member.now →
-            members.now ≡ members_of link owner.now → OnOk result
-            (IsHeldLink M.rule (one_node (tree_of self.now.tree.now)) array_rows
-            (insert link member.now owner.now) (B.working leaves.new)) }
-        ensures others { (n : ℕ) → B.whole leaves.old → ¬ IsErrOf result Stop.Fault →
-            ¬ In n (array_rule M.rule (tree_of self.now.tree.now) self.now.member).leaves →
-            map_at (B.working leaves.new) n ≡ map_at (B.working leaves.old) n }
-        ensures keeps { Keeps B.View leaves.old leaves.new }
-        ensures work { B.work leaves.new ≡ B.work leaves.old }
-        ensures ends { Ends B.View (B.whole leaves.old) leaves.old leaves.new result }
-        ensures full { (link : Link) → B.whole leaves.old →
-            CanConnect (array_rule M.rule (tree_of self.now.tree.now) self.now.member)
-            (IsHeldLink M.rule (one_node (tree_of self.now.tree.now)) array_rows)
-            (B.working leaves.old) link member.now →
-            members.now ≡ members_of link owner.now → IsErrOf result Stop.Full →
-            IsCrowdedBy (B.limit leaves.old)
-            (entry_count (B.working leaves.old)
-            + length (owner_entries M.rule (one_node (tree_of self.now.tree.now)) array_rows owner.now
-            (members_of (insert link member.now owner.now) owner.now))) }
+        ensures { Joins B.View
+            (array_rule M.rule (tree_of self.now.tree.now) self.now.member)
+            (IsHeldLink M.rule (one_node (tree_of self.now.tree.now)) array_rows) owner.now member.now
+            (λ link. members.now ≡ members_of link owner.now) leaves.old leaves.new result }
     {
         let with = with_member(alloc, member, members)?;
         let new = array_rec(alloc, owner, &with.0)?;

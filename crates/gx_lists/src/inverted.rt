@@ -1,17 +1,15 @@
 // Inverted lists.
-ghost use Rattle.std.specs.Prelude.{◌≡◌, ◌<◌, ◌+◌, ℕ, length, IfOk, OnOk, IsErrOf};
-ghost use Rattle.std.specs.FinMap.{insert};
+ghost use Rattle.std.specs.Prelude.{◌<◌, ℕ, length, IfOk};
 ghost use Rattle.gx_values.specs.declared.records.Rec.{Rec as Record};
 ghost use Rattle.gx_values.specs.Values.{Fits};
-ghost use Rattle.gx_ports.specs.LeafMaps.{map_at, entry_count, IsCrowdedBy};
-ghost use Rattle.gx_ports.specs.Calls.{Keeps, ReadsMaps, Ends};
+ghost use Rattle.gx_ports.specs.Calls.{ReadsMaps};
 ghost use Rattle.gx_mapping.specs.Rule.{In, IsOf};
 ghost use Rattle.gx_stack.specs.Tree.{tree_form};
 ghost use Rattle.gx_stack.specs.Seen.{tree_of};
-ghost use Rattle.gx_links.specs.Links.{Link, members_of};
-ghost use Rattle.gx_links.specs.Linksets.{HasLink, CanConnect};
+ghost use Rattle.gx_links.specs.Linksets.{HasLink};
+ghost use Rattle.gx_links.specs.Joins.{Joins};
 ghost use Rattle.gx_links.specs.Pairs.{IsTold, two_parts};
-ghost use Rattle.gx_links.specs.Rows.{owner_entries, IsHeldLink, two_nodes, owner_kind, member_kind};
+ghost use Rattle.gx_links.specs.Rows.{IsHeldLink, two_nodes, owner_kind, member_kind};
 ghost use Rattle.gx_lists.specs.Counts.{IsMemberCount};
 ghost use Rattle.gx_lists.specs.Inverted.{inverted_rows, IsInverted, inverted_rule};
 
@@ -19,7 +17,7 @@ use crate::counts::count_within;
 use crate::records::{add_members, inverted_rows, owned_rec, owner_of, pair_rec};
 use gx_gather::Recs;
 use gx_links::{
-    Change, Joining, Linkset, MOST_MEMBERS, Pairs, owners_of, pairs_at, pairs_of_rows,
+    Change, Joining, Linkset, MOST_MEMBERS, Pairs, held_both, owners_of, pairs_at, pairs_of_rows,
     replace_both, value_span,
 };
 use gx_mapping::Mapping;
@@ -115,10 +113,7 @@ impl<'a, M: Mapping> Linkset for Inverted<'a, M> {
         leaves: &mut B,
         counts: &mut [Option<usize>],
     ) -> Result<Option<Pairs>, Stop> {
-        let Some(down) = self.down.held(alloc, leaves, counts)? else {
-            return Ok(None);
-        };
-        let Some(up) = self.up.held(alloc, leaves, counts)? else {
+        let Some((down, up)) = held_both(alloc, leaves, self.down, self.up, counts)? else {
             return Ok(None);
         };
         Ok(self.told(alloc, down, up)?)
@@ -171,29 +166,11 @@ impl<'a, M: Mapping> Inverted<'a, M> {
             n < length (B.working leaves.old) }
         requires owner { Fits (owner_kind M.rule (tree_of self.now.down.now)) owner.now }
         requires member { Fits (member_kind M.rule (tree_of self.now.up.now)) member.now }
-        ensures connected { (link : Link) → B.whole leaves.old →
-            CanConnect (inverted_rule M.rule (tree_of self.now.down.now) (tree_of self.now.up.now))
+        ensures { Joins B.View
+            (inverted_rule M.rule (tree_of self.now.down.now) (tree_of self.now.up.now))
             (IsHeldLink M.rule (two_nodes (tree_of self.now.down.now) (tree_of self.now.up.now))
             inverted_rows)
-            (B.working leaves.old) link member.now → OnOk result
-            (IsHeldLink M.rule (two_nodes (tree_of self.now.down.now) (tree_of self.now.up.now))
-            inverted_rows (insert link member.now owner.now) (B.working leaves.new)) }
-        ensures others { (n : ℕ) → B.whole leaves.old → ¬ IsErrOf result Stop.Fault →
-            ¬ In n (inverted_rule M.rule (tree_of self.now.down.now) (tree_of self.now.up.now)).leaves →
-            map_at (B.working leaves.new) n ≡ map_at (B.working leaves.old) n }
-        ensures keeps { Keeps B.View leaves.old leaves.new }
-        ensures work { B.work leaves.new ≡ B.work leaves.old }
-        ensures ends { Ends B.View (B.whole leaves.old) leaves.old leaves.new result }
-        ensures full { (link : Link) → B.whole leaves.old →
-            CanConnect (inverted_rule M.rule (tree_of self.now.down.now) (tree_of self.now.up.now))
-            (IsHeldLink M.rule (two_nodes (tree_of self.now.down.now) (tree_of self.now.up.now))
-            inverted_rows)
-            (B.working leaves.old) link member.now → IsErrOf result Stop.Full →
-            IsCrowdedBy (B.limit leaves.old)
-            (entry_count (B.working leaves.old)
-            + length (owner_entries M.rule
-            (two_nodes (tree_of self.now.down.now) (tree_of self.now.up.now)) inverted_rows owner.now
-            (members_of (insert link member.now owner.now) owner.now))) }
+            owner.now member.now (λ link. Unit {0}) leaves.old leaves.new result }
     {
         let pair = Change::coming(pair_rec(alloc, owner, member)?);
         let owned = Change::coming(owned_rec(alloc, owner, member)?);

@@ -18,7 +18,6 @@ use Rattle.gx_gather.specs.Gather.{rec_cmp, part_for}
 use Rattle.gx_gather.proofs.Lists.{in_map, from_map, all_at, all_of}
 use Rattle.gx_gather.proofs.Orders.{Ascends, ascends, not_before_itself}
 use Rattle.gx_stack.specs.Tree.{Tree, tree_form}
-use Rattle.gx_stack.specs.Internal.{IsInternal}
 use Rattle.gx_stack.specs.Held.{AreHeld}
 use Rattle.gx_links.specs.Kinds.{no_value}
 use Rattle.gx_links.specs.Links.{Link, members_of}
@@ -140,9 +139,16 @@ module _ {M : Type 0} (rule : M → Rule) (heads nexts : Tree M) (valid : IsRing
   ring_rows_lawful = ring_row_laws (owner_kind rule heads) (member_kind rule nexts) (tree_form rule heads) (tree_form rule nexts) valid.head_keys valid.head_fields valid.chain_keys valid.chain_fields
 
   -- the records of both nodes, the second of which were read later
-  pub ring_pairs : ((m : M) → MappingLaws (rule m)) → (whole half : Type 0) (maps now : List LeafMap) → (whole → half) → now ≡ maps → (A B : List Rec) → AreHeld rule heads whole maps A → AreHeld rule nexts half now B → (found : Option (List (Value × Value))) → IsTold (owner_kind rule heads) (member_kind rule nexts) ring_rows (two_parts A B) found
-      → ArePairs (ring_rule rule heads nexts) (IsHeldLink rule (two_nodes heads nexts) ring_rows) whole maps found
-  ring_pairs laws whole half maps now still same A B a b found told = pairs_held ring_rows_lawful rule laws (two_nodes heads nexts) valid.nodes refl (two_parts A B) maps
-      (two_fit (tree_form rule heads) (tree_form rule nexts) A B a.fit b.fit) suc true whole found told
-      (λ w. two_ascend A B (ascends rec_cmp A (a.in_order w)) (ascends rec_cmp B (b.in_order (still w))))
-      (λ w. two_internal rule heads nexts A B maps (heads_valid rule heads nexts valid) (nexts_valid rule heads nexts valid) (a.held w) (subst (IsInternal rule nexts B) same (b.held (still w))))
+  pub ring_pairs : ((m : M) → MappingLaws (rule m)) → (whole : Type 0) (maps : List LeafMap)
+      (A B : List Rec) → AreHeld rule heads whole maps A → AreHeld rule nexts whole maps B
+      → (found : Option (List (Value × Value)))
+      → IsTold (owner_kind rule heads) (member_kind rule nexts) ring_rows (two_parts A B) found
+      → ArePairs (ring_rule rule heads nexts) (IsHeldLink rule (two_nodes heads nexts) ring_rows)
+      whole maps found
+  ring_pairs laws whole maps A B a b found told = pairs_held ring_rows_lawful rule laws
+      (two_nodes heads nexts) valid.nodes refl (two_parts A B) maps
+      (two_fit (tree_form rule heads) (tree_form rule nexts) A B a.fit b.fit) suc true whole found
+      told
+      (λ w. two_ascend A B (ascends rec_cmp A (a.in_order w)) (ascends rec_cmp B (b.in_order w)))
+      (λ w. two_internal rule heads nexts A B maps (heads_valid rule heads nexts valid)
+      (nexts_valid rule heads nexts valid) (a.held w) (b.held w))

@@ -1,18 +1,17 @@
 // The ring.
-ghost use Rattle.std.specs.Prelude.{◌≡◌, ◌<◌, ◌+◌, ℕ, length, IfOk, OnOk, IsErrOf};
-ghost use Rattle.std.specs.FinMap.{insert};
+ghost use Rattle.std.specs.Prelude.{◌≡◌, ◌<◌, ℕ, length, IfOk, OnOk};
 ghost use Rattle.gx_values.specs.declared.records.Rec.{Rec as Record};
 ghost use Rattle.gx_values.specs.declared.values.Value.{Value as FieldValue};
 ghost use Rattle.gx_values.specs.Values.{Fits};
-ghost use Rattle.gx_ports.specs.LeafMaps.{map_at, entry_count, Extends, IsCrowdedBy};
-ghost use Rattle.gx_ports.specs.Calls.{Keeps, ReadsMaps, Ends};
+ghost use Rattle.gx_ports.specs.LeafMaps.{Extends};
+ghost use Rattle.gx_ports.specs.Calls.{ReadsMaps};
 ghost use Rattle.gx_mapping.specs.Rule.{In, IsOf};
 ghost use Rattle.gx_stack.specs.Tree.{leaves_of, tree_form};
 ghost use Rattle.gx_stack.specs.Seen.{tree_of};
 ghost use Rattle.std.specs.Option.{option_map};
 ghost use Rattle.gx_stack.specs.Internal.{IfThere};
-ghost use Rattle.gx_links.specs.Links.{Link, members_of};
-ghost use Rattle.gx_links.specs.Linksets.{CanConnect};
+ghost use Rattle.gx_links.specs.Links.{members_of};
+ghost use Rattle.gx_links.specs.Joins.{Joins};
 ghost use Rattle.gx_links.specs.Pairs.{IsTold, two_parts};
 ghost use Rattle.gx_links.specs.Rows.{IsHeldLink, two_nodes, owner_kind, member_kind};
 ghost use Rattle.gx_ring.specs.Ring.{ring_rows, ring_rule, IsRing};
@@ -26,7 +25,8 @@ use crate::records::{Behind, chain_rec, head_if, head_rec, read_behind, take_fie
 use crate::rows::ring_rows;
 use gx_gather::{NO_BLOCK, Recs};
 use gx_links::{
-    Change, Joining, Linkset, MOST_MEMBERS, Pairs, owners_of, pairs_at, pairs_of_rows, replace_both,
+    Change, Joining, Linkset, MOST_MEMBERS, Pairs, held_both, owners_of, pairs_at, pairs_of_rows,
+    replace_both,
 };
 use gx_mapping::Mapping;
 use gx_ports::{Leaves, Stop};
@@ -126,10 +126,7 @@ impl<'a, M: Mapping> Linkset for Ring<'a, M> {
         leaves: &mut B,
         counts: &mut [Option<usize>],
     ) -> Result<Option<Pairs>, Stop> {
-        let Some(heads) = self.heads.held(alloc, leaves, counts)? else {
-            return Ok(None);
-        };
-        let Some(chain) = self.chain.held(alloc, leaves, counts)? else {
+        let Some((heads, chain)) = held_both(alloc, leaves, self.heads, self.chain, counts)? else {
             return Ok(None);
         };
         Ok(self.told(alloc, heads, chain)?)
@@ -155,30 +152,12 @@ impl<'a, M: Mapping> Ring<'a, M> {
         requires members { (m : FieldValue) → In m members.now →
             Fits (member_kind M.rule (tree_of self.now.chain.now)) m }
         requires room { length members.now < MOST_MEMBERS }
-        ensures connected { (link : Link) → B.whole leaves.old →
-            CanConnect (ring_rule M.rule (tree_of self.now.heads.now) (tree_of self.now.chain.now))
+        ensures { Joins B.View
+            (ring_rule M.rule (tree_of self.now.heads.now) (tree_of self.now.chain.now))
             (IsHeldLink M.rule (two_nodes (tree_of self.now.heads.now) (tree_of self.now.chain.now))
             ring_rows)
-            (B.working leaves.old) link member.now →
-            members.now ≡ members_of link owner.now → OnOk result
-            (IsHeldLink M.rule (two_nodes (tree_of self.now.heads.now) (tree_of self.now.chain.now))
-            ring_rows (insert link member.now owner.now) (B.working leaves.new)) }
-        ensures others { (n : ℕ) → B.whole leaves.old → ¬ IsErrOf result Stop.Fault →
-            ¬ In n (ring_rule M.rule (tree_of self.now.heads.now) (tree_of self.now.chain.now)).leaves →
-            map_at (B.working leaves.new) n ≡ map_at (B.working leaves.old) n }
-        ensures keeps { Keeps B.View leaves.old leaves.new }
-        ensures work { B.work leaves.new ≡ B.work leaves.old }
-        ensures ends { Ends B.View (B.whole leaves.old) leaves.old leaves.new result }
-        ensures full { (link : Link) → B.whole leaves.old →
-            CanConnect (ring_rule M.rule (tree_of self.now.heads.now) (tree_of self.now.chain.now))
-            (IsHeldLink M.rule (two_nodes (tree_of self.now.heads.now) (tree_of self.now.chain.now))
-            ring_rows)
-            (B.working leaves.old) link member.now →
-            members.now ≡ members_of link owner.now → IsErrOf result Stop.Full →
-            IsCrowdedBy (B.limit leaves.old)
-            (entry_count (B.working leaves.old)
-            + length ((ring_rule M.rule (tree_of self.now.heads.now) (tree_of self.now.chain.now)).entries
-            owner.now (members_of (insert link member.now owner.now) owner.now))) }
+            owner.now member.now (λ link. members.now ≡ members_of link owner.now)
+            leaves.old leaves.new result }
     {
         let at = neighbours_of(&members.0, member);
         let lead = lead_change(alloc, owner, member, at)?;

@@ -3,7 +3,7 @@ use Rattle.std.proofs.Common.{◌≡◌, ◌≢◌, ℕ, ◌+◌, ◌^◌, ◌<�
 use Rattle.std.specs.Int.{w16, to_be_bytes, from_be_bytes}
 use Rattle.std.proofs.lemmas.List.{drop_at, take_at, drop-drop, length-take-le, length-drop, take-append-drop}
 use Rattle.gx_bytes.specs.Parts.{overwritten}
-use Rattle.gx_bytes.proofs.NumberLemmas.{from_be_bytes-front_2}
+use Rattle.gx_bytes.proofs.NumberLemmas.{from_be_bytes-front_2, same_front_2}
 use Rattle.gx_bytes.proofs.PartLemmas.{overwritten-overwritten}
 use Rattle.gx_bytes.proofs.RecordLemmas.{IsFormat}
 use Rattle.gx_slots.specs.Entries.{Entry, IsFit, entry_bytes, entry_len, first_entry}
@@ -64,18 +64,12 @@ pub lengths_written : (entry : Entry) (rest bytes tail : List ℕ) (key_len body
 lengths_written entry rest bytes tail key_len body_len is key_fits body_fits fit begins =
     let key = entry.key in
     let body = entry.body in
-    let same : to_be_bytes w16 key_len ++ (to_be_bytes w16 body_len ++ tail) ≡ to_be_bytes w16 (length key) ++ (to_be_bytes w16 (length body) ++ (key ++ (body ++ rest))) =
-    sym is ∙ begins ∙ written_parts entry rest in
-    let key_is : key_len ≡ length key =
-    sym (from_be_bytes-front_2 key_len (to_be_bytes w16 body_len ++ tail) key_fits)
-    ∙ ap (from_be_bytes w16) same
-    ∙ from_be_bytes-front_2 (length key) (to_be_bytes w16 (length body) ++ (key ++ (body ++ rest)))
-    (omega (arith, fit.key)) in
-    let body_is : body_len ≡ length body =
-    sym (from_be_bytes-front_2 body_len tail body_fits)
-    ∙ ap (λ (xs : List ℕ). from_be_bytes w16 (drop 2 xs)) same
-    ∙ from_be_bytes-front_2 (length body) (key ++ (body ++ rest)) (omega (arith, fit.whole)) in
-    (key_is, body_is, ap (λ (xs : List ℕ). drop 4 xs) same)
+    let behind = to_be_bytes w16 (length body) ++ (key ++ (body ++ rest)) in
+    let one = same_front_2 key_len (length key) (to_be_bytes w16 body_len ++ tail) behind key_fits
+    (omega (arith, fit.key)) (sym is ∙ begins ∙ written_parts entry rest) in
+    let two = same_front_2 body_len (length body) tail (key ++ (body ++ rest)) body_fits
+    (omega (arith, fit.whole)) one.1 in
+    (one.0, two.0, two.1)
 
 -- bytes too short for the lengths begin with no entry
 pub none_short : (bytes : List ℕ) → length bytes < 4 → (entry : Entry) (rest : List ℕ) → IsFit entry

@@ -1,14 +1,13 @@
 -- A scan of bytes for entries of different keys.
-use Rattle.std.proofs.Common.{◌≡◌, ◌≢◌, ℕ, ◌+◌, ◌<◌, ◌≤◌, Bool, true, false, List, [], ◌∷◌, ◌++◌, length, take, drop, get_or, refl, sym, ap, ◌∙◌, subst, arith, append_assoc}
+use Rattle.std.proofs.Common.{◌≡◌, ◌≢◌, ℕ, ◌+◌, ◌<◌, ◌≤◌, Bool, true, false, List, [], ◌∷◌, ◌++◌, length, take, drop, get_or, refl, sym, ap, ◌∙◌, subst, arith}
 use Rattle.std.specs.List.{flat_map, All}
-use Rattle.std.proofs.lemmas.List.{length-take-le, length-drop, length_push, drop_more, get_or-take, get_or_default, append-nil}
-use Rattle.std.proofs.lemmas.List.Concat.{flat_map-append}
-use Rattle.std.proofs.lemmas.List.Elements.{All-nil, All-push, All-take, All-drop}
+use Rattle.std.proofs.lemmas.List.{length-take-le, length-drop, length_push, get_or-take, get_or_default}
+use Rattle.std.proofs.lemmas.List.Elements.{All-nil, All-push}
 use Rattle.std.proofs.lemmas.List.Quantifiers.{all_pairs_push}
 use Rattle.gx_bytes.specs.Page.{count_of, number_of}
 use Rattle.gx_bytes.specs.Records.{HoldsRecords}
 use Rattle.gx_bytes.proofs.PageLemmas as pages
-use Rattle.gx_bytes.proofs.RecordLemmas.{records-held, same_records, same_tails, holds_parts, holds_first, first_same}
+use Rattle.gx_bytes.proofs.RecordLemmas.{records-held, holds_first, found_same, found_more, next_same}
 use Rattle.gx_slots.specs.Entries.{Entry, IsFit, AreDistinct, HoldsCount, entry_bytes, entries_in}
 use Rattle.gx_slots.specs.Page.{IsEntryPage, entries_of}
 use Rattle.gx_slots.specs.Scan.{HasSeen, HoldsDistinct, hash_of}
@@ -71,18 +70,13 @@ pub scanned_more : (bytes : List ℕ) (place : ℕ) (rest : List ℕ) (seen : Li
 scanned_more bytes place rest seen entry behind marked scan fit is other kept added size =
     let before = scan.entries in
     let same = sym (scanned_entries bytes place rest seen scan) in
-    let pieces : flat_map entry_bytes (before ++ entry ∷ []) ≡ flat_map entry_bytes before ++ entry_bytes entry =
-    flat_map-append entry_bytes before (entry ∷ [])
-    ∙ ap (λ (b : List ℕ). flat_map entry_bytes before ++ b) (append-nil (entry_bytes entry)) in
     record {
       entries = before ++ entry ∷ [];
       count = omega (arith, length_push before entry, scan.count);
       fit = All-push IsFit before entry scan.fit fit;
       distinct = all_pairs_push (λ (a b : Entry). a.key ≢ b.key) before entry scan.distinct
           (subst (All (λ (e : Entry). e.key ≢ entry.key)) same other);
-      is = scan.is ∙ ap (λ (b : List ℕ). flat_map entry_bytes before ++ b) is
-          ∙ sym (append_assoc (flat_map entry_bytes before) (entry_bytes entry) behind)
-          ∙ ap (λ (b : List ℕ). b ++ behind) (sym pieces);
+      is = found_more entry_format before entry bytes rest behind scan.is is;
       noted = All-push (λ (e : Entry). get_or marked (hash_of e.key) false ≡ true) before entry
           (subst (HasSeen marked) same kept) added;
       size = size ∙ scan.size;
@@ -93,19 +87,8 @@ pub held_same : (bytes : List ℕ) (place : ℕ) (rest : List ℕ) (seen : List 
     (scan : Scanned bytes place rest seen) (entries : List Entry)
     → HoldsRecords entry_bytes IsFit entries bytes → place ≤ length entries
     → (scan.entries ≡ take place entries) × HoldsRecords entry_bytes IsFit (drop place entries) rest
-held_same bytes place rest seen scan entries holds within =
-    let front = take place entries in
-    let back = drop place entries in
-    let joined : flat_map entry_bytes scan.entries ++ rest ≡ flat_map entry_bytes front ++ (flat_map entry_bytes back ++ holds.rest) =
-    sym scan.is ∙ holds_parts entry_format place entries bytes holds in
-    let counts : length scan.entries ≡ length front =
-    scan.count ∙ sym (length-take-le place entries within) in
-    let fits = All-take IsFit place entries holds.fit in (
-      same_records entry_format scan.entries front rest (flat_map entry_bytes back ++ holds.rest)
-          scan.fit fits counts joined,
-      record
-          { fit = All-drop IsFit place entries holds.fit; rest = holds.rest; is = same_tails entry_format scan.entries front rest (flat_map entry_bytes back ++ holds.rest) scan.fit fits counts joined },
-    )
+held_same bytes place rest seen scan =
+    found_same entry_format scan.entries place bytes rest scan.fit scan.is scan.count
 
 -- where no entry is ahead, there are no more entries
 pub no_more : (bytes : List ℕ) (place : ℕ) (rest : List ℕ) (seen : List Bool) (count : ℕ)
@@ -130,9 +113,8 @@ twice bytes place rest seen count entry behind scan below fit is double held =
     held_same bytes place rest seen scan entries held.holds (omega (arith, held.count)) in
     let inside : place < length entries = omega (arith, held.count) in
     let next = get_or entries place entry in
-    let here : entry ≡ next = first_same entry_format next entry (drop (place + 1) entries) rest
-    behind (subst (λ (es : List Entry). HoldsRecords entry_bytes IsFit es rest)
-    (drop_more entries place entry inside) same.1) fit is in
+    let here : entry ≡ next =
+    next_same entry_format entry place entries rest behind same.1 inside fit is in
     let key = ap (λ (e : Entry). e.key) here in
     double
     (subst (All (λ (e : Entry). e.key ≢ entry.key)) (sym same.0 ∙ scanned_entries bytes place rest seen scan) (λ k d below_k.

@@ -1,13 +1,14 @@
 // Nodes: trees of mappings, with leaves below.
-ghost use Rattle.std.specs.Prelude.{◌≡◌, ◌≢◌, ◌<◌, ◌≤◌, ◌+◌, ◌++◌, ◌∷◌, [], ◌↔◌, List, ℕ, Option, None, true, length, take, drop, OnOk, IsErrOf, IfOk};
-ghost use Rattle.gx_ports.specs.LeafMaps.{LeafMap, map_at, entry_count, Extends, IsCrowdedBy};
-ghost use Rattle.gx_ports.specs.Calls.{Keeps, ReadsMaps, Ends};
+ghost use Rattle.std.specs.Prelude.{◌≡◌, ◌<◌, ◌≤◌, ◌++◌, ◌∷◌, [], ◌↔◌, List, ℕ, Option, None, true, length, take, drop, OnOk, IsErrOf, IfOk};
+ghost use Rattle.gx_ports.specs.LeafMaps.{LeafMap, Extends};
+ghost use Rattle.gx_ports.specs.Calls.{ReadsMaps};
 ghost use Rattle.gx_values.specs.declared.records.Rec.{Rec as Record};
 ghost use Rattle.gx_mapping.specs.Rule.{In, IsOf, AreOfKey, IsGathered};
 ghost use Rattle.gx_gather.specs.Gather.{part_for, AreEach};
 ghost use Rattle.gx_stack.specs.Tree.{leaves_of, tree_form, entries_of, IsValid};
 ghost use Rattle.gx_stack.specs.Seen.{tree_of};
 ghost use Rattle.gx_stack.specs.Internal.{IsSet, IsInternal, IsUnion, IsChange, IfThere, HasSet, AreOfOne, changed, entries_if};
+ghost use Rattle.gx_stack.specs.Replaces.{Replaces};
 ghost use Rattle.gx_stack.specs.Selected.{IsKeySpan, IsFound};
 
 use crate::entries::{
@@ -206,27 +207,13 @@ impl<M: Mapping> Node<M> {
         requires old_fits { IfThere old (IsOf (tree_form M.rule (tree_of self.now))) }
         requires new_fits { IfThere new (IsOf (tree_form M.rule (tree_of self.now))) }
 
-        // The leaves hold the records with the one changed, and all other leaves stay.
+        // The leaves hold the records with the one changed.
         ensures internal { (R : List Record) → B.whole leaves.old →
             IsSet (tree_form M.rule (tree_of self.now)) R → IsChange R old new →
             IsInternal M.rule (tree_of self.now) R (B.working leaves.old) → OnOk result
             (IsInternal M.rule (tree_of self.now) (changed R old new) (B.working leaves.new)) }
-        ensures others { (n : ℕ) → B.whole leaves.old → ¬ IsErrOf result Stop.Fault →
-            ¬ In n (leaves_of (tree_of self.now)) →
-            map_at (B.working leaves.new) n ≡ map_at (B.working leaves.old) n }
-        ensures count { B.whole leaves.old → OnOk result
-            (entry_count (B.working leaves.new)
-            ≤ entry_count (B.working leaves.old)
-            + length (entries_if M.rule (tree_of self.now) new)) }
 
-        ensures keeps { Keeps B.View leaves.old leaves.new }
-        ensures work { B.work leaves.new ≡ B.work leaves.old }
-        ensures ends { Ends B.View (B.whole leaves.old) leaves.old leaves.new result }
-        ensures full { B.whole leaves.old → IsErrOf result Stop.Full →
-            IsCrowdedBy (B.limit leaves.old)
-            (entry_count (B.working leaves.old)
-            + length (entries_if M.rule (tree_of self.now) new)) }
-        ensures full_of_new { IsErrOf result Stop.Full → new ≢ None }
+        ensures replaces { Replaces B.View M.rule (tree_of self.now) new leaves.old leaves.new result }
     {
         let gone = self.entries_if(alloc, old)?;
         self.replace_entries(alloc, leaves, &gone, new)
@@ -250,28 +237,14 @@ impl<M: Mapping> Node<M> {
         requires gone { AreOfOne M.rule (tree_of self.now) gone.now }
         requires new_fits { IfThere new (IsOf (tree_form M.rule (tree_of self.now))) }
 
-        // The leaves hold the records with the one changed, and all other leaves stay.
+        // The leaves hold the records with the one changed.
         ensures internal { (R : List Record) (old : Option Record) → B.whole leaves.old →
             gone.now ≡ entries_if M.rule (tree_of self.now) old →
             IsSet (tree_form M.rule (tree_of self.now)) R → IsChange R old new →
             IsInternal M.rule (tree_of self.now) R (B.working leaves.old) → OnOk result
             (IsInternal M.rule (tree_of self.now) (changed R old new) (B.working leaves.new)) }
-        ensures others { (n : ℕ) → B.whole leaves.old → ¬ IsErrOf result Stop.Fault →
-            ¬ In n (leaves_of (tree_of self.now)) →
-            map_at (B.working leaves.new) n ≡ map_at (B.working leaves.old) n }
-        ensures count { B.whole leaves.old → OnOk result
-            (entry_count (B.working leaves.new)
-            ≤ entry_count (B.working leaves.old)
-            + length (entries_if M.rule (tree_of self.now) new)) }
 
-        ensures keeps { Keeps B.View leaves.old leaves.new }
-        ensures work { B.work leaves.new ≡ B.work leaves.old }
-        ensures ends { Ends B.View (B.whole leaves.old) leaves.old leaves.new result }
-        ensures full { B.whole leaves.old → IsErrOf result Stop.Full →
-            IsCrowdedBy (B.limit leaves.old)
-            (entry_count (B.working leaves.old)
-            + length (entries_if M.rule (tree_of self.now) new)) }
-        ensures full_of_new { IsErrOf result Stop.Full → new ≢ None }
+        ensures replaces { Replaces B.View M.rule (tree_of self.now) new leaves.old leaves.new result }
     {
         let come = self.entries_if(alloc, new)?;
         remove_others(alloc, leaves, gone, &come)?;

@@ -7,7 +7,7 @@ use Rattle.gx_ports.specs.Heads.{Head}
 use Rattle.gx_ports.specs.LeafMaps.{LeafMap}
 use Rattle.gx_layout.specs.Layout.{OnlyBlocks, pages_of, head_of, is_open}
 use Rattle.gx_layout.specs.Head.{HasMagic}
-use Rattle.gx_layout.specs.Recovered.{replayed_pages, IsSettled as IsOfRecovery}
+use Rattle.gx_layout.specs.Recovered.{replayed_pages, IsOfRecovery}
 use Rattle.gx_journal.specs.State.{head_told, homes_told}
 use Rattle.gx_journal.specs.declared.opening.Unopened.{Unopened as NoJournal}
 use Rattle.gx_journal.specs.declared.opening.Unopened.TheVariants as journal

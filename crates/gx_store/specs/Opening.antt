@@ -3,7 +3,7 @@ use Rattle.std.specs.Prelude.{◌≡◌, ℕ, Bool, true, false, List, [], lengt
 use Rattle.gx_device.specs.Content.{Content, device_at}
 use Rattle.gx_ports.specs.declared.kinds.LeafSpec.{LeafSpec}
 use Rattle.gx_layout.specs.Layout.{head_of, pages_of}
-use Rattle.gx_layout.specs.Recovered.{IsSettled as IsOfRecovery}
+use Rattle.gx_layout.specs.Recovered.{IsOfRecovery}
 use Rattle.gx_layout.specs.Head.{HasMagic, DifferFirst, text_at, text_area}
 use Rattle.gx_store.specs.Device.{IsSize, HasTexts}
 use Rattle.gx_store.specs.Store.{OfBlocks}

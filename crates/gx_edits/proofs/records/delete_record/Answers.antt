@@ -39,7 +39,7 @@ returns-clause-deleted g c = λ f whole is.
     let held = subst (λ (maps : List LeafMap). IsHeld any_rule t (records_of f) maps) (sym same) is.held in
     let done = c.in_ok-replace.ensures.internal (records_of f) after set (subst (λ (r : Rec). In r (records_of f)) (sym was) (there_in f key values there)) held in
     is_done c.args.file.now t _ _ f _ no_record _ (ap (λ o. not (is_some o)) there)
-    (delete_edit c.args.file.now t _ _ f key values c.in_ok-old.old c.requires.tree.valid is was done (λ n out. c.in_ok-replace.ensures.others n after (λ e. cc) out ∙ ap (λ (maps : List LeafMap). map_at maps n) same))
+    (delete_edit c.args.file.now t _ _ f key values c.in_ok-old.old c.requires.tree.valid is was done (λ n out. c.in_ok-replace.ensures.replaces.others n after (λ e. cc) out ∙ ap (λ (maps : List LeafMap). map_at maps n) same))
 
 -- ---- records that have one entry each
 

@@ -65,7 +65,7 @@ returns-clause-updated g c = λ f whole is.
     is_done file t _ _ f _ no_record _ (ap (λ o. not (is_some o)) there)
     (subst (IsEdited file t _ _) (updated_is f key changes values (changed values changes) (sym there) refl)
     (update_edit file t _ _ f key values (changed values changes) old new c.requires.tree.valid c.requires.key (subst (λ (r : Rec). AreFit (data_fields file) r.fields) is_new made.fits.fields) is was is_new done
-    (λ n out. c.in_ok-replace_entries.ensures.others n after (λ e. cc) out ∙ ap (λ (maps : List LeafMap). map_at maps n) same)))
+    (λ n out. c.in_ok-replace_entries.ensures.replaces.others n after (λ e. cc) out ∙ ap (λ (maps : List LeafMap). map_at maps n) same)))
 
 -- ---- a record that has one entry
 

@@ -6,8 +6,8 @@ use Rattle.gx_chain.proofs.ListLemmas.{no_length}
 use Rattle.gx_isam.specs.Change.{IsLeftOut}
 use Rattle.gx_isam.proofs.change.leave_out_empty.Goals as goal
 
-pub returns-clause-settled : goal.returns-clause-settled
-returns-clause-settled g c told =
+pub returns-clause-left_out : goal.returns-clause-left_out
+returns-clause-left_out g c told =
     let s = g.P.PageView.working c.args.pages.now in
     let q = c.read_entries.new.pages in
     let u = g.P.PageView.working c.leave_out.new.pages in

@@ -10,8 +10,8 @@ use Rattle.gx_chain.specs.Chain.{bytes_at, IsEntryAt, LeadsOn}
 use Rattle.gx_chain.proofs.OwnerLemmas.{spared}
 use Rattle.gx_isam_index.specs.Index.{first_of}
 use Rattle.gx_isam.specs.Isam.{IsIsam}
-use Rattle.gx_isam.specs.Change.{IsSettled}
-use Rattle.gx_isam.proofs.ChangeLemmas.{isam_read, isam_back, others_back, leads_on, entry_first, chain_first, put_begun, put_settled}
+use Rattle.gx_isam.specs.Change.{IsLeftOutIfEmpty}
+use Rattle.gx_isam.proofs.ChangeLemmas.{isam_read, isam_back, others_back, leads_on, entry_first, chain_first, put_begun, put_left_out}
 use Rattle.gx_isam.proofs.MakeLemmas.{one_root}
 use Rattle.gx_isam.proofs.PagesLemmas.{isam_few}
 use Rattle.gx_isam.proofs.WriteLemmas.{same_refusal, changed_spared}
@@ -122,9 +122,9 @@ returns-in_ok-put_in-in-Some-clause-ok g c map holds =
     let put = c.in_ok-put_in-in-Some.ensures.put holds.told (h.pages bucket) chain in
     let ground = c.in_ok-put_in-in-Some.ensures.keeps.ground in
     on_ok_weaker c.leave_out_empty.result
-    (λ after. isam_back g.P.PageView place p q reads u _ (put_settled (g.P.PageView.ground q) place (g.P.PageView.working q) map c.requires.place.least past h index page_is c.args.key.now bucket c.bucket_of-bucket.ensures.value c.bucket_of-bucket.ensures.below
-    first found.0 found.2 t u c.args.body.now put (subst (λ (x : Ground). IsSettled x place index bucket first t u) ground after)).0)
-    (c.leave_out_empty.ensures.settled holds.told)
+    (λ after. isam_back g.P.PageView place p q reads u _ (put_left_out (g.P.PageView.ground q) place (g.P.PageView.working q) map c.requires.place.least past h index page_is c.args.key.now bucket c.bucket_of-bucket.ensures.value c.bucket_of-bucket.ensures.below
+    first found.0 found.2 t u c.args.body.now put (subst (λ (x : Ground). IsLeftOutIfEmpty x place index bucket first t u) ground after)).0)
+    (c.leave_out_empty.ensures.left_out holds.told)
 
 pub returns-in_ok-put_in-in-Some-clause-others : goal.returns-in_ok-put_in-in-Some-clause-others
 returns-in_ok-put_in-in-Some-clause-others g c whole fault =
@@ -151,9 +151,9 @@ returns-in_ok-put_in-in-Some-clause-others g c whole fault =
     (changed_spared g.P.PageView (IsEntryAt g.P.PageView r first) (g.P.PageView.ground q) place.owner s r c.leave_out_empty.new.pages c.leave_out_empty.result
     (whole.1.told, entry_first (g.P.PageView.ground q) place.owner t first put.pages put.chain found.2) c.leave_out_empty.ensures.ends
     (on_ok_weaker c.leave_out_empty.result
-    (λ after. (put_settled (g.P.PageView.ground q) place s whole.0 c.requires.place.least past h index page_is c.args.key.now bucket c.bucket_of-bucket.ensures.value c.bucket_of-bucket.ensures.below
-    first found.0 found.2 t u c.args.body.now put (subst (λ (x : Ground). IsSettled x place index bucket first t u) ground after)).1)
-    (c.leave_out_empty.ensures.settled whole.1.told))
+    (λ after. (put_left_out (g.P.PageView.ground q) place s whole.0 c.requires.place.least past h index page_is c.args.key.now bucket c.bucket_of-bucket.ensures.value c.bucket_of-bucket.ensures.below
+    first found.0 found.2 t u c.args.body.now put (subst (λ (x : Ground). IsLeftOutIfEmpty x place index bucket first t u) ground after)).1)
+    (c.leave_out_empty.ensures.left_out whole.1.told))
     c.leave_out_empty.ensures.not_full c.leave_out_empty.ensures.frugal fault)
 
 pub returns-in_ok-put_in-in-Some-clause-ends : goal.returns-in_ok-put_in-in-Some-clause-ends

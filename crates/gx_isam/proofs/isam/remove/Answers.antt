@@ -8,8 +8,8 @@ use Rattle.gx_ports.proofs.PageLemmas.{ends_as, ends_handed_on}
 use Rattle.gx_chain.specs.Chain.{bytes_at, IsEntryAt, LeadsOn}
 use Rattle.gx_isam_index.specs.Index.{first_of}
 use Rattle.gx_isam.specs.Isam.{IsIsam}
-use Rattle.gx_isam.specs.Change.{IsSettled}
-use Rattle.gx_isam.proofs.ChangeLemmas.{isam_read, isam_back, others_back, leads_on, entry_first, chain_first, removed_none, removed_settled}
+use Rattle.gx_isam.specs.Change.{IsLeftOutIfEmpty}
+use Rattle.gx_isam.proofs.ChangeLemmas.{isam_read, isam_back, others_back, leads_on, entry_first, chain_first, removed_none, removed_left_out}
 use Rattle.gx_isam.proofs.WriteLemmas.{changed_spared}
 use Rattle.gx_isam.proofs.isam.remove.Goals as goal
 
@@ -62,9 +62,9 @@ returns-in_ok-remove_from-in-Some-clause-ok g c map holds =
     let less = c.in_ok-remove_from-in-Some.ensures.removed holds.told (h.pages bucket) chain in
     let ground = c.in_ok-remove_from-in-Some.ensures.keeps.ground in
     on_ok_weaker c.leave_out_empty.result
-    (λ after. isam_back g.P.PageView place p q reads u _ (removed_settled (g.P.PageView.ground q) place (g.P.PageView.working q) map c.requires.place.least past h index page_is c.args.key.now bucket c.bucket_of-bucket.ensures.value c.bucket_of-bucket.ensures.below
-    first found.0 found.2 t u less (subst (λ (x : Ground). IsSettled x place index bucket first t u) ground after)).0)
-    (c.leave_out_empty.ensures.settled holds.told)
+    (λ after. isam_back g.P.PageView place p q reads u _ (removed_left_out (g.P.PageView.ground q) place (g.P.PageView.working q) map c.requires.place.least past h index page_is c.args.key.now bucket c.bucket_of-bucket.ensures.value c.bucket_of-bucket.ensures.below
+    first found.0 found.2 t u less (subst (λ (x : Ground). IsLeftOutIfEmpty x place index bucket first t u) ground after)).0)
+    (c.leave_out_empty.ensures.left_out holds.told)
 
 pub returns-in_ok-remove_from-in-Some-clause-others : goal.returns-in_ok-remove_from-in-Some-clause-others
 returns-in_ok-remove_from-in-Some-clause-others g c whole fault =
@@ -91,9 +91,9 @@ returns-in_ok-remove_from-in-Some-clause-others g c whole fault =
     (changed_spared g.P.PageView (IsEntryAt g.P.PageView r first) (g.P.PageView.ground q) place.owner s r c.leave_out_empty.new.pages c.leave_out_empty.result
     (whole.1.told, entry_first (g.P.PageView.ground q) place.owner t first less.pages less.chain found.2) c.leave_out_empty.ensures.ends
     (on_ok_weaker c.leave_out_empty.result
-    (λ after. (removed_settled (g.P.PageView.ground q) place s whole.0 c.requires.place.least past h index page_is c.args.key.now bucket c.bucket_of-bucket.ensures.value c.bucket_of-bucket.ensures.below
-    first found.0 found.2 t u less (subst (λ (x : Ground). IsSettled x place index bucket first t u) ground after)).1)
-    (c.leave_out_empty.ensures.settled whole.1.told))
+    (λ after. (removed_left_out (g.P.PageView.ground q) place s whole.0 c.requires.place.least past h index page_is c.args.key.now bucket c.bucket_of-bucket.ensures.value c.bucket_of-bucket.ensures.below
+    first found.0 found.2 t u less (subst (λ (x : Ground). IsLeftOutIfEmpty x place index bucket first t u) ground after)).1)
+    (c.leave_out_empty.ensures.left_out whole.1.told))
     c.leave_out_empty.ensures.not_full c.leave_out_empty.ensures.frugal fault)
 
 pub returns-in_ok-remove_from-in-Some-clause-ends : goal.returns-in_ok-remove_from-in-Some-clause-ends

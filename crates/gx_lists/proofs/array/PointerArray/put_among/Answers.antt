@@ -25,8 +25,8 @@ replace-requires-clause-new_fits g c =
     let list : c.deref.result.now ≡ with_member c.args.member.now c.args.members.now = search rules in
     new_fits g.M.Mapping.rule (tree_of c.args.self.now.tree.now) c.args.self.now.member c.requires.valid c.args.owner.now c.args.member.now c.args.members.now c.deref.result.now c.in_ok-new.new c.requires.owner c.requires.member c.requires.members c.requires.room list c.in_ok-new.ensures
 
-pub returns-then-is_empty-clause-connected : goal.returns-then-is_empty-clause-connected
-returns-then-is_empty-clause-connected g c = λ link whole can those.
+pub returns-then-is_empty : goal.returns-then-is_empty
+returns-then-is_empty g c =
     let rule = g.M.Mapping.rule in
     let tree = tree_of c.args.self.now.tree.now in
     let kind = c.args.self.now.member in
@@ -36,13 +36,24 @@ returns-then-is_empty-clause-connected g c = λ link whole can those.
     let ms = c.args.members.now in
     let list : c.deref.result.now ≡ with_member m ms = search rules in
     let empty : length ms ≡ 0 = search rules in
-    let internal = c.replace.ensures.internal (node_rows array_rows link 0) whole (rows_set rule tree kind valid link can.is_link) (first_change rule tree kind valid link o m can.free ms c.deref.result.now those list c.in_ok-new.new c.in_ok-new.ensures (none_left ms empty)) can.is_held.0 in
-    on_ok_weaker c.replace.result (λ d. first_connected rule tree kind valid link o m can.free ms c.deref.result.now those list c.in_ok-new.new (g.B.View.working c.replace.new.leaves) c.in_ok-new.ensures (none_left ms empty) d) internal
-
-pub returns-then-is_empty-clause-full : goal.returns-then-is_empty-clause-full
-returns-then-is_empty-clause-full g c = λ link whole can those full.
-    let list : c.deref.result.now ≡ with_member c.args.member.now c.args.members.now = search rules in
-    connect_crowded g.M.Mapping.rule (tree_of c.args.self.now.tree.now) c.args.self.now.member c.requires.valid link c.args.owner.now c.args.member.now can.free c.args.members.now c.deref.result.now those list _ _ c.in_ok-new.new c.in_ok-new.ensures (c.replace.ensures.full whole full)
+    record {
+      connected = λ link whole can those.
+          let internal = c.replace.ensures.internal (node_rows array_rows link 0) whole
+          (rows_set rule tree kind valid link can.is_link)
+          (first_change rule tree kind valid link o m can.free ms c.deref.result.now those list
+          c.in_ok-new.new c.in_ok-new.ensures (none_left ms empty)) can.is_held.0 in
+          on_ok_weaker c.replace.result (λ d. first_connected rule tree kind valid link o m can.free
+          ms c.deref.result.now those list c.in_ok-new.new (g.B.View.working c.replace.new.leaves)
+          c.in_ok-new.ensures (none_left ms empty) d) internal;
+      others = λ n whole fault away. c.replace.ensures.replaces.others n whole fault
+          (λ h. away (in_leaves rule tree kind valid n h));
+      keeps = c.replace.ensures.replaces.keeps;
+      work = c.replace.ensures.replaces.work;
+      ends = c.replace.ensures.replaces.ends;
+      full = λ link whole can those full. connect_crowded rule tree kind valid link o m can.free ms
+          c.deref.result.now those list _ _ c.in_ok-new.new c.in_ok-new.ensures
+          (c.replace.ensures.replaces.full whole full);
+    }
 
 pub array_rec-requires-2-clause-members : goal.array_rec-requires-2-clause-members
 array_rec-requires-2-clause-members g c = λ m h.
@@ -63,8 +74,8 @@ replace-requires-2-clause-new_fits g c =
     let list : c.deref.result.now ≡ with_member c.args.member.now c.args.members.now = search rules in
     new_fits g.M.Mapping.rule (tree_of c.args.self.now.tree.now) c.args.self.now.member c.requires.valid c.args.owner.now c.args.member.now c.args.members.now c.deref.result.now c.in_ok-new.new c.requires.owner c.requires.member c.requires.members c.requires.room list c.in_ok-new.ensures
 
-pub returns-clause-connected : goal.returns-clause-connected
-returns-clause-connected g c = λ link whole can those.
+pub returns : goal.returns
+returns g c =
     let rule = g.M.Mapping.rule in
     let tree = tree_of c.args.self.now.tree.now in
     let kind = c.args.self.now.member in
@@ -76,10 +87,21 @@ returns-clause-connected g c = λ link whole can those.
     let list2 : c.deref-2.result.now ≡ ms = search rules in
     let some : 0 < length ms = search rules in
     let was = c.in_ok-old.ensures ∙ ap (array_rec o) list2 in
-    let internal = c.replace-2.ensures.internal (node_rows array_rows link 0) whole (rows_set rule tree kind valid link can.is_link) (more_change rule tree kind valid link o m can.free ms c.deref.result.now those list c.in_ok-old.old c.in_ok-new.new was c.in_ok-new.ensures some) can.is_held.0 in
-    on_ok_weaker c.replace-2.result (λ d. more_connected rule tree kind valid link o m can.free ms c.deref.result.now those list c.in_ok-old.old c.in_ok-new.new (g.B.View.working c.replace-2.new.leaves) was c.in_ok-new.ensures d) internal
-
-pub returns-clause-full : goal.returns-clause-full
-returns-clause-full g c = λ link whole can those full.
-    let list : c.deref.result.now ≡ with_member c.args.member.now c.args.members.now = search rules in
-    connect_crowded g.M.Mapping.rule (tree_of c.args.self.now.tree.now) c.args.self.now.member c.requires.valid link c.args.owner.now c.args.member.now can.free c.args.members.now c.deref.result.now those list _ _ c.in_ok-new.new c.in_ok-new.ensures (c.replace-2.ensures.full whole full)
+    record {
+      connected = λ link whole can those.
+          let internal = c.replace-2.ensures.internal (node_rows array_rows link 0) whole
+          (rows_set rule tree kind valid link can.is_link)
+          (more_change rule tree kind valid link o m can.free ms c.deref.result.now those list
+          c.in_ok-old.old c.in_ok-new.new was c.in_ok-new.ensures some) can.is_held.0 in
+          on_ok_weaker c.replace-2.result (λ d. more_connected rule tree kind valid link o m
+          can.free ms c.deref.result.now those list c.in_ok-old.old c.in_ok-new.new
+          (g.B.View.working c.replace-2.new.leaves) was c.in_ok-new.ensures d) internal;
+      others = λ n whole fault away. c.replace-2.ensures.replaces.others n whole fault
+          (λ h. away (in_leaves rule tree kind valid n h));
+      keeps = c.replace-2.ensures.replaces.keeps;
+      work = c.replace-2.ensures.replaces.work;
+      ends = c.replace-2.ensures.replaces.ends;
+      full = λ link whole can those full. connect_crowded rule tree kind valid link o m can.free ms
+          c.deref.result.now those list _ _ c.in_ok-new.new c.in_ok-new.ensures
+          (c.replace-2.ensures.replaces.full whole full);
+    }

@@ -141,7 +141,7 @@ returns-clause-full g c = λ link whole can full.
     let some : 0 < length ws = search rules in
     let list2 : c.deref-2.result.now ≡ ws = search rules in
     let is = c.in_ok-new.ensures ∙ ap (array_rec o) list2 in
-    let crowded = c.replace-2.ensures.full (c.in_ok-members.ensures.reads.ends.whole whole) full in
+    let crowded = c.replace-2.ensures.replaces.full (c.in_ok-members.ensures.reads.ends.whole whole) full in
     let at_old = subst (λ (maps : List LeafMap). IsCrowdedBy (b.limit c.members.new.leaves) (entry_count maps + length (entries_of rule tree c.in_ok-new.new))) c.in_ok-members.ensures.reads.reads.working crowded in
     less_crowded rule tree kind valid link o m can.owned ms ws those without (b.limit c.args.leaves.now) (entry_count (b.working c.args.leaves.now)) c.in_ok-new.new is some
     (subst (λ limit. IsCrowdedBy limit (entry_count (b.working c.args.leaves.now) + length (entries_of rule tree c.in_ok-new.new))) c.in_ok-members.ensures.reads.reads.limit at_old)

@@ -36,25 +36,26 @@ replace_both-requires-clause-second_fits g c = subst (FitsChange
           c.requires.owner c.requires.member,
     )
 
-pub returns-clause-connected : goal.returns-clause-connected
-returns-clause-connected g c = λ link whole can.
-    on_ok_weaker c.replace_both.result (λ are. pair_comes g.M.Mapping.rule
-    (tree_of c.args.self.now.down.now) (tree_of c.args.self.now.up.now) c.requires.valid link
-    c.args.owner.now c.args.member.now can.is_link _ _ can.free can.is_held _ _
-    (c.coming-pair.ensures ∙ ap coming c.in_ok-pair_rec.ensures)
-    (c.coming-owned.ensures ∙ ap coming c.in_ok-owned_rec.ensures) are)
-    (c.replace_both.ensures.changed whole)
-
-pub returns-clause-others : goal.returns-clause-others
-returns-clause-others g c = λ n whole fault away. c.replace_both.ensures.others n whole fault
-    (λ h. away (down_leaf g.M.Mapping.rule (tree_of c.args.self.now.down.now)
-    (tree_of c.args.self.now.up.now) c.requires.valid n h))
-    (λ h. away (up_leaf g.M.Mapping.rule (tree_of c.args.self.now.down.now)
-    (tree_of c.args.self.now.up.now) c.requires.valid n h))
-
-pub returns-clause-full : goal.returns-clause-full
-returns-clause-full g c = λ link whole can full. crowded_by g.M.Mapping.rule
-    (tree_of c.args.self.now.down.now) (tree_of c.args.self.now.up.now) c.requires.valid link
-    c.args.owner.now c.args.member.now _ _ _ _ (c.coming-pair.ensures
-    ∙ ap coming c.in_ok-pair_rec.ensures) (c.coming-owned.ensures
-    ∙ ap coming c.in_ok-owned_rec.ensures) (c.replace_both.ensures.full whole full)
+pub returns : goal.returns
+returns g c =
+    let rule = g.M.Mapping.rule in
+    let down = tree_of c.args.self.now.down.now in
+    let up = tree_of c.args.self.now.up.now in
+    let valid = c.requires.valid in
+    let pair = c.coming-pair.ensures ∙ ap coming c.in_ok-pair_rec.ensures in
+    let owned = c.coming-owned.ensures ∙ ap coming c.in_ok-owned_rec.ensures in
+    let both = c.replace_both.ensures in
+    record {
+      connected = λ link whole can known.
+          on_ok_weaker c.replace_both.result (λ are. pair_comes rule down up valid link
+          c.args.owner.now c.args.member.now can.is_link _ _ can.free can.is_held _ _ pair owned
+          are) (both.changed whole);
+      others = λ n whole fault away. both.others n whole fault
+          (λ h. away (down_leaf rule down up valid n h))
+          (λ h. away (up_leaf rule down up valid n h));
+      keeps = both.keeps;
+      work = both.work;
+      ends = both.ends;
+      full = λ link whole can known full. crowded_by rule down up valid link c.args.owner.now
+          c.args.member.now _ _ _ _ pair owned (both.full whole full);
+    }

@@ -23,7 +23,7 @@ returns-clause-joined g c = λ link whole can.
     let still = connect_still (inverted_rule rule down up) (IsHeldLink rule (two_nodes down up) inverted_rows)
     (b.working c.args.leaves.now) (b.working c.count_members.new.leaves) link c.args.member.now read.reads.reads.working can in
     let room : length (members_of link c.args.owner.now) < 500 = omega (arith, counted, c.if-branch-ge-MOST_MEMBERS.false) in
-    (room, c.in_ok-put_pair.ensures.connected link (read.reads.ends.whole whole) still)
+    (room, c.in_ok-put_pair.ensures.connected link (read.reads.ends.whole whole) still tt)
 
 pub returns-clause-steps : goal.returns-clause-steps
 returns-clause-steps g c = λ link whole can.

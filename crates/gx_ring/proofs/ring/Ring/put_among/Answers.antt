@@ -78,37 +78,38 @@ replace_both-requires-clause-second_fits g c =
     let fit_n : IfThere next (Fits (member_kind rule nexts)) = subst (λ x. IfThere x (Fits (member_kind rule nexts))) (sym next_is) (next_fits (Fits (member_kind rule nexts)) c.args.members.now c.args.member.now c.requires.members) in
     subst (FitsChange (tree_form rule nexts)) (sym c.in_ok-own.ensures) (own_fits rule heads nexts c.requires.valid c.args.owner.now c.args.member.now c.requires.owner c.requires.member next fit_n)
 
-pub returns-clause-connected : goal.returns-clause-connected
-returns-clause-connected g c = λ link whole can those.
+pub returns : goal.returns
+returns g c =
     let rule = g.M.Mapping.rule in
     let b = g.B.View in
     let heads = tree_of c.args.self.now.heads.now in
     let nexts = tree_of c.args.self.now.chain.now in
+    let valid = c.requires.valid in
+    let m = c.args.member.now in
     let same = c.deref.ensures.value ∙ c.members.view_is in
-    on_ok_weaker c.replace_both.result
-    (λ a. connected rule heads nexts c.requires.valid c.args.owner.now c.args.member.now c.requires.owner c.requires.member c.args.members.now
-    (option_map (λ v. v.now) c.neighbours_of-at.result.before) (option_map (λ v. v.now) c.neighbours_of-at.result.next)
-    (c.neighbours_of-at.ensures.before ∙ ap (λ ms. before_in ms c.args.member.now) same) (c.neighbours_of-at.ensures.next ∙ ap (λ ms. next_in ms c.args.member.now) same)
-    (tree_of c.leading.result.now) c.leading.ensures c.in_ok-lead.lead c.in_ok-own.own c.in_ok-lead.ensures c.in_ok-own.ensures link (b.working c.args.leaves.now) can those (b.working c.replace_both.new.leaves) c.requires.room a)
-    (c.replace_both.ensures.changed whole)
-
-pub returns-clause-others : goal.returns-clause-others
-returns-clause-others g c = λ n whole fault away.
-    let heads = tree_of c.args.self.now.heads.now in
-    let nexts = tree_of c.args.self.now.chain.now in
-    c.replace_both.ensures.others n whole fault
-    (λ h. away (leading_below g.M.Mapping.rule heads nexts c.requires.valid (option_map (λ v. v.now) c.neighbours_of-at.result.before) n (subst (λ t. In n (leaves_of t)) c.leading.ensures h)))
-    (λ h. away (nexts_below g.M.Mapping.rule heads nexts c.requires.valid n h))
-
-pub returns-clause-full : goal.returns-clause-full
-returns-clause-full g c = λ link whole can those is.
-    let rule = g.M.Mapping.rule in
-    let b = g.B.View in
-    let heads = tree_of c.args.self.now.heads.now in
-    let nexts = tree_of c.args.self.now.chain.now in
-    let same = c.deref.ensures.value ∙ c.members.view_is in
-    connect_full rule heads nexts c.requires.valid c.args.owner.now c.args.member.now c.requires.owner c.requires.member c.args.members.now
-    (option_map (λ v. v.now) c.neighbours_of-at.result.before) (option_map (λ v. v.now) c.neighbours_of-at.result.next)
-    (c.neighbours_of-at.ensures.before ∙ ap (λ ms. before_in ms c.args.member.now) same) (c.neighbours_of-at.ensures.next ∙ ap (λ ms. next_in ms c.args.member.now) same)
-    (tree_of c.leading.result.now) c.leading.ensures c.in_ok-lead.lead c.in_ok-own.own c.in_ok-lead.ensures c.in_ok-own.ensures link (b.working c.args.leaves.now) can those
-    (b.limit c.args.leaves.now) (c.replace_both.ensures.full whole is)
+    let before = option_map (λ v. v.now) c.neighbours_of-at.result.before in
+    let next = option_map (λ v. v.now) c.neighbours_of-at.result.next in
+    let before_is = c.neighbours_of-at.ensures.before ∙ ap (λ ms. before_in ms m) same in
+    let next_is = c.neighbours_of-at.ensures.next ∙ ap (λ ms. next_in ms m) same in
+    let both = c.replace_both.ensures in
+    record {
+      connected = λ link whole can those. on_ok_weaker c.replace_both.result
+          (λ a. connected rule heads nexts valid c.args.owner.now m c.requires.owner
+          c.requires.member c.args.members.now before next before_is next_is
+          (tree_of c.leading.result.now) c.leading.ensures c.in_ok-lead.lead c.in_ok-own.own
+          c.in_ok-lead.ensures c.in_ok-own.ensures link (b.working c.args.leaves.now) can those
+          (b.working c.replace_both.new.leaves) c.requires.room a)
+          (both.changed whole);
+      others = λ n whole fault away. both.others n whole fault
+          (λ h. away (leading_below rule heads nexts valid before n
+          (subst (λ t. In n (leaves_of t)) c.leading.ensures h)))
+          (λ h. away (nexts_below rule heads nexts valid n h));
+      keeps = both.keeps;
+      work = both.work;
+      ends = both.ends;
+      full = λ link whole can those is. connect_full rule heads nexts valid c.args.owner.now m
+          c.requires.owner c.requires.member c.args.members.now before next before_is next_is
+          (tree_of c.leading.result.now) c.leading.ensures c.in_ok-lead.lead c.in_ok-own.own
+          c.in_ok-lead.ensures c.in_ok-own.ensures link (b.working c.args.leaves.now) can those
+          (b.limit c.args.leaves.now) (both.full whole is);
+    }

@@ -1,4 +1,4 @@
-use Rattle.std.proofs.Common.{◌<◌, ◌∙◌, Err, ap, sym, subst, length}
+use Rattle.std.proofs.Common.{rules, ◌<◌, ◌∙◌, Err, ap, sym, subst, length}
 use Rattle.std.proofs.lemmas.Result.{on_ok_weaker, err_from_is_err_and}
 use Rattle.gx_mapping.specs.Rule.{In}
 use Rattle.gx_stack.specs.Tree.{leaves_of}
@@ -23,20 +23,39 @@ put_new-requires g c =
           (λ n h. subst (λ j. n < j) (sym c.in_ok-remove_others.ensures.keeps.leaves) (c.requires.below n h)));
     }
 
-pub returns-in_err-remove_others-clause-others : goal.returns-in_err-remove_others-clause-others
-returns-in_err-remove_others-clause-others g c = λ n whole fault away.
+pub returns-in_err-remove_others-clause-replaces : goal.returns-in_err-remove_others-clause-replaces
+returns-in_err-remove_others-clause-replaces g c =
     let t = tree_of c.args.self.now in
-    let p = err_from_is_err_and c.from_residual-in_err-remove_others.result c.from_residual-in_err-remove_others.ensures.1 in
-    c.in_err-remove_others.ensures.others whole (λ f. fault (p.1 ∙ ap Err p.2 ∙ f)) n
-    (λ e h is. away (subst (λ k. In k (leaves_of t)) is (entries_leaf g.M.Mapping.rule t c.requires.gone.0 e (subst (In e) c.requires.gone.2 h))))
+    let p = err_from_is_err_and c.from_residual-in_err-remove_others.result
+    c.from_residual-in_err-remove_others.ensures.1 in
+    record {
+      others = λ n whole fault away. c.in_err-remove_others.ensures.others whole
+          (λ f. fault (p.1 ∙ ap Err p.2 ∙ f)) n
+          (λ e h is. away (subst (λ k. In k (leaves_of t)) is (entries_leaf g.M.Mapping.rule t c.requires.gone.0 e (subst (In e) c.requires.gone.2 h))));
+      count = search rules;
+      keeps = search rules;
+      work = search rules;
+      ends = search rules;
+      full = search rules;
+      full_of_new = search rules;
+    }
 
-pub returns-clause-others : goal.returns-clause-others
-returns-clause-others g c = λ n whole fault away.
+pub returns-clause-replaces : goal.returns-clause-replaces
+returns-clause-replaces g c =
     let t = tree_of c.args.self.now in
-    c.put_new.ensures.others (c.in_ok-remove_others.ensures.ends.whole whole) fault n
-    (λ e h is. away (subst (λ k. In k (leaves_of t)) is (entries_leaf g.M.Mapping.rule t c.args.new e (subst (In e) (c.deref-2.ensures.value ∙ c.in_ok-come.ensures) h))))
-    ∙ c.in_ok-remove_others.ensures.others whole (λ f. cc) n
-    (λ e h is. away (subst (λ k. In k (leaves_of t)) is (entries_leaf g.M.Mapping.rule t c.requires.gone.0 e (subst (In e) c.requires.gone.2 h))))
+    record {
+      others = λ n whole fault away.
+          c.put_new.ensures.others (c.in_ok-remove_others.ensures.ends.whole whole) fault n
+          (λ e h is. away (subst (λ k. In k (leaves_of t)) is (entries_leaf g.M.Mapping.rule t c.args.new e (subst (In e) (c.deref-2.ensures.value ∙ c.in_ok-come.ensures) h))))
+          ∙ c.in_ok-remove_others.ensures.others whole (λ f. cc) n
+          (λ e h is. away (subst (λ k. In k (leaves_of t)) is (entries_leaf g.M.Mapping.rule t c.requires.gone.0 e (subst (In e) c.requires.gone.2 h))));
+      count = search rules;
+      keeps = search rules;
+      work = search rules;
+      ends = search rules;
+      full = search rules;
+      full_of_new = search rules;
+    }
 
 pub returns-clause-internal : goal.returns-clause-internal
 returns-clause-internal g c = λ R old whole gone set change is.

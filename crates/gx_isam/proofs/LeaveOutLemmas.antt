@@ -17,7 +17,7 @@ use Rattle.gx_chain.proofs.ListLemmas.{contains_here, contains_later, contains_c
 use Rattle.gx_chain.proofs.WriteLemmas.{slice_get_set, slice_get_set_same}
 use Rattle.gx_isam_index.specs.Index.{IsIndexPage, bucket_count, first_of, separators_of}
 use Rattle.gx_isam.specs.Isam.{IsIsam}
-use Rattle.gx_isam.specs.Change.{IsLeftOut, IsSettled}
+use Rattle.gx_isam.specs.Change.{IsLeftOut, IsLeftOutIfEmpty}
 use Rattle.gx_isam.proofs.BucketLemmas.{root_off, IsBucketChanged}
 
 -- a chain that begins at a page
@@ -36,7 +36,7 @@ tail_chain ground owner s first rest chain = record {
   apart = λ p q k b c in_p in_q. chain.apart p q k b c (contains_later first p rest in_p) (contains_later first q rest in_q);
 }
 
--- a chain of a bucket was changed, and its first page settled
+-- a chain of a bucket was changed, and its first page left out where it has no entry
 module _ (ground : Ground) (place : Place) (s t u : Sheets) (map : LeafMap) (some : 1 ≤ place.owner) (past : ground.tables ≤ place.root) (h : IsIsam ground place s map) (j : ℕ) (below : j < bucket_count (bytes_at s place.root))
     (first : ℕ) (first_is : first_of (bytes_at s place.root) j ≡ first) (first_some : first ≢ NONE) (pages : List ℕ) (chain : IsChain ground place.owner t first pages) (beside : StaysBeside ground s t (h.pages j) pages) where
   abbrev root : ℕ
@@ -181,16 +181,16 @@ module _ (ground : Ground) (place : Place) (s t u : Sheets) (map : LeafMap) (som
     )
 
   -- either way the bucket has changed, and has the entries of the changed chain
-  pub record IsSettledChange : Type 0 where
+  pub record IsLeftOutChange : Type 0 where
     pub now : List ℕ
     pub bucket : IsBucketChanged ground place j s u (h.pages j) now
     pub on : (k b : List ℕ) → IsOn u now k b ↔ IsOn t pages k b
 
-  pub settled : IsSettled ground place (bytes_at s root) j first t u → IsSettledChange
-  settled (inl stays) = record {
+  pub left_out_if_empty : IsLeftOutIfEmpty ground place (bytes_at s root) j first t u → IsLeftOutChange
+  left_out_if_empty (inl stays) = record {
     now = pages;
     bucket = subst (λ (x : Sheets). IsBucketChanged ground place j s x (h.pages j) pages) (sym stays.1) (still_filled stays.0);
     on = λ k b. (λ on. subst (λ (x : Sheets). IsOn x pages k b) stays.1 on, λ on. subst (λ (x : Sheets). IsOn x pages k b) (sym stays.1) on);
   }
-  settled (inr out) = (let head = headed ground place.owner t first pages chain first_some in
+  left_out_if_empty (inr out) = (let head = headed ground place.owner t first pages chain first_some in
       record { now = head.0; bucket = left_out out.1 head.0 head.1; on = on_rest_of_empty out.1 head.0 head.1 out.0 })
