@@ -14,6 +14,7 @@ use Rattle.gx_values.specs.declared.values.Value.{Value}
 use Rattle.gx_values.specs.declared.values.Value.TheVariants as value
 use Rattle.gx_values.specs.Values.{Fits, AreFit, is_printable}
 use Rattle.gx_values.specs.Written.{IsAtFront}
+use Rattle.gx_values.proofs.IntLemmas.{first_bytes}
 use Rattle.gx_actual.specs.Bodies.{field_bytes, IsShort, AreShort, HasLength}
 
 -- ---- lengths
@@ -48,12 +49,6 @@ pub item_short : (fs : List Field) (f : Field) (i : ℕ) → AreShort fs → i <
 item_short fs f i short lt is = subst (λ (g : Field). IsShort g.kind) (sym is) (short_at fs f i short lt)
 
 -- ---- reading
-
-first_bytes : (n : ℕ) (l : List ℕ) → ((i : ℕ) → get_or l i 0 < 256) → (i : ℕ) → get_or (take n l) i 0 < 256
-first_bytes zero l small i = omega arith
-first_bytes (suc n) [] small i = omega arith
-first_bytes (suc n) (x ∷ l) small zero = small 0
-first_bytes (suc n) (x ∷ l) small (suc i) = first_bytes n l (λ k. small (suc k)) i
 
 pub int_read : (bytes front : List ℕ) (z : ℤ) (n : ℕ) → 8 ≤ length bytes → front ≡ take 8 bytes → ((i : ℕ) → get_or bytes i 0 < 256) → n < 2 ^ 64 → n ≡ from_be_bytes w64 front → FitsSigned w64 z → z ≡ cast_signed w64 n
     → IsAtFront field_bytes kind.Int bytes (Some (value.Int z))

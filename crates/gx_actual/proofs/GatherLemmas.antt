@@ -1,5 +1,5 @@
 -- What is gathered from the part of a record.
-use Rattle.std.proofs.Common.{inl, ◌≡◌, ℕ, ◌<◌, ◌≤◌, List, [], ◌∷◌, length, get_or, refl, sym, ap, subst, ◌∙◌, arith}
+use Rattle.std.proofs.Common.{inl, ◌≡◌, ℕ, List, [], ◌∷◌, refl, sym, ap, subst, ◌∙◌, arith}
 use Rattle.gx_values.specs.declared.values.Value.{Value}
 use Rattle.gx_values.specs.declared.values.Value.TheVariants as value
 use Rattle.gx_values.specs.declared.records.Form.{Form}
@@ -32,7 +32,3 @@ the_part form key part req =
     λ i. record { child = sym first i; rec = record { key = sym under i; fields = part.rec.fields } }
 
 -- lists of one item
-pub one_item : (xs : List Part) (x : Part) → 1 ≤ length xs → length xs < 2 → x ≡ get_or xs 0 x → xs ≡ x ∷ []
-one_item [] x least most is = absurd (omega arith)
-one_item (y ∷ []) x least most is = λ i. sym is i ∷ []
-one_item (y ∷ z ∷ ys) x least most is = absurd (omega arith)

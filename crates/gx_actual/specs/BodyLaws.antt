@@ -1,10 +1,6 @@
 -- A body is that of one list of values, and no longer than the widths of their fields.
-use Rattle.std.proofs.Common.{◌≡◌, ℕ, ◌/◌, ◌%◌, ◌<◌, ◌≤◌, ◌^◌, List, [], ◌∷◌, ◌++◌, length, drop, get_or, refl, sym, ap, ◌∙◌, arith, append_assoc}
-use Rattle.std.specs.Prelude.{ℤ, pos, negsuc}
-use Rattle.std.specs.Int.{w16, w64, to_be_bytes, from_be_bytes, cast_unsigned, cast_signed}
-use Rattle.std.specs.Int.RustNames.{FitsSigned}
-use Rattle.std.proofs.lemmas.Nat.{from_be_bytes-to_be_bytes_8}
-use Rattle.std.proofs.Math.Facts.{to_z-of_z}
+use Rattle.std.proofs.Common.{◌≡◌, ℕ, ◌/◌, ◌%◌, ◌≤◌, List, [], ◌∷◌, ◌++◌, length, drop, get_or, refl, sym, ap, ◌∙◌, arith, append_assoc}
+use Rattle.std.specs.Int.{w16, to_be_bytes}
 use Rattle.gx_values.specs.declared.values.Kind.{Kind}
 use Rattle.gx_values.specs.declared.values.Kind.TheVariants as kind
 use Rattle.gx_values.specs.declared.records.Field.{Field}
@@ -12,18 +8,10 @@ use Rattle.gx_values.specs.declared.values.Value.{Value}
 use Rattle.gx_values.specs.declared.values.Value.TheVariants as value
 use Rattle.gx_values.specs.Values.{AreFit}
 use Rattle.gx_values.proofs.WrittenLemmas.{IsPrefixFree, ArePrefixFree, written_once}
+use Rattle.gx_values.proofs.IntLemmas.{same_int}
 use Rattle.gx_actual.specs.Bodies.{field_bytes, body_of, IsShort, AreShort}
 
 -- ---- one value in front
-
-unsigned_small : (z : ℤ) → FitsSigned w64 z → cast_unsigned w64 z < 2 ^ 64
-unsigned_small (pos n) fits = omega (arith, fits.sfits)
-unsigned_small (negsuc n) fits = omega arith
-
-same_int : (y z : ℤ) → FitsSigned w64 y → FitsSigned w64 z → to_be_bytes w64 (cast_unsigned w64 y) ≡ to_be_bytes w64 (cast_unsigned w64 z) → y ≡ z
-same_int y z f g e =
-    let n = sym (from_be_bytes-to_be_bytes_8 (cast_unsigned w64 y) (unsigned_small y f)) ∙ ap (from_be_bytes w64) e ∙ from_be_bytes-to_be_bytes_8 (cast_unsigned w64 z) (unsigned_small z g) in
-    sym (to_z-of_z {w = w64} f) ∙ ap (cast_signed w64) n ∙ to_z-of_z {w = w64} g
 
 same_front : (a b x y : List ℕ) → length a ≡ length b → a ++ x ≡ b ++ y → (a ≡ b) × (x ≡ y)
 same_front [] [] x y n e = (refl, e)

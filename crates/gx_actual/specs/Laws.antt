@@ -1,7 +1,6 @@
 -- The layer keeps the laws of mappings.
 use Rattle.std.proofs.Common.{inl, ◌≡◌, List, [], ◌∷◌, length, get_or, refl, sym, ap, subst, ◌∙◌, arith, append-nil, length-append}
 use Rattle.std.specs.Prelude.{ℕ, ◌≤◌, ◌<◌}
-use Rattle.std.specs.List.Sorted.{IsStrictlySortedBy}
 use Rattle.gx_values.specs.declared.values.Kind.{Kind}
 use Rattle.gx_values.specs.declared.values.Kind.TheVariants as kind
 use Rattle.gx_values.specs.declared.values.Value.{Value}
@@ -11,9 +10,9 @@ use Rattle.gx_values.specs.declared.records.Form.{Form}
 use Rattle.gx_values.specs.declared.records.Rec.{Rec}
 use Rattle.gx_values.specs.Values.{Fits, AreFit}
 use Rattle.gx_mapping.specs.declared.parts.Part.{Part}
-use Rattle.gx_mapping.specs.Rule.{IsOf, part_cmp}
+use Rattle.gx_mapping.specs.Rule.{IsOf}
 use Rattle.gx_mapping.specs.Laws.{MappingLaws}
-use Rattle.gx_mapping.proofs.RuleLemmas.{the_one}
+use Rattle.gx_mapping.proofs.RuleLemmas.{the_one, sorted_one}
 use Rattle.gx_actual.specs.Bodies.{field_bytes, body_of, field_width, field_widths, AreShort}
 use Rattle.gx_actual.specs.BodyLaws.{same_body}
 use Rattle.gx_actual.specs.Forms.{actual_form}
@@ -39,10 +38,6 @@ body_width [] (v ∷ vs) h = absurd h
 body_width (f ∷ fs) [] h = absurd h
 
 -- ---- the laws
-
-sorted_one : (p : Part) → IsStrictlySortedBy part_cmp (p ∷ [])
-unfolding IsStrictlySortedBy
-sorted_one p = (tt, tt)
 
 bytes_in : Part → List ℕ
 bytes_in p = bytes_first p.rec.fields

@@ -141,7 +141,3 @@ none_text most bytes few none (value.Int n) fits e = absurd fits
 none_text most bytes few none (value.Bytes b) fits e = absurd fits
 
 -- lists of one item
-pub one_item : (xs : List Part) (x : Part) → 1 ≤ length xs → length xs < 2 → x ≡ get_or xs 0 x → xs ≡ x ∷ []
-one_item [] x least most is = absurd (omega arith)
-one_item (y ∷ []) x least most is = λ i. sym is i ∷ []
-one_item (y ∷ z ∷ ys) x least most is = absurd (omega arith)

@@ -1,7 +1,6 @@
 -- The layer keeps the laws of mappings.
 use Rattle.std.proofs.Common.{inl, ◌≡◌, ℕ, zero, suc, ◌<◌, List, [], ◌∷◌, length, get_or, cond, Bool, true, false, Some, refl, sym, ap, subst, ◌∙◌, arith, append-nil, drop}
 use Rattle.std.specs.Prelude.{◌&&◌, not, nat_eq}
-use Rattle.std.specs.List.Sorted.{IsStrictlySortedBy}
 use Rattle.std.specs.Cmp.Lexicographic.{pointwise}
 use Rattle.std.proofs.lemmas.Bool.Decides.{nat_tests}
 use Rattle.gx_values.specs.declared.values.Code.{Code}
@@ -15,9 +14,9 @@ use Rattle.gx_values.specs.declared.records.Form.{Form}
 use Rattle.gx_values.specs.declared.records.Rec.{Rec}
 use Rattle.gx_values.specs.Values.{Fits, AreFit}
 use Rattle.gx_mapping.specs.declared.parts.Part.{Part}
-use Rattle.gx_mapping.specs.Rule.{IsOf, part_cmp, value_in, kind_in, is_field, first_in}
+use Rattle.gx_mapping.specs.Rule.{IsOf, value_in, kind_in, is_field, first_in}
 use Rattle.gx_mapping.specs.Laws.{MappingLaws, IsCarried, IsCarrier}
-use Rattle.gx_mapping.proofs.RuleLemmas.{the_one}
+use Rattle.gx_mapping.proofs.RuleLemmas.{the_one, sorted_one}
 use Rattle.gx_mapping.proofs.FieldLemmas.{has_value}
 use Rattle.gx_encode.specs.PackLaws.{same_pack, short_pack}
 use Rattle.gx_encode.specs.RunLaws.{same_rle, short_rle}
@@ -155,10 +154,6 @@ carrier form i c name child carries =
     record { rest = refl; keys = refl; kind = other_kind c i form.fields name o.apart; each = λ r is. carried_by form i c name r o is }
 
 -- ---- the laws
-
-sorted_one : (p : Part) → IsStrictlySortedBy part_cmp (p ∷ [])
-unfolding IsStrictlySortedBy
-sorted_one p = (tt, tt)
 
 parts_tell : (form : Form) (i : ℕ) (c : Code) (r s : Rec) → IsEncode form i c → IsOf form r → IsOf form s → encode_part i c r ≡ encode_part i c s → r ≡ s
 parts_tell form i c r s is f g e =

@@ -1,13 +1,12 @@
 -- The shortest bytes tell the int, and are its only code.
-use Rattle.std.proofs.Common.{◌≡◌, ℕ, zero, suc, ◌-◌, ◌<◌, ◌≤◌, ◌^◌, List, [], ◌∷◌, ◌++◌, length, cond, Bool, true, false, refl, sym, ap, ◌∙◌, arith, length-append}
-use Rattle.std.specs.Prelude.{ℤ, pos, negsuc, nat_eq, nat_le}
-use Rattle.std.specs.Int.{w64, from_be_bytes, cast_unsigned, cast_signed}
+use Rattle.std.proofs.Common.{◌≡◌, ℕ, zero, suc, ◌-◌, ◌≤◌, List, [], ◌∷◌, ◌++◌, length, cond, Bool, true, false, refl, sym, ap, ◌∙◌, arith, length-append}
+use Rattle.std.specs.Prelude.{ℤ, nat_eq, nat_le}
+use Rattle.std.specs.Int.{w64}
 use Rattle.std.specs.Int.RustNames.{FitsSigned}
 use Rattle.std.proofs.Math.ListN.{replicate}
 use Rattle.std.proofs.lemmas.List.{length-replicate}
-use Rattle.std.proofs.lemmas.Nat.{from_be_bytes-to_be_bytes_8}
 use Rattle.std.proofs.lemmas.Bool.Decides.{nat_tests}
-use Rattle.std.proofs.Math.Facts.{to_z-of_z}
+use Rattle.gx_values.proofs.IntLemmas.{same_int}
 use Rattle.gx_encode.specs.Packs.{int_bytes, sign_of, extended, shortest, pack, IsPack}
 
 -- ---- signs
@@ -106,15 +105,6 @@ pack_is n = record {
       omega (arith, no_longer other, ap length same)
       );
 }
-
-unsigned_small : (z : ℤ) → FitsSigned w64 z → cast_unsigned w64 z < 2 ^ 64
-unsigned_small (pos n) fits = omega (arith, fits.sfits)
-unsigned_small (negsuc n) fits = omega arith
-
-pub same_int : (y z : ℤ) → FitsSigned w64 y → FitsSigned w64 z → int_bytes y ≡ int_bytes z → y ≡ z
-same_int y z f g e =
-    let n = sym (from_be_bytes-to_be_bytes_8 (cast_unsigned w64 y) (unsigned_small y f)) ∙ ap (from_be_bytes w64) e ∙ from_be_bytes-to_be_bytes_8 (cast_unsigned w64 z) (unsigned_small z g) in
-    sym (to_z-of_z {w = w64} f) ∙ ap (cast_signed w64) n ∙ to_z-of_z {w = w64} g
 
 -- a code is that of one int
 pub same_pack : (y z : ℤ) → FitsSigned w64 y → FitsSigned w64 z → pack y ≡ pack z → y ≡ z

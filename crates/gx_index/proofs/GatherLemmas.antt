@@ -9,16 +9,11 @@ use Rattle.gx_values.specs.Values.{AreSized}
 use Rattle.gx_values.proofs.CopyLemmas.{are_sized}
 use Rattle.gx_mapping.specs.declared.parts.Part.{Part}
 use Rattle.gx_mapping.specs.Rule.{In, AreOfKey, IsGathered, IsOf}
-use Rattle.gx_mapping.proofs.RuleLemmas.{whole_key}
+use Rattle.gx_mapping.proofs.RuleLemmas.{whole_key, one_item}
 use Rattle.gx_index.specs.Rules.{index_rule}
 
 zero_of : (n : ℕ) → nat_eq n 0 ≡ true → n ≡ 0
 zero_of n e = grind (arith, nat_tests)
-
-one_item : (xs : List Part) (x : Part) → 1 ≤ length xs → length xs < 2 → x ≡ get_or xs 0 x → xs ≡ x ∷ []
-one_item [] x least most is = absurd (omega arith)
-one_item (y ∷ []) x least most is = λ i. sym is i ∷ []
-one_item (y ∷ z ∷ ys) x least most is = absurd (omega arith)
 
 -- a copy of the one part's record is the record
 pub one_gathered : (form : Form) (i : ℕ) (key : List Value) (ps items : List Part) (p : Part) (copy : Rec) → AreOfKey (index_rule form i) key ps → items ≡ ps → 1 ≤ length items → length items < 2 → p ≡ get_or items 0 p

@@ -1,6 +1,6 @@
 -- What is gathered from the part of a record.
 use Rattle.std.proofs.lemmas.Bool.Decides.{nat_tests}
-use Rattle.std.proofs.Common.{inl, ◌≡◌, ℕ, ◌<◌, ◌≤◌, List, [], ◌∷◌, length, get_or, cond, Bool, true, false, Option, Some, None, refl, sym, ap, subst, ◌∙◌, arith}
+use Rattle.std.proofs.Common.{inl, ◌≡◌, ℕ, List, [], ◌∷◌, get_or, cond, Bool, true, false, Option, Some, None, refl, sym, ap, subst, ◌∙◌, arith}
 use Rattle.std.specs.Prelude.{nat_eq}
 use Rattle.gx_values.specs.declared.values.Value.{Value}
 use Rattle.gx_values.specs.declared.records.Form.{Form}
@@ -42,7 +42,3 @@ gathered_one form at bounds key p ps found req is found_is = subst (IsGathered (
         unequal (child_of bounds (value_at at p.rec)) p.child (sym e) child
 
 -- a list of one item
-pub one_item : (xs : List Part) (x : Part) → 1 ≤ length xs → length xs < 2 → x ≡ get_or xs 0 x → xs ≡ x ∷ []
-one_item [] x least most is = absurd (omega arith)
-one_item (y ∷ []) x least most is = λ i. sym is i ∷ []
-one_item (y ∷ z ∷ ys) x least most is = absurd (omega arith)

@@ -1,7 +1,6 @@
 -- The layer keeps the laws of mappings.
 use Rattle.std.proofs.Common.{inl, ◌≡◌, ℕ, zero, suc, ◌<◌, List, [], ◌∷◌, ◌++◌, length, get_or, Bool, true, false, Option, Some, None, refl, sym, ap, subst, ◌∙◌, arith, append-nil}
 use Rattle.std.specs.Prelude.{◌||◌, ◌+◌}
-use Rattle.std.specs.List.Sorted.{IsStrictlySortedBy}
 use Rattle.std.specs.Ordering.{is_le}
 use Rattle.std.specs.declared.cmp.Ordering.TheVariants.{Greater}
 use Rattle.gx_values.specs.declared.values.Value.{Value}
@@ -12,9 +11,9 @@ use Rattle.gx_values.specs.declared.keys.Span.{Span}
 use Rattle.gx_values.specs.Values.{value_cmp, Fits, AreFit}
 use Rattle.gx_values.specs.Keys.{bytes_of, key_of, is_inside}
 use Rattle.gx_mapping.specs.declared.parts.Part.{Part}
-use Rattle.gx_mapping.specs.Rule.{IsOf, part_cmp, is_field}
+use Rattle.gx_mapping.specs.Rule.{IsOf, is_field}
 use Rattle.gx_mapping.specs.Laws.{MappingLaws, IsCarried}
-use Rattle.gx_mapping.proofs.RuleLemmas.{the_one}
+use Rattle.gx_mapping.proofs.RuleLemmas.{the_one, sorted_one}
 use Rattle.gx_mapping.proofs.FieldLemmas.{has_value}
 use Rattle.gx_partition.specs.declared.place.Where.{Where}
 use Rattle.gx_partition.specs.declared.place.Where.TheVariants.{Key, Rest}
@@ -22,10 +21,6 @@ use Rattle.gx_partition.specs.Places.{no_field, no_value, value_at, kind_at}
 use Rattle.gx_partition.specs.Bounds.{IsPartition, child_of, lower_of, upper_of, ends_before, begins_after}
 use Rattle.gx_partition.specs.RangeLaws.{upper_above, lower_at_most, child_small, fits_at, lower_fits, before_span, behind_span}
 use Rattle.gx_partition.specs.Rules.{partition_part, partition_rule, is_outside}
-
-sorted_one : (p : Part) → IsStrictlySortedBy part_cmp (p ∷ [])
-unfolding IsStrictlySortedBy
-sorted_one p = (tt, tt)
 
 -- ---- skipped children
 

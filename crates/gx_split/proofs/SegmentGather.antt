@@ -16,12 +16,7 @@ use Rattle.gx_split.specs.Forms.{segment_form}
 use Rattle.gx_split.specs.SegmentRules.{first_part, other_part, is_short, segment_parts, segment_rule, segment_values}
 use Rattle.gx_split.specs.SegmentLaws.{all_data, same_keys}
 
--- lists of one and of two items
-pub one_item : (xs : List Part) (x : Part) → 1 ≤ length xs → length xs < 2 → x ≡ get_or xs 0 x → xs ≡ x ∷ []
-one_item [] x least most is = absurd (omega arith)
-one_item (y ∷ []) x least most is = λ i. sym is i ∷ []
-one_item (y ∷ z ∷ ys) x least most is = absurd (omega arith)
-
+-- a list of two items
 pub two_items : (xs : List Part) (x y : Part) → 2 ≤ length xs → length xs < 3 → x ≡ get_or xs 0 x → y ≡ get_or xs 1 y → xs ≡ x ∷ y ∷ []
 two_items [] x y least most is_x is_y = absurd (omega arith)
 two_items (a ∷ []) x y least most is_x is_y = absurd (omega arith)

@@ -1,16 +1,15 @@
 -- A layer of which one child alone is searched.
-use Rattle.std.proofs.Common.{◌≡◌, ◌≢◌, ◌<◌, ◌≤◌, ◌+◌, ℕ, zero, suc, true, false, List, [], ◌∷◌, ◌++◌, Option, Some, None, inl, inr, refl, sym, ap, ◌∙◌, subst, length, map, take, drop, arith, append-nil, length-append}
+use Rattle.std.proofs.Common.{◌≡◌, ◌≢◌, ◌<◌, ◌≤◌, ◌+◌, ℕ, zero, suc, true, false, List, [], ◌∷◌, ◌++◌, None, inl, inr, refl, sym, ap, ◌∙◌, subst, length, map, take, drop, arith, append-nil, length-append}
 use Rattle.std.specs.List.{sum_by, flat_map}
-use Rattle.std.specs.List.Sorted.{IsStrictlySortedBy}
 use Rattle.gx_values.specs.declared.values.Value.{Value}
 use Rattle.gx_values.specs.declared.records.Field.{Field}
 use Rattle.gx_values.specs.declared.records.Rec.{Rec}
 use Rattle.gx_values.specs.declared.keys.Span.{Span}
 use Rattle.gx_values.specs.Values.{AreFit}
 use Rattle.gx_mapping.specs.declared.parts.Part.{Part}
-use Rattle.gx_mapping.specs.Rule.{Rule, In, IsOf, data_parts, part_cmp, IsOfKey, AreOfKey, IsGathered}
+use Rattle.gx_mapping.specs.Rule.{Rule, In, IsOf, data_parts, IsOfKey, AreOfKey, IsGathered}
 use Rattle.gx_mapping.specs.Laws.{MappingLaws}
-use Rattle.gx_mapping.proofs.RuleLemmas.{the_one}
+use Rattle.gx_mapping.proofs.RuleLemmas.{the_one, sorted_one}
 use Rattle.gx_gather.specs.Gather.{rec_cmp, part_for, AreEach}
 use Rattle.gx_gather.proofs.Lists.{in_map, from_map, nat_cases}
 use Rattle.gx_gather.proofs.Orders.{ascends, ascends_once}
@@ -60,10 +59,6 @@ module _ {rule : Rule} (laws : MappingLaws rule) (span : Span) (c : ℕ) (alone 
 take_all : (xs : List Value) → take (length xs) xs ≡ xs
 take_all [] = refl
 take_all (x ∷ xs) = ap (λ ys. x ∷ ys) (take_all xs)
-
-sorted_one : (p : Part) → IsStrictlySortedBy part_cmp (p ∷ [])
-unfolding IsStrictlySortedBy
-sorted_one p = (tt, tt)
 
 module _ {rule : Rule} (laws : MappingLaws rule) (R : List Rec) (set : IsSet rule.form R)
     (span : Span) (fits : IsKeySpan rule.form span) where

@@ -4,8 +4,9 @@ use Rattle.gx_values.specs.declared.values.Value.{Value}
 use Rattle.gx_values.proofs.CopyLemmas.{are_sized}
 use Rattle.gx_mapping.specs.declared.parts.Part.{Part}
 use Rattle.gx_mapping.specs.Rule.{AreOfKey, IsGathered}
+use Rattle.gx_mapping.proofs.RuleLemmas.{one_item}
 use Rattle.gx_actual.specs.Rules.{actual_rule, body_part}
-use Rattle.gx_actual.proofs.GatherLemmas.{the_part, one_item}
+use Rattle.gx_actual.proofs.GatherLemmas.{the_part}
 use Rattle.gx_actual.proofs.mapping.ActualMapping.gather.Goals as goal
 
 pub without_body-requires-clause-under : goal.without_body-requires-clause-under

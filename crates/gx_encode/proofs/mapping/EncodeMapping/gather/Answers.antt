@@ -5,9 +5,10 @@ use Rattle.gx_values.specs.declared.records.Rec.{Rec}
 use Rattle.gx_values.proofs.CopyLemmas.{are_sized}
 use Rattle.gx_mapping.specs.declared.parts.Part.{Part}
 use Rattle.gx_mapping.specs.Rule.{AreOfKey, IsGathered}
+use Rattle.gx_mapping.proofs.RuleLemmas.{one_item}
 use Rattle.gx_encode.specs.Forms.{changed, coded_field}
 use Rattle.gx_encode.specs.Rules.{rule_of, only_part}
-use Rattle.gx_encode.proofs.GatherLemmas.{one_item, part_under, part_whole, part_alone}
+use Rattle.gx_encode.proofs.GatherLemmas.{part_under, part_whole, part_alone}
 use Rattle.gx_encode.proofs.mapping.EncodeMapping.gather.Goals as goal
 
 pub record_of-requires : goal.record_of-requires

@@ -2,8 +2,9 @@ use Rattle.std.proofs.Common.{inl, ◌∙◌, refl, sym, ap, subst}
 use Rattle.gx_values.specs.declared.records.Rec.{Rec}
 use Rattle.gx_values.proofs.CopyLemmas.{are_sized}
 use Rattle.gx_mapping.specs.Rule.{IsOf, AreOfKey}
+use Rattle.gx_mapping.proofs.RuleLemmas.{one_item}
 use Rattle.gx_partition.specs.Rules.{rule_of, whole_of}
-use Rattle.gx_partition.proofs.GatherLemmas.{gathered_one, one_item}
+use Rattle.gx_partition.proofs.GatherLemmas.{gathered_one}
 use Rattle.gx_partition.proofs.mapping.PartitionMapping.gather.Goals as goal
 
 pub whole-requires : goal.whole-requires
