@@ -5,3 +5,5 @@ mod RelinkLemmas
 pub mod EditLemmas
 mod AloneLemmas
 mod BodyLemmas
+mod GroupLemmas
+mod SegmentLemmas

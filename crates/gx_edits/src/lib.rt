@@ -4,7 +4,9 @@
 mod alone;
 mod bodies;
 mod edits;
+mod groups;
 mod links;
 mod records;
+mod segments;
 
 pub use edits::{edit, edit_answer};
