@@ -5,3 +5,4 @@ mod RelinkLemmas
 pub mod EditLemmas
 mod AloneLemmas
 mod BodyLemmas
+mod HomeLemmas

@@ -4,6 +4,8 @@
 mod alone;
 mod bodies;
 mod edits;
+mod files;
+mod home;
 mod links;
 mod records;
 
