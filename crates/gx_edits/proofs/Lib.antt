@@ -7,3 +7,4 @@ mod AloneLemmas
 mod BodyLemmas
 mod GroupLemmas
 mod SegmentLemmas
+mod HomeLemmas

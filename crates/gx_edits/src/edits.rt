@@ -7,8 +7,8 @@ ghost use Rattle.gx_commands.specs.Commands.{IsOfSchema};
 ghost use Rattle.gx_edits.specs.Edits.{is_edit, edit_text, Edits, EditsUnlinked};
 ghost use Rattle.gx_states.specs.Internal.{AreFor};
 
+use crate::files::{delete_from_file, insert_into_file, update_in_file};
 use crate::links::{connect, disconnect, is_linked};
-use crate::records::{delete_record, insert_record, update_record};
 use gx_commands::{Changes, Command};
 use gx_pairs::Refused;
 use gx_ports::{Leaves, Stop};
@@ -80,7 +80,7 @@ fn insert<B: Leaves>(
     let def = file_def(schema, file);
     let node = file_node(built, file);
     let (key, values) = key_and_values(def, values);
-    insert_record(alloc, def, node, key, values, leaves)
+    insert_into_file(alloc, def, node, key, values, leaves)
 }
 
 fn update<B: Leaves>(
@@ -99,7 +99,7 @@ fn update<B: Leaves>(
 {
     let def = file_def(schema, file);
     let node = file_node(built, file);
-    update_record(alloc, def, node, key, changes, leaves)
+    update_in_file(alloc, def, node, key, changes, leaves)
 }
 
 // A record that is an end of a pair is there, so the links may be asked first.
@@ -138,7 +138,7 @@ fn delete_unlinked<B: Leaves>(
 {
     let def = file_def(schema, file);
     let node = file_node(built, file);
-    delete_record(alloc, def, node, key, leaves)
+    delete_from_file(alloc, def, node, key, leaves)
 }
 
 // The key of a new record, and its other values.

@@ -4,7 +4,9 @@
 mod alone;
 mod bodies;
 mod edits;
+mod files;
 mod groups;
+mod home;
 mod links;
 mod records;
 mod segments;

@@ -7,8 +7,8 @@ use Rattle.gx_states.proofs.StoredLemmas.{internal_at, has_file}
 use Rattle.gx_edits.proofs.EditLemmas.{delete_edited}
 use Rattle.gx_edits.proofs.edits.delete_unlinked.Goals as goal
 
-pub delete_record-requires-clause-tree : goal.delete_record-requires-clause-tree
-delete_record-requires-clause-tree g c =
+pub delete_from_file-requires-clause-tree : goal.delete_from_file-requires-clause-tree
+delete_from_file-requires-clause-tree g c =
     subst (λ (file : FileDef). IsTreeFor file (tree_of c.file_node-node.result.now) (length (g.B.View.working c.args.leaves.now))) (sym c.file_def-def.ensures) (c.file_node-node.ensures.fit c.args.schema.now _ c.requires.ready.nodes)
 
 pub returns : goal.returns
@@ -19,18 +19,18 @@ returns g c =
     let def = c.file_def-def.result.now in
     let t = tree_of c.file_node-node.result.now in
     let old = g.B.View.working c.args.leaves.now in
-    let new = g.B.View.working c.delete_record.new.leaves in
+    let new = g.B.View.working c.delete_from_file.new.leaves in
     let lt = c.requires.of_schema.0 in
     let def_is = c.file_def-def.ensures in
     let tree_is = c.file_node-node.ensures.tree in
     record {
       edit = λ s free whole are.
-          ok_one c.delete_record.result _ _ (c.delete_record.ensures.deleted _ whole (internal_at schema built i def t old s def_is tree_is lt are))
+          ok_one c.delete_from_file.result _ _ (c.delete_from_file.ensures.deleted _ whole (internal_at schema built i def t old s def_is tree_is lt are))
           (λ why is. delete_edited schema built _ old new s i def t why c.requires.ready are lt def_is tree_is c.args.key free is);
-      full = λ s free whole are stops. absurd (c.delete_record.ensures.not_full stops);
-      bringing = λ stops. absurd (c.delete_record.ensures.not_full stops);
-      accepted = λ s free whole are stops. absurd (c.delete_record.ensures.not_full stops);
-      keeps = c.delete_record.ensures.keeps;
-      ends = ends_so g.B.View _ _ _ _ _ (λ found. (found.0, has_file schema built i def t old def_is tree_is lt found.1)) c.delete_record.ensures.ends;
-      block = c.delete_record.ensures.block;
+      full = λ s free whole are stops. absurd (c.delete_from_file.ensures.not_full stops);
+      bringing = λ stops. absurd (c.delete_from_file.ensures.not_full stops);
+      accepted = λ s free whole are stops. absurd (c.delete_from_file.ensures.not_full stops);
+      keeps = c.delete_from_file.ensures.keeps;
+      ends = ends_so g.B.View _ _ _ _ _ (λ found. (found.0, has_file schema built i def t old def_is tree_is lt found.1)) c.delete_from_file.ensures.ends;
+      block = c.delete_from_file.ensures.block;
     }

@@ -1,0 +1,316 @@
+-- The node of a file that has all leaf entries of a key's record, and what an edit there does to the file.
+use Rattle.std.proofs.Common.{[], ◌≡◌, ℕ, List, ◌∷◌, ◌⊎◌, get_or, map, cond, length, ◌+◌, ◌-◌, Bool, true, false, Some, None, inl, inr, refl, sym, ap, subst, ◌∙◌, append-nil}
+use Rattle.std.specs.Prelude.{◌≢◌, is_some, not, Option, unwrap_or, slice_set}
+use Rattle.std.specs.List.{flat_map, AllByRecursion}
+use Rattle.std.specs.FinMap as fin
+use Rattle.gx_values.specs.declared.values.Value.{Value}
+use Rattle.gx_values.specs.declared.records.Rec.{Rec}
+use Rattle.gx_values.specs.declared.keys.Span.{Span}
+use Rattle.gx_values.specs.Values.{Fits, AreFit}
+use Rattle.gx_values.specs.Keys.{bytes_of, key_of, is_inside}
+use Rattle.gx_values.proofs.OrderLemmas.{value_cmp_same, value_cmp_total}
+use Rattle.gx_schema.specs.declared.schema.FileDef.{FileDef}
+use Rattle.gx_schema.specs.Lookups.{key_kind, data_fields}
+use Rattle.gx_commands.specs.declared.command.Change.{Change}
+use Rattle.gx_commands.specs.Commands.{IsChangeOf}
+use Rattle.gx_ports.specs.LeafMaps.{LeafMap, Limits, map_at, entry_count, IsCrowdedBy}
+use Rattle.gx_mapping.specs.declared.parts.Part.{Part}
+use Rattle.gx_mapping.specs.Rule.{In, IsOf}
+use Rattle.gx_mapping.specs.Searched.{IsAlone}
+use Rattle.gx_gather.proofs.Lists.{in_each, from_each, all_at, all_of, nat_cases}
+use Rattle.gx_partition.specs.declared.layer.Partition.{Partition}
+use Rattle.gx_partition.specs.Places.{value_at}
+use Rattle.gx_partition.specs.Bounds.{child_of}
+use Rattle.gx_partition.specs.Rules.{at_of, bounds_of, rule_of}
+use Rattle.gx_stack.specs.declared.entries.LeafEntry.{LeafEntry}
+use Rattle.gx_stack.specs.declared.node.Node.{Node}
+use Rattle.gx_stack.specs.declared.node.LayerNode.{LayerNode}
+use Rattle.gx_stack.specs.declared.node.Node.TheVariants as nodes
+use Rattle.gx_stack.specs.Tree.{Tree, leaves_of, tree_form, entries_of, kid_entries, IsValid}
+use Rattle.gx_stack.specs.Seen.{tree_of, kids_from}
+use Rattle.gx_stack.specs.Internal.{at}
+use Rattle.gx_stack.proofs.Seen.{seen_layer, layer_form, child_valid, child_leaves, kid_entries_at}
+use Rattle.gx_stack.proofs.Children.{union_from_internal, internal_from_union}
+use Rattle.gx_stack.proofs.Unique.{entry_leaf, entries_apart}
+use Rattle.gx_types.specs.declared.any.AnyMapping.{AnyMapping}
+use Rattle.gx_types.specs.declared.any.AnyMapping.TheVariants as any
+use Rattle.gx_types.specs.Passing.{PassesWhole}
+use Rattle.gx_types.specs.Any.{any_rule, any_laws}
+use Rattle.gx_typing.specs.Dues.{file_form}
+use Rattle.gx_model.specs.States.{File, Row, IsRowOf, IsFileOf}
+use Rattle.gx_model.specs.Commands.{Refusal, changed, updated, first_refusal, key_exists, no_record}
+use Rattle.gx_pairs.specs.declared.refused.Refused.{Refused}
+use Rattle.gx_scan.specs.Files.{rec_of, records_of, IsInternal, IsStorable, IsTreeFor}
+use Rattle.gx_scan.proofs.FileLemmas.{value_cases, value_itself, other_value, one_key, inside_key, row_fits, find_in, in_find, in_there, there_in}
+use Rattle.gx_scan.proofs.SearchedLemmas.{inside_itself, inside_goes, kid_there, one_down}
+use Rattle.gx_edits.specs.Home.{HasAllInside, HoldsKey, IsHome}
+use Rattle.gx_edits.specs.Records.{IsEdited, IsEditedWhere}
+use Rattle.gx_edits.proofs.RecordLemmas.{value_fits}
+
+-- ---- a tree itself
+
+pub all_itself : (span : Span) (t : Tree AnyMapping) → HasAllInside span t t
+all_itself span t = record {
+  records = inside_itself span t;
+  leaves = λ n h. h;
+  entries = λ r fits inside. refl;
+}
+
+pub home_itself : (file : FileDef) (key : Value) (t : Tree AnyMapping) → IsHome file key t t
+home_itself file key t = record {
+  tree = λ n is. is;
+  leaves = λ n h. h;
+  held = λ maps f is. record { part = f; held = is; same = refl };
+  entries = λ values fit. refl;
+}
+
+-- ---- one step down
+
+-- a partition passes each record whole
+pub partition_passes : (m : AnyMapping) (p : Partition) → m ≡ any.Partition p → PassesWhole (any_rule m)
+partition_passes m p is = subst (λ (x : AnyMapping). PassesWhole (any_rule x)) (sym is) (record {
+  form = λ child. refl;
+  one = λ r. (child_of (bounds_of p) (value_at (at_of p) r), refl);
+})
+
+pub partition_alone : (m : AnyMapping) (p : Partition) (span : Span) (c : ℕ) → m ≡ any.Partition p → IsAlone (rule_of p) span c → IsAlone (any_rule m) span c
+partition_alone m p span c is alone = subst (λ (x : AnyMapping). IsAlone (any_rule x) span c) (sym is) alone
+
+module _ (n : Node AnyMapping) (l : LayerNode AnyMapping) (is : n ≡ nodes.Layer l) (valid : IsValid any_rule (tree_of n))
+    (passes : PassesWhole (any_rule l.mapping)) (span : Span) (c : ℕ) (alone : IsAlone (any_rule l.mapping) span c) (k : Node AnyMapping) (read : k ≡ get_or l.kids.items c k) where
+  -- a record of the child has the same entries below it
+  same_entries : (r : Rec) → (passes.one r).0 ≡ c → entries_of any_rule (tree_of n) r ≡ entries_of any_rule (tree_of k) r
+  same_entries r child =
+      let ks = kids_from (map tree_of l.kids.items) in
+      ap (λ t. entries_of any_rule t r) (seen_layer n l is)
+      ∙ ap (λ (ps : List Part). flat_map (λ (p : Part). kid_entries any_rule ks p.child p.rec) ps) (passes.one r).1
+      ∙ append-nil (kid_entries any_rule ks (passes.one r).0 r)
+      ∙ ap (λ d. kid_entries any_rule ks d r) child
+      ∙ kid_entries_at any_rule l.kids.items c k r (kid_there n l is valid passes span c alone)
+      ∙ ap (λ x. entries_of any_rule (tree_of x) r) (sym read)
+
+  kid_form : tree_form any_rule (tree_of k) ≡ tree_form any_rule (tree_of n)
+  kid_form = (child_valid any_rule n l is c k valid (kid_there n l is valid passes span c alone) read).0 ∙ passes.form c ∙ sym (layer_form any_rule n l is)
+
+  pub home_down : (u : Tree AnyMapping) → HasAllInside span (tree_of k) u → HasAllInside span (tree_of n) u
+  home_down u inner = record {
+    records = one_down n l is valid passes span c alone k read u inner.records;
+    leaves = λ i h. child_leaves any_rule n l is c k (kid_there n l is valid passes span c alone) read i (inner.leaves i h);
+    entries = λ r fits inside.
+        let of_layer = subst (λ form. IsOf form r) (layer_form any_rule n l is) fits in
+        same_entries r (inside_goes l.mapping passes c span alone r of_layer inside)
+        ∙ inner.entries r (subst (λ form. IsOf form r) (sym kid_form) fits) inside;
+  }
+
+-- ---- the span of one key
+
+pub home_of_span : (file : FileDef) (key : Value) (span : Span) (t u : Tree AnyMapping) → IsStorable file → Fits (key_kind file) key → span.lo ≡ bytes_of key → span.hi ≡ bytes_of key → tree_form any_rule t ≡ file_form file → HasAllInside span t u → IsHome file key t u
+home_of_span file key span t u storable fit lo hi form has =
+    let inside : is_inside span.lo span.hi (key_of (key ∷ [])) ≡ true = (λ i. is_inside (lo i) (hi i) (key_of (key ∷ []))) ∙ inside_key file key key storable.key fit fit ∙ value_itself key in
+    record {
+      tree = has.records.tree file;
+      leaves = has.leaves;
+      held = λ maps f is.
+          let p = has.records.held file maps f storable.keyed form is in
+          record { part = p.part; held = p.held; same = p.same key inside };
+      entries = λ values fits.
+          let row : Row = (key, values) in
+          has.entries (rec_of row) (subst (λ fm. IsOf fm (rec_of row)) (sym form) (row_fits file row storable.keyed (fit, fits))) inside;
+    }
+
+-- ---- an edit at the home
+
+leaf_cases : (n : ℕ) (ns : List ℕ) → In n ns ⊎ (In n ns → ⊥)
+leaf_cases n [] = inr (λ h. h)
+leaf_cases n (x ∷ ns) = elim (nat_cases n x) [
+  | inl e ↦ inl (inl e)
+  | inr other ↦ elim (leaf_cases n ns) [
+    | inl h ↦ inl (inr h)
+    | inr out ↦ inr (λ h. elim h [ inl e ↦ other e | inr i ↦ out i ])
+  ]
+]
+
+row_at : (file : FileDef) (f : File) (k : Value) (vs : List Value) → IsFileOf file f → fin.get f k ≡ Some vs → IsRowOf file (k, vs)
+row_at file f k vs fit e = all_at (IsRowOf file) (fin.entries f) (k, vs) fit (find_in value_cmp_same k vs (fin.entries f) (sym (fin.get-entries f k) ∙ e))
+
+-- the values of a record fit after changes of the file
+changed_fit : (file : FileDef) (cs : List Change) (vs : List Value) → AllByRecursion (IsChangeOf file) cs → AreFit (data_fields file) vs → AreFit (data_fields file) (changed vs cs)
+changed_fit file [] vs those fit = fit
+changed_fit file (c ∷ cs) vs those fit = changed_fit file cs (slice_set vs (c.field - 1) c.value) those.1 (value_fits file c vs c.value those.0 fit refl)
+
+-- a file that is another one but for what it has at a key
+abbrev pub IsButAt : Value → File → File → Type 0
+IsButAt key f g = (q : Value) → q ≢ key → fin.get g q ≡ fin.get f q
+
+module _ (file : FileDef) (key : Value) (t u : Tree AnyMapping) (home : IsHome file key t u) (many : ℕ) (tree : IsTreeFor file t many) (storable : IsStorable file) where
+  of_form : (r : Row) → IsRowOf file r → IsOf (tree_form any_rule t) (rec_of r)
+  of_form r is = subst (λ form. IsOf form (rec_of r)) (sym tree.form) (row_fits file r storable.keyed is)
+
+  home_form : (r : Row) → IsRowOf file r → IsOf (tree_form any_rule u) (rec_of r)
+  home_form r is = subst (λ form. IsOf form (rec_of r)) (sym (home.tree many tree).form) (row_fits file r storable.keyed is)
+
+  -- an entry of a record with this key is one of the home
+  down : (k : Value) (vs : List Value) (e : LeafEntry) → k ≡ key → IsRowOf file (k, vs) → In e (entries_of any_rule t (rec_of (k, vs))) → In e (entries_of any_rule u (rec_of (key, vs)))
+  down k vs e same row h = subst (In e) (home.entries vs row.1) (subst (λ q. In e (entries_of any_rule t (rec_of (q, vs)))) same h)
+
+  up : (k : Value) (vs : List Value) (e : LeafEntry) → k ≡ key → IsRowOf file (k, vs) → In e (entries_of any_rule u (rec_of (k, vs))) → In e (entries_of any_rule t (rec_of (key, vs)))
+  up k vs e same row h = subst (In e) (sym (home.entries vs row.1)) (subst (λ q. In e (entries_of any_rule u (rec_of (q, vs)))) same h)
+
+  module _ (old new : List LeafMap) (f g p q : File) (is : IsInternal file t old f) (part : IsInternal file u old p) (done : IsInternal file u new q)
+      (was : fin.get p key ≡ fin.get f key) (now : fin.get q key ≡ fin.get g key) (f_but : IsButAt key f g) (p_but : IsButAt key p q)
+      (others : (n : ℕ) → (In n (leaves_of u) → ⊥) → map_at new n ≡ map_at old n) where
+    -- the records after the change fit the file
+    after_fits : IsFileOf file g
+    after_fits = all_of (IsRowOf file) (fin.entries g) (λ r h.
+        let got : fin.get g r.0 ≡ Some r.1 = fin.get-entries g r.0 ∙ in_find value_cmp_total r (fin.entries g) (fin.entries_sorted g) h in
+        elim (value_cases r.0 key) [
+          | inl same ↦ row_at file q r.0 r.1 done.fit (ap (fin.get q) same ∙ now ∙ ap (fin.get g) (sym same) ∙ got)
+          | inr other ↦ row_at file f r.0 r.1 is.fit (sym (f_but r.0 other) ∙ got)
+        ])
+
+    -- an entry of the file before, which no record with this key has, is one of the file after
+    kept_above : (e : LeafEntry) (k : Value) (vs : List Value) → k ≢ key → fin.get f k ≡ Some vs → In e (entries_of any_rule t (rec_of (k, vs))) → In e (flat_map (entries_of any_rule t) (records_of g))
+    kept_above e k vs other there h = in_each (entries_of any_rule t) (rec_of (k, vs)) e (records_of g) (there_in g k vs (f_but k other ∙ there)) h
+
+    held_entry : (e : LeafEntry) → In e (flat_map (entries_of any_rule t) (records_of g)) → at new e.leaf e.key ≡ Some e.body
+    held_entry e h =
+        let above = union_from_internal any_rule t (records_of f) old is.held in
+        let before = union_from_internal any_rule u (records_of p) old part.held in
+        let after = union_from_internal any_rule u (records_of q) new done.held in
+        let r = from_each (entries_of any_rule t) e (records_of g) h in
+        let a = in_there g r.0 r.1 in
+        let mine = subst (λ (x : Rec). In e (entries_of any_rule t x)) a.is r.2 in
+        elim (value_cases a.key key) [
+          | inl same ↦ (
+              let got : fin.get q key ≡ Some a.values = now ∙ ap (fin.get g) (sym same) ∙ a.found in
+              let low = down a.key a.values e same (row_at file g a.key a.values after_fits a.found) mine in
+              after.holds e (in_each (entries_of any_rule u) (rec_of (key, a.values)) e (records_of q) (there_in q key a.values got) low))
+          | inr other ↦ (
+              let there : fin.get f a.key ≡ Some a.values = sym (f_but a.key other) ∙ a.found in
+              let found = above.holds e (in_each (entries_of any_rule t) (rec_of (a.key, a.values)) e (records_of f) (there_in f a.key a.values there) mine) in
+              elim (leaf_cases e.leaf (leaves_of u)) [
+                | inl inside ↦ (
+                    let s = from_each (entries_of any_rule u) e (records_of p) (before.only e inside found) in
+                    let b = in_there p s.0 s.1 in
+                    let its = subst (λ (x : Rec). In e (entries_of any_rule u x)) b.is s.2 in
+                    let row_b = row_at file p b.key b.values part.fit b.found in
+                    let apart : b.key ≢ key = λ same.
+                    other (one_key a.key key (entries_apart any_rule any_laws t tree.valid (rec_of (a.key, a.values)) (rec_of (key, b.values))
+                    (of_form (a.key, a.values) (row_at file f a.key a.values is.fit there)) (of_form (key, b.values) (subst (λ k. IsRowOf file (k, b.values)) same row_b))
+                    e e mine (up b.key b.values e same row_b its) refl refl)) in
+                    after.holds e (in_each (entries_of any_rule u) (rec_of (b.key, b.values)) e (records_of q) (there_in q b.key b.values (p_but b.key apart ∙ b.found)) its))
+                | inr outside ↦ ap (λ (m : LeafMap). fin.get m e.key) (others e.leaf outside) ∙ found
+              ])
+        ]
+
+    only_entry : (e : LeafEntry) → In e.leaf (leaves_of t) → at new e.leaf e.key ≡ Some e.body → In e (flat_map (entries_of any_rule t) (records_of g))
+    only_entry e in_leaf found =
+        let above = union_from_internal any_rule t (records_of f) old is.held in
+        let before = union_from_internal any_rule u (records_of p) old part.held in
+        let after = union_from_internal any_rule u (records_of q) new done.held in
+        elim (leaf_cases e.leaf (leaves_of u)) [
+          | inl inside ↦ (
+              let s = from_each (entries_of any_rule u) e (records_of q) (after.only e inside found) in
+              let b = in_there q s.0 s.1 in
+              let its = subst (λ (x : Rec). In e (entries_of any_rule u x)) b.is s.2 in
+              let row_b = row_at file q b.key b.values done.fit b.found in
+              elim (value_cases b.key key) [
+                | inl same ↦ (
+                    let got : fin.get g key ≡ Some b.values = sym now ∙ ap (fin.get q) (sym same) ∙ b.found in
+                    in_each (entries_of any_rule t) (rec_of (key, b.values)) e (records_of g) (there_in g key b.values got) (up b.key b.values e same row_b its))
+                | inr other ↦ (
+                    let there : fin.get p b.key ≡ Some b.values = sym (p_but b.key other) ∙ b.found in
+                    let stood = before.holds e (in_each (entries_of any_rule u) (rec_of (b.key, b.values)) e (records_of p) (there_in p b.key b.values there) its) in
+                    let r = from_each (entries_of any_rule t) e (records_of f) (above.only e in_leaf stood) in
+                    let a = in_there f r.0 r.1 in
+                    let mine = subst (λ (x : Rec). In e (entries_of any_rule t x)) a.is r.2 in
+                    let row_a = row_at file f a.key a.values is.fit a.found in
+                    let apart : a.key ≢ key = λ same.
+                    other (one_key b.key key (entries_apart any_rule any_laws u (home.tree many tree).valid (rec_of (b.key, b.values)) (rec_of (key, a.values))
+                    (home_form (b.key, b.values) row_b) (home_form (key, a.values) (subst (λ k. IsRowOf file (k, a.values)) same row_a))
+                    e e its (down a.key a.values e same row_a mine) refl refl)) in
+                    kept_above e a.key a.values apart a.found mine)
+              ])
+          | inr outside ↦ (
+              let stood = ap (λ (m : LeafMap). fin.get m e.key) (sym (others e.leaf outside)) ∙ found in
+              let r = from_each (entries_of any_rule t) e (records_of f) (above.only e in_leaf stood) in
+              let a = in_there f r.0 r.1 in
+              let mine = subst (λ (x : Rec). In e (entries_of any_rule t x)) a.is r.2 in
+              let row_a = row_at file f a.key a.values is.fit a.found in
+              let apart : a.key ≢ key = λ same. outside (entry_leaf any_rule u (rec_of (key, a.values)) e (down a.key a.values e same row_a mine)) in
+              kept_above e a.key a.values apart a.found mine)
+        ]
+
+    pub edited_above : IsEdited file t old new g
+    edited_above = record {
+      stands = record {
+        fit = after_fits;
+        held = internal_from_union any_rule t (records_of g) new tree.valid (record { holds = held_entry; only = only_entry });
+      };
+      others = λ n out. others n (λ h. out (home.leaves n h));
+    }
+
+  -- an edit of the home's part is one of the file
+  pub edited_at_home : (old new : List LeafMap) (f g p q : File) (refusal : Option Refusal) (why : Option Refused) → IsInternal file t old f → IsInternal file u old p → fin.get p key ≡ fin.get f key → fin.get q key ≡ fin.get g key → IsButAt key f g → IsButAt key p q
+      → IsEditedWhere file u old new p refusal q why → IsEditedWhere file t old new f refusal g why
+  edited_at_home old new f g p q refusal why is part was now f_but p_but edited = record {
+    why_is = edited.why_is;
+    edited = by_test (is_some refusal) edited.edited;
+  }
+    where
+      by_test : (b : Bool) → IsEdited file u old new (cond b p q) → IsEdited file t old new (cond b f g)
+      by_test true done = edited_above old new f f p p is part done.stands was was (λ k other. refl) (λ k other. refl) done.others
+      by_test false done = edited_above old new f g p q is part done.stands was now f_but p_but done.others
+
+  inserted_at : (f : File) (vs : List Value) → fin.get (fin.insert f key vs) key ≡ Some vs
+  inserted_at f vs = fin.get-insert value_cmp_total f key vs key ∙ ap (λ b. cond b (Some vs) (fin.get f key)) (value_itself key)
+
+  insert_but : (f : File) (vs : List Value) → IsButAt key f (fin.insert f key vs)
+  insert_but f vs q other = fin.get-insert value_cmp_total f key vs q ∙ ap (λ b. cond b (Some vs) (fin.get f q)) (other_value q key other)
+
+  removed_at : (f : File) → fin.get (fin.remove f key) key ≡ None
+  removed_at f = fin.get-remove value_cmp_total f key key ∙ ap (λ b. cond b None (fin.get f key)) (value_itself key)
+
+  remove_but : (f : File) → IsButAt key f (fin.remove f key)
+  remove_but f q other = fin.get-remove value_cmp_total f key q ∙ ap (λ b. cond b None (fin.get f q)) (other_value q key other)
+
+  module _ (old new : List LeafMap) (f : File) (is : IsInternal file t old f) (h : HoldsKey file key u old f) (why : Option Refused) where
+    pub insert_above : (vs : List Value) → IsEditedWhere file u old new h.part (first_refusal ((is_some (fin.get h.part key), key_exists) ∷ [])) (fin.insert h.part key vs) why
+        → IsEditedWhere file t old new f (first_refusal ((is_some (fin.get f key), key_exists) ∷ [])) (fin.insert f key vs) why
+    insert_above vs edited =
+        edited_at_home old new f (fin.insert f key vs) h.part (fin.insert h.part key vs) _ why is h.held h.same (inserted_at h.part vs ∙ sym (inserted_at f vs)) (insert_but f vs) (insert_but h.part vs)
+        (subst (λ (o : Option (List Value)). IsEditedWhere file u old new h.part (first_refusal ((is_some o, key_exists) ∷ [])) (fin.insert h.part key vs) why) h.same edited)
+
+    pub delete_above : IsEditedWhere file u old new h.part (first_refusal ((not (is_some (fin.get h.part key)), no_record) ∷ [])) (fin.remove h.part key) why
+        → IsEditedWhere file t old new f (first_refusal ((not (is_some (fin.get f key)), no_record) ∷ [])) (fin.remove f key) why
+    delete_above edited =
+        edited_at_home old new f (fin.remove f key) h.part (fin.remove h.part key) _ why is h.held h.same (removed_at h.part ∙ sym (removed_at f)) (remove_but f) (remove_but h.part)
+        (subst (λ (o : Option (List Value)). IsEditedWhere file u old new h.part (first_refusal ((not (is_some o), no_record) ∷ [])) (fin.remove h.part key) why) h.same edited)
+
+    pub update_above : (cs : List Change) → IsEditedWhere file u old new h.part (first_refusal ((not (is_some (fin.get h.part key)), no_record) ∷ [])) (updated h.part key cs) why
+        → IsEditedWhere file t old new f (first_refusal ((not (is_some (fin.get f key)), no_record) ∷ [])) (updated f key cs) why
+    update_above cs edited =
+        let now : fin.get (updated h.part key cs) key ≡ fin.get (updated f key cs) key =
+        inserted_at h.part _ ∙ ap (λ (o : Option (List Value)). Some (changed (unwrap_or o []) cs)) h.same ∙ sym (inserted_at f _) in
+        edited_at_home old new f (updated f key cs) h.part (updated h.part key cs) _ why is h.held h.same now (insert_but f _) (insert_but h.part _)
+        (subst (λ (o : Option (List Value)). IsEditedWhere file u old new h.part (first_refusal ((not (is_some o), no_record) ∷ [])) (updated h.part key cs) why) h.same edited)
+
+  -- ---- the cause of a full device
+
+  module _ (limit : Option Limits) (maps : List LeafMap) (f : File) (h : HoldsKey file key u maps f) where
+    pub insert_short : (vs : List Value) → AreFit (data_fields file) vs → (fin.get h.part key ≡ None) × IsCrowdedBy limit (entry_count maps + length (entries_of any_rule u (rec_of (key, vs))))
+        → (fin.get f key ≡ None) × IsCrowdedBy limit (entry_count maps + length (entries_of any_rule t (rec_of (key, vs))))
+    insert_short vs fit short = (
+      sym h.same ∙ short.0,
+      subst (λ (es : List LeafEntry). IsCrowdedBy limit (entry_count maps + length es)) (sym (home.entries vs fit)) short.1,
+    )
+
+    pub update_short : (cs : List Change) → AllByRecursion (IsChangeOf file) cs
+        → (vs : List Value) × (fin.get h.part key ≡ Some vs) × IsCrowdedBy limit (entry_count maps + length (entries_of any_rule u (rec_of (key, changed vs cs))))
+        → (vs : List Value) × (fin.get f key ≡ Some vs) × IsCrowdedBy limit (entry_count maps + length (entries_of any_rule t (rec_of (key, changed vs cs))))
+    update_short cs those short =
+        let fit = changed_fit file cs short.0 those (row_at file h.part key short.0 h.held.fit short.1).1 in (
+          short.0,
+          sym h.same ∙ short.1,
+          subst (λ (es : List LeafEntry). IsCrowdedBy limit (entry_count maps + length es)) (sym (home.entries (changed short.0 cs) fit)) short.2,
+        )

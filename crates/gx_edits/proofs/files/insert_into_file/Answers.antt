@@ -1,0 +1,25 @@
+use Rattle.gx_stack.specs.Seen.{tree_of}
+use Rattle.gx_scan.proofs.CallLemmas.{ok_one, ends_so}
+use Rattle.gx_edits.proofs.HomeLemmas.{insert_above, insert_short}
+use Rattle.gx_edits.proofs.files.insert_into_file.Goals as goal
+
+pub insert_record-requires-clause-tree : goal.insert_record-requires-clause-tree
+insert_record-requires-clause-tree g c = c.home_of-home.ensures.tree _ c.requires.tree
+
+pub returns-clause-inserted : goal.returns-clause-inserted
+returns-clause-inserted g c = λ f whole is.
+    let home = c.home_of-home.ensures in
+    let h = home.held _ f is in
+    ok_one c.insert_record.result _ _ (c.insert_record.ensures.inserted h.part whole h.held)
+    (λ why done. insert_above c.args.file.now c.args.key (tree_of c.args.node.now) (tree_of c.home_of-home.result.now) home _ c.requires.tree c.requires.storable _ _ f is h why c.args.values done)
+
+pub returns-clause-ends : goal.returns-clause-ends
+returns-clause-ends g c =
+    ends_so g.B.View _ _ _ _ _ (λ sound. let h = c.home_of-home.ensures.held _ sound.1.0 sound.1.1 in (sound.0, (h.part, h.held))) c.insert_record.ensures.ends
+
+pub returns-clause-full : goal.returns-clause-full
+returns-clause-full g c = λ f whole is stops.
+    let home = c.home_of-home.ensures in
+    let h = home.held _ f is in
+    insert_short c.args.file.now c.args.key (tree_of c.args.node.now) (tree_of c.home_of-home.result.now) home _ c.requires.tree c.requires.storable (g.B.View.limit c.args.leaves.now) _ f h c.args.values c.requires.values
+    (c.insert_record.ensures.full h.part whole h.held stops)

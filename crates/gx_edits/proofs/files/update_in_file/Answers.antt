@@ -1,0 +1,25 @@
+use Rattle.gx_stack.specs.Seen.{tree_of}
+use Rattle.gx_scan.proofs.CallLemmas.{ok_one, ends_so}
+use Rattle.gx_edits.proofs.HomeLemmas.{update_above, update_short}
+use Rattle.gx_edits.proofs.files.update_in_file.Goals as goal
+
+pub update_record-requires-clause-tree : goal.update_record-requires-clause-tree
+update_record-requires-clause-tree g c = c.home_of-home.ensures.tree _ c.requires.tree
+
+pub returns-clause-updated : goal.returns-clause-updated
+returns-clause-updated g c = λ f whole is.
+    let home = c.home_of-home.ensures in
+    let h = home.held _ f is in
+    ok_one c.update_record.result _ _ (c.update_record.ensures.updated h.part whole h.held)
+    (λ why done. update_above c.args.file.now c.args.key (tree_of c.args.node.now) (tree_of c.home_of-home.result.now) home _ c.requires.tree c.requires.storable _ _ f is h why c.args.changes done)
+
+pub returns-clause-ends : goal.returns-clause-ends
+returns-clause-ends g c =
+    ends_so g.B.View _ _ _ _ _ (λ sound. let h = c.home_of-home.ensures.held _ sound.1.0 sound.1.1 in (sound.0, (h.part, h.held))) c.update_record.ensures.ends
+
+pub returns-clause-full : goal.returns-clause-full
+returns-clause-full g c = λ f whole is stops.
+    let home = c.home_of-home.ensures in
+    let h = home.held _ f is in
+    update_short c.args.file.now c.args.key (tree_of c.args.node.now) (tree_of c.home_of-home.result.now) home _ c.requires.tree c.requires.storable (g.B.View.limit c.args.leaves.now) _ f h c.args.changes c.requires.changes
+    (c.update_record.ensures.full h.part whole h.held stops)
