@@ -7,7 +7,7 @@ ghost use Rattle.gx_types.specs.Any.{any_rule};
 ghost use Rattle.gx_scan.specs.Entries.{ArePlaces};
 ghost use Rattle.gx_scan.specs.Groups.{AreGroups};
 
-use crate::places::{Place, places_of};
+use crate::places::{Place, place_of, places_of};
 use gx_stack::Node;
 use gx_types::AnyMapping;
 use gx_values::NoMemory;
@@ -59,6 +59,13 @@ fn only_place(alloc: Global, node: &Node<AnyMapping>) -> Result<Option<Place>, N
         (λ found. IfSome found (λ p. ArePlaces 0 (tree_of node.now) (p ∷ []))) }
     ensures plain { IfOk result (λ found. IfSome found (λ p. p.codes ≡ [])) }
 {
+    if let Some(place) = place_of(alloc, node)? {
+        return Ok(if place.codes.is_empty() {
+            Some(place)
+        } else {
+            None
+        });
+    }
     match places_of(alloc, node, 1)? {
         Some(places) => Ok(alone(places)),
         None => Ok(None),

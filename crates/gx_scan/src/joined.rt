@@ -318,8 +318,12 @@ fn push_as_it_is<'a>(
     Ok(Some(more))
 }
 
-// The body of the defaults of the fields outside the first group.
-fn default_body(alloc: Global, fields: &[Field], mask: &[bool]) -> Result<Vec<u8>, NoMemory>
+/// The body of the defaults of the fields outside the first group. `NoMemory`: there was none for it.
+pub(crate) fn default_body(
+    alloc: Global,
+    fields: &[Field],
+    mask: &[bool],
+) -> Result<Vec<u8>, NoMemory>
     requires { length mask.now ≡ length fields.now }
     ensures { IfOk result (λ body. body.items
         ≡ body_of (defaults_of (chosen (map not mask.now) fields.now))) }
