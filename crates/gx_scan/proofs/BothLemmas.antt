@@ -1,5 +1,5 @@
 -- The record whose two groups of data fields stand in entries of two leaves, and what is read of them.
-use Rattle.std.proofs.Common.{[], ◌≡◌, ℕ, ◌+◌, ◌-◌, ◌≤◌, ◌++◌, List, ◌∷◌, length, length-append, take, drop, map, Bool, Option, Some, inl, inr, refl, sym, ap, subst, ◌∙◌, arith}
+use Rattle.std.proofs.Common.{[], ◌≡◌, ℕ, ◌+◌, ◌-◌, ◌≤◌, ◌++◌, List, ◌∷◌, length, length-append, take, drop, map, Bool, Option, None, Some, inl, inr, refl, sym, ap, subst, ◌∙◌, arith}
 use Rattle.std.specs.Prelude.{filter, not, slice_get}
 use Rattle.std.specs.FinMap as fin
 use Rattle.std.specs.List.{AllByRecursion}
@@ -52,7 +52,7 @@ all_taken fs vs i fit le = take_all i vs (omega (arith, fit_length fs vs fit, le
 -- ---- the entries of the record
 
 abbrev has : Groups → List Field → Row → Bool
-has g fields = has_others g.mask.items fields
+has g fields = has_others g.mask.now fields
 
 abbrev of_others : Groups → List Field → List Row → List Entry
 of_others g fields rs = map (λ (q : Row). entry_of (other_entry g q)) (filter (has g fields) rs)
@@ -74,8 +74,8 @@ module _ (g : Groups) (fields : List Field) (r : Row) (es : List Entry)
 
   -- without a second entry the other values are defaults
   pub defaults_read : length es ≡ 1 → AreFit fields r.1
-      → body_of (defaults_of (chosen (map not g.mask.items) fields))
-      ≡ body_of (chosen (map not g.mask.items) r.1)
+      → body_of (defaults_of (chosen (map not g.mask.now) fields))
+      ≡ body_of (chosen (map not g.mask.now) r.1)
   defaults_read alone fit = elim (bool_cases (has g fields r)) [
     | inl some ↦ absurd (omega (arith, alone, some_there g fields es 1 r [] later some))
     | inr none ↦ defaults_there g fields es 1 r [] later none fit
@@ -98,11 +98,9 @@ module _ (file : FileDef) (t : Tree AnyMapping) (g : Groups) (leaves : ℕ) (map
   one_fits = subst (AllByRecursion (IsRowOf file)) rows_are
       (rows_fit_inside file t g leaves maps f storable tree is are span)
 
-  -- what a search of the first leaf appends, and what one of the second appends to that
-  module _ (start firsts all : List Entry) (now : List LeafMap) (none : start ≡ [])
-      (first : firsts ≡ start ++ selected span.lo span.hi (map_at maps g.first.leaf))
-      (same : now ≡ maps)
-      (second : all ≡ firsts ++ selected span.lo span.hi (map_at now g.others.leaf)) where
+  -- what a search of the first leaf appends
+  module _ (start firsts : List Entry) (none : start ≡ [])
+      (first : firsts ≡ start ++ selected span.lo span.hi (map_at maps g.first.leaf)) where
     abbrev some : List Row → List Row
     some rs = filter (has g (data_fields file)) rs
 
@@ -111,42 +109,75 @@ module _ (file : FileDef) (t : Tree AnyMapping) (g : Groups) (leaves : ℕ) (map
         (first ∙ ap (λ (es : List Entry). es ++ selected span.lo span.hi (map_at maps g.first.leaf))
         none)
 
-    others_are : selected span.lo span.hi (map_at now g.others.leaf)
-        ≡ of_others g (data_fields file) (rows_inside span f)
-    others_are = others_inside file t g leaves maps f storable tree is are span _
-        (ap (λ (ms : List LeafMap). selected span.lo span.hi (map_at ms g.others.leaf)) same)
+    many : length firsts - length start ≡ length (rows_inside span f)
+    many = omega (
+      arith,
+      ap length firsts_are,
+      length-map (rows_inside span f) (λ (r : Row). entry_of (first_entry g r)),
+      ap length none,
+    )
 
-    pub both_are : all ≡ map (λ (r : Row). entry_of (first_entry g r)) (list_of_one one)
-        ++ of_others g (data_fields file) (list_of_one one)
-    both_are = second ∙ (λ j. firsts_are j ++ others_are j)
-        ∙ ap (λ (rs : List Row). map (λ (r : Row). entry_of (first_entry g r)) rs
-        ++ of_others g (data_fields file) rs) rows_are
-
-    pub steps_both : (most before between after : ℕ) → HaveAtMost most t f
-        → between ≡ counted before (1 + (length firsts - length start))
-        → after ≡ counted between (1 + (length all - length firsts))
-        → after ≤ before + (length (leaves_of t) + most)
-    steps_both most before between after few to_first to_second =
-        let many : length firsts - length start ≡ length (rows_inside span f) = omega (
+    pub none_there : firsts ≡ [] → None ≡ fin.get f k
+    none_there empty =
+        let none_found : length (list_of_one one) ≡ 0 = omega (
           arith,
+          ap length empty,
           ap length firsts_are,
           length-map (rows_inside span f) (λ (r : Row). entry_of (first_entry g r)),
-          ap length none,
+          ap length rows_are,
         ) in
-        let others : length all - length firsts ≡ length (some (rows_inside span f)) = omega (
-          arith,
-          ap length second,
-          length-append firsts (selected span.lo span.hi (map_at now g.others.leaf)),
-          ap length others_are,
-          length-map (some (rows_inside span f)) (λ (r : Row). entry_of (other_entry g r)),
-        ) in
+        nothing (fin.get f k) none_found
+      where
+        nothing : (o : Option (List Value))
+            → length {A = Row} (list_of_one (option_map (λ (values : List Value). (k, values)) o)) ≡ 0
+            → None ≡ o
+        nothing None none = refl
+        nothing (Some values) none = absurd (omega (arith, none))
+
+    pub steps_first : (most before after : ℕ) → HaveAtMost most t f
+        → after ≡ counted before (1 + (length firsts - length start))
+        → after ≤ before + (length (leaves_of t) + most)
+    steps_first most before after few to_first =
         let inside = steps_inside file t g leaves maps f storable tree is are span most _ _ few many
-        others in
+        refl in
         steps_at_key file f k span storable.key fit is.fit lo hi (length (leaves_of t)) most before
-        after
-        (omega (
-          arith,
-          inside,
-          counted_most _ _ _ _ to_first refl,
-          counted_most _ _ _ _ to_second refl,
-        ))
+        after (omega (arith, inside, counted_most _ _ _ _ to_first refl))
+
+    -- and what one of the second appends to that
+    module _ (all : List Entry) (now : List LeafMap) (same : now ≡ maps)
+        (second : all ≡ firsts ++ selected span.lo span.hi (map_at now g.others.leaf)) where
+      others_are : selected span.lo span.hi (map_at now g.others.leaf)
+          ≡ of_others g (data_fields file) (rows_inside span f)
+      others_are = others_inside file t g leaves maps f storable tree is are span _
+          (ap (λ (ms : List LeafMap). selected span.lo span.hi (map_at ms g.others.leaf)) same)
+
+      pub both_are : all ≡ map (λ (r : Row). entry_of (first_entry g r)) (list_of_one one)
+          ++ of_others g (data_fields file) (list_of_one one)
+      both_are = second ∙ (λ j. firsts_are j ++ others_are j)
+          ∙ ap (λ (rs : List Row). map (λ (r : Row). entry_of (first_entry g r)) rs
+          ++ of_others g (data_fields file) rs) rows_are
+
+      others_many : length all - length firsts ≡ length (some (rows_inside span f))
+      others_many = omega (
+        arith,
+        ap length second,
+        length-append firsts (selected span.lo span.hi (map_at now g.others.leaf)),
+        ap length others_are,
+        length-map (some (rows_inside span f)) (λ (r : Row). entry_of (other_entry g r)),
+      )
+
+      pub steps_both : (most before between after : ℕ) → HaveAtMost most t f
+          → between ≡ counted before (1 + (length firsts - length start))
+          → after ≡ counted between (1 + (length all - length firsts))
+          → after ≤ before + (length (leaves_of t) + most)
+      steps_both most before between after few to_first to_second =
+          let inside = steps_inside file t g leaves maps f storable tree is are span most _ _ few
+          many others_many in
+          steps_at_key file f k span storable.key fit is.fit lo hi (length (leaves_of t)) most
+          before after
+          (omega (
+            arith,
+            inside,
+            counted_most _ _ _ _ to_first refl,
+            counted_most _ _ _ _ to_second refl,
+          ))

@@ -34,11 +34,11 @@ pub(crate) fn values_of_both(
     entries: &Entries,
 ) -> Result<Option<Option<Values>>, NoMemory>
     requires storable { IsStorable file.now }
-    requires long { length groups.now.mask.items ≡ length (data_fields file.now) }
+    requires long { length groups.now.mask.now ≡ length (data_fields file.now) }
     ensures read { (one : Option TheRow) → AllByRecursion (IsRowOf file.now) (list_of_one one) →
         entries.now ≡ map (λ r. entry_of (first_entry groups.now r)) (list_of_one one)
         ++ map (λ r. entry_of (other_entry groups.now r))
-        (filter (has_others groups.now.mask.items (data_fields file.now)) (list_of_one one)) →
+        (filter (has_others groups.now.mask.now (data_fields file.now)) (list_of_one one)) →
         IfOk result (λ found. found ≡ Some (option_map (λ r. r.1) one)) }
     ensures fits { IfOk result
         (λ found. IfSome found (λ values. IfSome values (AreFit (data_fields file.now)))) }
@@ -60,17 +60,17 @@ fn values_of_some(
     entries: &Entries,
 ) -> Result<Option<Values>, NoMemory>
     requires storable { IsStorable file.now }
-    requires long { length groups.now.mask.items ≡ length (data_fields file.now) }
+    requires long { length groups.now.mask.now ≡ length (data_fields file.now) }
     requires some { 0 < length entries.now }
     ensures read { (r : TheRow) → IsRowOf file.now r →
         entries.now ≡ entry_of (first_entry groups.now r) ∷ map
         (λ q. entry_of (other_entry groups.now q))
-        (filter (has_others groups.now.mask.items (data_fields file.now)) (r ∷ [])) →
+        (filter (has_others groups.now.mask.now (data_fields file.now)) (r ∷ [])) →
         IfOk result (λ found. found ≡ Some r.1) }
     ensures fits { IfOk result (λ found. IfSome found (AreFit (data_fields file.now))) }
 {
     let fields = data_fields(file);
-    let mask = groups.mask.as_slice();
+    let mask = groups.mask;
     let Some(first) = behind_lengths(entries.entry(0).body, groups.first.lengths) else {
         return Ok(None);
     };

@@ -92,6 +92,9 @@ pub(crate) fn values_by_groups<B: Leaves>(
     let _key = key;
     let mut entries = Entries::new(alloc);
     leaves.select(alloc, groups.first.leaf, span, &mut entries)?;
+    if entries.is_empty() {
+        return Ok(None);
+    }
     leaves.select(alloc, groups.others.leaf, span, &mut entries)?;
     let Some(values) = values_of_both(alloc, file, groups, &entries)? else {
         return Err(Stop::Damaged(NO_BLOCK));

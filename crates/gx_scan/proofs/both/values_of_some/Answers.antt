@@ -17,12 +17,10 @@ returns-then-len-eq1-clause-read c = λ r fit is.
     let es = c.args.entries.now in
     let e : Entry = record { key = c.entry.result.key.now; body = c.entry.result.body.now } in
     let same = c.data_fields-fields.ensures in
-    let masked = c.as_slice-mask.ensures.value in
-    let first = c.in-Some.ensures (rec_of (group_row g.mask.items r))
+    let first = c.in-Some.ensures (rec_of (group_row g.mask.now r))
     (first_read g fields r es is e c.entry.ensures) in
     let defaults = c.as_slice.ensures.value ∙ c.in_ok-defaults.ensures
-    ∙ (λ j. body_of (defaults_of (chosen (map not (masked j)) (same j))))
+    ∙ ap (λ fs. body_of (defaults_of (chosen (map not g.mask.now) fs))) same
     ∙ defaults_read g fields r es is (omega (arith, c.len.ensures, c.if-len-eq1.true)) fit.1 in
     c.read_both.ensures.read r.1 (subst (λ fs. AreFit fs r.1) (sym same) fit.1)
-    (first ∙ ap (λ m. body_of (chosen m r.1)) (sym masked))
-    (defaults ∙ ap (λ m. body_of (chosen (map not m) r.1)) (sym masked))
+    first defaults

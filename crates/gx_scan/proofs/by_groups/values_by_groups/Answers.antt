@@ -9,7 +9,7 @@ use Rattle.gx_gather.proofs.Lists.{some_same}
 use Rattle.gx_ports.specs.LeafMaps.{LeafMap}
 use Rattle.gx_stack.specs.Seen.{tree_of}
 use Rattle.gx_stack.proofs.PassLemmas.{passes, passes_joined, reads_stopped}
-use Rattle.gx_scan.proofs.BothLemmas.{one_fits, both_are, steps_both}
+use Rattle.gx_scan.proofs.BothLemmas.{one_fits, none_there, steps_first, both_are, steps_both}
 use Rattle.gx_scan.proofs.GroupLemmas.{first_there, other_there}
 use Rattle.gx_scan.proofs.KeyLemmas.{row_values}
 use Rattle.gx_scan.proofs.by_groups.values_by_groups.Goals as goal
@@ -27,6 +27,24 @@ select-requires-2 g c =
     c.in_ok-select.ensures.reads.working)
     (c.requires.tree.below groups.others.leaf (other_there (tree_of c.args.node.now) groups
     c.requires.groups))
+
+pub returns-then-is_empty : goal.returns-then-is_empty
+returns-then-is_empty g c = record {
+  found = λ f whole is.
+      none_there c.args.file.now (tree_of c.args.node.now) c.args.groups.now _
+      (g.B.View.working c.args.leaves.now) f c.requires.storable c.requires.tree is
+      c.requires.groups c.args.key.now c.args.span.now c.requires.key c.requires.lo c.requires.hi
+      c.new-entries.result c.select.new.out c.new-entries.ensures
+      (c.in_ok-select.ensures.ok whole) (c.is_empty.ensures.0 c.if-is_empty.true);
+  fits = tt;
+  steps = λ f most whole is few.
+      steps_first c.args.file.now (tree_of c.args.node.now) c.args.groups.now _
+      (g.B.View.working c.args.leaves.now) f c.requires.storable c.requires.tree is
+      c.requires.groups c.args.key.now c.args.span.now c.requires.key c.requires.lo c.requires.hi
+      c.new-entries.result c.select.new.out c.new-entries.ensures
+      (c.in_ok-select.ensures.ok whole) most _ _ few c.in_ok-select.ensures.steps;
+  reads = search rules;
+}
 
 pub returns-in_default : goal.returns-in_default
 returns-in_default g c = record {
@@ -47,8 +65,8 @@ returns-in_default g c = record {
       let is = sound.1.1 in
       let all = both_are file t groups _ maps f c.requires.storable c.requires.tree is
       c.requires.groups key span c.requires.key c.requires.lo c.requires.hi
-      c.new-entries.result c.select.new.out c.select-2.new.out _ c.new-entries.ensures
-      (c.in_ok-select.ensures.ok sound.0) reads.working
+      c.new-entries.result c.select.new.out c.new-entries.ensures
+      (c.in_ok-select.ensures.ok sound.0) c.select-2.new.out _ reads.working
       (c.in_ok-select-2.ensures.ok (ends.whole sound.0)) in
       let fits = one_fits file t groups _ maps f c.requires.storable c.requires.tree is
       c.requires.groups key span c.requires.key c.requires.lo c.requires.hi in
@@ -74,8 +92,8 @@ returns g c = record {
       let ends = c.in_ok-select.ensures.ends in
       let all = both_are file t groups _ maps f c.requires.storable c.requires.tree is
       c.requires.groups key span c.requires.key c.requires.lo c.requires.hi
-      c.new-entries.result c.select.new.out c.select-2.new.out _ c.new-entries.ensures
-      (c.in_ok-select.ensures.ok whole) reads.working
+      c.new-entries.result c.select.new.out c.new-entries.ensures
+      (c.in_ok-select.ensures.ok whole) c.select-2.new.out _ reads.working
       (c.in_ok-select-2.ensures.ok (ends.whole whole)) in
       let fits = one_fits file t groups _ maps f c.requires.storable c.requires.tree is
       c.requires.groups key span c.requires.key c.requires.lo c.requires.hi in
@@ -95,9 +113,47 @@ returns g c = record {
       let ends = c.in_ok-select.ensures.ends in
       steps_both file t groups _ maps f c.requires.storable c.requires.tree is
       c.requires.groups key span c.requires.key c.requires.lo c.requires.hi
-      c.new-entries.result c.select.new.out c.select-2.new.out _ c.new-entries.ensures
-      (c.in_ok-select.ensures.ok whole) reads.working
+      c.new-entries.result c.select.new.out c.new-entries.ensures
+      (c.in_ok-select.ensures.ok whole) c.select-2.new.out _ reads.working
       (c.in_ok-select-2.ensures.ok (ends.whole whole))
       most _ _ _ few c.in_ok-select.ensures.steps c.in_ok-select-2.ensures.steps;
   reads = search rules;
+}
+
+pub returns-in_err-select-2 : goal.returns-in_err-select-2
+returns-in_err-select-2 g c = record {
+  found = search rules;
+  fits = search rules;
+  steps = search rules;
+  reads = record {
+    reads = search rules;
+    ends = record {
+      whole = search rules;
+      later = search rules;
+      fault = search rules;
+      counted = search rules;
+      damaged = search rules;
+    };
+    block = search rules;
+    not_full = search rules;
+  };
+}
+
+pub returns-in_err-values : goal.returns-in_err-values
+returns-in_err-values g c = record {
+  found = search rules;
+  fits = search rules;
+  steps = search rules;
+  reads = record {
+    reads = search rules;
+    ends = record {
+      whole = search rules;
+      later = search rules;
+      fault = search rules;
+      counted = search rules;
+      damaged = search rules;
+    };
+    block = search rules;
+    not_full = search rules;
+  };
 }
