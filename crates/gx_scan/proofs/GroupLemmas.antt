@@ -207,7 +207,7 @@ module _ (node : Node AnyMapping) (l : LayerNode AnyMapping) (s : Segment) (is :
 
   pub groups_made : (g : Groups) (a b : Node AnyMapping) → a ≡ get_or l.kids.items 0 a → b
       ≡ get_or l.kids.items 1 b
-      → g.mask.items ≡ mask_of s → length (mask_of s) ≡ length (form_of s).fields
+      → g.mask.now ≡ mask_of s → length (mask_of s) ≡ length (form_of s).fields
       → ArePlaces 0 (tree_of a) (g.first ∷ []) → ArePlaces 0 (tree_of b) (g.others ∷ [])
       → g.first.codes ≡ [] → g.others.codes ≡ [] → AreGroups (tree_of node) g
   groups_made g a b first second masked long first_at second_at first_plain other_plain = record {
@@ -300,7 +300,7 @@ module _ (file : FileDef) (t : Tree AnyMapping) (g : Groups) (leaves : ℕ) (map
     (storable : IsStorable file) (tree : IsTreeFor file t leaves) (is : IsInternal file t maps f)
     (are : AreGroups t g) where
   abbrev mask : List Bool
-  mask = g.mask.items
+  mask = g.mask.now
 
   abbrev all_rows : List Row
   all_rows = fin.entries f

@@ -190,21 +190,21 @@ unmet_at r (d ∷ conds) (suc i) c lt at unmet = later (meets_cond r d) (list_al
 
 module _ (g : Groups) (fields : List Field) (others : List Entry) (at : ℕ) (r : Row) (rs : List Row)
     (same : drop at others ≡ map (λ (q : Row). entry_of (other_entry g q)) (filter (has_others
-    g.mask.items fields) (r ∷ rs))) where
+    g.mask.now fields) (r ∷ rs))) where
   abbrev pub later : List Entry
-  later = map (λ (q : Row). entry_of (other_entry g q)) (filter (has_others g.mask.items fields) rs)
+  later = map (λ (q : Row). entry_of (other_entry g q)) (filter (has_others g.mask.now fields) rs)
 
-  with_it : has_others g.mask.items fields r ≡ true → drop at others
+  with_it : has_others g.mask.now fields r ≡ true → drop at others
       ≡ entry_of (other_entry g r) ∷ later
   with_it has = same ∙ ap (λ b. map (λ (q : Row). entry_of (other_entry g q)) (cond b (r ∷ filter
-      (has_others g.mask.items fields) rs) (filter (has_others g.mask.items fields) rs))) has
+      (has_others g.mask.now fields) rs) (filter (has_others g.mask.now fields) rs))) has
 
   -- a record with none there
-  pub without_it : has_others g.mask.items fields r ≡ false → drop at others ≡ later
+  pub without_it : has_others g.mask.now fields r ≡ false → drop at others ≡ later
   without_it has = same ∙ ap (λ b. map (λ (q : Row). entry_of (other_entry g q)) (cond b (r ∷ filter
-      (has_others g.mask.items fields) rs) (filter (has_others g.mask.items fields) rs))) has
+      (has_others g.mask.now fields) rs) (filter (has_others g.mask.now fields) rs))) has
 
-  pub some_there : has_others g.mask.items fields r ≡ true → at < length others
+  pub some_there : has_others g.mask.now fields r ≡ true → at < length others
   some_there has = omega (arith, ap length (with_it has), length-drop at others)
 
   -- the entry there, and those that follow
@@ -212,7 +212,7 @@ module _ (g : Groups) (fields : List Field) (others : List Entry) (at : ℕ) (r 
   front e h = drop_more others at e (slice_get_within others at e h)
       ∙ ap (λ (x : Entry). x ∷ drop (at + 1) others) (get_or_from_slice_get others at e e h)
 
-  pub is_there : has_others g.mask.items fields r ≡ true → (e : Entry) → slice_get others at
+  pub is_there : has_others g.mask.now fields r ≡ true → (e : Entry) → slice_get others at
       ≡ Some e
       → (e ≡ entry_of (other_entry g r)) × (drop (at + 1) others ≡ later)
   is_there has e h =
@@ -220,16 +220,16 @@ module _ (g : Groups) (fields : List Field) (others : List Entry) (at : ℕ) (r 
       (ap (λ (l : List Entry). get_or l 0 e) both, ap (λ (l : List Entry). drop 1 l) both)
 
   -- where it has none there, the entry is that of a later record
-  pub later_there : has_others g.mask.items fields r ≡ false → (e : Entry) → slice_get others at
+  pub later_there : has_others g.mask.now fields r ≡ false → (e : Entry) → slice_get others at
       ≡ Some e
       → (q : Row) × In q rs × (e ≡ entry_of (other_entry g q))
   later_there has e h =
       let there : In e later = subst (In e) (sym (front e h) ∙ without_it has) (inl refl) in
-      let q = from_map (λ (q : Row). entry_of (other_entry g q)) e (filter (has_others g.mask.items
+      let q = from_map (λ (q : Row). entry_of (other_entry g q)) e (filter (has_others g.mask.now
       fields) rs) there in
-      (q.0, (in_filter (has_others g.mask.items fields) q.0 rs q.1).0, q.2)
+      (q.0, (in_filter (has_others g.mask.now fields) q.0 rs q.1).0, q.2)
 
-  pub no_later : has_others g.mask.items fields r ≡ false → (e : Entry) → slice_get others at
+  pub no_later : has_others g.mask.now fields r ≡ false → (e : Entry) → slice_get others at
       ≡ Some e
       → AllByRecursion (λ (q : Row). bytes_of q.0 ≢ bytes_of r.0) rs → e.key ≡ bytes_of r.0 → ⊥
   no_later has e h differ key =
@@ -237,11 +237,11 @@ module _ (g : Groups) (fields : List Field) (others : List Entry) (at : ℕ) (r 
       all_at (λ (q : Row). bytes_of q.0 ≢ bytes_of r.0) rs q.0 differ q.1 (sym (ap (λ (x : Entry).
       x.key) q.2) ∙ key)
 
-  pub defaults_there : has_others g.mask.items fields r ≡ false → AreFit fields r.1
-      → body_of (defaults_of (chosen (map not g.mask.items) fields))
-      ≡ body_of (chosen (map not g.mask.items) r.1)
+  pub defaults_there : has_others g.mask.now fields r ≡ false → AreFit fields r.1
+      → body_of (defaults_of (chosen (map not g.mask.now) fields))
+      ≡ body_of (chosen (map not g.mask.now) r.1)
   defaults_there has fit =
-      let others = map not g.mask.items in
+      let others = map not g.mask.now in
       ap body_of (sym (only_defaults (chosen others fields) (chosen others r.1) (chosen_fit others
       fields r.1 fit) (defaults (are_default (chosen others fields) (chosen others r.1)) has)))
     where

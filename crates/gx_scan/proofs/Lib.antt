@@ -14,5 +14,6 @@ pub mod WhereLemmas
 mod DistinctLemmas
 mod KeyLemmas
 mod OnePlaceLemmas
+mod BothLemmas
 pub mod StepLemmas
 pub mod SearchedLemmas

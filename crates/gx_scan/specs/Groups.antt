@@ -17,8 +17,8 @@ pub record AreGroups (t : Tree AnyMapping) (g : Groups) : Type 0 where
   pub first : Tree AnyMapping
   pub others : Tree AnyMapping
   pub tree : t ≡ layer mapping (kid first (kid others no_kids))
-  pub splits : any_rule mapping ≡ segment_rule (tree_form any_rule t) g.mask.items
-  pub long : length g.mask.items ≡ length (tree_form any_rule t).fields
+  pub splits : any_rule mapping ≡ segment_rule (tree_form any_rule t) g.mask.now
+  pub long : length g.mask.now ≡ length (tree_form any_rule t).fields
   pub first_place : ArePlaces 0 first (g.first ∷ [])
   pub other_place : ArePlaces 0 others (g.others ∷ [])
   pub first_plain : g.first.codes ≡ []
@@ -35,7 +35,7 @@ has_others mask fields r =
 
 -- the entry of a record's first group, and that of its others
 abbrev pub first_entry : Groups → Row → List ℕ × List ℕ
-first_entry g r = entry_of_row g.first.lengths [] (group_row g.mask.items r)
+first_entry g r = entry_of_row g.first.lengths [] (group_row g.mask.now r)
 
 abbrev pub other_entry : Groups → Row → List ℕ × List ℕ
-other_entry g r = entry_of_row g.others.lengths [] (group_row (map not g.mask.items) r)
+other_entry g r = entry_of_row g.others.lengths [] (group_row (map not g.mask.now) r)

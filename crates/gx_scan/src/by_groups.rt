@@ -1,8 +1,8 @@
 // Finding by two groups: where a segment splits records in two leaves, the entries of both are
 // joined by their keys.
-ghost use Rattle.std.specs.Prelude.{◌≡◌, ◌<◌, ◌≤◌, ◌+◌, ◌*◌, ◌++◌, ◌∷◌, [], ℕ, filter, length, IfOk, OnOk};
+ghost use Rattle.std.specs.Prelude.{◌≡◌, ◌<◌, ◌≤◌, ◌+◌, ◌*◌, ℕ, length, IfOk, OnOk};
 ghost use Rattle.std.specs.List.{AllByRecursion};
-ghost use Rattle.gx_values.specs.Values.{Fits};
+ghost use Rattle.gx_values.specs.Values.{Fits, IsSized};
 ghost use Rattle.gx_values.specs.Keys.{bytes_of};
 ghost use Rattle.gx_schema.specs.Lookups.{key_kind};
 ghost use Rattle.gx_ports.specs.Calls.{ReadsMaps};
@@ -10,15 +10,13 @@ ghost use Rattle.gx_ports.specs.LeafMaps.{Extends, selected, map_at, counted};
 ghost use Rattle.gx_stack.specs.Tree.{leaves_of};
 ghost use Rattle.gx_stack.specs.Seen.{tree_of};
 ghost use Rattle.gx_model.specs.States.{File as FileMap, IsRowOf};
-ghost use Rattle.gx_scan.specs.Files.{IsInternal, HasFile, IsStorable, IsTreeFor};
+ghost use Rattle.gx_scan.specs.Files.{rec_of, IsInternal, HasFile, IsStorable, IsTreeFor};
 ghost use Rattle.gx_scan.specs.Groups.{AreGroups};
-ghost use Rattle.gx_model.specs.Found.{meets_conds};
 ghost use Rattle.gx_scan.specs.Within.{AreAdded};
-ghost use Rattle.gx_scan.specs.Where.{rows_at_key};
-ghost use Rattle.gx_scan.specs.Search.{FindsValues};
+ghost use Rattle.gx_scan.specs.Search.{FindsValues, FindsRecord};
 ghost use Rattle.gx_scan.specs.Steps.{HaveAtMost, rows_inside};
 
-use crate::by_key::last_values;
+use crate::both::values_of_both;
 use crate::groups::Groups;
 use crate::joined::add_joined_rows;
 use crate::places::Place;
@@ -29,7 +27,7 @@ use gx_rows::Row;
 use gx_schema::FileDef;
 use gx_stack::Node;
 use gx_types::AnyMapping;
-use gx_values::{Span, Value, Values};
+use gx_values::{NoMemory, Rec, Span, Value, Values};
 use std::alloc::Global;
 
 /// Appends the records of the file within the span that meet the conditions, in the order of their
@@ -91,13 +89,21 @@ pub(crate) fn values_by_groups<B: Leaves>(
     requires hi { span.now.hi ≡ bytes_of key.now }
     ensures { FindsValues B.View file.now (tree_of node.now) key.now leaves.old leaves.new result }
 {
-    let mut rows = Vec::new(alloc);
-    add_key_by_groups(alloc, file, node, groups, key, span, leaves, &mut rows)?;
-    Ok(last_values(rows))
+    let _key = key;
+    let mut entries = Entries::new(alloc);
+    leaves.select(alloc, groups.first.leaf, span, &mut entries)?;
+    if entries.is_empty() {
+        return Ok(None);
+    }
+    leaves.select(alloc, groups.others.leaf, span, &mut entries)?;
+    let Some(values) = values_of_both(alloc, file, groups, &entries)? else {
+        return Err(Stop::Damaged(NO_BLOCK));
+    };
+    Ok(values)
 }
 
-// Appends the record at a key, where there is one.
-fn add_key_by_groups<B: Leaves>(
+/// The same of the record itself.
+pub(crate) fn record_by_groups<B: Leaves>(
     alloc: Global,
     file: &FileDef,
     node: &Node<AnyMapping>,
@@ -105,31 +111,33 @@ fn add_key_by_groups<B: Leaves>(
     key: &Value,
     span: &Span,
     leaves: &mut B,
-    rows: &mut Vec<Row>,
-) -> Result<(), Stop>
+) -> Result<Option<Rec>, Stop>
     requires groups { AreGroups (tree_of node.now) groups.now }
     requires tree { IsTreeFor file.now (tree_of node.now) (length (B.working leaves.old)) }
     requires storable { IsStorable file.now }
     requires key { Fits (key_kind file.now) key.now }
     requires lo { span.now.lo ≡ bytes_of key.now }
     requires hi { span.now.hi ≡ bytes_of key.now }
-    ensures rows { (f : FileMap) → B.whole leaves.old →
-        IsInternal file.now (tree_of node.now) (B.working leaves.old) f → OnOk result
-        (rows.new.items
-        ≡ rows.old.items ++ filter (meets_conds []) (rows_at_key f (key.now ∷ []))) }
-    ensures steps { (f : FileMap) (most : ℕ) → B.whole leaves.old →
-        IsInternal file.now (tree_of node.now) (B.working leaves.old) f →
-        HaveAtMost most (tree_of node.now) f → OnOk result
-        (B.work leaves.new
-        ≤ B.work leaves.old + (length (leaves_of (tree_of node.now)) + most)) }
-    ensures fit { AllByRecursion (IsRowOf file.now) rows.old.items →
-        AllByRecursion (IsRowOf file.now) rows.new.items }
-    ensures reads { ReadsMaps B.View
-        (B.whole leaves.old × HasFile file.now (tree_of node.now) (B.working leaves.old))
-        leaves.old leaves.new result }
+    ensures { FindsRecord B.View file.now (tree_of node.now) key.now leaves.old leaves.new result }
 {
-    let _key = key;
-    add_by_groups(alloc, file, node, groups, span, &[], leaves, rows)
+    let found = values_by_groups(alloc, file, node, groups, key, span, leaves)?;
+    let Some(values) = found else {
+        return Ok(None);
+    };
+    Ok(Some(record_of(alloc, key, values)?))
+}
+
+// The record of a key and other values.
+fn record_of(alloc: Global, key: &Value, values: Values) -> Result<Rec, NoMemory>
+    requires { IsSized key.now }
+    ensures { IfOk result (λ made. made ≡ rec_of (key.now, values)) }
+{
+    let mut keys = Vec::with_capacity(alloc, 1)?;
+    keys.push(key.copy(alloc)?)?;
+    Ok(Rec {
+        key: Values(keys),
+        fields: values,
+    })
 }
 
 // The entries of a place within the span, in the order of their keys.

@@ -144,7 +144,7 @@ fn values_by_entry<B: Leaves>(
     Ok(last_values(rows))
 }
 
-pub(crate) fn last_values(rows: Vec<Row>) -> Option<Values>
+fn last_values(rows: Vec<Row>) -> Option<Values>
     ensures last { (one : Option TheRow) → rows.items ≡ list_of_one one →
         result ≡ option_map (λ row. row.1) one }
     ensures fits { (file : TheFile) → AllByRecursion (IsRowOf file) rows.items →

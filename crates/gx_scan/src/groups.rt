@@ -7,7 +7,7 @@ ghost use Rattle.gx_types.specs.Any.{any_rule};
 ghost use Rattle.gx_scan.specs.Entries.{ArePlaces};
 ghost use Rattle.gx_scan.specs.Groups.{AreGroups};
 
-use crate::places::{Place, places_of};
+use crate::places::{Place, place_of, places_of};
 use gx_stack::Node;
 use gx_types::AnyMapping;
 use gx_values::NoMemory;
@@ -15,9 +15,9 @@ use std::alloc::Global;
 
 /// Two leaves with the two groups of data fields that a segment makes.
 #[derive(Debug, Drop)]
-pub struct Groups {
+pub struct Groups<'a> {
     /// of each data field, whether it is in the first group
-    pub mask: Vec<bool>,
+    pub mask: &'a [bool],
     /// where the first group of each record stands
     pub first: Place,
     /// where its other fields stand, unless each has its default
@@ -26,7 +26,10 @@ pub struct Groups {
 
 /// The two groups of the records of a file's node. `None`: no segment splits them, or a group isn't
 /// whole in one leaf. `NoMemory`: there was none for the groups.
-pub(crate) fn groups_of(alloc: Global, node: &Node<AnyMapping>) -> Result<Option<Groups>, NoMemory>
+pub(crate) fn groups_of(
+    alloc: Global,
+    node: &Node<AnyMapping>,
+) -> Result<Option<Groups<'_>>, NoMemory>
     requires valid { IsValid any_rule (tree_of node.now) }
     requires plain { AreKeyFields (tree_form any_rule (tree_of node.now)).fields }
     ensures { IfOk result (λ found. IfSome found (AreGroups (tree_of node.now))) }
@@ -43,9 +46,8 @@ pub(crate) fn groups_of(alloc: Global, node: &Node<AnyMapping>) -> Result<Option
     let Some(others) = only_place(alloc, &layer.kids[1])? else {
         return Ok(None);
     };
-    let mask = segment.mask().to_vec(alloc)?;
     Ok(Some(Groups {
-        mask,
+        mask: segment.mask(),
         first,
         others,
     }))
@@ -59,6 +61,13 @@ fn only_place(alloc: Global, node: &Node<AnyMapping>) -> Result<Option<Place>, N
         (λ found. IfSome found (λ p. ArePlaces 0 (tree_of node.now) (p ∷ []))) }
     ensures plain { IfOk result (λ found. IfSome found (λ p. p.codes ≡ [])) }
 {
+    if let Some(place) = place_of(alloc, node)? {
+        return Ok(if place.codes.is_empty() {
+            Some(place)
+        } else {
+            None
+        });
+    }
     match places_of(alloc, node, 1)? {
         Some(places) => Ok(alone(places)),
         None => Ok(None),

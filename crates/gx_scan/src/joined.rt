@@ -45,19 +45,19 @@ pub(crate) fn add_joined_rows(
     rows: &mut Vec<Row>,
 ) -> Result<bool, NoMemory>
     requires storable { IsStorable file.now }
-    requires long { length groups.now.mask.items ≡ length (data_fields file.now) }
+    requires long { length groups.now.mask.now ≡ length (data_fields file.now) }
     ensures chosen { (rs : List TheRow) → AllByRecursion (IsRowOf file.now) rs →
         IsStrictlySortedBy (λ a b. value_cmp a.0 b.0) rs →
         firsts.now ≡ map (λ r. entry_of (first_entry groups.now r)) rs →
         others.now ≡ map (λ r. entry_of (other_entry groups.now r))
-        (filter (has_others groups.now.mask.items (data_fields file.now)) rs) →
+        (filter (has_others groups.now.mask.now (data_fields file.now)) rs) →
         IfOk result (λ all. (all ≡ true)
         × (rows.new.items ≡ rows.old.items ++ filter (meets_conds conds.now) rs)) }
     ensures front { Extends rows.old.items rows.new.items }
     ensures fit { AllByRecursion (IsRowOf file.now) rows.old.items →
         AllByRecursion (IsRowOf file.now) rows.new.items }
 {
-    let defaults = default_body(alloc, data_fields(file), groups.mask.as_slice())?;
+    let defaults = default_body(alloc, data_fields(file), groups.mask)?;
     let mut plain = Vec::with_capacity(alloc, PLAIN_ROOM)?;
     let mut at = 0;
     for index in 0..firsts.len() {
@@ -89,12 +89,12 @@ fn next_others<'a>(
     ensures { (r : TheRow) (rs : List TheRow) → IsRowOf file.now r → key.now ≡ bytes_of r.0 →
         AllByRecursion (λ q. bytes_of q.0 ≢ bytes_of r.0) rs →
         defaults.now
-        ≡ body_of (defaults_of (chosen (map not groups.now.mask.items) (data_fields file.now))) →
+        ≡ body_of (defaults_of (chosen (map not groups.now.mask.now) (data_fields file.now))) →
         drop at others.now ≡ map (λ q. entry_of (other_entry groups.now q))
-        (filter (has_others groups.now.mask.items (data_fields file.now)) (r ∷ rs)) →
-        IsSomeAnd result (λ s. (s.0.now ≡ body_of (chosen (map not groups.now.mask.items) r.1))
+        (filter (has_others groups.now.mask.now (data_fields file.now)) (r ∷ rs)) →
+        IsSomeAnd result (λ s. (s.0.now ≡ body_of (chosen (map not groups.now.mask.now) r.1))
         × (drop s.1 others.now ≡ map (λ q. entry_of (other_entry groups.now q))
-        (filter (has_others groups.now.mask.items (data_fields file.now)) rs))) }
+        (filter (has_others groups.now.mask.now (data_fields file.now)) rs))) }
 {
     let _file = file;
     if at < others.len() {
@@ -121,17 +121,17 @@ fn add_joined(
     rows: &mut Vec<Row>,
 ) -> Result<bool, NoMemory>
     requires storable { IsStorable file.now }
-    requires long { length groups.now.mask.items ≡ length (data_fields file.now) }
+    requires long { length groups.now.mask.now ≡ length (data_fields file.now) }
     ensures chosen { (r : TheRow) → IsRowOf file.now r → key.now ≡ bytes_of r.0 →
         first.now ≡ (first_entry groups.now r).1 →
-        others.now ≡ body_of (chosen (map not groups.now.mask.items) r.1) →
+        others.now ≡ body_of (chosen (map not groups.now.mask.now) r.1) →
         IfOk result (λ is. (is ≡ true)
         × (rows.new.items ≡ rows.old.items ++ filter (meets_conds conds.now) (r ∷ []))) }
     ensures front { Extends rows.old.items rows.new.items }
     ensures fit { AllByRecursion (IsRowOf file.now) rows.old.items →
         AllByRecursion (IsRowOf file.now) rows.new.items }
 {
-    let mask = groups.mask.as_slice();
+    let mask = groups.mask;
     let Some(first) = behind_lengths(first, groups.first.lengths) else {
         return Ok(false);
     };
@@ -318,8 +318,12 @@ fn push_as_it_is<'a>(
     Ok(Some(more))
 }
 
-// The body of the defaults of the fields outside the first group.
-fn default_body(alloc: Global, fields: &[Field], mask: &[bool]) -> Result<Vec<u8>, NoMemory>
+/// The body of the defaults of the fields outside the first group. `NoMemory`: there was none for it.
+pub(crate) fn default_body(
+    alloc: Global,
+    fields: &[Field],
+    mask: &[bool],
+) -> Result<Vec<u8>, NoMemory>
     requires { length mask.now ≡ length fields.now }
     ensures { IfOk result (λ body. body.items
         ≡ body_of (defaults_of (chosen (map not mask.now) fields.now))) }

@@ -2,6 +2,7 @@
 //! leaves of the file's node.
 #![tactic(auto)]
 
+mod both;
 mod by_entries;
 mod by_groups;
 mod by_index;

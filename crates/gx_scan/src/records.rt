@@ -12,6 +12,8 @@ ghost use Rattle.gx_scan.specs.Files.{IsStorable, IsTreeFor};
 ghost use Rattle.gx_scan.specs.Records.{list_of_one};
 ghost use Rattle.gx_scan.specs.Search.{FindsRecord};
 
+use crate::by_groups::record_by_groups;
+use crate::groups::groups_of;
 use crate::searched::searched_node;
 use crate::within::whole_span;
 use gx_gather::Recs;
@@ -60,10 +62,32 @@ pub fn find_record<B: Leaves>(
     let mut span = whole_span();
     set_key(&mut span, key);
     let node = searched_node(node, &span);
-    record_inside(alloc, file, node, key, &span, leaves)
+    record_in(alloc, file, node, key, &span, leaves)
 }
 
-/// The same by the span of the key, of the node that is searched.
+// The same by the span of the key, of the node that is searched.
+fn record_in<B: Leaves>(
+    alloc: Global,
+    file: &FileDef,
+    node: &Node<AnyMapping>,
+    key: &Value,
+    span: &Span,
+    leaves: &mut B,
+) -> Result<Option<Rec>, Stop>
+    requires tree { IsTreeFor file.now (tree_of node.now) (length (B.working leaves.old)) }
+    requires storable { IsStorable file.now }
+    requires key { Fits (key_kind file.now) key.now }
+    requires lo { span.now.lo ≡ bytes_of key.now }
+    requires hi { span.now.hi ≡ bytes_of key.now }
+    ensures { FindsRecord B.View file.now (tree_of node.now) key.now leaves.old leaves.new result }
+{
+    match groups_of(alloc, node)? {
+        Some(groups) => record_by_groups(alloc, file, node, &groups, key, span, leaves),
+        None => record_inside(alloc, file, node, key, span, leaves),
+    }
+}
+
+/// The same by the records of the node.
 pub(crate) fn record_inside<B: Leaves>(
     alloc: Global,
     file: &FileDef,

@@ -83,7 +83,7 @@ returns-then-branch-clause-steps g c = λ f most whole is few.
     ∙ ap (λ (maps : List LeafMap). selected span.lo span.hi (map_at maps groups.others.leaf))
     reads.reads.working) in
     let rs = rows_inside span f in
-    let some = filter (has_others groups.mask.items (data_fields file)) rs in
+    let some = filter (has_others groups.mask.now (data_fields file)) rs in
     let all = steps_inside file t groups _ maps f c.requires.storable c.requires.tree is
     c.requires.groups span most _ _ few
     (ap length found ∙ length-map rs (λ (r : Row). entry_of (first_entry groups r)))

@@ -30,13 +30,12 @@ returns-in_default-clause-chosen c = λ rs all order firsts others.
     let here = drop_row rs i at.row at.more in
     let later = drop (i + 1) rs in
     let made = λ (r : Row). entry_of (other_entry g r) in
-    let has = has_others g.mask.items fields in
+    let has = has_others g.mask.now fields in
     let key = ap (λ (x : Entry). x.key) at.is in
-    let defaults = c.as_slice-in-loop-index.ensures.value ∙ c.in_ok-defaults.ensures
-    ∙ (λ j. body_of (defaults_of (chosen (map not (c.as_slice.ensures.value j))
-    (c.data_fields.ensures j)))) in
+    let defaults = c.as_slice.ensures.value ∙ c.in_ok-defaults.ensures
+    ∙ ap (λ fs. body_of (defaults_of (chosen (map not g.mask.now) fs))) c.data_fields.ensures in
     let next = subst (λ o. IsSomeAnd o (λ s. (s.0.now
-    ≡ body_of (chosen (map not g.mask.items) at.row.1))
+    ≡ body_of (chosen (map not g.mask.now) at.row.1))
     × (drop s.1 c.args.others.now ≡ map made (filter has later))))
     c.in_default.is (c.next_others-next.ensures at.row later at.fits key
     (differ_later file rs i at.row c.requires.storable.key all (ascends key_cmp rs order) at.fits
@@ -58,13 +57,12 @@ returns-then-not-branch-clause-chosen c = λ rs all order firsts others.
     let here = drop_row rs i at.row at.more in
     let later = drop (i + 1) rs in
     let made = λ (r : Row). entry_of (other_entry g r) in
-    let has = has_others g.mask.items fields in
+    let has = has_others g.mask.now fields in
     let key = ap (λ (x : Entry). x.key) at.is in
-    let defaults = c.as_slice-in-loop-index.ensures.value ∙ c.in_ok-defaults.ensures
-    ∙ (λ j. body_of (defaults_of (chosen (map not (c.as_slice.ensures.value j))
-    (c.data_fields.ensures j)))) in
+    let defaults = c.as_slice.ensures.value ∙ c.in_ok-defaults.ensures
+    ∙ ap (λ fs. body_of (defaults_of (chosen (map not g.mask.now) fs))) c.data_fields.ensures in
     let next = subst (λ o. IsSomeAnd o (λ s. (s.0.now
-    ≡ body_of (chosen (map not g.mask.items) at.row.1))
+    ≡ body_of (chosen (map not g.mask.now) at.row.1))
     × (drop s.1 c.args.others.now ≡ map made (filter has later))))
     c.in-Some.is (c.next_others-next.ensures at.row later at.fits key
     (differ_later file rs i at.row c.requires.storable.key all (ascends key_cmp rs order) at.fits
@@ -89,13 +87,12 @@ loop-index-preserved c = record {
       let here = drop_row rs i at.row at.more in
       let later = drop (i + 1) rs in
       let made = λ (r : Row). entry_of (other_entry g r) in
-      let has = has_others g.mask.items fields in
+      let has = has_others g.mask.now fields in
       let key = ap (λ (x : Entry). x.key) at.is in
-      let defaults = c.as_slice-in-loop-index.ensures.value ∙ c.in_ok-defaults.ensures
-      ∙ (λ j. body_of (defaults_of (chosen (map not (c.as_slice.ensures.value j))
-      (c.data_fields.ensures j)))) in
+      let defaults = c.as_slice.ensures.value ∙ c.in_ok-defaults.ensures
+      ∙ ap (λ fs. body_of (defaults_of (chosen (map not g.mask.now) fs))) c.data_fields.ensures in
       let next = subst (λ o. IsSomeAnd o (λ s. (s.0.now
-      ≡ body_of (chosen (map not g.mask.items) at.row.1))
+      ≡ body_of (chosen (map not g.mask.now) at.row.1))
       × (drop s.1 c.args.others.now ≡ map made (filter has later))))
       c.in-Some.is (c.next_others-next.ensures at.row later at.fits key
       (differ_later file rs i at.row c.requires.storable.key all (ascends key_cmp rs order) at.fits

@@ -15,9 +15,9 @@ invariant-loop-index l = record {
       → IsStrictlySortedBy (λ (a b : Row). value_cmp a.0 b.0) rs
       → l.firsts ≡ map (λ (r : Row). entry_of (first_entry l.groups r)) rs
       → l.others ≡ map (λ (r : Row). entry_of (other_entry l.groups r))
-      (filter (has_others l.groups.mask.items (data_fields l.file)) rs)
+      (filter (has_others l.groups.mask.now (data_fields l.file)) rs)
       → (drop l.at l.others ≡ map (λ (r : Row). entry_of (other_entry l.groups r))
-      (filter (has_others l.groups.mask.items (data_fields l.file)) (drop l.index rs)))
+      (filter (has_others l.groups.mask.now (data_fields l.file)) (drop l.index rs)))
       × (l.rows.items ≡ l.fn.rows.items ++ filter (meets_conds l.conds) (take l.index rs));
   front : Extends l.fn.rows.items l.rows.items;
   fit : AllByRecursion (IsRowOf l.file) l.fn.rows.items

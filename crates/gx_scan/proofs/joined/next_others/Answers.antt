@@ -16,10 +16,10 @@ returns-in_err-values c = λ r rs fit key differ defaults same.
     let others = c.args.others.now in
     let e : Entry =
     record { key = c.entry-entry.result.key.now; body = c.entry-entry.result.body.now } in
-    elim (bool_cases (has_others g.mask.items fields r)) [
+    elim (bool_cases (has_others g.mask.now fields r)) [
       | inl has ↦ (
           let at = is_there g fields others c.args.at r rs same has e c.entry-entry.ensures in
-          absurd (c.in_err-values.ensures (rec_of (group_row (map not g.mask.items) r)) (ap (λ (x :
+          absurd (c.in_err-values.ensures (rec_of (group_row (map not g.mask.now) r)) (ap (λ (x :
           Entry). x.body) at.0)))
       | inr has ↦ absurd (no_later g fields others c.args.at r rs same has e c.entry-entry.ensures
           differ (same_bytes _ _ (sym c.if-eq.ensures) ∙ key))
@@ -32,10 +32,10 @@ returns-then-eq c = λ r rs fit key differ defaults same.
     let others = c.args.others.now in
     let e : Entry =
     record { key = c.entry-entry.result.key.now; body = c.entry-entry.result.body.now } in
-    elim (bool_cases (has_others g.mask.items fields r)) [
+    elim (bool_cases (has_others g.mask.now fields r)) [
       | inl has ↦ (
           let at = is_there g fields others c.args.at r rs same has e c.entry-entry.ensures in (
-            c.in_ok-values.ensures (rec_of (group_row (map not g.mask.items) r)) (ap (λ (x : Entry).
+            c.in_ok-values.ensures (rec_of (group_row (map not g.mask.now) r)) (ap (λ (x : Entry).
                 x.body) at.0),
             at.1,
           ))
@@ -48,7 +48,7 @@ returns c = λ r rs fit key differ defaults same.
     let g = c.args.groups.now in
     let fields = data_fields c.args.file.now in
     let others = c.args.others.now in
-    elim (bool_cases (has_others g.mask.items fields r)) [
+    elim (bool_cases (has_others g.mask.now fields r)) [
       | inl has ↦ elim c.if-at-len.branch [
         | then-at-len+else-eq w ↦ (
             let e : Entry =

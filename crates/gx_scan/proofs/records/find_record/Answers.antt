@@ -6,8 +6,8 @@ use Rattle.gx_scan.specs.Files.{rec_of}
 use Rattle.gx_scan.proofs.SearchedLemmas.{finds_inside}
 use Rattle.gx_scan.proofs.records.find_record.Goals as goal
 
-pub record_inside-requires-clause-tree : goal.record_inside-requires-clause-tree
-record_inside-requires-clause-tree g c = c.searched_node-node.ensures.tree c.args.file.now _ c.requires.tree
+pub record_in-requires-clause-tree : goal.record_in-requires-clause-tree
+record_in-requires-clause-tree g c = c.searched_node-node.ensures.tree c.args.file.now _ c.requires.tree
 
 pub returns : goal.returns
 returns g c =
@@ -17,4 +17,4 @@ returns g c =
     c.set_key.ensures.lo c.set_key.ensures.hi (tree_of c.args.node.now)
     (tree_of c.searched_node-node.result.now) c.searched_node-node.ensures _ c.requires.tree
     (λ o. option_map (λ values. rec_of (key, values)) o) (IsOf (file_form file))
-    c.args.leaves.now c.record_inside.new.leaves c.record_inside.result c.record_inside.ensures
+    c.args.leaves.now c.record_in.new.leaves c.record_in.result c.record_in.ensures
