@@ -167,7 +167,7 @@ stored_there fs cs vs i f c rest fit have lt item code is =
       is = x.5;
     }
 
-nothing_stored : (cs : List (Option Code)) → stored_values cs [] ≡ []
+pub nothing_stored : (cs : List (Option Code)) → stored_values cs [] ≡ []
 nothing_stored [] = refl
 nothing_stored (c ∷ cs) = refl
 

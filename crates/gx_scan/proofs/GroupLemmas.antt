@@ -47,7 +47,8 @@ use Rattle.gx_scan.specs.declared.groups.Groups.{Groups}
 use Rattle.gx_scan.specs.Files.{rec_of, records_of, IsStorable, IsTreeFor, IsInternal}
 use Rattle.gx_scan.specs.Steps.{HaveAtMost, is_key_inside, rows_inside}
 use Rattle.gx_scan.specs.Entries.{below, entry_of_row, data_leaves, IsAlone, ArePlaces}
-use Rattle.gx_scan.specs.Groups.{AreGroups, group_row, has_others, first_entry, other_entry}
+use Rattle.gx_scan.specs.Groups.{AreGroups, ArePlain, IsSplitRow, group_row, has_others, first_entry, other_entry, first_stored, other_stored}
+use Rattle.gx_scan.specs.Stored.{HaveCodes}
 use Rattle.gx_scan.proofs.FileLemmas.{find_in, in_find, set_of}
 use Rattle.gx_scan.proofs.EntryLemmas.{filter_map, map_joined, span_entries}
 use Rattle.gx_scan.proofs.ListingLemmas.{filter_twice, same_filter}
@@ -86,6 +87,13 @@ module _ (t : Tree AnyMapping) (p : Place) (maps : List LeafMap) (k : Kind) (rs 
       subst (λ (q : Place). IsAlone (data_leaves t)
       (entry_in q.leaf (below (suc q.lengths) q.codes (rec_of r)))
       (entries_of any_rule t (rec_of r))) same x.3
+
+  -- a record has the codes of the place
+  pub alone_coded : (r : Row) → In r rs → HaveCodes p.codes r.1
+  alone_coded r h =
+      let x = are.stand (rec_of r) (fits r h).1 tt in
+      let same : x.0 ≡ p = elim x.1 [ inl e ↦ e | inr none ↦ absurd none ] in
+      subst (λ (q : Place). HaveCodes q.codes r.1) same x.2
 
   data_there : In p.leaf (data_leaves t)
   data_there = subst (In p.leaf) are.leaves (inl refl)
@@ -209,8 +217,8 @@ module _ (node : Node AnyMapping) (l : LayerNode AnyMapping) (s : Segment) (is :
       ≡ get_or l.kids.items 1 b
       → g.mask.now ≡ mask_of s → length (mask_of s) ≡ length (form_of s).fields
       → ArePlaces 0 (tree_of a) (g.first ∷ []) → ArePlaces 0 (tree_of b) (g.others ∷ [])
-      → g.first.codes ≡ [] → g.others.codes ≡ [] → AreGroups (tree_of node) g
-  groups_made g a b first second masked long first_at second_at first_plain other_plain = record {
+      → AreGroups (tree_of node) g
+  groups_made g a b first second masked long first_at second_at = record {
     mapping = l.mapping;
     first = tree_of a;
     others = tree_of b;
@@ -220,8 +228,6 @@ module _ (node : Node AnyMapping) (l : LayerNode AnyMapping) (s : Segment) (is :
     long = ap length masked ∙ long ∙ ap (λ (form : Form). length form.fields) (sym node_form);
     first_place = first_at;
     other_place = second_at;
-    first_plain = first_plain;
-    other_plain = other_plain;
   }
 
 -- both are leaves of the tree
@@ -396,43 +402,76 @@ module _ (file : FileDef) (t : Tree AnyMapping) (g : Groups) (leaves : ℕ) (map
       any_rule t) mask all_rows) are.other_place storable.key
       other_fits others_order other_union
 
-  pub firsts_inside : (span : Span) (entries : List Entry) → entries
+  pub firsts_stored : (span : Span) (entries : List Entry) → entries
+      ≡ selected span.lo span.hi (map_at maps g.first.leaf)
+      → entries ≡ map (λ (r : Row). entry_of (first_stored g r)) (rows_inside span f)
+  firsts_stored span entries same =
+      let inside = is_key_inside span in
+      span_entries (map_at maps g.first.leaf) g.first.lengths g.first.codes (map (group_row mask)
+      all_rows) span.lo span.hi [] _ entries first_leaf refl refl same
+      ∙ ap (map (λ (r : Row). entry_of (entry_of_row g.first.lengths g.first.codes r)))
+      (filter_map inside (group_row mask) all_rows)
+      ∙ map_joined (λ (r : Row). entry_of (entry_of_row g.first.lengths g.first.codes r))
+      (group_row mask) (rows_inside span f)
+
+  pub others_stored : (span : Span) (entries : List Entry) → entries
+      ≡ selected span.lo span.hi (map_at maps g.others.leaf)
+      → entries ≡ map (λ (r : Row). entry_of (other_stored g r)) (filter (has_others mask
+      (data_fields file)) (rows_inside span f))
+  others_stored span entries same =
+      let inside = is_key_inside span in
+      let some = filter (has_others mask (tree_form any_rule t).fields) all_rows in
+      span_entries (map_at maps g.others.leaf) g.others.lengths g.others.codes (map (group_row (map
+      not mask)) some) span.lo span.hi [] _ entries other_leaf refl refl same
+      ∙ ap (map (λ (r : Row). entry_of (entry_of_row g.others.lengths g.others.codes r)))
+      (filter_map inside (group_row (map not mask)) some)
+      ∙ map_joined (λ (r : Row). entry_of (entry_of_row g.others.lengths g.others.codes r))
+      (group_row (map not mask)) (filter inside some)
+      ∙ ap (map (λ (r : Row). entry_of (other_stored g r))) (commuted inside (has_others mask
+      (tree_form any_rule t).fields) all_rows
+      ∙ ap (λ fields. filter (has_others mask fields) (rows_inside span f)) fields_are)
+
+  -- the same where no field stands by a code
+  pub firsts_inside : ArePlain g → (span : Span) (entries : List Entry) → entries
       ≡ selected span.lo span.hi (map_at maps g.first.leaf)
       → entries ≡ map (λ (r : Row). entry_of (first_entry g r)) (rows_inside span f)
-  firsts_inside span entries same =
-      let inside = is_key_inside span in
-      span_entries (map_at maps g.first.leaf) g.first.lengths [] (map (group_row mask) all_rows)
-      span.lo span.hi [] _ entries
-      (first_leaf ∙ ap (λ cs. map (entry_of_row g.first.lengths cs) (map (group_row mask) all_rows))
-      are.first_plain) refl refl same
-      ∙ ap (map (λ (r : Row). entry_of (entry_of_row g.first.lengths [] r))) (filter_map inside
-      (group_row mask) all_rows)
-      ∙ map_joined (λ (r : Row). entry_of (entry_of_row g.first.lengths [] r)) (group_row mask)
-      (rows_inside span f)
+  firsts_inside plain span entries same = firsts_stored span entries same
+      ∙ ap (λ cs. map (λ (r : Row). entry_of (entry_of_row g.first.lengths cs (group_row mask r)))
+      (rows_inside span f)) plain.first
 
-  pub others_inside : (span : Span) (entries : List Entry) → entries
+  pub others_inside : ArePlain g → (span : Span) (entries : List Entry) → entries
       ≡ selected span.lo span.hi (map_at maps g.others.leaf)
       → entries ≡ map (λ (r : Row). entry_of (other_entry g r)) (filter (has_others mask
       (data_fields file)) (rows_inside span f))
-  others_inside span entries same =
-      let inside = is_key_inside span in
-      let some = filter (has_others mask (tree_form any_rule t).fields) all_rows in
-      span_entries (map_at maps g.others.leaf) g.others.lengths [] (map (group_row (map not mask))
-      some) span.lo span.hi [] _ entries
-      (other_leaf ∙ ap (λ cs. map (entry_of_row g.others.lengths cs) (map (group_row (map not mask))
-      some)) are.other_plain) refl refl same
-      ∙ ap (map (λ (r : Row). entry_of (entry_of_row g.others.lengths [] r))) (filter_map inside
-      (group_row (map not mask)) some)
-      ∙ map_joined (λ (r : Row). entry_of (entry_of_row g.others.lengths [] r)) (group_row (map not
-      mask)) (filter inside some)
-      ∙ ap (map (λ (r : Row). entry_of (other_entry g r))) (commuted inside (has_others mask
-      (tree_form any_rule t).fields) all_rows
-      ∙ ap (λ fields. filter (has_others mask fields) (rows_inside span f)) fields_are)
+  others_inside plain span entries same = others_stored span entries same
+      ∙ ap (λ cs. map (λ (r : Row). entry_of (entry_of_row g.others.lengths cs (group_row (map not
+      mask) r))) (filter (has_others mask (data_fields file)) (rows_inside span f))) plain.others
 
   pub rows_fit_inside : (span : Span) → AllByRecursion (IsRowOf file) (rows_inside span f)
   rows_fit_inside span = all_of (IsRowOf file) (rows_inside span f)
       (λ r h. all_at (IsRowOf file) all_rows r is.fit (in_filter (is_key_inside span) r all_rows
       h).0)
+
+  first_coded : (r : Row) → In r all_rows → HaveCodes g.first.codes (chosen mask r.1)
+  first_coded r h = alone_coded are.first g.first maps (key_kind file) (map (group_row mask)
+      all_rows) are.first_place storable.key first_fits (group_ascends mask all_rows rows_order)
+      first_union (group_row mask r) (in_map (group_row mask) r all_rows h)
+
+  other_coded : (r : Row) → In r all_rows → has_others mask (data_fields file) r ≡ true
+      → HaveCodes g.others.codes (chosen (map not mask) r.1)
+  other_coded r h has =
+      let test = has_others mask (tree_form any_rule t).fields in
+      let there : test r ≡ true = ap (λ fields. has_others mask fields r) fields_are ∙ has in
+      alone_coded are.others g.others maps (key_kind file) (other_rows (tree_form any_rule t) mask
+      all_rows) are.other_place storable.key other_fits others_order other_union
+      (group_row (map not mask) r)
+      (in_map (group_row (map not mask)) r (filter test all_rows) (filter_in test r all_rows h
+      there))
+
+  pub rows_split_inside : (span : Span) → AllByRecursion (IsSplitRow file g) (rows_inside span f)
+  rows_split_inside span = all_of (IsSplitRow file g) (rows_inside span f) (λ r h.
+      let there = (in_filter (is_key_inside span) r all_rows h).0 in
+      (all_at (IsRowOf file) all_rows r is.fit there, first_coded r there, other_coded r there))
 
   pub rows_order_inside : (span : Span) → Ascends key_cmp (rows_inside span f)
   rows_order_inside span = ascends_filter key_cmp (is_key_inside span) all_rows rows_order

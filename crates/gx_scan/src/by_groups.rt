@@ -11,7 +11,7 @@ ghost use Rattle.gx_stack.specs.Tree.{leaves_of};
 ghost use Rattle.gx_stack.specs.Seen.{tree_of};
 ghost use Rattle.gx_model.specs.States.{File as FileMap, IsRowOf};
 ghost use Rattle.gx_scan.specs.Files.{rec_of, IsInternal, HasFile, IsStorable, IsTreeFor};
-ghost use Rattle.gx_scan.specs.Groups.{AreGroups};
+ghost use Rattle.gx_scan.specs.Groups.{AreGroups, ArePlain};
 ghost use Rattle.gx_scan.specs.Within.{AreAdded};
 ghost use Rattle.gx_scan.specs.Search.{FindsValues, FindsRecord};
 ghost use Rattle.gx_scan.specs.Steps.{HaveAtMost, rows_inside};
@@ -43,6 +43,7 @@ pub(crate) fn add_by_groups<B: Leaves>(
     rows: &mut Vec<Row>,
 ) -> Result<(), Stop>
     requires groups { AreGroups (tree_of node.now) groups.now }
+    requires plain { ArePlain groups.now }
     requires tree { IsTreeFor file.now (tree_of node.now) (length (B.working leaves.old)) }
     requires storable { IsStorable file.now }
     ensures rows { (f : FileMap) → B.whole leaves.old →

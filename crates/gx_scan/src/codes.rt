@@ -36,6 +36,13 @@ impl Codes {
         self.0.is_empty()
     }
 
+    /// The codes as they stand.
+    pub(crate) fn as_slice(&self) -> &[Option<Code>]
+        ensures { result.now ≡ self.now }
+    {
+        self.0.as_slice()
+    }
+
     /// The code of a field, if it has one.
     pub(crate) fn code_at(&self, field: usize) -> Option<Code>
         ensures { result ≡ code_at self.now field }

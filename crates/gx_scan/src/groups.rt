@@ -5,7 +5,7 @@ ghost use Rattle.gx_stack.specs.Tree.{tree_form, IsValid};
 ghost use Rattle.gx_stack.specs.Seen.{tree_of};
 ghost use Rattle.gx_types.specs.Any.{any_rule};
 ghost use Rattle.gx_scan.specs.Entries.{ArePlaces};
-ghost use Rattle.gx_scan.specs.Groups.{AreGroups};
+ghost use Rattle.gx_scan.specs.Groups.{AreGroups, ArePlain};
 
 use crate::places::{Place, place_of, places_of};
 use gx_stack::Node;
@@ -53,20 +53,35 @@ pub(crate) fn groups_of(
     }))
 }
 
-// The one place of a node's records, where no field has a code.
+/// The same where no field of either group stands by a code.
+pub(crate) fn plain_groups_of(
+    alloc: Global,
+    node: &Node<AnyMapping>,
+) -> Result<Option<Groups<'_>>, NoMemory>
+    requires valid { IsValid any_rule (tree_of node.now) }
+    requires plain { AreKeyFields (tree_form any_rule (tree_of node.now)).fields }
+    ensures groups { IfOk result (λ found. IfSome found (AreGroups (tree_of node.now))) }
+    ensures plain { IfOk result (λ found. IfSome found ArePlain) }
+{
+    let Some(groups) = groups_of(alloc, node)? else {
+        return Ok(None);
+    };
+    if groups.first.codes.is_empty() && groups.others.codes.is_empty() {
+        Ok(Some(groups))
+    } else {
+        Ok(None)
+    }
+}
+
+// The one place of a node's records.
 fn only_place(alloc: Global, node: &Node<AnyMapping>) -> Result<Option<Place>, NoMemory>
     requires valid { IsValid any_rule (tree_of node.now) }
     requires plain { AreKeyFields (tree_form any_rule (tree_of node.now)).fields }
-    ensures places { IfOk result
+    ensures { IfOk result
         (λ found. IfSome found (λ p. ArePlaces 0 (tree_of node.now) (p ∷ []))) }
-    ensures plain { IfOk result (λ found. IfSome found (λ p. p.codes ≡ [])) }
 {
     if let Some(place) = place_of(alloc, node)? {
-        return Ok(if place.codes.is_empty() {
-            Some(place)
-        } else {
-            None
-        });
+        return Ok(Some(place));
     }
     match places_of(alloc, node, 1)? {
         Some(places) => Ok(alone(places)),
@@ -75,12 +90,11 @@ fn only_place(alloc: Global, node: &Node<AnyMapping>) -> Result<Option<Place>, N
 }
 
 fn alone(places: Vec<Place>) -> Option<Place>
-    ensures one { IfSome result (λ p. places.items ≡ p ∷ []) }
-    ensures plain { IfSome result (λ p. p.codes ≡ []) }
+    ensures { IfSome result (λ p. places.items ≡ p ∷ []) }
 {
     let mut places = places;
     match places.as_slice() {
-        [place] if place.codes.is_empty() => places.pop(),
+        [_] => places.pop(),
         _ => None,
     }
 }

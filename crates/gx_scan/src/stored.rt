@@ -76,8 +76,9 @@ pub(crate) fn split_stored(
     }
 }
 
-// The value of the kind for which this stands. `None`: there is none.
-fn read_front(
+/// The value of the kind for which this stands. `None`: there is none. `NoMemory`: there was none for
+/// it.
+pub(crate) fn read_front(
     alloc: Global,
     kind: Kind,
     code: Option<Code>,
@@ -131,13 +132,8 @@ fn joined_runs(alloc: Global, most: u16, bytes: &[u8]) -> Result<Option<Value>, 
     }
 }
 
-/// The value that stands there as it is. `None`: it isn't of the kind. `NoMemory`: there was none for
-/// it.
-pub(crate) fn copied(
-    alloc: Global,
-    kind: Kind,
-    front: ValueRef<'_>,
-) -> Result<Option<Value>, NoMemory>
+// The value that stands there as it is. `None`: it isn't of the kind.
+fn copied(alloc: Global, kind: Kind, front: ValueRef<'_>) -> Result<Option<Value>, NoMemory>
     ensures read { Fits kind (value_of front.entry) →
         IfOk result (λ found. found ≡ Some (value_of front.entry)) }
     ensures fits { IfOk result (λ found. IfSome found (Fits kind)) }

@@ -16,7 +16,7 @@ ghost use Rattle.gx_scan.specs.Steps.{HaveAtMost, rows_inside};
 use crate::by_entries::{FEW_PLACES, add_by_entries};
 use crate::by_groups::add_by_groups;
 use crate::by_records::add_by_records;
-use crate::groups::groups_of;
+use crate::groups::plain_groups_of;
 use crate::places::places_of;
 use gx_commands::Cond;
 use gx_ports::{Entries, Leaves, Stop};
@@ -61,7 +61,7 @@ pub fn rows_within<B: Leaves>(
         (B.whole leaves.old × HasFile file.now (tree_of node.now) (B.working leaves.old))
         leaves.old leaves.new result }
 {
-    if let Some(groups) = groups_of(alloc, node)? {
+    if let Some(groups) = plain_groups_of(alloc, node)? {
         return add_by_groups(alloc, file, node, &groups, span, conds, leaves, rows);
     }
     let most = if is_one_key(span) {

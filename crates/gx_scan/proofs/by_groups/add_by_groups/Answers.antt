@@ -43,10 +43,10 @@ returns-then-branch-clause-rows g c = λ f whole is.
     let maps = g.B.View.working c.args.leaves.now in
     let reads = c.in_ok-firsts.ensures.reads in
     let found = firsts_inside file t groups _ maps f c.requires.storable c.requires.tree is
-    c.requires.groups span
+    c.requires.groups c.requires.plain span
     _ (c.in_ok-firsts.ensures.entries whole) in
     let others = others_inside file t groups _ maps f c.requires.storable c.requires.tree is
-    c.requires.groups span
+    c.requires.groups c.requires.plain span
     _ (c.in_ok-others.ensures.entries (reads.ends.whole whole)
     ∙ ap (λ (maps : List LeafMap). selected span.lo span.hi (map_at maps groups.others.leaf))
     reads.reads.working) in
@@ -75,10 +75,10 @@ returns-then-branch-clause-steps g c = λ f most whole is few.
     let maps = g.B.View.working c.args.leaves.now in
     let reads = c.in_ok-firsts.ensures.reads in
     let found = firsts_inside file t groups _ maps f c.requires.storable c.requires.tree is
-    c.requires.groups span
+    c.requires.groups c.requires.plain span
     _ (c.in_ok-firsts.ensures.entries whole) in
     let others = others_inside file t groups _ maps f c.requires.storable c.requires.tree is
-    c.requires.groups span
+    c.requires.groups c.requires.plain span
     _ (c.in_ok-others.ensures.entries (reads.ends.whole whole)
     ∙ ap (λ (maps : List LeafMap). selected span.lo span.hi (map_at maps groups.others.leaf))
     reads.reads.working) in
@@ -109,10 +109,10 @@ returns-clause-reads g c =
     let is = sound.1.1 in
     let reads = c.in_ok-firsts.ensures.reads in
     let found = firsts_inside file t groups _ maps f c.requires.storable c.requires.tree is
-    c.requires.groups span
+    c.requires.groups c.requires.plain span
     _ (c.in_ok-firsts.ensures.entries whole) in
     let others = others_inside file t groups _ maps f c.requires.storable c.requires.tree is
-    c.requires.groups span
+    c.requires.groups c.requires.plain span
     _ (c.in_ok-others.ensures.entries (reads.ends.whole whole)
     ∙ ap (λ (maps : List LeafMap). selected span.lo span.hi (map_at maps groups.others.leaf))
     reads.reads.working) in

@@ -1,7 +1,6 @@
-use Rattle.std.proofs.Common.{◌≡◌, ◌∙◌, ◌∷◌, [], length, sym, ap, subst, arith}
+use Rattle.std.proofs.Common.{◌∙◌, ◌∷◌, [], length, sym, ap, subst, arith}
 use Rattle.std.specs.Prelude.{IfSome}
 use Rattle.gx_stack.specs.Seen.{tree_of}
-use Rattle.gx_scan.specs.declared.places.Place.{Place}
 use Rattle.gx_scan.specs.Entries.{ArePlaces}
 use Rattle.gx_scan.proofs.GroupLemmas.{kid_there, kid_at, first_keys, other_keys, groups_made}
 use Rattle.gx_scan.proofs.groups.groups_of.Goals as goal
@@ -42,7 +41,5 @@ returns c =
     (record { mask = c.mask.result; first = c.in-Some.first; others = c.in-Some-2.others })
     k q c.index.ensures c.index-2.ensures c.mask.ensures.mask
     (sym (ap length c.mask.ensures.mask) ∙ c.mask.ensures.long)
-    (subst (λ o. IfSome o (λ p. ArePlaces 0 (tree_of k) (p ∷ []))) c.in-Some.is first.places)
-    (subst (λ o. IfSome o (λ p. ArePlaces 0 (tree_of q) (p ∷ []))) c.in-Some-2.is others.places)
-    (subst (λ o. IfSome o (λ (p : Place). p.codes ≡ [])) c.in-Some.is first.plain)
-    (subst (λ o. IfSome o (λ (p : Place). p.codes ≡ [])) c.in-Some-2.is others.plain)
+    (subst (λ o. IfSome o (λ p. ArePlaces 0 (tree_of k) (p ∷ []))) c.in-Some.is first)
+    (subst (λ o. IfSome o (λ p. ArePlaces 0 (tree_of q) (p ∷ []))) c.in-Some-2.is others)
