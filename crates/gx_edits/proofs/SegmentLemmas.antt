@@ -1,30 +1,36 @@
 -- Records that have an entry in one leaf and may have one in a second.
-use Rattle.std.proofs.Common.{◌≡◌, ℕ, ◌<◌, List, [], ◌∷◌, ◌++◌, length, get_or, map, Bool, true, false, cond, Option, Some, None, inl, inr, refl, sym, ap, subst, append-nil, ◌∙◌, arith}
+use Rattle.std.proofs.Common.{◌≡◌, ℕ, ◌<◌, List, [], ◌∷◌, ◌++◌, length, get_or, map, Bool, true, false, cond, Option, Some, None, inl, inr, refl, sym, ap, subst, append-nil, ◌∙◌, arith, ◌≢◌, set}
 use Rattle.std.specs.Prelude.{◌⊎◌, is_some, not}
 use Rattle.std.specs.List.{flat_map}
+use Rattle.std.specs.FinMap as fin
+use Rattle.std.specs.Cmp.Lexicographic.{slice_cmp, nat_list_cmp_total}
+use Rattle.std.specs.Ordering.{eq_by_cmp, nat_cmp}
+use Rattle.std.proofs.lemmas.List.{set-get_or}
 use Rattle.std.proofs.lemmas.Bool.{true≢false}
 use Rattle.gx_values.specs.declared.records.Rec.{Rec}
 use Rattle.gx_values.specs.declared.values.Value.{Value}
 use Rattle.gx_values.specs.Keys.{key_of}
-use Rattle.gx_ports.specs.LeafMaps.{LeafMap, with_entry, without_entry}
+use Rattle.gx_ports.specs.LeafMaps.{LeafMap, map_at, with_entry, without_entry}
 use Rattle.gx_mapping.specs.declared.parts.Part.{Part}
 use Rattle.gx_mapping.specs.Rule.{In, IsOf}
 use Rattle.gx_split.specs.declared.layer.Segment.{Segment}
-use Rattle.gx_split.specs.Groups.{chosen}
+use Rattle.gx_split.specs.Groups.{chosen, are_default}
 use Rattle.gx_split.specs.SegmentRules.{is_short, other_part}
 use Rattle.gx_stack.specs.declared.entries.LeafEntry.{LeafEntry}
 use Rattle.gx_stack.specs.declared.node.Node.{Node}
 use Rattle.gx_stack.specs.declared.node.LayerNode.{LayerNode}
 use Rattle.gx_stack.specs.declared.node.Node.TheVariants as nodes
-use Rattle.gx_stack.specs.Tree.{Tree, Kids, leaf, layer, no_kids, kid, IsValid, leaves_of, kids_leaves, tree_form, entries_of, kid_entries}
+use Rattle.gx_stack.specs.Tree.{Tree, Kids, leaf, layer, no_kids, kid, IsValid, AreValid, leaves_of, kids_leaves, tree_form, entries_of, kid_entries}
 use Rattle.gx_stack.specs.Seen.{tree_of, kids_from}
-use Rattle.gx_stack.specs.Internal.{IsSet, IsInternal, IsChange, changed}
+use Rattle.gx_stack.specs.Internal.{IsSet, IsInternal, IsChange, changed, at, put_entries}
 use Rattle.gx_stack.proofs.Seen.{seen_layer, layer_part}
-use Rattle.gx_gather.proofs.Lists.{in_left, in_right, none_some, some_same}
+use Rattle.gx_stack.proofs.Children.{union_from_internal}
+use Rattle.gx_stack.proofs.Maps.{key_eq-same, put_elsewhere}
+use Rattle.gx_gather.proofs.Lists.{in_each, in_left, in_right, none_some, some_same}
 use Rattle.gx_types.specs.declared.any.AnyMapping.{AnyMapping}
 use Rattle.gx_types.specs.declared.any.AnyMapping.TheVariants as any
 use Rattle.gx_types.specs.Any.{any_rule, any_laws}
-use Rattle.gx_edits.specs.Alone.{IsOnlyLeaf, Splits, AreTwoLeaves, AreOwnLeaves, AreDataOf, IsOnlyBody, AreBodies, other_entry, others_of}
+use Rattle.gx_edits.specs.Alone.{IsOnlyLeaf, Splits, AreTwoLeaves, AreOwnLeaves, AreDataOf, IsOnlyBody, IsFirstBody, AreBodies, other_entry, others_of, others_in, others_below}
 use Rattle.gx_edits.proofs.AloneLemmas.{only_in_tree, body_in, one_entry, one_of, HasOwn, only_has, own_removed, own_put}
 
 -- ---- the entries of a record
@@ -51,18 +57,22 @@ segment_entries x a b ks r = ap (λ (es : List LeafEntry). entries_of any_rule a
     rest true = refl
     rest false = append-nil (entries_of any_rule b (other_rec x r))
 
+-- the body of the second entry, by the values of the second group
+abbrev other_body : Tree AnyMapping → List Value → Option (List ℕ)
+other_body (layer (any.Segment x) (kid a (kid b ks))) others = cond (are_default (chosen (map not x.mask) x.form.fields) others) None (Some (body_in b others))
+other_body _ others = None
+
 -- one in the first leaf, and maybe one in the second
 abbrev HasShape : Tree AnyMapping → ℕ → ℕ → Rec → Type 0
-HasShape t n k r = (body : List ℕ) × (other : Option (List ℕ)) × (entries_of any_rule t r ≡ record { leaf = n; key = key_of r.key; body = body } ∷ other_entry k (key_of r.key) other)
+HasShape t n k r = (body : List ℕ) × (entries_of any_rule t r ≡ record { leaf = n; key = key_of r.key; body = body } ∷ other_entry k (key_of r.key) (other_body t (others_in t r.fields)))
 
 segment_shape : (x : Segment) (a b : Tree AnyMapping) (ks : Kids AnyMapping) (n k : ℕ) → IsOnlyLeaf a n → IsOnlyLeaf b k → (r : Rec) → HasShape (layer (any.Segment x) (kid a (kid b ks))) n k r
 segment_shape x a b ks n k first second r =
-    let more = rest (is_short x.mask x.form r) in
-    (body_in a (first_rec x r).fields, more.0, segment_entries x a b ks r ∙ (λ i. one_entry a n first (first_rec x r) i ++ more.1 i))
+    (body_in a (first_rec x r).fields, segment_entries x a b ks r ∙ (λ i. one_entry a n first (first_rec x r) i ++ rest (is_short x.mask x.form r) i))
   where
-    rest : (s : Bool) → (other : Option (List ℕ)) × (cond s [] (entries_of any_rule b (other_rec x r)) ≡ other_entry k (key_of r.key) other)
-    rest true = (None, refl)
-    rest false = (Some (body_in b (other_rec x r).fields), one_entry b k second (other_rec x r))
+    rest : (s : Bool) → cond s [] (entries_of any_rule b (other_rec x r)) ≡ other_entry k (key_of r.key) (cond s None (Some (body_in b (chosen (map not x.mask) r.fields))))
+    rest true = refl
+    rest false = one_entry b k second (other_rec x r)
 
 two_shape : (t : Tree AnyMapping) (n k : ℕ) → AreTwoLeaves t n k → (r : Rec) → HasShape t n k r
 two_shape (leaf i form) n k two r = absurd two
@@ -84,6 +94,18 @@ second_in_tree (layer m no_kids) n k two = absurd two
 second_in_tree (layer m (kid a no_kids)) n k two = absurd two
 second_in_tree (layer m (kid a (kid b ks))) n k two = in_right k (leaves_of a) (kids_leaves (kid b ks)) (in_left k (leaves_of b) (kids_leaves ks) (only_in_tree b k two.2))
 
+kids_valid : (m : AnyMapping) (ks : Kids AnyMapping) → IsValid any_rule (layer m ks) → AreValid any_rule (any_rule m).kid_form ks
+kids_valid m ks valid = valid.1
+
+-- they are different leaves
+two_apart : (t : Tree AnyMapping) (n k : ℕ) → AreTwoLeaves t n k → IsValid any_rule t → n ≢ k
+two_apart (leaf i form) n k two valid same = absurd two
+two_apart (layer m no_kids) n k two valid same = absurd two
+two_apart (layer m (kid a no_kids)) n k two valid same = absurd two
+two_apart (layer m (kid a (kid b ks))) n k two valid same =
+    let each = kids_valid m (kid a (kid b ks)) valid in
+    each.2 n (only_in_tree a n two.1) (in_left n (leaves_of b) (kids_leaves ks) (subst (λ (j : ℕ). In j (leaves_of b)) (sym same) (only_in_tree b k two.2)))
+
 own_key : (n k : ℕ) (key body : List ℕ) (other : Option (List ℕ)) (e : LeafEntry) → In e (record { leaf = n; key = key; body = body } ∷ other_entry k key other) → e.key ≡ key
 own_key n k key body other e (inl is) = ap (λ (y : LeafEntry). y.key) is
 own_key n k key body None e (inr none) = absurd none
@@ -95,10 +117,10 @@ two_has t n k two = record {
   among = first_in_tree t n k two;
   entry = λ r. (
       let shape = two_shape t n k two r in
-      (shape.0, subst (In (record { leaf = n; key = key_of r.key; body = shape.0 })) (sym shape.2) (inl refl)));
+      (shape.0, subst (In (record { leaf = n; key = key_of r.key; body = shape.0 })) (sym shape.1) (inl refl)));
   key = λ r e h. (
       let shape = two_shape t n k two r in
-      own_key n k (key_of r.key) shape.0 shape.1 e (subst (In e) shape.2 h));
+      own_key n k (key_of r.key) shape.0 (other_body t (others_in t r.fields)) e (subst (In e) shape.1 h));
 }
 
 pub own_has : (t : Tree AnyMapping) (n : ℕ) (second : Option ℕ) → AreOwnLeaves t n second → HasOwn t n
@@ -129,6 +151,12 @@ segment_bodies x a b ks fields rest body other rest_is first second = λ n k key
     more k key only false (Some values) None is has = absurd has
     more k key only false (Some values) (Some body) is has =
         ap (λ (vs : List Value). entries_of any_rule b (record { key = key; fields = vs })) (sym (some_same values (chosen (map not x.mask) fields) is)) ∙ has k key only
+
+segment_first : (x : Segment) (a b : Tree AnyMapping) (ks : Kids AnyMapping) (fields : List Value) (body : List ℕ) → IsOnlyBody a (chosen x.mask fields) body → IsFirstBody (layer (any.Segment x) (kid a (kid b ks))) fields body
+segment_first x a b ks fields body first = λ n k key two.
+    let r : Rec = record { key = key; fields = fields } in
+    let e : LeafEntry = record { leaf = n; key = key_of key; body = body } in
+    subst (In e) (sym (segment_entries x a b ks r)) (in_left e (entries_of any_rule a (first_rec x r)) (cond (is_short x.mask x.form r) [] (entries_of any_rule b (other_rec x r))) (subst (In e) (sym (first n key two.1)) (inl refl)))
 
 read_second : (ks : List (Node AnyMapping)) (w z : Node AnyMapping) → 1 < length ks → w ≡ get_or ks 1 w → z ≡ get_or ks 1 z → w ≡ z
 read_second [] w z lt is_w is_z = absurd (omega arith)
@@ -184,19 +212,44 @@ module _ (node : Node AnyMapping) (l : LayerNode AnyMapping) (is : node ≡ node
             subst (λ (c : AnyMapping). AreBodies (layer c (kid (tree_of y) (kid (tree_of z) (kids_from (map tree_of ks))))) fields body other) (sym e)
             (segment_bodies x (tree_of y) (tree_of z) (kids_from (map tree_of ks)) fields rest body other rest_is (subst (λ (c : Node AnyMapping). IsOnlyBody (tree_of c) (chosen x.mask fields) body) read first) (second z refl))
 
+    pub node_first : (q : Node AnyMapping) (body : List ℕ) → q ≡ get_or l.kids.items 0 q → IsOnlyBody (tree_of q) (chosen x.mask fields) body → IsFirstBody (tree_of node) fields body
+    node_first q body read first = subst (λ (t : Tree AnyMapping). IsFirstBody t fields body) (sym (seen_layer node l is)) (seen l.mapping l.kids.items seg read)
+      where
+        seen : (m : AnyMapping) (ks : List (Node AnyMapping)) → m ≡ any.Segment x → q ≡ get_or ks 0 q → IsFirstBody (layer m (kids_from (map tree_of ks))) fields body
+        seen m [] e read = λ n k key two. absurd two
+        seen m (y ∷ []) e read = λ n k key two. absurd two
+        seen m (y ∷ z ∷ ks) e read =
+            subst (λ (c : AnyMapping). IsFirstBody (layer c (kid (tree_of y) (kid (tree_of z) (kids_from (map tree_of ks))))) fields body) (sym e)
+            (segment_first x (tree_of y) (tree_of z) (kids_from (map tree_of ks)) fields body (subst (λ (c : Node AnyMapping). IsOnlyBody (tree_of c) (chosen x.mask fields) body) read first))
+
     -- the one child that is read is the second
     pub other_read : (n k : ℕ) → AreTwoLeaves (tree_of node) n k → (w : Node AnyMapping) (vs : List Value) (body : List ℕ) → w ≡ get_or l.kids.items 1 w → IsOnlyBody (tree_of w) vs body
         → (z : Node AnyMapping) → z ≡ get_or l.kids.items 1 z → IsOtherBody (tree_of z) (Some vs) (Some body)
     other_read n k two w vs body read body_is z read_z = subst (λ (c : Node AnyMapping). IsOnlyBody (tree_of c) vs body) (read_second l.kids.items w z (two_kids n k two) read read_z) body_is
 
+-- the values of the second group
+pub others_seen : (node : Node AnyMapping) (l : LayerNode AnyMapping) (x : Segment) → node ≡ nodes.Layer l → l.mapping ≡ any.Segment x → (vs : List Value) → others_in (tree_of node) vs ≡ chosen (map not x.mask) vs
+others_seen node l x is seg vs = ap (λ (t : Tree AnyMapping). others_in t vs) (seen_layer node l is) ∙ ap (λ (m : AnyMapping). others_below m vs) seg
+
 -- ---- changes of them
+
+-- to put what is there changes nothing
+same_with : (maps : List LeafMap) (i : ℕ) (key body : List ℕ) → at maps i key ≡ Some body → with_entry maps i key body ≡ maps
+same_with maps i key body found =
+    let m = map_at maps i in
+    ap (set maps i) (fin.same_map nat_list_cmp_total (fin.slice_cmp-IsAntisymmetric fin.nat_cmp-IsAntisymmetric) (fin.insert m key body) m (λ q. fin.get-insert nat_list_cmp_total m key body q ∙ by_test q (eq_by_cmp (slice_cmp nat_cmp) q key) refl))
+    ∙ set-get_or maps i fin.empty
+  where
+    by_test : (q : List ℕ) (b : Bool) → eq_by_cmp (slice_cmp nat_cmp) q key ≡ b → cond b (Some body) (fin.get (map_at maps i) q) ≡ fin.get (map_at maps i) q
+    by_test q true e = sym (ap (fin.get (map_at maps i)) (key_eq-same q key e) ∙ found)
+    by_test q false e = refl
 
 module _ (t : Tree AnyMapping) (n k : ℕ) (two : AreTwoLeaves t n k) (valid : IsValid any_rule t) (R : List Rec) (set : IsSet (tree_form any_rule t) R) (maps : List LeafMap) (below : (i : ℕ) → In i (leaves_of t) → i < length maps) (held : IsInternal any_rule t R maps) where
   -- an entry of a record stands in the first leaf or in the second
   placed : (r : Rec) (e : LeafEntry) → In e (entries_of any_rule t r) → (e.leaf ≡ n) ⊎ (e.leaf ≡ k)
   placed r e h =
       let shape = two_shape t n k two r in
-      by_other shape.0 shape.1 (subst (In e) shape.2 h)
+      by_other shape.0 (other_body t (others_in t r.fields)) (subst (In e) shape.1 h)
     where
       by_other : (body : List ℕ) (other : Option (List ℕ)) → In e (record { leaf = n; key = key_of r.key; body = body } ∷ other_entry k (key_of r.key) other) → (e.leaf ≡ n) ⊎ (e.leaf ≡ k)
       by_other body other (inl first) = inl (ap (λ (y : LeafEntry). y.leaf) first)
@@ -249,3 +302,39 @@ module _ (t : Tree AnyMapping) (n k : ℕ) (two : AreTwoLeaves t n k) (valid : I
         | inl at_first ↦ inl (first, inl refl, (sym at_first, sym key_is))
         | inr at_second ↦ inl (second, inr (inl refl), (sym at_second, sym key_is))
       ]) is
+
+  -- one comes in the place of another one that has the same second part
+  pub first_put : (old new : Rec) (body : List ℕ) (after : List LeafMap) → In old R → old.key ≡ new.key → IsOf (tree_form any_rule t) new → others_in t old.fields ≡ others_in t new.fields → In (record { leaf = n; key = key_of new.key; body = body }) (entries_of any_rule t new)
+      → after ≡ with_entry maps n (key_of new.key) body → IsInternal any_rule t (changed R (Some old) (Some new)) after
+  first_put old new body after there same fits stay comes is =
+      let was = two_shape t n k two old in
+      let now = two_shape t n k two new in
+      let e : LeafEntry = record { leaf = n; key = key_of new.key; body = body } in
+      let first : now.0 ≡ body = body_is now.0 (other_body t (others_in t new.fields)) (subst (In e) now.1 comes) in
+      by_other was.0 (other_body t (others_in t new.fields))
+      (was.1 ∙ ap (λ (vs : List Value). record { leaf = n; key = key_of old.key; body = was.0 } ∷ other_entry k (key_of old.key) (other_body t vs)) stay)
+      (now.1 ∙ ap (λ (b : List ℕ). record { leaf = n; key = key_of new.key; body = b } ∷ other_entry k (key_of new.key) (other_body t (others_in t new.fields))) first)
+    where
+      body_is : (b : List ℕ) (other : Option (List ℕ)) → In (record { leaf = n; key = key_of new.key; body = body }) (record { leaf = n; key = key_of new.key; body = b } ∷ other_entry k (key_of new.key) other) → b ≡ body
+      body_is b other (inl first) = ap (λ (y : LeafEntry). y.body) (sym first)
+      body_is b None (inr none) = absurd none
+      body_is b (Some o) (inr (inl second)) = absurd (two_apart t n k two valid (ap (λ (y : LeafEntry). y.leaf) second))
+      body_is b (Some o) (inr (inr none)) = absurd none
+
+      by_other : (b : List ℕ) (other : Option (List ℕ)) → entries_of any_rule t old ≡ record { leaf = n; key = key_of old.key; body = b } ∷ other_entry k (key_of old.key) other
+          → entries_of any_rule t new ≡ record { leaf = n; key = key_of new.key; body = body } ∷ other_entry k (key_of new.key) other → IsInternal any_rule t (changed R (Some old) (Some new)) after
+      by_other b None gone come =
+          let first : LeafEntry = record { leaf = n; key = key_of new.key; body = body } in
+          own_put t n (two_has t n k two) valid R set maps below held (Some old) new [] (first ∷ []) after (there, same) fits come
+          (λ e none. absurd none)
+          (λ o is_old e h key_is. (let among : In e (entries_of any_rule t old) = subst (λ (q : Rec). In e (entries_of any_rule t q)) (sym (some_same old o is_old)) h in
+          inl (first, inl refl, (ap (λ (y : LeafEntry). y.leaf) (sym (one_of e (record { leaf = n; key = key_of old.key; body = b }) (subst (In e) gone among))), sym key_is)))) is
+      by_other b (Some o) gone come =
+          let first : LeafEntry = record { leaf = n; key = key_of new.key; body = body } in
+          let second : LeafEntry = record { leaf = k; key = key_of old.key; body = o } in
+          let union = union_from_internal any_rule t R maps held in
+          let stood : at maps k (key_of old.key) ≡ Some o = union.holds second (in_each (entries_of any_rule t) old second R there (subst (In second) (sym gone) (inr (inl refl)))) in
+          let kept : at (put_entries maps (first ∷ [])) k (key_of new.key) ≡ at maps k (key_of new.key) = put_elsewhere maps (first ∷ []) k (key_of new.key) (λ e h. below e.leaf (subst (λ (y : LeafEntry). In y.leaf (leaves_of t)) (sym (one_of e first h)) (first_in_tree t n k two)))
+          (λ e h place. two_apart t n k two valid (ap (λ (y : LeafEntry). y.leaf) (sym (one_of e first h)) ∙ place.0)) in
+          each_put (Some old) new body o after (there, same) fits come
+          (is ∙ sym (same_with (with_entry maps n (key_of new.key) body) k (key_of new.key) o (kept ∙ ap (λ (key : List Value). at maps k (key_of key)) (sym same) ∙ stood)))

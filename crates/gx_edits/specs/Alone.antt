@@ -3,7 +3,7 @@ use Rattle.std.specs.Prelude.{◌≡◌, ℕ, List, [], ◌∷◌, Option, Some,
 use Rattle.gx_values.specs.declared.records.Form.{Form}
 use Rattle.gx_values.specs.declared.values.Value.{Value}
 use Rattle.gx_values.specs.Keys.{key_of}
-use Rattle.gx_mapping.specs.Rule.{IsOf}
+use Rattle.gx_mapping.specs.Rule.{In, IsOf}
 use Rattle.gx_split.specs.declared.layer.Segment.{Segment}
 use Rattle.gx_split.specs.Groups.{chosen, are_default}
 use Rattle.gx_split.specs.SegmentRules.{form_of, mask_of}
@@ -60,6 +60,19 @@ AreOwnLeaves t n (Some k) = AreTwoLeaves t n k
 abbrev pub other_entry : ℕ → List ℕ → Option (List ℕ) → List LeafEntry
 other_entry k key None = []
 other_entry k key (Some body) = record { leaf = k; key = key; body = body } ∷ []
+
+-- the values of the second group of such a layer, and of such a tree
+abbrev pub others_below : AnyMapping → List Value → List Value
+others_below (any.Segment m) fields = chosen (map not (mask_of m)) fields
+others_below _ fields = []
+
+abbrev pub others_in : Tree AnyMapping → List Value → List Value
+others_in (leaf i form) fields = []
+others_in (layer m ks) fields = others_below m fields
+
+-- the body of the first entry of each record with these data
+abbrev pub IsFirstBody : Tree AnyMapping → List Value → List ℕ → Type 0
+IsFirstBody t fields body = (n k : ℕ) (key : List Value) → AreTwoLeaves t n k → In (record { leaf = n; key = key_of key; body = body }) (entries_of any_rule t (record { key = key; fields = fields }))
 
 -- the bodies of the entries of each record with these data, in the first leaf and in the second one
 abbrev pub AreBodies : Tree AnyMapping → List Value → List ℕ → Option (List ℕ) → Type 0

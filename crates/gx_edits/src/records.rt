@@ -20,7 +20,7 @@ ghost use Rattle.gx_edits.specs.Records.{IsEditedWhere};
 ghost use Rattle.gx_edits.specs.Alone.{AreOwnLeaves};
 
 use crate::alone::is_there;
-use crate::segments::{OwnLeaves, own_leaves, put_own, take_own};
+use crate::segments::{OwnLeaves, others_stay, own_leaves, put_changed, put_own, take_own};
 use arrayvec::ArrayVec;
 use gx_commands::Changes;
 use gx_pairs::Refused;
@@ -236,10 +236,11 @@ pub(crate) fn update_record<B: Leaves>(
         return Ok(Some(Refused::NoRecord));
     };
     if let Some(own) = own_leaves(node) {
+        let stay = others_stay(node, &changes);
         let values = changed_values(file, values, changes);
         let mut bytes = KeyBuf(ArrayVec::new());
         bytes.set_value(&key);
-        put_own(alloc, node, own, &key, &bytes, values, true, leaves)?;
+        put_changed(alloc, node, own, &key, &bytes, values, stay, leaves)?;
         return Ok(None);
     }
     let old = new_record(alloc, key, values)?;

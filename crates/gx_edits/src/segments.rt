@@ -1,6 +1,7 @@
 // Records that have an entry in one leaf and may have one in a second, both under their own key.
-ghost use Rattle.std.specs.Prelude.{◌≡◌, ◌≢◌, ◌<◌, ◌≤◌, ◌+◌, ◌∷◌, [], ℕ, List, Option, length, is_some, if◌then◌else◌, IfSome, OnOk, IsErrOf};
+ghost use Rattle.std.specs.Prelude.{◌≡◌, ◌≢◌, ◌<◌, ◌≤◌, ◌+◌, ◌∷◌, [], ℕ, List, Option, length, true, is_some, if◌then◌else◌, IfSome, OnOk, IsErrOf};
 ghost use Rattle.gx_values.specs.declared.records.Rec.{Rec as Record};
+ghost use Rattle.gx_values.specs.declared.values.Value.{Value as TheValue};
 ghost use Rattle.gx_values.specs.Keys.{bytes_of};
 ghost use Rattle.gx_ports.specs.LeafMaps.{map_at, with_entry, without_entry, entry_count, IsCrowdedBy};
 ghost use Rattle.gx_ports.specs.declared.leaves.TheConstants.{MAX_ENTRY_LEN};
@@ -10,11 +11,14 @@ ghost use Rattle.gx_stack.specs.Tree.{leaves_of, tree_form, entries_of, IsValid}
 ghost use Rattle.gx_stack.specs.Seen.{tree_of};
 ghost use Rattle.gx_stack.specs.Internal.{IsSet, IsInternal, IsChange, changed};
 ghost use Rattle.gx_types.specs.Any.{any_rule};
+ghost use Rattle.gx_model.specs.Commands.{changed as changed_values};
 ghost use Rattle.gx_scan.specs.Files.{rec_of};
-ghost use Rattle.gx_edits.specs.Alone.{AreOwnLeaves, AreTwoLeaves};
+ghost use Rattle.gx_edits.specs.Alone.{AreOwnLeaves, AreTwoLeaves, others_in};
 
 use crate::alone::{only_leaf, put_alone, take_alone};
-use crate::bodies::both_bodies;
+use crate::bodies::{both_bodies, first_body};
+use crate::groups::are_first;
+use gx_commands::Changes;
 use gx_ports::{Leaves, Stop};
 use gx_stack::Node;
 use gx_types::AnyMapping;
@@ -158,6 +162,100 @@ pub(crate) fn put_own<B: Leaves>(
             )
         }
     }
+}
+
+/// The same in the place of a record with this key. `others_stay`: its values of the second group are those
+/// of the new one.
+pub(crate) fn put_changed<B: Leaves>(
+    alloc: Global,
+    node: &Node<AnyMapping>,
+    own: OwnLeaves,
+    key: &Value,
+    bytes: &KeyBuf,
+    fields: Values,
+    others_stay: bool,
+    leaves: &mut B,
+) -> Result<(), Stop>
+    requires valid { IsValid any_rule (tree_of node.now) }
+    requires below { (n : ℕ) → In n (leaves_of (tree_of node.now)) →
+        n < length (B.working leaves.old) }
+    requires own { AreOwnLeaves (tree_of node.now) own.first own.second }
+    requires bytes { bytes.now ≡ bytes_of key.now }
+    requires fits { IsOf (tree_form any_rule (tree_of node.now)) (rec_of (key.now, fields)) }
+    ensures internal { (R : List Record) (old : Record) → B.whole leaves.old →
+        IsSet (tree_form any_rule (tree_of node.now)) R → In old R → old.key ≡ key.now ∷ [] →
+        (others_stay ≡ true → others_in (tree_of node.now) old.fields ≡ others_in (tree_of node.now) fields) →
+        IsInternal any_rule (tree_of node.now) R (B.working leaves.old) → OnOk result
+        (IsInternal any_rule (tree_of node.now)
+        (changed R (Option.Some old) (Option.Some (rec_of (key.now, fields))))
+        (B.working leaves.new)) }
+    ensures others { (n : ℕ) → B.whole leaves.old → ¬ IsErrOf result Stop.Fault →
+        ¬ In n (leaves_of (tree_of node.now)) →
+        map_at (B.working leaves.new) n ≡ map_at (B.working leaves.old) n }
+    ensures keeps { Keeps B.View leaves.old leaves.new }
+    ensures ends { Ends B.View (B.whole leaves.old) leaves.old leaves.new result }
+    ensures full { B.whole leaves.old → IsErrOf result Stop.Full →
+        IsCrowdedBy (B.limit leaves.old)
+        (entry_count (B.working leaves.old)
+        + length (entries_of any_rule (tree_of node.now) (rec_of (key.now, fields)))) }
+{
+    if others_stay && let Some(second) = own.second {
+        return put_first(alloc, node, own.first, second, key, bytes, fields, leaves);
+    }
+    put_own(alloc, node, own, key, bytes, fields, true, leaves)
+}
+
+// The same of two leaves, of which the second stays.
+fn put_first<B: Leaves>(
+    alloc: Global,
+    node: &Node<AnyMapping>,
+    first: u32,
+    second: u32,
+    key: &Value,
+    bytes: &KeyBuf,
+    fields: Values,
+    leaves: &mut B,
+) -> Result<(), Stop>
+    requires valid { IsValid any_rule (tree_of node.now) }
+    requires below { (n : ℕ) → In n (leaves_of (tree_of node.now)) →
+        n < length (B.working leaves.old) }
+    requires two { AreTwoLeaves (tree_of node.now) first second }
+    requires bytes { bytes.now ≡ bytes_of key.now }
+    requires fits { IsOf (tree_form any_rule (tree_of node.now)) (rec_of (key.now, fields)) }
+    ensures internal { (R : List Record) (old : Record) → B.whole leaves.old →
+        IsSet (tree_form any_rule (tree_of node.now)) R → In old R → old.key ≡ key.now ∷ [] →
+        others_in (tree_of node.now) old.fields ≡ others_in (tree_of node.now) fields →
+        IsInternal any_rule (tree_of node.now) R (B.working leaves.old) → OnOk result
+        (IsInternal any_rule (tree_of node.now)
+        (changed R (Option.Some old) (Option.Some (rec_of (key.now, fields))))
+        (B.working leaves.new)) }
+    ensures others { (n : ℕ) → B.whole leaves.old → ¬ IsErrOf result Stop.Fault →
+        ¬ In n (leaves_of (tree_of node.now)) →
+        map_at (B.working leaves.new) n ≡ map_at (B.working leaves.old) n }
+    ensures keeps { Keeps B.View leaves.old leaves.new }
+    ensures ends { Ends B.View (B.whole leaves.old) leaves.old leaves.new result }
+    ensures full { B.whole leaves.old → IsErrOf result Stop.Full →
+        IsCrowdedBy (B.limit leaves.old)
+        (entry_count (B.working leaves.old)
+        + length (entries_of any_rule (tree_of node.now) (rec_of (key.now, fields)))) }
+{
+    let (_, _) = (key, second);
+    let body = first_body(alloc, node, fields)?;
+    leaves.put(alloc, first, bytes.as_slice(), body.as_slice())
+}
+
+/// Whether each change is of a field of the first group of a segment, so that the others stay.
+pub(crate) fn others_stay(node: &Node<AnyMapping>, changes: &Changes) -> bool
+    ensures { result ≡ true → (values : List TheValue) →
+        others_in (tree_of node.now) (changed_values values changes.now)
+        ≡ others_in (tree_of node.now) values }
+{
+    if let Node::Layer(layer) = node
+        && let AnyMapping::Segment(mapping) = &layer.mapping
+    {
+        return are_first(mapping.mask(), changes);
+    }
+    false
 }
 
 // The same of two leaves.
