@@ -36,9 +36,9 @@ pub struct Rest<'a> {
     pub body: &'a [u8],
 }
 
-/// The values of the one record whose entries these are, if there is one: that of its first group, and
-/// behind it that of its others, unless each has its default. `None`: they are those of no record.
-/// `NoMemory`: there was none for the values.
+/// The values of the one record whose entries these are, if there is one: that of its first group,
+/// and behind it that of its others, unless each has its default. `None`: they are those of no
+/// record. `NoMemory`: there was none for the values.
 pub(crate) fn values_of_both(
     alloc: Global,
     file: &FileDef,
@@ -47,7 +47,8 @@ pub(crate) fn values_of_both(
 ) -> Result<Option<Option<Values>>, NoMemory>
     requires storable { IsStorable file.now }
     requires long { length groups.now.mask.now ≡ length (data_fields file.now) }
-    ensures read { (one : Option TheRow) → AllByRecursion (IsSplitRow file.now groups.now) (list_of_one one) →
+    ensures read { (one : Option TheRow) →
+        AllByRecursion (IsSplitRow file.now groups.now) (list_of_one one) →
         entries.now ≡ map (λ r. entry_of (first_stored groups.now r)) (list_of_one one)
         ++ map (λ r. entry_of (other_stored groups.now r))
         (filter (has_others groups.now.mask.now (data_fields file.now)) (list_of_one one)) →
@@ -99,7 +100,8 @@ fn values_of_some(
     read_both(alloc, fields, groups.mask, first, others)
 }
 
-// All of the group of a record whose entry at its place has this body. `None`: it is that of no record.
+// All of the group of a record whose entry at its place has this body. `None`: it is that of no
+// record.
 fn rest_of<'a>(place: &'a Place, body: &'a [u8]) -> Option<Rest<'a>>
     ensures { (r : TheRow) → HaveCodes place.now.codes r.1 →
         body.now ≡ (entry_of_row place.now.lengths place.now.codes r).1 →
@@ -150,8 +152,8 @@ fn read_both(
     }
 }
 
-// What stands at the front of its group for a value of the kind, the code of the value if it has one,
-// and what is left of both groups. `None`: nothing does.
+// What stands at the front of its group for a value of the kind, the code of the value if it has
+// one, and what is left of both groups. `None`: nothing does.
 fn split_front<'a>(
     is_first: bool,
     kind: Kind,

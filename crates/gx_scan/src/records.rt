@@ -45,8 +45,9 @@ pub(crate) fn set_key(span: &mut Span, key: &Value)
     span.hi.set_value(key);
 }
 
-/// The record with this key, where there is one. It takes a step for each leaf, and one for each leaf entry
-/// of the record.
+/// The record with this key, where there is one. Where a segment splits the records in two leaves, it
+/// is made of the bytes of its entries. It takes a step for each leaf, and one for each leaf entry of
+/// the record.
 pub fn find_record<B: Leaves>(
     alloc: Global,
     file: &FileDef,
