@@ -2,9 +2,8 @@
 ghost use Rattle.std.specs.Prelude.{◌≡◌, ◌≤◌, ◌∷◌, [], ℕ, length, IfOk};
 ghost use Rattle.gx_values.specs.Values.{AreFit};
 ghost use Rattle.gx_values.specs.declared.values.Value.TheVariants as value;
-ghost use Rattle.gx_encode.specs.Codes.{code_of, IsCodable};
 ghost use Rattle.gx_encode.specs.Forms.{changed as changed_at};
-ghost use Rattle.gx_encode.specs.Rules.{coded, field_of, form_of, used_code_of};
+ghost use Rattle.gx_encode.specs.Rules.{coded as coded_value, field_of, form_of, used_code_of};
 ghost use Rattle.gx_stack.specs.Tree.{leaf_body, tree_form, IsValid};
 ghost use Rattle.gx_stack.specs.Seen.{tree_of};
 ghost use Rattle.gx_types.specs.Any.{any_rule};
@@ -12,7 +11,7 @@ ghost use Rattle.gx_edits.specs.Alone.{AreBodies, AreDataOf, AreTwoLeaves, IsFir
 
 use crate::groups::{first_group, two_groups};
 use gx_actual::body_bytes;
-use gx_encode::{Encode, pack_into, rle_into};
+use gx_encode::{Encode, coded};
 use gx_mapping::Mapping;
 use gx_stack::Node;
 use gx_types::AnyMapping;
@@ -128,24 +127,11 @@ fn one_value(alloc: Global, bytes: Octets) -> Result<Values, NoMemory>
 fn coded_fields(alloc: Global, mapping: &Encode, fields: Values) -> Result<Values, NoMemory>
     requires { AreFit (form_of mapping.now).fields fields }
     ensures { IfOk result (λ made. made
-        ≡ changed_at (field_of mapping.now) (coded (used_code_of mapping.now)) fields) }
+        ≡ changed_at (field_of mapping.now) (coded_value (used_code_of mapping.now)) fields) }
 {
     let number = usize::from(mapping.field());
     let mut values = fields.0;
-    let code = value_code(alloc, mapping, &values[number])?;
-    values[number] = Value::Bytes(code);
+    let bytes = coded(alloc, mapping.code(), &values[number])?;
+    values[number] = Value::Bytes(bytes);
     Ok(Values(values))
-}
-
-// The code of the value. An int has one code, and so has a text.
-fn value_code(alloc: Global, mapping: &Encode, value: &Value) -> Result<Octets, NoMemory>
-    requires { IsCodable (used_code_of mapping.now) value.now }
-    ensures { IfOk result (λ bytes. bytes ≡ code_of (used_code_of mapping.now) value.now) }
-{
-    let _mapping = mapping;
-    match value {
-        Value::Int(n) => pack_into(alloc, *n),
-        Value::Text(text) => rle_into(alloc, text.as_slice()),
-        Value::Bytes(_) => unreachable!(),
-    }
 }

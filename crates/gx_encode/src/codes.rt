@@ -13,7 +13,7 @@ use gx_values::{Code, Fields, Kind, NoMemory, Octets, Value, Values};
 use std::alloc::Global;
 
 /// The code of the value. `NoMemory`: there was none for it.
-pub(crate) fn coded(alloc: Global, code: Code, value: &Value) -> Result<Octets, NoMemory>
+pub fn coded(alloc: Global, code: Code, value: &Value) -> Result<Octets, NoMemory>
     requires { IsCodable code value.now }
     ensures { IfOk result (λ bytes. bytes ≡ code_of code value.now) }
 {

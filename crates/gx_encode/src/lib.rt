@@ -8,6 +8,7 @@ mod mapping;
 mod packs;
 mod runs;
 
+pub use codes::coded;
 pub use layer::Encode;
 pub use make::encode;
 pub use packs::{pack_into, unpack};

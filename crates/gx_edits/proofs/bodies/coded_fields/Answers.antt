@@ -1,4 +1,6 @@
-use Rattle.std.proofs.Common.{◌∙◌, length, ap, arith}
+use Rattle.std.proofs.Common.{◌∙◌, length, ap, sym, subst, arith}
+use Rattle.gx_values.specs.declared.values.Code.{Code}
+use Rattle.gx_encode.specs.Codes.{code_of, IsCodable}
 use Rattle.gx_encode.proofs.GatherLemmas.{same_length}
 use Rattle.gx_edits.proofs.BodyLemmas.{codable, coded_set}
 use Rattle.gx_edits.proofs.bodies.coded_fields.Goals as goal
@@ -8,10 +10,10 @@ index-requires c =
     let m = c.args.mapping.now in
     omega (arith, c.from-number.ensures, c.field.ensures, m.sound.place, same_length m.form.fields c.args.fields c.requires, ap length c.fields.view_is, c.fields.inside.0.ok.0)
 
-pub value_code-requires : goal.value_code-requires
-value_code-requires c =
+pub coded-requires : goal.coded-requires
+coded-requires c =
     let m = c.args.mapping.now in
-    codable m.form m.field c.from-number.result m.code c.args.fields c.fields.inside.0.items c.index.result.now m.sound c.requires c.fields.view_is (c.from-number.ensures ∙ c.field.ensures) c.index.ensures
+    subst (λ (used : Code). IsCodable used c.index.result.now) (sym c.code.ensures) (codable m.form m.field c.from-number.result m.code c.args.fields c.fields.inside.0.items c.index.result.now m.sound c.requires c.fields.view_is (c.from-number.ensures ∙ c.field.ensures) c.index.ensures)
 
 pub index_mut-requires : goal.index_mut-requires
 index_mut-requires c =
@@ -21,4 +23,4 @@ index_mut-requires c =
 pub returns : goal.returns
 returns c =
     let m = c.args.mapping.now in
-    coded_set m.field c.from-number.result m.code c.args.fields c.fields.inside.0.items c.index.result.now c.in_ok-code.code c.fields.view_is (c.from-number.ensures ∙ c.field.ensures) c.index.ensures c.in_ok-code.ensures
+    coded_set m.field c.from-number.result m.code c.args.fields c.fields.inside.0.items c.index.result.now c.in_ok-bytes.bytes c.fields.view_is (c.from-number.ensures ∙ c.field.ensures) c.index.ensures (c.in_ok-bytes.ensures ∙ ap (λ (used : Code). code_of used c.index.result.now) c.code.ensures)
