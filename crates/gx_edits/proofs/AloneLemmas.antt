@@ -30,11 +30,11 @@ use Rattle.gx_stack.specs.declared.node.LayerNode.{LayerNode}
 use Rattle.gx_stack.specs.declared.node.Node.TheVariants as nodes
 use Rattle.gx_stack.specs.Tree.{Tree, leaf, layer, no_kids, kid, IsValid, leaves_of, kids_leaves, tree_form, entries_of, kid_entries, leaf_body}
 use Rattle.gx_stack.specs.Seen.{tree_of, kids_from}
-use Rattle.gx_stack.specs.Internal.{IsSet, IsInternal, IsUnion, IsChange, changed, without, at, IsAt, NoneAt, remove_entries, put_entries}
+use Rattle.gx_stack.specs.Internal.{IsSet, IsInternal, IsUnion, IsChange, IfThere, SomeAt, changed, without, with_one, at, entries_if, remove_entries, put_entries}
 use Rattle.gx_stack.proofs.Seen.{seen_leaf, seen_layer, child_there}
 use Rattle.gx_stack.proofs.Children.{union_from_internal, internal_from_union}
-use Rattle.gx_stack.proofs.Maps.{place_cases, removed_elsewhere, removed_here, put_elsewhere, put_here}
-use Rattle.gx_stack.proofs.Unique.{entry_leaf, entries_apart}
+use Rattle.gx_stack.proofs.Maps.{key_cases, place_cases, removed_elsewhere, removed_here, put_elsewhere, put_here, length_removed}
+use Rattle.gx_stack.proofs.Unique.{entry_leaf, entries_apart, entries_once}
 use Rattle.gx_stack.proofs.Without.{from_without, to_without}
 use Rattle.gx_gather.proofs.Lists.{from_each, in_each, in_left, none_some, some_same, all_at, in_filter, filter_in}
 use Rattle.gx_model.specs.States.{File, IsRowOf}
@@ -103,15 +103,15 @@ only_in_tree (leaf k form) n is = inl (sym is)
 only_in_tree (layer m no_kids) n is = absurd is
 only_in_tree (layer m (kid t ks)) n is = in_left n (leaves_of t) (kids_leaves ks) (only_in_tree t n is.1)
 
-abbrev body_in : Tree AnyMapping → List Value → List ℕ
+abbrev pub body_in : Tree AnyMapping → List Value → List ℕ
 body_in (leaf k form) fields = leaf_body fields
 body_in (layer m no_kids) fields = []
 body_in (layer m (kid t ks)) fields = body_in t (data_below m fields)
 
-abbrev entry_at : Tree AnyMapping → ℕ → Rec → LeafEntry
+abbrev pub entry_at : Tree AnyMapping → ℕ → Rec → LeafEntry
 entry_at t n r = record { leaf = n; key = key_of r.key; body = body_in t r.fields }
 
-one_entry : (t : Tree AnyMapping) (n : ℕ) → IsOnlyLeaf t n → (r : Rec) → entries_of any_rule t r ≡ entry_at t n r ∷ []
+pub one_entry : (t : Tree AnyMapping) (n : ℕ) → IsOnlyLeaf t n → (r : Rec) → entries_of any_rule t r ≡ entry_at t n r ∷ []
 one_entry (leaf k form) n is r = λ i. record { leaf = is i; key = key_of r.key; body = leaf_body r.fields } ∷ []
 one_entry (layer m no_kids) n is r = absurd is
 one_entry (layer m (kid t ks)) n is r =
@@ -119,96 +119,164 @@ one_entry (layer m (kid t ks)) n is r =
     ∙ append-nil (entries_of any_rule t (rec_below m r))
     ∙ one_entry t n is.1 (rec_below m r)
 
-one_of : (x y : LeafEntry) → In x (y ∷ []) → x ≡ y
+pub one_of : (x y : LeafEntry) → In x (y ∷ []) → x ≡ y
 one_of x y (inl is) = is
 one_of x y (inr none) = absurd none
 
+-- each record has an entry in this leaf, and all its entries are under its own key
+pub record HasOwn (t : Tree AnyMapping) (n : ℕ) : Type 0 where
+  pub among : In n (leaves_of t)
+  pub entry : (r : Rec) → (body : List ℕ) × In (record { leaf = n; key = key_of r.key; body = body }) (entries_of any_rule t r)
+  pub key : (r : Rec) (e : LeafEntry) → In e (entries_of any_rule t r) → e.key ≡ key_of r.key
+
+pub only_has : (t : Tree AnyMapping) (n : ℕ) → IsOnlyLeaf t n → HasOwn t n
+only_has t n only = record {
+  among = only_in_tree t n only;
+  entry = λ r. (body_in t r.fields, subst (In (entry_at t n r)) (sym (one_entry t n only r)) (inl refl));
+  key = λ r e h. ap (λ (y : LeafEntry). y.key) (one_of e (entry_at t n r) (subst (In e) (one_entry t n only r) h));
+}
+
 -- ---- changes of them
 
-module _ (t : Tree AnyMapping) (n : ℕ) (only : IsOnlyLeaf t n) (valid : IsValid any_rule t) (R : List Rec) (set : IsSet (tree_form any_rule t) R) (maps : List LeafMap) (below : (i : ℕ) → In i (leaves_of t) → i < length maps) (held : IsInternal any_rule t R maps) where
+-- at the key of one record entries are taken out, and those of what is there then are put
+module _ (t : Tree AnyMapping) (n : ℕ) (own : HasOwn t n) (valid : IsValid any_rule t) (R : List Rec) (set : IsSet (tree_form any_rule t) R) (maps : List LeafMap) (below : (i : ℕ) → In i (leaves_of t) → i < length maps) (held : IsInternal any_rule t R maps)
+    (this : Rec) (fits : IsOf (tree_form any_rule t) this) (old new : Option Rec) (old_is : IfThere old (λ o. o.key ≡ this.key)) (one : (r : Rec) → In r R → r.key ≡ this.key → old ≡ Some r) (new_is : IfThere new (λ r. r ≡ this))
+    (taken come : List LeafEntry) (taken_in : (e : LeafEntry) → In e taken → e.leaf < length maps) (taken_key : (e : LeafEntry) → In e taken → e.key ≡ key_of this.key) (come_is : entries_if any_rule t new ≡ come)
+    (covered : (e : LeafEntry) → In e (entries_if any_rule t old) → SomeAt e.leaf e.key come ⊎ SomeAt e.leaf e.key taken) (after : List LeafMap) (is : after ≡ put_entries (remove_entries maps taken) come) where
+  key_is : (r : Rec) → In r R → key_of r.key ≡ key_of this.key → r.key ≡ this.key
+  key_is r h same =
+      let a = own.entry r in
+      let b = own.entry this in
+      entries_apart any_rule any_laws t valid r this (set.fits r h) fits (record { leaf = n; key = key_of r.key; body = a.0 }) (record { leaf = n; key = key_of this.key; body = b.0 }) a.1 b.1 refl same
+
+  come_of : (e : LeafEntry) → In e come → In e (entries_of any_rule t this)
+  come_of e h = by_new new new_is (subst (In e) (sym come_is) h)
+    where
+      by_new : (r : Option Rec) → IfThere r (λ x. x ≡ this) → In e (entries_if any_rule t r) → In e (entries_of any_rule t this)
+      by_new None same h = absurd h
+      by_new (Some r) same h = subst (λ (q : Rec). In e (entries_of any_rule t q)) same h
+
+  come_key : (e : LeafEntry) → In e come → e.key ≡ key_of this.key
+  come_key e h = own.key this e (come_of e h)
+
+  come_in : (e : LeafEntry) → In e come → e.leaf < length (remove_entries maps taken)
+  come_in e h = subst (λ (m : ℕ). e.leaf < m) (sym (length_removed maps taken)) (below e.leaf (entry_leaf any_rule t this e (come_of e h)))
+
+  once : (x y : LeafEntry) → In x come → In y come → x.leaf ≡ y.leaf → x.key ≡ y.key → x ≡ y
+  once x y hx hy a b = entries_once any_rule any_laws t valid this fits x y (come_of x hx) (come_of y hy) a b
+
+  elsewhere : (i : ℕ) (q : List ℕ) → q ≢ key_of this.key → at after i q ≡ at maps i q
+  elsewhere i q other =
+      ap (λ ms. at ms i q) is ∙ put_elsewhere (remove_entries maps taken) come i q come_in (λ e h place. other (sym place.1 ∙ come_key e h))
+      ∙ removed_elsewhere maps taken i q taken_in (λ e h place. other (sym place.1 ∙ taken_key e h))
+
+  -- the other records
+  kept_in : (old : Option Rec) → IfThere old (λ o. o.key ≡ this.key) → ((r : Rec) → In r R → r.key ≡ this.key → old ≡ Some r) → (r : Rec) → In r (without old R) → In r R × (r.key ≢ this.key)
+  kept_in None old_is one r h = (h, λ same. none_some r (one r h same))
+  kept_in (Some o) old_is one r h =
+      let w = from_without R o r h in
+      (w.0, λ same. w.1 (same ∙ sym old_is))
+
+  in_kept : (old : Option Rec) → IfThere old (λ o. o.key ≡ this.key) → (r : Rec) → In r R → r.key ≢ this.key → In r (without old R)
+  in_kept None old_is r h other = h
+  in_kept (Some o) old_is r h other = to_without R o r h (λ same. other (same ∙ old_is))
+
+  holds_of : (new : Option Rec) → entries_if any_rule t new ≡ come → (e : LeafEntry) → In e (flat_map (entries_of any_rule t) (with_one new (without old R))) → In e come ⊎ ((r : Rec) × In r (without old R) × In e (entries_of any_rule t r))
+  holds_of None same e h = inr (from_each (entries_of any_rule t) e (without old R) h)
+  holds_of (Some r) same e h =
+      let q = from_each (entries_of any_rule t) e (r ∷ without old R) h in
+      elim (q.1) [
+        | inl is_new ↦ inl (subst (In e) same (subst (λ (x : Rec). In e (entries_of any_rule t x)) is_new q.2))
+        | inr kept ↦ inr (q.0, kept, q.2)
+      ]
+
+  of_come : (new : Option Rec) → entries_if any_rule t new ≡ come → (e : LeafEntry) → In e come → In e (flat_map (entries_of any_rule t) (with_one new (without old R)))
+  of_come None same e h = absurd (subst (In e) (sym same) h)
+  of_come (Some r) same e h = in_each (entries_of any_rule t) r e (r ∷ without old R) (inl refl) (subst (In e) (sym same) h)
+
+  of_kept : (new : Option Rec) (r : Rec) (e : LeafEntry) → In r (without old R) → In e (entries_of any_rule t r) → In e (flat_map (entries_of any_rule t) (with_one new (without old R)))
+  of_kept None r e h among = in_each (entries_of any_rule t) r e (without old R) h among
+  of_kept (Some q) r e h among = in_each (entries_of any_rule t) r e (q ∷ without old R) (inr h) among
+
+  after_holds : (e : LeafEntry) → In e (flat_map (entries_of any_rule t) (changed R old new)) → at after e.leaf e.key ≡ Some e.body
+  after_holds e h =
+      let union = union_from_internal any_rule t R maps held in
+      elim (holds_of new come_is e h) [
+        | inl comes ↦ ap (λ ms. at ms e.leaf e.key) is ∙ put_here (remove_entries maps taken) come e come_in once comes
+        | inr r ↦ (
+            let w = kept_in old old_is one r.0 r.1 in
+            elsewhere e.leaf e.key (λ same. w.1 (key_is r.0 w.0 (sym (own.key r.0 e r.2) ∙ same))) ∙ union.holds e (in_each (entries_of any_rule t) r.0 e R w.0 r.2))
+      ]
+
+  -- what is found at the places of the record came
+  found_here : (e : LeafEntry) → In e.leaf (leaves_of t) → e.key ≡ key_of this.key → at after e.leaf e.key ≡ Some e.body → In e come
+  found_here e in_leaf here found =
+      let union = union_from_internal any_rule t R maps held in
+      let put = sym (ap (λ ms. at ms e.leaf e.key) is) ∙ found in
+      elim (place_cases come e.leaf e.key) [
+        | inl x ↦ (
+            let same : Some x.0.body ≡ Some e.body = sym (put_here (remove_entries maps taken) come x.0 come_in once x.1) ∙ (λ i. at (put_entries (remove_entries maps taken) come) (x.2.0 i) (x.2.1 i)) ∙ put in
+            let e_is : x.0 ≡ e = λ i. record { leaf = x.2.0 i; key = x.2.1 i; body = some_same x.0.body e.body same i } in
+            subst (λ (y : LeafEntry). In y come) e_is x.1)
+        | inr none ↦ (
+            let mid = sym (put_elsewhere (remove_entries maps taken) come e.leaf e.key come_in none) ∙ put in
+            elim (place_cases taken e.leaf e.key) [
+              | inl x ↦ absurd (none_some e.body (sym (removed_here maps taken e.leaf e.key taken_in x) ∙ mid))
+              | inr stays ↦ (
+                  let was = sym (removed_elsewhere maps taken e.leaf e.key taken_in stays) ∙ mid in
+                  let r = from_each (entries_of any_rule t) e R (union.only e in_leaf was) in
+                  let is_old = one r.0 r.1 (key_is r.0 r.1 (sym (own.key r.0 e r.2) ∙ here)) in
+                  elim (covered e (subst (λ (o : Option Rec). In e (entries_if any_rule t o)) (sym is_old) r.2)) [
+                    | inl x ↦ absurd (none x.0 x.1 x.2)
+                    | inr x ↦ absurd (stays x.0 x.1 x.2)
+                  ])
+            ])
+      ]
+
+  after_only : (e : LeafEntry) → In e.leaf (leaves_of t) → at after e.leaf e.key ≡ Some e.body → In e (flat_map (entries_of any_rule t) (changed R old new))
+  after_only e in_leaf found = elim (key_cases e.key (key_of this.key)) [
+    | inl here ↦ of_come new come_is e (found_here e in_leaf here found)
+    | inr other ↦ (
+        let union = union_from_internal any_rule t R maps held in
+        let r = from_each (entries_of any_rule t) e R (union.only e in_leaf (sym (elsewhere e.leaf e.key other) ∙ found)) in
+        of_kept new r.0 e (in_kept old old_is r.0 r.1 (λ same. other (own.key r.0 e r.2 ∙ ap key_of same))) r.2)
+  ]
+
+  pub own_changed : IsInternal any_rule t (changed R old new) after
+  own_changed = internal_from_union any_rule t (changed R old new) after valid (record { holds = after_holds; only = after_only })
+
+module _ (t : Tree AnyMapping) (n : ℕ) (own : HasOwn t n) (valid : IsValid any_rule t) (R : List Rec) (set : IsSet (tree_form any_rule t) R) (maps : List LeafMap) (below : (i : ℕ) → In i (leaves_of t) → i < length maps) (held : IsInternal any_rule t R maps) where
   -- a record goes
+  pub own_removed : (old : Rec) (taken : List LeafEntry) (after : List LeafMap) → In old R → ((e : LeafEntry) → In e taken → In e.leaf (leaves_of t) × (e.key ≡ key_of old.key)) → ((e : LeafEntry) → In e (entries_of any_rule t old) → SomeAt e.leaf e.key taken)
+      → after ≡ remove_entries maps taken → IsInternal any_rule t (changed R (Some old) None) after
+  own_removed old taken after there places covered is =
+      own_changed t n own valid R set maps below held old (set.fits old there) (Some old) None refl (λ r h same. ap Some (sym (set.one r old h there same))) tt
+      taken [] (λ e h. below e.leaf (places e h).0) (λ e h. (places e h).1) refl (λ e h. inr (covered e h)) after is
+
+  -- one comes, in the place of what is there at its key
+  pub own_put : (old : Option Rec) (new : Rec) (taken come : List LeafEntry) (after : List LeafMap) → IsChange R old (Some new) → IsOf (tree_form any_rule t) new → entries_of any_rule t new ≡ come
+      → ((e : LeafEntry) → In e taken → In e.leaf (leaves_of t) × (e.key ≡ key_of new.key)) → ((o : Rec) → old ≡ Some o → (e : LeafEntry) → In e (entries_of any_rule t o) → e.key ≡ key_of new.key → SomeAt e.leaf e.key come ⊎ SomeAt e.leaf e.key taken)
+      → after ≡ put_entries (remove_entries maps taken) come → IsInternal any_rule t (changed R old (Some new)) after
+  own_put None new taken come after change fits are places covered is =
+      own_changed t n own valid R set maps below held new fits None (Some new) tt (λ r h same. absurd (change r h same)) refl
+      taken come (λ e h. below e.leaf (places e h).0) (λ e h. (places e h).1) are (λ e h. absurd h) after is
+  own_put (Some o) new taken come after change fits are places covered is =
+      own_changed t n own valid R set maps below held new fits (Some o) (Some new) change.1 (λ r h same. ap Some (sym (set.one r o h change.0 (same ∙ sym change.1)))) refl
+      taken come (λ e h. below e.leaf (places e h).0) (λ e h. (places e h).1) are (λ e h. covered o refl e h (own.key o e h ∙ ap key_of change.1)) after is
+
+module _ (t : Tree AnyMapping) (n : ℕ) (only : IsOnlyLeaf t n) (valid : IsValid any_rule t) (R : List Rec) (set : IsSet (tree_form any_rule t) R) (maps : List LeafMap) (below : (i : ℕ) → In i (leaves_of t) → i < length maps) (held : IsInternal any_rule t R maps) where
   pub alone_removed : (old : Rec) (key : List ℕ) (after : List LeafMap) → In old R → key ≡ key_of old.key → after ≡ without_entry maps n key → IsInternal any_rule t (changed R (Some old) None) after
   alone_removed old key after there key_is is =
-      let one = one_entry t n only old in
       let gone : LeafEntry = entry_at t n old in
-      let removed : after ≡ remove_entries maps (gone ∷ []) = is ∙ ap (without_entry maps n) key_is in
-      let in_maps : (e : LeafEntry) → In e (gone ∷ []) → e.leaf < length maps = λ e h. below e.leaf (entry_leaf any_rule t old e (subst (In e) (sym one) h)) in
-      let union = union_from_internal any_rule t R maps held in
-      internal_from_union any_rule t (changed R (Some old) None) after valid (record {
-        holds = λ e h.
-            let r = from_each (entries_of any_rule t) e (changed R (Some old) None) h in
-            let w = from_without R old r.0 r.1 in
-            let none : NoneAt e.leaf e.key (gone ∷ []) = λ x hx at.
-            w.1 (entries_apart any_rule any_laws t valid r.0 old (set.fits r.0 w.0) (set.fits old there) e x r.2 (subst (In x) (sym one) hx) (sym at.0) (sym at.1)) in
-            ap (λ ms. at ms e.leaf e.key) removed ∙ removed_elsewhere maps (gone ∷ []) e.leaf e.key in_maps none
-            ∙ union.holds e (in_each (entries_of any_rule t) r.0 e R w.0 r.2);
-        only = λ e in_leaf found.
-            let now : at (remove_entries maps (gone ∷ [])) e.leaf e.key ≡ Some e.body = sym (ap (λ ms. at ms e.leaf e.key) removed) ∙ found in
-            elim (place_cases (gone ∷ []) e.leaf e.key) [
-              | inl some ↦ absurd (none_some e.body (sym (removed_here maps (gone ∷ []) e.leaf e.key in_maps some) ∙ now))
-              | inr none ↦ (
-                  let was = sym (removed_elsewhere maps (gone ∷ []) e.leaf e.key in_maps none) ∙ now in
-                  let r = from_each (entries_of any_rule t) e R (union.only e in_leaf was) in
-                  let other : r.0.key ≢ old.key = λ same.
-                  let is_old = set.one r.0 old r.1 there same in
-                  let is_gone : In e (gone ∷ []) = subst (In e) one (subst (λ (x : Rec). In e (entries_of any_rule t x)) is_old r.2) in
-                  none e is_gone (refl, refl) in
-                  in_each (entries_of any_rule t) r.0 e (changed R (Some old) None) (to_without R old r.0 r.1 other) r.2)
-            ];
-      })
+      own_removed t n (only_has t n only) valid R set maps below held old (gone ∷ []) after there
+      (λ e h. (subst (λ (y : LeafEntry). In y.leaf (leaves_of t)) (sym (one_of e gone h)) (only_in_tree t n only), ap (λ (y : LeafEntry). y.key) (one_of e gone h)))
+      (λ e h. (e, subst (In e) (one_entry t n only old) h, (refl, refl))) (is ∙ ap (without_entry maps n) key_is)
 
-  -- the records that stay where one comes
-  kept_in : (old : Option Rec) (new : Rec) → IsChange R old (Some new) → (r : Rec) → In r (without old R) → In r R × (r.key ≢ new.key)
-  kept_in None new change r h = (h, change r h)
-  kept_in (Some o) new change r h =
-      let w = from_without R o r h in
-      (w.0, λ e. w.1 (e ∙ sym change.1))
-
-  in_kept : (old : Option Rec) (new : Rec) → IsChange R old (Some new) → (r : Rec) → In r R → r.key ≢ new.key → In r (without old R)
-  in_kept None new change r h other = h
-  in_kept (Some o) new change r h other = to_without R o r h (λ e. other (e ∙ change.1))
-
-  -- a record comes in the place of what is there at its key
   pub alone_put : (old : Option Rec) (new : Rec) (body : List ℕ) (after : List LeafMap) → IsChange R old (Some new) → IsOf (tree_form any_rule t) new → entries_of any_rule t new ≡ record { leaf = n; key = key_of new.key; body = body } ∷ [] → after ≡ with_entry maps n (key_of new.key) body → IsInternal any_rule t (changed R old (Some new)) after
   alone_put old new body after change fits come is =
-      let e : LeafEntry = record { leaf = n; key = key_of new.key; body = body } in
-      let among : In e (entries_of any_rule t new) = subst (In e) (sym come) (inl refl) in
-      let in_maps : (x : LeafEntry) → In x (e ∷ []) → x.leaf < length maps = λ x h. below x.leaf (entry_leaf any_rule t new x (subst (In x) (sym come) h)) in
-      let once : (x y : LeafEntry) → In x (e ∷ []) → In y (e ∷ []) → x.leaf ≡ y.leaf → x.key ≡ y.key → x ≡ y = λ x y hx hy a b. one_of x e hx ∙ sym (one_of y e hy) in
-      let put : after ≡ put_entries maps (e ∷ []) = is in
-      let here : at after e.leaf e.key ≡ Some e.body = ap (λ ms. at ms e.leaf e.key) put ∙ put_here maps (e ∷ []) e in_maps once (inl refl) in
-      let union = union_from_internal any_rule t R maps held in
-      internal_from_union any_rule t (changed R old (Some new)) after valid (record {
-        holds = λ x h.
-            let r = from_each (entries_of any_rule t) x (changed R old (Some new)) h in
-            elim (r.1) [
-              | inl is_new ↦ (
-                  let x_is : x ≡ e = one_of x e (subst (In x) come (subst (λ (q : Rec). In x (entries_of any_rule t q)) is_new r.2)) in
-                  subst (λ (y : LeafEntry). at after y.leaf y.key ≡ Some y.body) (sym x_is) here)
-              | inr kept ↦ (
-                  let w = kept_in old new change r.0 kept in
-                  let none : NoneAt x.leaf x.key (e ∷ []) = λ y hy place.
-                  w.1 (entries_apart any_rule any_laws t valid r.0 new (set.fits r.0 w.0) fits x y r.2 (subst (In y) (sym come) hy) (sym place.0) (sym place.1)) in
-                  ap (λ ms. at ms x.leaf x.key) put ∙ put_elsewhere maps (e ∷ []) x.leaf x.key in_maps none
-                  ∙ union.holds x (in_each (entries_of any_rule t) r.0 x R w.0 r.2))
-            ];
-        only = λ x in_leaf found.
-            let then : at (put_entries maps (e ∷ [])) x.leaf x.key ≡ Some x.body = sym (ap (λ ms. at ms x.leaf x.key) put) ∙ found in
-            elim (place_cases (e ∷ []) x.leaf x.key) [
-              | inl some ↦ (
-                  let e_at = subst (IsAt x.leaf x.key) (one_of some.0 e some.1) some.2 in
-                  let same : Some e.body ≡ Some x.body = sym (put_here maps (e ∷ []) e in_maps once (inl refl)) ∙ (λ i. at (put_entries maps (e ∷ [])) (e_at.0 i) (e_at.1 i)) ∙ then in
-                  let x_is : e ≡ x = λ i. record { leaf = e_at.0 i; key = e_at.1 i; body = some_same e.body x.body same i } in
-                  in_each (entries_of any_rule t) new x (changed R old (Some new)) (inl refl) (subst (λ (y : LeafEntry). In y (entries_of any_rule t new)) x_is among))
-              | inr none ↦ (
-                  let was = sym (put_elsewhere maps (e ∷ []) x.leaf x.key in_maps none) ∙ then in
-                  let r = from_each (entries_of any_rule t) x R (union.only x in_leaf was) in
-                  let x_is : x ≡ entry_at t n r.0 = one_of x (entry_at t n r.0) (subst (In x) (one_entry t n only r.0) r.2) in
-                  let other : r.0.key ≢ new.key = λ k.
-                  none e (inl refl) (ap (λ (y : LeafEntry). y.leaf) (sym x_is), ap key_of (sym k) ∙ ap (λ (y : LeafEntry). y.key) (sym x_is)) in
-                  in_each (entries_of any_rule t) r.0 x (changed R old (Some new)) (inr (in_kept old new change r.0 r.1 other)) r.2)
-            ];
-      })
+      own_put t n (only_has t n only) valid R set maps below held old new [] (record { leaf = n; key = key_of new.key; body = body } ∷ []) after change fits come
+      (λ e none. absurd none)
+      (λ o is_old e h key_is. inl (record { leaf = n; key = key_of new.key; body = body }, inl refl, (ap (λ (y : LeafEntry). y.leaf) (sym (one_of e (entry_at t n o) (subst (In e) (one_entry t n only o) h))), sym key_is))) is
 
 -- ---- whether one is there
 
@@ -228,7 +296,7 @@ all_told (Some values) true (e ∷ es) to from found are told = absurd (omega (a
 all_told None false [] to from found are told = absurd (true≢false (sym (told.1 are)))
 all_told None false (e ∷ es) to from found are told = absurd (none_some (from e (inl refl)).0 (from e (inl refl)).1)
 
-module _ (file : FileDef) (t : Tree AnyMapping) (n k : ℕ) (maps : List LeafMap) (f : File) (key : Value) (storable : IsStorable file) (tree : IsTreeFor file t k) (is : IsStored file t maps f) (only : IsOnlyLeaf t n) (fit : Fits (key_kind file) key) where
+module _ (file : FileDef) (t : Tree AnyMapping) (n k : ℕ) (maps : List LeafMap) (f : File) (key : Value) (storable : IsStorable file) (tree : IsTreeFor file t k) (is : IsStored file t maps f) (own : HasOwn t n) (fit : Fits (key_kind file) key) where
   file_set : IsSet (tree_form any_rule t) (records_of f)
   file_set = subst (λ form. IsSet form (records_of f)) (sym tree.form) (set_of file f storable.keyed is.fit)
 
@@ -247,8 +315,9 @@ module _ (file : FileDef) (t : Tree AnyMapping) (n k : ℕ) (maps : List LeafMap
       let m = map_at maps n in
       let r = rec_of (key, values) in
       let h = there_in f key values found in
-      let e = entry_at t n r in
-      let held = file_union.holds e (in_each (entries_of any_rule t) r e (records_of f) h (subst (In e) (sym (one_entry t n only r)) (inl refl))) in
+      let own_entry = own.entry r in
+      let e : LeafEntry = record { leaf = n; key = key_of r.key; body = own_entry.0 } in
+      let held = file_union.holds e (in_each (entries_of any_rule t) r e (records_of f) h own_entry.1) in
       let at_key : fin.get m (bytes_of key) ≡ Some e.body = ap (fin.get m) (sym (append-nil (bytes_of key))) ∙ held in
       let among = find_in (fin.slice_cmp-IsAntisymmetric fin.nat_cmp-IsAntisymmetric) (bytes_of key) e.body (fin.entries m) (sym (fin.get-entries m (bytes_of key)) ∙ at_key) in
       ((bytes_of key, e.body), filter_in (inside key) (bytes_of key, e.body) (fin.entries m) among (within_is key fit ∙ value_itself key))
@@ -260,10 +329,9 @@ module _ (file : FileDef) (t : Tree AnyMapping) (n k : ℕ) (maps : List LeafMap
       let kept = in_filter (inside key) e (fin.entries m) h in
       let found : fin.get m e.0 ≡ Some e.1 = fin.get-entries m e.0 ∙ in_find nat_list_cmp_total e (fin.entries m) (fin.entries_sorted m) kept.0 in
       let x : LeafEntry = record { leaf = n; key = e.0; body = e.1 } in
-      let r = from_each (entries_of any_rule t) x (records_of f) (file_union.only x (only_in_tree t n only) found) in
+      let r = from_each (entries_of any_rule t) x (records_of f) (file_union.only x own.among found) in
       let q = in_there f r.0 r.1 in
-      let y = entry_at t n r.0 in
-      let key_is : e.0 ≡ bytes_of q.key = ap (λ (z : LeafEntry). z.key) (one_of x y (subst (In x) (one_entry t n only r.0) r.2)) ∙ ap (λ (z : Rec). key_of z.key) q.is ∙ append-nil (bytes_of q.key) in
+      let key_is : e.0 ≡ bytes_of q.key = own.key r.0 x r.2 ∙ ap (λ (z : Rec). key_of z.key) q.is ∙ append-nil (bytes_of q.key) in
       let same = same_value key q.key (sym (within_is q.key (fits_of q.key q.values q.found)) ∙ ap (is_inside (bytes_of key) (bytes_of key)) (sym key_is) ∙ kept.1) in
       (q.values, ap (fin.get f) same ∙ q.found)
 

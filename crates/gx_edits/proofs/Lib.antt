@@ -5,4 +5,6 @@ mod RelinkLemmas
 pub mod EditLemmas
 mod AloneLemmas
 mod BodyLemmas
+mod GroupLemmas
+mod SegmentLemmas
 mod HomeLemmas

@@ -14,9 +14,10 @@ ghost use Rattle.gx_types.specs.Any.{any_rule};
 ghost use Rattle.gx_schema.specs.Lookups.{key_kind};
 ghost use Rattle.gx_model.specs.States.{File as FileMap};
 ghost use Rattle.gx_scan.specs.Files.{rec_of, IsInternal as IsStored, IsStorable, IsTreeFor};
-ghost use Rattle.gx_edits.specs.Alone.{KeepsKeys, IsOnlyLeaf};
+ghost use Rattle.gx_edits.specs.Alone.{AreOwnLeaves, IsOnlyLeaf, KeepsKeys};
 
 use crate::bodies::only_body;
+use crate::segments::OwnLeaves;
 use gx_ports::{Entries, Leaves, Stop};
 use gx_schema::FileDef;
 use gx_stack::Node;
@@ -52,20 +53,20 @@ fn keeps_keys(mapping: &AnyMapping) -> bool
     }
 }
 
-/// Whether the file has a record with this key, by the span of the key. Each of its records has its one
-/// entry in this leaf of the node: its values needn't be read.
+/// Whether the file has a record with this key, by the span of the key. Each of its records has an entry
+/// in the first of the node's own leaves: its values needn't be read.
 pub(crate) fn is_there<B: Leaves>(
     alloc: Global,
     file: &FileDef,
     node: &Node<AnyMapping>,
-    leaf: u32,
+    own: OwnLeaves,
     key: &Value,
     span: &Span,
     leaves: &mut B,
 ) -> Result<bool, Stop>
     requires tree { IsTreeFor file.now (tree_of node.now) (length (B.working leaves.old)) }
     requires storable { IsStorable file.now }
-    requires only { IsOnlyLeaf (tree_of node.now) leaf }
+    requires own { AreOwnLeaves (tree_of node.now) own.first own.second }
     requires key { Fits (key_kind file.now) key.now }
     requires lo { span.now.lo ≡ bytes_of key.now }
     requires hi { span.now.hi ≡ bytes_of key.now }
@@ -76,7 +77,7 @@ pub(crate) fn is_there<B: Leaves>(
 {
     let (_, _, _) = (file, node, key);
     let mut entries = Entries::new(alloc);
-    leaves.select(alloc, leaf, span, &mut entries)?;
+    leaves.select(alloc, own.first, span, &mut entries)?;
     Ok(!entries.is_empty())
 }
 

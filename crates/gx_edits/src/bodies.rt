@@ -1,4 +1,4 @@
-// The body of the one leaf entry of a record, made of its data without the record.
+// The bodies of the leaf entries of a record, made of its data without the record.
 ghost use Rattle.std.specs.Prelude.{◌≡◌, ◌≤◌, ◌∷◌, [], ℕ, length, IfOk};
 ghost use Rattle.gx_values.specs.Values.{AreFit};
 ghost use Rattle.gx_values.specs.declared.values.Value.TheVariants as value;
@@ -8,8 +8,9 @@ ghost use Rattle.gx_encode.specs.Rules.{coded, field_of, form_of, used_code_of};
 ghost use Rattle.gx_stack.specs.Tree.{leaf_body, tree_form, IsValid};
 ghost use Rattle.gx_stack.specs.Seen.{tree_of};
 ghost use Rattle.gx_types.specs.Any.{any_rule};
-ghost use Rattle.gx_edits.specs.Alone.{AreDataOf, IsOnlyBody, IsOnlyLeaf};
+ghost use Rattle.gx_edits.specs.Alone.{AreBodies, AreDataOf, AreTwoLeaves, IsOnlyBody, IsOnlyLeaf};
 
+use crate::groups::two_groups;
 use gx_actual::body_bytes;
 use gx_encode::{Encode, pack_into, rle_into};
 use gx_mapping::Mapping;
@@ -48,6 +49,35 @@ pub(crate) fn only_body(
                 }
                 _ => unreachable!(),
             }
+        }
+    }
+}
+
+/// The bodies of the entries of each record with these data in both leaves of a segment. In the second
+/// there is none where each value of the second group is the default of its field.
+pub(crate) fn both_bodies(
+    alloc: Global,
+    node: &Node<AnyMapping>,
+    fields: Values,
+) -> Result<(Octets, Option<Octets>), NoMemory>
+    requires valid { IsValid any_rule (tree_of node.now) }
+    requires two { (n : ℕ) × (k : ℕ) × AreTwoLeaves (tree_of node.now) n k }
+    requires of_form { AreDataOf (tree_form any_rule (tree_of node.now)) fields }
+    ensures { IfOk result (λ made. AreBodies (tree_of node.now) fields made.0 made.1) }
+{
+    let Node::Layer(layer) = node else {
+        unreachable!();
+    };
+    let AnyMapping::Segment(mapping) = &layer.mapping else {
+        unreachable!();
+    };
+    let (first, others) = two_groups(alloc, mapping, fields)?;
+    let body = only_body(alloc, &layer.kids[0], first)?;
+    match others {
+        None => Ok((body, None)),
+        Some(others) => {
+            let other = only_body(alloc, &layer.kids[1], others)?;
+            Ok((body, Some(other)))
         }
     }
 }

@@ -5,8 +5,10 @@ mod alone;
 mod bodies;
 mod edits;
 mod files;
+mod groups;
 mod home;
 mod links;
 mod records;
+mod segments;
 
 pub use edits::{edit, edit_answer};

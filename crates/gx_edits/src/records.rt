@@ -17,9 +17,10 @@ ghost use Rattle.gx_model.specs.States.{File as FileMap};
 ghost use Rattle.gx_model.specs.Commands.{changed, updated, first_refusal, key_exists, no_record};
 ghost use Rattle.gx_scan.specs.Files.{rec_of, IsInternal, HasFile, IsStorable, IsTreeFor};
 ghost use Rattle.gx_edits.specs.Records.{IsEditedWhere};
-ghost use Rattle.gx_edits.specs.Alone.{IsOnlyLeaf};
+ghost use Rattle.gx_edits.specs.Alone.{AreOwnLeaves};
 
-use crate::alone::{is_there, only_leaf, put_alone, take_alone};
+use crate::alone::is_there;
+use crate::segments::{OwnLeaves, own_leaves, put_own, take_own};
 use arrayvec::ArrayVec;
 use gx_commands::Changes;
 use gx_pairs::Refused;
@@ -74,8 +75,8 @@ pub(crate) fn insert_record<B: Leaves>(
         (entry_count (B.working leaves.old)
         + length (entries_of any_rule (tree_of node.now) (rec_of (key, values)))) }
 {
-    if let Some(leaf) = only_leaf(node) {
-        return insert_alone(alloc, file, node, leaf, &key, values, leaves);
+    if let Some(own) = own_leaves(node) {
+        return insert_own(alloc, file, node, own, &key, values, leaves);
     }
     if find_record(alloc, file, node, &key, leaves)?.is_some() {
         return Ok(Some(Refused::KeyExists));
@@ -85,19 +86,19 @@ pub(crate) fn insert_record<B: Leaves>(
     Ok(None)
 }
 
-// The same where each record has its one entry in this leaf of the node.
-fn insert_alone<B: Leaves>(
+// The same where each record has its entries in these leaves of the node.
+fn insert_own<B: Leaves>(
     alloc: Global,
     file: &FileDef,
     node: &Node<AnyMapping>,
-    leaf: u32,
+    own: OwnLeaves,
     key: &Value,
     values: Values,
     leaves: &mut B,
 ) -> Result<Option<Refused>, Stop>
     requires tree { IsTreeFor file.now (tree_of node.now) (length (B.working leaves.old)) }
     requires storable { IsStorable file.now }
-    requires only { IsOnlyLeaf (tree_of node.now) leaf }
+    requires own { AreOwnLeaves (tree_of node.now) own.first own.second }
     requires key { Fits (key_kind file.now) key.now }
     requires values { AreFit (data_fields file.now) values }
     ensures inserted { (f : FileMap) → B.whole leaves.old →
@@ -121,10 +122,10 @@ fn insert_alone<B: Leaves>(
     let mut span = whole_span();
     span.lo.set_value(key);
     span.hi.set_value(key);
-    if is_there(alloc, file, node, leaf, key, &span, leaves)? {
+    if is_there(alloc, file, node, own, key, &span, leaves)? {
         Ok(Some(Refused::KeyExists))
     } else {
-        put_alone(alloc, node, leaf, key, &span.lo, values, leaves)?;
+        put_own(alloc, node, own, key, &span.lo, values, false, leaves)?;
         Ok(None)
     }
 }
@@ -153,8 +154,8 @@ pub(crate) fn delete_record<B: Leaves>(
     ensures block { (n : ℕ) → IsErrOf result (Stop.Damaged n) → B.whole leaves.old → n ≡ 0 }
     ensures not_full { ¬ IsErrOf result Stop.Full }
 {
-    if let Some(leaf) = only_leaf(node) {
-        return delete_alone(alloc, file, node, leaf, &key, leaves);
+    if let Some(own) = own_leaves(node) {
+        return delete_own(alloc, file, node, own, &key, leaves);
     }
     let Some(values) = find_values(alloc, file, node, &key, leaves)? else {
         return Ok(Some(Refused::NoRecord));
@@ -164,18 +165,18 @@ pub(crate) fn delete_record<B: Leaves>(
     Ok(None)
 }
 
-// The same where each record has its one entry in this leaf of the node.
-fn delete_alone<B: Leaves>(
+// The same where each record has its entries in these leaves of the node.
+fn delete_own<B: Leaves>(
     alloc: Global,
     file: &FileDef,
     node: &Node<AnyMapping>,
-    leaf: u32,
+    own: OwnLeaves,
     key: &Value,
     leaves: &mut B,
 ) -> Result<Option<Refused>, Stop>
     requires tree { IsTreeFor file.now (tree_of node.now) (length (B.working leaves.old)) }
     requires storable { IsStorable file.now }
-    requires only { IsOnlyLeaf (tree_of node.now) leaf }
+    requires own { AreOwnLeaves (tree_of node.now) own.first own.second }
     requires key { Fits (key_kind file.now) key.now }
     ensures deleted { (f : FileMap) → B.whole leaves.old →
         IsInternal file.now (tree_of node.now) (B.working leaves.old) f → IfOk result
@@ -193,10 +194,10 @@ fn delete_alone<B: Leaves>(
     let mut span = whole_span();
     span.lo.set_value(key);
     span.hi.set_value(key);
-    if !is_there(alloc, file, node, leaf, key, &span, leaves)? {
+    if !is_there(alloc, file, node, own, key, &span, leaves)? {
         return Ok(Some(Refused::NoRecord));
     }
-    take_alone(alloc, node, leaf, key, &span, leaves)?;
+    take_own(alloc, node, own, key, &span, leaves)?;
     Ok(None)
 }
 
@@ -234,11 +235,11 @@ pub(crate) fn update_record<B: Leaves>(
     let Some(values) = find_values(alloc, file, node, &key, leaves)? else {
         return Ok(Some(Refused::NoRecord));
     };
-    if let Some(leaf) = only_leaf(node) {
+    if let Some(own) = own_leaves(node) {
         let values = changed_values(file, values, changes);
         let mut bytes = KeyBuf(ArrayVec::new());
         bytes.set_value(&key);
-        put_alone(alloc, node, leaf, &key, &bytes, values, leaves)?;
+        put_own(alloc, node, own, &key, &bytes, values, true, leaves)?;
         return Ok(None);
     }
     let old = new_record(alloc, key, values)?;

@@ -12,7 +12,7 @@ use Rattle.gx_types.specs.Any.{any_rule}
 use Rattle.gx_scan.specs.Files.{records_of}
 use Rattle.gx_scan.proofs.FileLemmas.{set_of, there_in, row_fits}
 use Rattle.gx_model.specs.Commands.{no_record}
-use Rattle.gx_edits.specs.Alone.{IsOnlyLeaf}
+use Rattle.gx_edits.specs.Alone.{AreOwnLeaves}
 use Rattle.gx_edits.proofs.RecordLemmas.{is_done, delete_edit}
 use Rattle.gx_edits.proofs.records.delete_record.Goals as goal
 
@@ -41,7 +41,7 @@ returns-clause-deleted g c = λ f whole is.
     is_done c.args.file.now t _ _ f _ no_record _ (ap (λ o. not (is_some o)) there)
     (delete_edit c.args.file.now t _ _ f key values c.in_ok-old.old c.requires.tree.valid is was done (λ n out. c.in_ok-replace.ensures.others n after (λ e. cc) out ∙ ap (λ (maps : List LeafMap). map_at maps n) same))
 
--- ---- records that have one entry each
+-- ---- records in their own leaves
 
-pub delete_alone-requires-clause-only : goal.delete_alone-requires-clause-only
-delete_alone-requires-clause-only g c = subst (λ o. IfSome o (IsOnlyLeaf (tree_of c.args.node.now))) c.in-Some.is c.only_leaf.ensures
+pub delete_own-requires-clause-own : goal.delete_own-requires-clause-own
+delete_own-requires-clause-own g c = subst (λ o. IfSome o (λ own. AreOwnLeaves (tree_of c.args.node.now) own.first own.second)) c.in-Some.is c.own_leaves.ensures

@@ -11,7 +11,7 @@ use Rattle.gx_scan.proofs.FileLemmas.{set_of, row_fits}
 use Rattle.gx_model.specs.Commands.{key_exists}
 use Rattle.gx_edits.proofs.ChangeLemmas.{is_insert}
 use Rattle.gx_edits.proofs.RecordLemmas.{missing, none_there, is_done, insert_edit, crowded_same}
-use Rattle.gx_edits.specs.Alone.{IsOnlyLeaf}
+use Rattle.gx_edits.specs.Alone.{AreOwnLeaves}
 use Rattle.gx_edits.proofs.records.insert_record.Goals as goal
 
 pub replace-requires-clause-below : goal.replace-requires-clause-below
@@ -45,7 +45,7 @@ returns-clause-inserted g c = λ f whole is.
     is_done c.args.file.now t _ _ f _ key_exists _ absent
     (insert_edit c.args.file.now t _ _ f c.args.key c.args.values c.in_ok-new.new c.requires.tree.valid c.requires.key c.requires.values is none new done (λ n out. c.in_ok-replace.ensures.others n after (λ e. cc) out ∙ ap (λ (maps : List LeafMap). map_at maps n) same))
 
--- ---- a record that has one entry
+-- ---- a record in its own leaves
 
-pub insert_alone-requires-clause-only : goal.insert_alone-requires-clause-only
-insert_alone-requires-clause-only g c = subst (λ o. IfSome o (IsOnlyLeaf (tree_of c.args.node.now))) c.in-Some.is c.only_leaf.ensures
+pub insert_own-requires-clause-own : goal.insert_own-requires-clause-own
+insert_own-requires-clause-own g c = subst (λ o. IfSome o (λ own. AreOwnLeaves (tree_of c.args.node.now) own.first own.second)) c.in-Some.is c.own_leaves.ensures

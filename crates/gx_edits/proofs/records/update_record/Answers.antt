@@ -14,7 +14,7 @@ use Rattle.gx_model.specs.States.{Row}
 use Rattle.gx_model.specs.Commands.{changed, no_record}
 use Rattle.gx_scan.specs.Files.{rec_of, records_of}
 use Rattle.gx_scan.proofs.FileLemmas.{set_of, there_in, row_fits}
-use Rattle.gx_edits.specs.Alone.{IsOnlyLeaf}
+use Rattle.gx_edits.specs.Alone.{AreOwnLeaves}
 use Rattle.gx_edits.specs.Records.{IsEdited}
 use Rattle.gx_edits.proofs.RecordLemmas.{is_done, update_edit, updated_is, rec_made}
 use Rattle.gx_edits.proofs.records.update_record.Goals as goal
@@ -67,24 +67,24 @@ returns-clause-updated g c = λ f whole is.
     (update_edit file t _ _ f key values (changed values changes) old new c.requires.tree.valid c.requires.key (subst (λ (r : Rec). AreFit (data_fields file) r.fields) is_new made.fits.fields) is was is_new done
     (λ n out. c.in_ok-replace_entries.ensures.others n after (λ e. cc) out ∙ ap (λ (maps : List LeafMap). map_at maps n) same)))
 
--- ---- a record that has one entry
+-- ---- a record in its own leaves
 
 pub changed_values-values-requires-clause-values : goal.changed_values-values-requires-clause-values
 changed_values-values-requires-clause-values g c = subst (λ o. IfSome o (AreFit (data_fields c.args.file.now))) c.in-Some.is c.in_ok-values.ensures.fits
 
-pub put_alone-requires-clause-below : goal.put_alone-requires-clause-below
-put_alone-requires-clause-below g c = λ n h. subst (λ (maps : List LeafMap). n < length maps) (sym c.find_values.ensures.reads.reads.working) (c.requires.tree.below n h)
+pub put_own-requires-clause-below : goal.put_own-requires-clause-below
+put_own-requires-clause-below g c = λ n h. subst (λ (maps : List LeafMap). n < length maps) (sym c.find_values.ensures.reads.reads.working) (c.requires.tree.below n h)
 
-pub put_alone-requires-clause-only : goal.put_alone-requires-clause-only
-put_alone-requires-clause-only g c = subst (λ o. IfSome o (IsOnlyLeaf (tree_of c.args.node.now))) c.in-Some-only_leaf.is c.only_leaf.ensures
+pub put_own-requires-clause-own : goal.put_own-requires-clause-own
+put_own-requires-clause-own g c = subst (λ o. IfSome o (λ own. AreOwnLeaves (tree_of c.args.node.now) own.first own.second)) c.in-Some-own_leaves.is c.own_leaves.ensures
 
-pub put_alone-requires-clause-fits : goal.put_alone-requires-clause-fits
-put_alone-requires-clause-fits g c =
+pub put_own-requires-clause-fits : goal.put_own-requires-clause-fits
+put_own-requires-clause-fits g c =
     let row : Row = (c.args.key, c.changed_values-values.result) in
     subst (λ form. IsOf form (rec_of row)) (sym c.requires.tree.form) (row_fits c.args.file.now row c.requires.storable.keyed (c.requires.key, c.changed_values-values.ensures.fits))
 
-pub returns-in-Some-only_leaf-clause-updated : goal.returns-in-Some-only_leaf-clause-updated
-returns-in-Some-only_leaf-clause-updated g c = λ f whole is.
+pub returns-in-Some-own_leaves-clause-updated : goal.returns-in-Some-own_leaves-clause-updated
+returns-in-Some-own_leaves-clause-updated g c = λ f whole is.
     let file = c.args.file.now in
     let t = tree_of c.args.node.now in
     let same = c.find_values.ensures.reads.reads.working in
@@ -95,8 +95,8 @@ returns-in-Some-only_leaf-clause-updated g c = λ f whole is.
     let after = c.in_ok-values.ensures.reads.ends.whole whole in
     let set = subst (λ form. IsSet form (records_of f)) (sym c.requires.tree.form) (set_of file f c.requires.storable.keyed is.fit) in
     let held = subst (λ (maps : List LeafMap). IsHeld any_rule t (records_of f) maps) (sym same) is.held in
-    let done = c.in_ok-put_alone.ensures.internal (records_of f) (Some (rec_of (key, values))) after set (there_in f key values there, refl) held in
+    let done = c.in_ok-put_own.ensures.internal (records_of f) (Some (rec_of (key, values))) after refl set (there_in f key values there, refl) held in
     is_done file t _ _ f _ no_record _ (ap (λ o. not (is_some o)) there)
     (subst (IsEdited file t _ _) (updated_is f key c.args.changes values made (sym there) c.changed_values-values.ensures.changed)
     (update_edit file t _ _ f key values made (rec_of (key, values)) (rec_of (key, made)) c.requires.tree.valid c.requires.key c.changed_values-values.ensures.fits is refl refl done
-    (λ n out. c.in_ok-put_alone.ensures.others n after (λ e. cc) out ∙ ap (λ (maps : List LeafMap). map_at maps n) same)))
+    (λ n out. c.in_ok-put_own.ensures.others n after (λ e. cc) out ∙ ap (λ (maps : List LeafMap). map_at maps n) same)))

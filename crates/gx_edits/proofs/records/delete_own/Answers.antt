@@ -8,10 +8,10 @@ use Rattle.gx_model.specs.Commands.{no_record}
 use Rattle.gx_scan.specs.Files.{rec_of, records_of}
 use Rattle.gx_scan.proofs.FileLemmas.{set_of, there_in}
 use Rattle.gx_edits.proofs.RecordLemmas.{is_done, delete_edit, some_there}
-use Rattle.gx_edits.proofs.records.delete_alone.Goals as goal
+use Rattle.gx_edits.proofs.records.delete_own.Goals as goal
 
-pub take_alone-requires-clause-below : goal.take_alone-requires-clause-below
-take_alone-requires-clause-below g c = λ n h. subst (λ (maps : List LeafMap). n < length maps) (sym c.is_there.ensures.reads.reads.working) (c.requires.tree.below n h)
+pub take_own-requires-clause-below : goal.take_own-requires-clause-below
+take_own-requires-clause-below g c = λ n h. subst (λ (maps : List LeafMap). n < length maps) (sym c.is_there.ensures.reads.reads.working) (c.requires.tree.below n h)
 
 pub returns-clause-deleted : goal.returns-clause-deleted
 returns-clause-deleted g c = λ f whole is.
@@ -24,6 +24,6 @@ returns-clause-deleted g c = λ f whole is.
     let after = c.in_ok-is_there.ensures.reads.ends.whole whole in
     let set = subst (λ form. IsSet form (records_of f)) (sym c.requires.tree.form) (set_of c.args.file.now f c.requires.storable.keyed is.fit) in
     let held = subst (λ (maps : List LeafMap). IsHeld any_rule t (records_of f) maps) (sym same) is.held in
-    let done = c.in_ok-take_alone.ensures.internal (records_of f) (rec_of (key, values)) after refl set (there_in f key values one.1) held in
+    let done = c.in_ok-take_own.ensures.internal (records_of f) (rec_of (key, values)) after refl set (there_in f key values one.1) held in
     is_done c.args.file.now t _ _ f _ no_record _ (ap (λ o. not (is_some o)) one.1)
-    (delete_edit c.args.file.now t _ _ f key values (rec_of (key, values)) c.requires.tree.valid is refl done (λ n out. c.in_ok-take_alone.ensures.others n after (λ e. cc) out ∙ ap (λ (maps : List LeafMap). map_at maps n) same))
+    (delete_edit c.args.file.now t _ _ f key values (rec_of (key, values)) c.requires.tree.valid is refl done (λ n out. c.in_ok-take_own.ensures.others n after (λ e. cc) out ∙ ap (λ (maps : List LeafMap). map_at maps n) same))

@@ -10,26 +10,26 @@ use Rattle.gx_model.specs.States.{Row}
 use Rattle.gx_model.specs.Commands.{key_exists}
 use Rattle.gx_edits.proofs.ChangeLemmas.{is_insert}
 use Rattle.gx_edits.proofs.RecordLemmas.{none_there, is_done, insert_edit, crowded_same}
-use Rattle.gx_edits.proofs.records.insert_alone.Goals as goal
+use Rattle.gx_edits.proofs.records.insert_own.Goals as goal
 
-pub put_alone-requires-clause-below : goal.put_alone-requires-clause-below
-put_alone-requires-clause-below g c = λ n h. subst (λ (maps : List LeafMap). n < length maps) (sym c.is_there.ensures.reads.reads.working) (c.requires.tree.below n h)
+pub put_own-requires-clause-below : goal.put_own-requires-clause-below
+put_own-requires-clause-below g c = λ n h. subst (λ (maps : List LeafMap). n < length maps) (sym c.is_there.ensures.reads.reads.working) (c.requires.tree.below n h)
 
-pub put_alone-requires-clause-fits : goal.put_alone-requires-clause-fits
-put_alone-requires-clause-fits g c =
+pub put_own-requires-clause-fits : goal.put_own-requires-clause-fits
+put_own-requires-clause-fits g c =
     let row : Row = (c.args.key.now, c.args.values) in
     subst (λ form. IsOf form (rec_of row)) (sym c.requires.tree.form) (row_fits c.args.file.now row c.requires.storable.keyed (c.requires.key, c.requires.values))
 
-pub returns-in_err-put_alone-clause-full : goal.returns-in_err-put_alone-clause-full
-returns-in_err-put_alone-clause-full g c = λ f whole is e.
+pub returns-in_err-put_own-clause-full : goal.returns-in_err-put_own-clause-full
+returns-in_err-put_own-clause-full g c = λ f whole is e.
     let t = tree_of c.args.node.now in
     let row : Row = (c.args.key.now, c.args.values) in
     let none = none_there f c.args.key.now (sym (c.in_ok-is_there.ensures.there f whole is) ∙ c.if-branch.false) in
-    let full = c.put_alone.ensures.full (c.in_ok-is_there.ensures.reads.ends.whole whole) (search rules) in
+    let full = c.put_own.ensures.full (c.in_ok-is_there.ensures.reads.ends.whole whole) (search rules) in
     (none, crowded_same (g.B.View.limit c.args.leaves.now) (g.B.View.limit c.is_there.new.leaves) (g.B.View.working c.args.leaves.now) (g.B.View.working c.is_there.new.leaves) t row (rec_of row) c.is_there.ensures.reads.reads.limit c.is_there.ensures.reads.reads.working refl full)
 
-pub returns-in_ok-put_alone-clause-inserted : goal.returns-in_ok-put_alone-clause-inserted
-returns-in_ok-put_alone-clause-inserted g c = λ f whole is.
+pub returns-in_ok-put_own-clause-inserted : goal.returns-in_ok-put_own-clause-inserted
+returns-in_ok-put_own-clause-inserted g c = λ f whole is.
     let t = tree_of c.args.node.now in
     let key = c.args.key.now in
     let values = c.args.values in
@@ -39,6 +39,6 @@ returns-in_ok-put_alone-clause-inserted g c = λ f whole is.
     let after = c.in_ok-is_there.ensures.reads.ends.whole whole in
     let set = subst (λ form. IsSet form (records_of f)) (sym c.requires.tree.form) (set_of c.args.file.now f c.requires.storable.keyed is.fit) in
     let held = subst (λ (maps : List LeafMap). IsHeld any_rule t (records_of f) maps) (sym same) is.held in
-    let done = c.in_ok-put_alone.ensures.internal (records_of f) None after set (is_insert f key values none) held in
+    let done = c.in_ok-put_own.ensures.internal (records_of f) None after refl set (is_insert f key values none) held in
     is_done c.args.file.now t _ _ f _ key_exists _ absent
-    (insert_edit c.args.file.now t _ _ f key values (rec_of (key, values)) c.requires.tree.valid c.requires.key c.requires.values is none refl done (λ n out. c.in_ok-put_alone.ensures.others n after (λ e. cc) out ∙ ap (λ (maps : List LeafMap). map_at maps n) same))
+    (insert_edit c.args.file.now t _ _ f key values (rec_of (key, values)) c.requires.tree.valid c.requires.key c.requires.values is none refl done (λ n out. c.in_ok-put_own.ensures.others n after (λ e. cc) out ∙ ap (λ (maps : List LeafMap). map_at maps n) same))

@@ -1,0 +1,89 @@
+use Rattle.std.proofs.Common.{◌≡◌, ◌∙◌, ◌∷◌, [], ℕ, length, inl, inr, refl, sym, ap, subst, append-nil, arith}
+use Rattle.std.proofs.lemmas.Result.{on_ok_weaker}
+use Rattle.std.specs.Prelude.{if◌then◌else◌}
+use Rattle.gx_values.specs.Keys.{bytes_of, key_of}
+use Rattle.gx_ports.specs.LeafMaps.{with_entry, without_entry}
+use Rattle.gx_mapping.specs.Rule.{In}
+use Rattle.gx_stack.specs.declared.entries.LeafEntry.{LeafEntry}
+use Rattle.gx_stack.specs.Tree.{leaves_of}
+use Rattle.gx_stack.specs.Seen.{tree_of}
+use Rattle.gx_stack.proofs.Unique.{entries_small}
+use Rattle.gx_types.specs.Any.{any_rule, any_laws}
+use Rattle.gx_scan.specs.Files.{rec_of}
+use Rattle.gx_edits.specs.Alone.{AreBodies}
+use Rattle.gx_edits.proofs.SegmentLemmas.{first_in_tree, second_in_tree, short_put, each_put}
+use Rattle.gx_edits.proofs.segments.put_both.Goals as goal
+
+pub put_short-requires-clause-first : goal.put_short-requires-clause-first
+put_short-requires-clause-first g c = c.requires.below c.args.first (first_in_tree (tree_of c.args.node.now) c.args.first c.args.second c.requires.two)
+
+pub put_short-requires-clause-second : goal.put_short-requires-clause-second
+put_short-requires-clause-second g c = c.requires.below c.args.second (second_in_tree (tree_of c.args.node.now) c.args.first c.args.second c.requires.two)
+
+pub put_short-requires-clause-entry : goal.put_short-requires-clause-entry
+put_short-requires-clause-entry g c =
+    let t = tree_of c.args.node.now in
+    let key = c.args.key.now in
+    let e : LeafEntry = record { leaf = c.args.first; key = key_of (key ∷ []); body = c.in_ok-body.body } in
+    let come = c.in_ok-body.ensures c.args.first c.args.second (key ∷ []) c.requires.two in
+    let small = entries_small any_rule any_laws t c.requires.valid (rec_of (key, c.args.fields)) c.requires.fits e (subst (In e) (sym come) (inl refl)) in
+    let bytes : c.args.bytes.now ≡ key_of (key ∷ []) = c.requires.bytes ∙ sym (append-nil (bytes_of key)) in
+    omega (arith, small.1, ap length bytes)
+
+pub returns-in-None-clause-internal : goal.returns-in-None-clause-internal
+returns-in-None-clause-internal g c = λ R old whole there set change held.
+    let t = tree_of c.args.node.now in
+    let maps = g.B.View.working c.args.leaves.now in
+    let key = c.args.key.now in
+    let come = subst (λ other. AreBodies t c.args.fields c.in_ok-body.body other) c.in-None.is c.in_ok-body.ensures c.args.first c.args.second (key ∷ []) c.requires.two in
+    let bytes : c.args.bytes.now ≡ key_of (key ∷ []) = c.requires.bytes ∙ sym (append-nil (bytes_of key)) in
+    on_ok_weaker c.put_short.result (λ done. short_put t c.args.first c.args.second c.requires.two c.requires.valid R set maps c.requires.below held old (rec_of (key, c.args.fields)) c.in_ok-body.body c.args.replaces _ there change c.requires.fits come
+    (done ∙ (λ i. with_entry (if c.args.replaces then without_entry maps c.args.second (bytes i) else maps) c.args.first (bytes i) c.in_ok-body.body))) (c.put_short.ensures.done whole)
+
+pub returns-in-None-clause-others : goal.returns-in-None-clause-others
+returns-in-None-clause-others g c = λ n whole fault away.
+    let t = tree_of c.args.node.now in
+    c.put_short.ensures.others n whole fault (λ is. away (subst (λ (i : ℕ). In i (leaves_of t)) (sym is) (first_in_tree t c.args.first c.args.second c.requires.two)))
+    (λ is. away (subst (λ (i : ℕ). In i (leaves_of t)) (sym is) (second_in_tree t c.args.first c.args.second c.requires.two)))
+
+pub put_each-requires-clause-first : goal.put_each-requires-clause-first
+put_each-requires-clause-first g c = c.requires.below c.args.first (first_in_tree (tree_of c.args.node.now) c.args.first c.args.second c.requires.two)
+
+pub put_each-requires-clause-second : goal.put_each-requires-clause-second
+put_each-requires-clause-second g c = c.requires.below c.args.second (second_in_tree (tree_of c.args.node.now) c.args.first c.args.second c.requires.two)
+
+pub put_each-requires-clause-entry : goal.put_each-requires-clause-entry
+put_each-requires-clause-entry g c =
+    let t = tree_of c.args.node.now in
+    let key = c.args.key.now in
+    let e : LeafEntry = record { leaf = c.args.first; key = key_of (key ∷ []); body = c.in_ok-body.body } in
+    let come = c.in_ok-body.ensures c.args.first c.args.second (key ∷ []) c.requires.two in
+    let small = entries_small any_rule any_laws t c.requires.valid (rec_of (key, c.args.fields)) c.requires.fits e (subst (In e) (sym come) (inl refl)) in
+    let bytes : c.args.bytes.now ≡ key_of (key ∷ []) = c.requires.bytes ∙ sym (append-nil (bytes_of key)) in
+    omega (arith, small.1, ap length bytes)
+
+pub put_each-requires-clause-other : goal.put_each-requires-clause-other
+put_each-requires-clause-other g c =
+    let t = tree_of c.args.node.now in
+    let key = c.args.key.now in
+    let e : LeafEntry = record { leaf = c.args.second; key = key_of (key ∷ []); body = c.in-Some.other } in
+    let come = subst (λ other. AreBodies t c.args.fields c.in_ok-body.body other) c.in-Some.is c.in_ok-body.ensures c.args.first c.args.second (key ∷ []) c.requires.two in
+    let small = entries_small any_rule any_laws t c.requires.valid (rec_of (key, c.args.fields)) c.requires.fits e (subst (In e) (sym come) (inr (inl refl))) in
+    let bytes : c.args.bytes.now ≡ key_of (key ∷ []) = c.requires.bytes ∙ sym (append-nil (bytes_of key)) in
+    omega (arith, small.1, ap length bytes)
+
+pub returns-clause-internal : goal.returns-clause-internal
+returns-clause-internal g c = λ R old whole there set change held.
+    let t = tree_of c.args.node.now in
+    let maps = g.B.View.working c.args.leaves.now in
+    let key = c.args.key.now in
+    let come = subst (λ other. AreBodies t c.args.fields c.in_ok-body.body other) c.in-Some.is c.in_ok-body.ensures c.args.first c.args.second (key ∷ []) c.requires.two in
+    let bytes : c.args.bytes.now ≡ key_of (key ∷ []) = c.requires.bytes ∙ sym (append-nil (bytes_of key)) in
+    on_ok_weaker c.put_each.result (λ done. each_put t c.args.first c.args.second c.requires.two c.requires.valid R set maps c.requires.below held old (rec_of (key, c.args.fields)) c.in_ok-body.body c.in-Some.other _ change c.requires.fits come
+    (done ∙ (λ i. with_entry (with_entry maps c.args.first (bytes i) c.in_ok-body.body) c.args.second (bytes i) c.in-Some.other))) (c.put_each.ensures.done whole)
+
+pub returns-clause-others : goal.returns-clause-others
+returns-clause-others g c = λ n whole fault away.
+    let t = tree_of c.args.node.now in
+    c.put_each.ensures.others n whole fault (λ is. away (subst (λ (i : ℕ). In i (leaves_of t)) (sym is) (first_in_tree t c.args.first c.args.second c.requires.two)))
+    (λ is. away (subst (λ (i : ℕ). In i (leaves_of t)) (sym is) (second_in_tree t c.args.first c.args.second c.requires.two)))
