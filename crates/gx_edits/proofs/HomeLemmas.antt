@@ -1,4 +1,5 @@
--- The node of a file that has all leaf entries of a key's record, and what an edit there does to the file.
+-- The node of a file that has all leaf entries of a key's record, and what an edit there does to
+-- the file.
 use Rattle.std.proofs.Common.{[], ◌≡◌, ℕ, List, ◌∷◌, ◌⊎◌, get_or, map, cond, length, ◌+◌, ◌-◌, Bool, true, false, Some, None, inl, inr, refl, sym, ap, subst, ◌∙◌, append-nil}
 use Rattle.std.specs.Prelude.{◌≢◌, is_some, not, Option, unwrap_or, slice_set}
 use Rattle.std.specs.List.{flat_map, AllByRecursion}
@@ -67,46 +68,63 @@ home_itself file key t = record {
 -- ---- one step down
 
 -- a partition passes each record whole
-pub partition_passes : (m : AnyMapping) (p : Partition) → m ≡ any.Partition p → PassesWhole (any_rule m)
+pub partition_passes : (m : AnyMapping) (p : Partition) → m ≡ any.Partition p
+    → PassesWhole (any_rule m)
 partition_passes m p is = subst (λ (x : AnyMapping). PassesWhole (any_rule x)) (sym is) (record {
   form = λ child. refl;
   one = λ r. (child_of (bounds_of p) (value_at (at_of p) r), refl);
 })
 
-pub partition_alone : (m : AnyMapping) (p : Partition) (span : Span) (c : ℕ) → m ≡ any.Partition p → IsAlone (rule_of p) span c → IsAlone (any_rule m) span c
-partition_alone m p span c is alone = subst (λ (x : AnyMapping). IsAlone (any_rule x) span c) (sym is) alone
+pub partition_alone : (m : AnyMapping) (p : Partition) (span : Span) (c : ℕ) → m ≡ any.Partition p
+    → IsAlone (rule_of p) span c → IsAlone (any_rule m) span c
+partition_alone m p span c is alone =
+    subst (λ (x : AnyMapping). IsAlone (any_rule x) span c) (sym is) alone
 
-module _ (n : Node AnyMapping) (l : LayerNode AnyMapping) (is : n ≡ nodes.Layer l) (valid : IsValid any_rule (tree_of n))
-    (passes : PassesWhole (any_rule l.mapping)) (span : Span) (c : ℕ) (alone : IsAlone (any_rule l.mapping) span c) (k : Node AnyMapping) (read : k ≡ get_or l.kids.items c k) where
+module _ (n : Node AnyMapping) (l : LayerNode AnyMapping) (is : n ≡ nodes.Layer l)
+    (valid : IsValid any_rule (tree_of n)) (passes : PassesWhole (any_rule l.mapping))
+    (span : Span) (c : ℕ) (alone : IsAlone (any_rule l.mapping) span c)
+    (k : Node AnyMapping) (read : k ≡ get_or l.kids.items c k) where
   -- a record of the child has the same entries below it
-  same_entries : (r : Rec) → (passes.one r).0 ≡ c → entries_of any_rule (tree_of n) r ≡ entries_of any_rule (tree_of k) r
+  same_entries : (r : Rec) → (passes.one r).0 ≡ c
+      → entries_of any_rule (tree_of n) r ≡ entries_of any_rule (tree_of k) r
   same_entries r child =
       let ks = kids_from (map tree_of l.kids.items) in
       ap (λ t. entries_of any_rule t r) (seen_layer n l is)
-      ∙ ap (λ (ps : List Part). flat_map (λ (p : Part). kid_entries any_rule ks p.child p.rec) ps) (passes.one r).1
+      ∙ ap (λ (ps : List Part). flat_map (λ (p : Part). kid_entries any_rule ks p.child p.rec) ps)
+      (passes.one r).1
       ∙ append-nil (kid_entries any_rule ks (passes.one r).0 r)
       ∙ ap (λ d. kid_entries any_rule ks d r) child
       ∙ kid_entries_at any_rule l.kids.items c k r (kid_there n l is valid passes span c alone)
       ∙ ap (λ x. entries_of any_rule (tree_of x) r) (sym read)
 
   kid_form : tree_form any_rule (tree_of k) ≡ tree_form any_rule (tree_of n)
-  kid_form = (child_valid any_rule n l is c k valid (kid_there n l is valid passes span c alone) read).0 ∙ passes.form c ∙ sym (layer_form any_rule n l is)
+  kid_form =
+      let there = kid_there n l is valid passes span c alone in
+      (child_valid any_rule n l is c k valid there read).0 ∙ passes.form c
+      ∙ sym (layer_form any_rule n l is)
 
-  pub home_down : (u : Tree AnyMapping) → HasAllInside span (tree_of k) u → HasAllInside span (tree_of n) u
-  home_down u inner = record {
-    records = one_down n l is valid passes span c alone k read u inner.records;
-    leaves = λ i h. child_leaves any_rule n l is c k (kid_there n l is valid passes span c alone) read i (inner.leaves i h);
-    entries = λ r fits inside.
-        let of_layer = subst (λ form. IsOf form r) (layer_form any_rule n l is) fits in
-        same_entries r (inside_goes l.mapping passes c span alone r of_layer inside)
-        ∙ inner.entries r (subst (λ form. IsOf form r) (sym kid_form) fits) inside;
-  }
+  pub home_down : (u : Tree AnyMapping) → HasAllInside span (tree_of k) u
+      → HasAllInside span (tree_of n) u
+  home_down u inner =
+      let there = kid_there n l is valid passes span c alone in
+      record {
+        records = one_down n l is valid passes span c alone k read u inner.records;
+        leaves = λ i h. child_leaves any_rule n l is c k there read i (inner.leaves i h);
+        entries = λ r fits inside.
+            let of_layer = subst (λ form. IsOf form r) (layer_form any_rule n l is) fits in
+            same_entries r (inside_goes l.mapping passes c span alone r of_layer inside)
+            ∙ inner.entries r (subst (λ form. IsOf form r) (sym kid_form) fits) inside;
+      }
 
 -- ---- the span of one key
 
-pub home_of_span : (file : FileDef) (key : Value) (span : Span) (t u : Tree AnyMapping) → IsStorable file → Fits (key_kind file) key → span.lo ≡ bytes_of key → span.hi ≡ bytes_of key → tree_form any_rule t ≡ file_form file → HasAllInside span t u → IsHome file key t u
+pub home_of_span : (file : FileDef) (key : Value) (span : Span) (t u : Tree AnyMapping)
+    → IsStorable file → Fits (key_kind file) key → span.lo ≡ bytes_of key → span.hi ≡ bytes_of key
+    → tree_form any_rule t ≡ file_form file → HasAllInside span t u → IsHome file key t u
 home_of_span file key span t u storable fit lo hi form has =
-    let inside : is_inside span.lo span.hi (key_of (key ∷ [])) ≡ true = (λ i. is_inside (lo i) (hi i) (key_of (key ∷ []))) ∙ inside_key file key key storable.key fit fit ∙ value_itself key in
+    let inside : is_inside span.lo span.hi (key_of (key ∷ [])) ≡ true =
+    (λ i. is_inside (lo i) (hi i) (key_of (key ∷ [])))
+    ∙ inside_key file key key storable.key fit fit ∙ value_itself key in
     record {
       tree = has.records.tree file;
       leaves = has.leaves;
@@ -115,7 +133,8 @@ home_of_span file key span t u storable fit lo hi form has =
           record { part = p.part; held = p.held; same = p.same key inside };
       entries = λ values fits.
           let row : Row = (key, values) in
-          has.entries (rec_of row) (subst (λ fm. IsOf fm (rec_of row)) (sym form) (row_fits file row storable.keyed (fit, fits))) inside;
+          let of_file = row_fits file row storable.keyed (fit, fits) in
+          has.entries (rec_of row) (subst (λ fm. IsOf fm (rec_of row)) (sym form) of_file) inside;
     }
 
 -- ---- an edit at the home
@@ -130,187 +149,282 @@ leaf_cases n (x ∷ ns) = elim (nat_cases n x) [
   ]
 ]
 
-row_at : (file : FileDef) (f : File) (k : Value) (vs : List Value) → IsFileOf file f → fin.get f k ≡ Some vs → IsRowOf file (k, vs)
-row_at file f k vs fit e = all_at (IsRowOf file) (fin.entries f) (k, vs) fit (find_in value_cmp_same k vs (fin.entries f) (sym (fin.get-entries f k) ∙ e))
+row_at : (file : FileDef) (f : File) (k : Value) (vs : List Value) → IsFileOf file f
+    → fin.get f k ≡ Some vs → IsRowOf file (k, vs)
+row_at file f k vs fit e = all_at (IsRowOf file) (fin.entries f) (k, vs) fit
+    (find_in value_cmp_same k vs (fin.entries f) (sym (fin.get-entries f k) ∙ e))
 
 -- the values of a record fit after changes of the file
-changed_fit : (file : FileDef) (cs : List Change) (vs : List Value) → AllByRecursion (IsChangeOf file) cs → AreFit (data_fields file) vs → AreFit (data_fields file) (changed vs cs)
+changed_fit : (file : FileDef) (cs : List Change) (vs : List Value)
+    → AllByRecursion (IsChangeOf file) cs → AreFit (data_fields file) vs
+    → AreFit (data_fields file) (changed vs cs)
 changed_fit file [] vs those fit = fit
-changed_fit file (c ∷ cs) vs those fit = changed_fit file cs (slice_set vs (c.field - 1) c.value) those.1 (value_fits file c vs c.value those.0 fit refl)
+changed_fit file (c ∷ cs) vs those fit =
+    changed_fit file cs (slice_set vs (c.field - 1) c.value) those.1
+    (value_fits file c vs c.value those.0 fit refl)
 
 -- a file that is another one but for what it has at a key
 abbrev pub IsButAt : Value → File → File → Type 0
 IsButAt key f g = (q : Value) → q ≢ key → fin.get g q ≡ fin.get f q
 
-module _ (file : FileDef) (key : Value) (t u : Tree AnyMapping) (home : IsHome file key t u) (many : ℕ) (tree : IsTreeFor file t many) (storable : IsStorable file) where
-  of_form : (r : Row) → IsRowOf file r → IsOf (tree_form any_rule t) (rec_of r)
-  of_form r is = subst (λ form. IsOf form (rec_of r)) (sym tree.form) (row_fits file r storable.keyed is)
+-- an entry of the record with this key and these values, below a tree
+abbrev pub IsEntryOf : Tree AnyMapping → Value → List Value → LeafEntry → Type 0
+IsEntryOf t k vs e = In e (entries_of any_rule t (rec_of (k, vs)))
 
-  home_form : (r : Row) → IsRowOf file r → IsOf (tree_form any_rule u) (rec_of r)
-  home_form r is = subst (λ form. IsOf form (rec_of r)) (sym (home.tree many tree).form) (row_fits file r storable.keyed is)
+-- one of a record of the file
+abbrev pub IsEntryIn : Tree AnyMapping → File → LeafEntry → Type 0
+IsEntryIn t f e = In e (flat_map (entries_of any_rule t) (records_of f))
 
-  -- an entry of a record with this key is one of the home
-  down : (k : Value) (vs : List Value) (e : LeafEntry) → k ≡ key → IsRowOf file (k, vs) → In e (entries_of any_rule t (rec_of (k, vs))) → In e (entries_of any_rule u (rec_of (key, vs)))
-  down k vs e same row h = subst (In e) (home.entries vs row.1) (subst (λ q. In e (entries_of any_rule t (rec_of (q, vs)))) same h)
+-- such a record, as a look-up finds it
+record IsOwner (t : Tree AnyMapping) (f : File) (e : LeafEntry) : Type 0 where
+  key : Value
+  values : List Value
+  found : fin.get f key ≡ Some values
+  its : IsEntryOf t key values e
 
-  up : (k : Value) (vs : List Value) (e : LeafEntry) → k ≡ key → IsRowOf file (k, vs) → In e (entries_of any_rule u (rec_of (k, vs))) → In e (entries_of any_rule t (rec_of (key, vs)))
-  up k vs e same row h = subst (In e) (sym (home.entries vs row.1)) (subst (λ q. In e (entries_of any_rule u (rec_of (q, vs)))) same h)
+owner : (t : Tree AnyMapping) (f : File) (e : LeafEntry) → IsEntryIn t f e → IsOwner t f e
+owner t f e h =
+    let r = from_each (entries_of any_rule t) e (records_of f) h in
+    let a = in_there f r.0 r.1 in
+    record {
+      key = a.key;
+      values = a.values;
+      found = a.found;
+      its = subst (λ (x : Rec). In e (entries_of any_rule t x)) a.is r.2;
+    }
 
-  module _ (old new : List LeafMap) (f g p q : File) (is : IsInternal file t old f) (part : IsInternal file u old p) (done : IsInternal file u new q)
-      (was : fin.get p key ≡ fin.get f key) (now : fin.get q key ≡ fin.get g key) (f_but : IsButAt key f g) (p_but : IsButAt key p q)
+entry_in : (t : Tree AnyMapping) (f : File) (e : LeafEntry) (k : Value) (vs : List Value)
+    → fin.get f k ≡ Some vs → IsEntryOf t k vs e → IsEntryIn t f e
+entry_in t f e k vs found its =
+    in_each (entries_of any_rule t) (rec_of (k, vs)) e (records_of f) (there_in f k vs found) its
+
+module _ (file : FileDef) (key : Value) (t u : Tree AnyMapping) (home : IsHome file key t u)
+    (many : ℕ) (tree : IsTreeFor file t many) (storable : IsStorable file) where
+  -- an entry of a record with this key is one of the home, and the other way round
+  down : (k : Value) (vs : List Value) (e : LeafEntry) → k ≡ key → IsRowOf file (k, vs)
+      → IsEntryOf t k vs e → IsEntryOf u key vs e
+  down k vs e same row h =
+      subst (In e) (home.entries vs row.1) (subst (λ q. IsEntryOf t q vs e) same h)
+
+  up : (k : Value) (vs : List Value) (e : LeafEntry) → k ≡ key → IsRowOf file (k, vs)
+      → IsEntryOf u k vs e → IsEntryOf t key vs e
+  up k vs e same row h =
+      subst (In e) (sym (home.entries vs row.1)) (subst (λ q. IsEntryOf u q vs e) same h)
+
+  -- rows of a file with the same entry have one key
+  one_owner : (x : Tree AnyMapping) → IsTreeFor file x many → (k q : Value) (vs ws : List Value)
+      (e : LeafEntry) → IsRowOf file (k, vs) → IsRowOf file (q, ws) → IsEntryOf x k vs e
+      → IsEntryOf x q ws e → k ≡ q
+  one_owner x for k q vs ws e a b h i =
+      let of_form : (r : Row) → IsRowOf file r → IsOf (tree_form any_rule x) (rec_of r) =
+      λ r row. subst (λ form. IsOf form (rec_of r)) (sym for.form)
+      (row_fits file r storable.keyed row) in
+      one_key k q (entries_apart any_rule any_laws x for.valid (rec_of (k, vs)) (rec_of (q, ws))
+      (of_form (k, vs) a) (of_form (q, ws) b) e e h i refl refl)
+
+  module _ (old new : List LeafMap) (f g p q : File) (is : IsInternal file t old f)
+      (part : IsInternal file u old p) (done : IsInternal file u new q)
+      (was : fin.get p key ≡ fin.get f key) (now : fin.get q key ≡ fin.get g key)
+      (f_but : IsButAt key f g) (p_but : IsButAt key p q)
       (others : (n : ℕ) → (In n (leaves_of u) → ⊥) → map_at new n ≡ map_at old n) where
     -- the records after the change fit the file
     after_fits : IsFileOf file g
     after_fits = all_of (IsRowOf file) (fin.entries g) (λ r h.
-        let got : fin.get g r.0 ≡ Some r.1 = fin.get-entries g r.0 ∙ in_find value_cmp_total r (fin.entries g) (fin.entries_sorted g) h in
+        let found = in_find value_cmp_total r (fin.entries g) (fin.entries_sorted g) h in
+        let got : fin.get g r.0 ≡ Some r.1 = fin.get-entries g r.0 ∙ found in
         elim (value_cases r.0 key) [
-          | inl same ↦ row_at file q r.0 r.1 done.fit (ap (fin.get q) same ∙ now ∙ ap (fin.get g) (sym same) ∙ got)
+          | inl same ↦ row_at file q r.0 r.1 done.fit
+              (ap (fin.get q) same ∙ now ∙ ap (fin.get g) (sym same) ∙ got)
           | inr other ↦ row_at file f r.0 r.1 is.fit (sym (f_but r.0 other) ∙ got)
         ])
 
-    -- an entry of the file before, which no record with this key has, is one of the file after
-    kept_above : (e : LeafEntry) (k : Value) (vs : List Value) → k ≢ key → fin.get f k ≡ Some vs → In e (entries_of any_rule t (rec_of (k, vs))) → In e (flat_map (entries_of any_rule t) (records_of g))
-    kept_above e k vs other there h = in_each (entries_of any_rule t) (rec_of (k, vs)) e (records_of g) (there_in g k vs (f_but k other ∙ there)) h
-
-    held_entry : (e : LeafEntry) → In e (flat_map (entries_of any_rule t) (records_of g)) → at new e.leaf e.key ≡ Some e.body
+    held_entry : (e : LeafEntry) → IsEntryIn t g e → at new e.leaf e.key ≡ Some e.body
     held_entry e h =
         let above = union_from_internal any_rule t (records_of f) old is.held in
         let before = union_from_internal any_rule u (records_of p) old part.held in
         let after = union_from_internal any_rule u (records_of q) new done.held in
-        let r = from_each (entries_of any_rule t) e (records_of g) h in
-        let a = in_there g r.0 r.1 in
-        let mine = subst (λ (x : Rec). In e (entries_of any_rule t x)) a.is r.2 in
+        let a = owner t g e h in
         elim (value_cases a.key key) [
           | inl same ↦ (
               let got : fin.get q key ≡ Some a.values = now ∙ ap (fin.get g) (sym same) ∙ a.found in
-              let low = down a.key a.values e same (row_at file g a.key a.values after_fits a.found) mine in
-              after.holds e (in_each (entries_of any_rule u) (rec_of (key, a.values)) e (records_of q) (there_in q key a.values got) low))
+              let row = row_at file g a.key a.values after_fits a.found in
+              let low = down a.key a.values e same row a.its in
+              after.holds e (entry_in u q e key a.values got low))
           | inr other ↦ (
               let there : fin.get f a.key ≡ Some a.values = sym (f_but a.key other) ∙ a.found in
-              let found = above.holds e (in_each (entries_of any_rule t) (rec_of (a.key, a.values)) e (records_of f) (there_in f a.key a.values there) mine) in
+              let stood = above.holds e (entry_in t f e a.key a.values there a.its) in
               elim (leaf_cases e.leaf (leaves_of u)) [
                 | inl inside ↦ (
-                    let s = from_each (entries_of any_rule u) e (records_of p) (before.only e inside found) in
-                    let b = in_there p s.0 s.1 in
-                    let its = subst (λ (x : Rec). In e (entries_of any_rule u x)) b.is s.2 in
+                    let b = owner u p e (before.only e inside stood) in
+                    let row_a = row_at file f a.key a.values is.fit there in
                     let row_b = row_at file p b.key b.values part.fit b.found in
                     let apart : b.key ≢ key = λ same.
-                    other (one_key a.key key (entries_apart any_rule any_laws t tree.valid (rec_of (a.key, a.values)) (rec_of (key, b.values))
-                    (of_form (a.key, a.values) (row_at file f a.key a.values is.fit there)) (of_form (key, b.values) (subst (λ k. IsRowOf file (k, b.values)) same row_b))
-                    e e mine (up b.key b.values e same row_b its) refl refl)) in
-                    after.holds e (in_each (entries_of any_rule u) (rec_of (b.key, b.values)) e (records_of q) (there_in q b.key b.values (p_but b.key apart ∙ b.found)) its))
-                | inr outside ↦ ap (λ (m : LeafMap). fin.get m e.key) (others e.leaf outside) ∙ found
+                    other (one_owner t tree a.key key a.values b.values e row_a
+                    (subst (λ k. IsRowOf file (k, b.values)) same row_b) a.its
+                    (up b.key b.values e same row_b b.its)) in
+                    let kept = p_but b.key apart ∙ b.found in
+                    after.holds e (entry_in u q e b.key b.values kept b.its))
+                | inr outside ↦
+                    ap (λ (m : LeafMap). fin.get m e.key) (others e.leaf outside) ∙ stood
               ])
         ]
 
-    only_entry : (e : LeafEntry) → In e.leaf (leaves_of t) → at new e.leaf e.key ≡ Some e.body → In e (flat_map (entries_of any_rule t) (records_of g))
+    only_entry : (e : LeafEntry) → In e.leaf (leaves_of t) → at new e.leaf e.key ≡ Some e.body
+        → IsEntryIn t g e
     only_entry e in_leaf found =
         let above = union_from_internal any_rule t (records_of f) old is.held in
         let before = union_from_internal any_rule u (records_of p) old part.held in
         let after = union_from_internal any_rule u (records_of q) new done.held in
         elim (leaf_cases e.leaf (leaves_of u)) [
           | inl inside ↦ (
-              let s = from_each (entries_of any_rule u) e (records_of q) (after.only e inside found) in
-              let b = in_there q s.0 s.1 in
-              let its = subst (λ (x : Rec). In e (entries_of any_rule u x)) b.is s.2 in
+              let b = owner u q e (after.only e inside found) in
               let row_b = row_at file q b.key b.values done.fit b.found in
               elim (value_cases b.key key) [
                 | inl same ↦ (
-                    let got : fin.get g key ≡ Some b.values = sym now ∙ ap (fin.get q) (sym same) ∙ b.found in
-                    in_each (entries_of any_rule t) (rec_of (key, b.values)) e (records_of g) (there_in g key b.values got) (up b.key b.values e same row_b its))
+                    let got : fin.get g key ≡ Some b.values =
+                    sym now ∙ ap (fin.get q) (sym same) ∙ b.found in
+                    entry_in t g e key b.values got (up b.key b.values e same row_b b.its))
                 | inr other ↦ (
-                    let there : fin.get p b.key ≡ Some b.values = sym (p_but b.key other) ∙ b.found in
-                    let stood = before.holds e (in_each (entries_of any_rule u) (rec_of (b.key, b.values)) e (records_of p) (there_in p b.key b.values there) its) in
-                    let r = from_each (entries_of any_rule t) e (records_of f) (above.only e in_leaf stood) in
-                    let a = in_there f r.0 r.1 in
-                    let mine = subst (λ (x : Rec). In e (entries_of any_rule t x)) a.is r.2 in
+                    let there : fin.get p b.key ≡ Some b.values =
+                    sym (p_but b.key other) ∙ b.found in
+                    let stood = before.holds e (entry_in u p e b.key b.values there b.its) in
+                    let a = owner t f e (above.only e in_leaf stood) in
                     let row_a = row_at file f a.key a.values is.fit a.found in
                     let apart : a.key ≢ key = λ same.
-                    other (one_key b.key key (entries_apart any_rule any_laws u (home.tree many tree).valid (rec_of (b.key, b.values)) (rec_of (key, a.values))
-                    (home_form (b.key, b.values) row_b) (home_form (key, a.values) (subst (λ k. IsRowOf file (k, a.values)) same row_a))
-                    e e its (down a.key a.values e same row_a mine) refl refl)) in
-                    kept_above e a.key a.values apart a.found mine)
+                    other (one_owner u (home.tree many tree) b.key key b.values a.values e row_b
+                    (subst (λ k. IsRowOf file (k, a.values)) same row_a) b.its
+                    (down a.key a.values e same row_a a.its)) in
+                    entry_in t g e a.key a.values (f_but a.key apart ∙ a.found) a.its)
               ])
           | inr outside ↦ (
-              let stood = ap (λ (m : LeafMap). fin.get m e.key) (sym (others e.leaf outside)) ∙ found in
-              let r = from_each (entries_of any_rule t) e (records_of f) (above.only e in_leaf stood) in
-              let a = in_there f r.0 r.1 in
-              let mine = subst (λ (x : Rec). In e (entries_of any_rule t x)) a.is r.2 in
+              let stood =
+              ap (λ (m : LeafMap). fin.get m e.key) (sym (others e.leaf outside)) ∙ found in
+              let a = owner t f e (above.only e in_leaf stood) in
               let row_a = row_at file f a.key a.values is.fit a.found in
-              let apart : a.key ≢ key = λ same. outside (entry_leaf any_rule u (rec_of (key, a.values)) e (down a.key a.values e same row_a mine)) in
-              kept_above e a.key a.values apart a.found mine)
+              let apart : a.key ≢ key = λ same.
+              outside (entry_leaf any_rule u (rec_of (key, a.values)) e
+              (down a.key a.values e same row_a a.its)) in
+              entry_in t g e a.key a.values (f_but a.key apart ∙ a.found) a.its)
         ]
 
-    pub edited_above : IsEdited file t old new g
+    edited_above : IsEdited file t old new g
     edited_above = record {
       stands = record {
         fit = after_fits;
-        held = internal_from_union any_rule t (records_of g) new tree.valid (record { holds = held_entry; only = only_entry });
+        held = internal_from_union any_rule t (records_of g) new tree.valid
+            (record { holds = held_entry; only = only_entry });
       };
       others = λ n out. others n (λ h. out (home.leaves n h));
     }
 
   -- an edit of the home's part is one of the file
-  pub edited_at_home : (old new : List LeafMap) (f g p q : File) (refusal : Option Refusal) (why : Option Refused) → IsInternal file t old f → IsInternal file u old p → fin.get p key ≡ fin.get f key → fin.get q key ≡ fin.get g key → IsButAt key f g → IsButAt key p q
-      → IsEditedWhere file u old new p refusal q why → IsEditedWhere file t old new f refusal g why
+  edited_at_home : (old new : List LeafMap) (f g p q : File) (refusal : Option Refusal)
+      (why : Option Refused) → IsInternal file t old f → IsInternal file u old p
+      → fin.get p key ≡ fin.get f key → fin.get q key ≡ fin.get g key → IsButAt key f g
+      → IsButAt key p q → IsEditedWhere file u old new p refusal q why
+      → IsEditedWhere file t old new f refusal g why
   edited_at_home old new f g p q refusal why is part was now f_but p_but edited = record {
     why_is = edited.why_is;
     edited = by_test (is_some refusal) edited.edited;
   }
     where
-      by_test : (b : Bool) → IsEdited file u old new (cond b p q) → IsEdited file t old new (cond b f g)
-      by_test true done = edited_above old new f f p p is part done.stands was was (λ k other. refl) (λ k other. refl) done.others
-      by_test false done = edited_above old new f g p q is part done.stands was now f_but p_but done.others
+      by_test : (b : Bool) → IsEdited file u old new (cond b p q)
+          → IsEdited file t old new (cond b f g)
+      by_test true done = edited_above old new f f p p is part done.stands was was
+          (λ k other. refl) (λ k other. refl) done.others
+      by_test false done = edited_above old new f g p q is part done.stands was now
+          f_but p_but done.others
 
   inserted_at : (f : File) (vs : List Value) → fin.get (fin.insert f key vs) key ≡ Some vs
-  inserted_at f vs = fin.get-insert value_cmp_total f key vs key ∙ ap (λ b. cond b (Some vs) (fin.get f key)) (value_itself key)
+  inserted_at f vs = fin.get-insert value_cmp_total f key vs key
+      ∙ ap (λ b. cond b (Some vs) (fin.get f key)) (value_itself key)
 
   insert_but : (f : File) (vs : List Value) → IsButAt key f (fin.insert f key vs)
-  insert_but f vs q other = fin.get-insert value_cmp_total f key vs q ∙ ap (λ b. cond b (Some vs) (fin.get f q)) (other_value q key other)
+  insert_but f vs q other = fin.get-insert value_cmp_total f key vs q
+      ∙ ap (λ b. cond b (Some vs) (fin.get f q)) (other_value q key other)
 
   removed_at : (f : File) → fin.get (fin.remove f key) key ≡ None
-  removed_at f = fin.get-remove value_cmp_total f key key ∙ ap (λ b. cond b None (fin.get f key)) (value_itself key)
+  removed_at f = fin.get-remove value_cmp_total f key key
+      ∙ ap (λ b. cond b None (fin.get f key)) (value_itself key)
 
   remove_but : (f : File) → IsButAt key f (fin.remove f key)
-  remove_but f q other = fin.get-remove value_cmp_total f key q ∙ ap (λ b. cond b None (fin.get f q)) (other_value q key other)
+  remove_but f q other = fin.get-remove value_cmp_total f key q
+      ∙ ap (λ b. cond b None (fin.get f q)) (other_value q key other)
 
-  module _ (old new : List LeafMap) (f : File) (is : IsInternal file t old f) (h : HoldsKey file key u old f) (why : Option Refused) where
-    pub insert_above : (vs : List Value) → IsEditedWhere file u old new h.part (first_refusal ((is_some (fin.get h.part key), key_exists) ∷ [])) (fin.insert h.part key vs) why
-        → IsEditedWhere file t old new f (first_refusal ((is_some (fin.get f key), key_exists) ∷ [])) (fin.insert f key vs) why
+  module _ (old new : List LeafMap) (f : File) (is : IsInternal file t old f)
+      (h : HoldsKey file key u old f) (why : Option Refused) where
+    -- where the part has what the file has at the key, it is refused where that is
+    same_test : (test : Option (List Value) → Bool) (refusal : Refusal) (q : File)
+        → IsEditedWhere file u old new h.part
+        (first_refusal ((test (fin.get h.part key), refusal) ∷ [])) q why
+        → IsEditedWhere file u old new h.part
+        (first_refusal ((test (fin.get f key), refusal) ∷ [])) q why
+    same_test test refusal q edited =
+        subst (λ (o : Option (List Value)). IsEditedWhere file u old new h.part
+        (first_refusal ((test o, refusal) ∷ [])) q why) h.same edited
+
+    pub insert_above : (vs : List Value) → IsEditedWhere file u old new h.part
+        (first_refusal ((is_some (fin.get h.part key), key_exists) ∷ []))
+        (fin.insert h.part key vs) why
+        → IsEditedWhere file t old new f
+        (first_refusal ((is_some (fin.get f key), key_exists) ∷ [])) (fin.insert f key vs) why
     insert_above vs edited =
-        edited_at_home old new f (fin.insert f key vs) h.part (fin.insert h.part key vs) _ why is h.held h.same (inserted_at h.part vs ∙ sym (inserted_at f vs)) (insert_but f vs) (insert_but h.part vs)
-        (subst (λ (o : Option (List Value)). IsEditedWhere file u old new h.part (first_refusal ((is_some o, key_exists) ∷ [])) (fin.insert h.part key vs) why) h.same edited)
+        edited_at_home old new f (fin.insert f key vs) h.part (fin.insert h.part key vs) _ why
+        is h.held h.same (inserted_at h.part vs ∙ sym (inserted_at f vs))
+        (insert_but f vs) (insert_but h.part vs)
+        (same_test (λ o. is_some o) key_exists (fin.insert h.part key vs) edited)
 
-    pub delete_above : IsEditedWhere file u old new h.part (first_refusal ((not (is_some (fin.get h.part key)), no_record) ∷ [])) (fin.remove h.part key) why
-        → IsEditedWhere file t old new f (first_refusal ((not (is_some (fin.get f key)), no_record) ∷ [])) (fin.remove f key) why
+    pub delete_above : IsEditedWhere file u old new h.part
+        (first_refusal ((not (is_some (fin.get h.part key)), no_record) ∷ []))
+        (fin.remove h.part key) why
+        → IsEditedWhere file t old new f
+        (first_refusal ((not (is_some (fin.get f key)), no_record) ∷ [])) (fin.remove f key) why
     delete_above edited =
-        edited_at_home old new f (fin.remove f key) h.part (fin.remove h.part key) _ why is h.held h.same (removed_at h.part ∙ sym (removed_at f)) (remove_but f) (remove_but h.part)
-        (subst (λ (o : Option (List Value)). IsEditedWhere file u old new h.part (first_refusal ((not (is_some o), no_record) ∷ [])) (fin.remove h.part key) why) h.same edited)
+        edited_at_home old new f (fin.remove f key) h.part (fin.remove h.part key) _ why
+        is h.held h.same (removed_at h.part ∙ sym (removed_at f))
+        (remove_but f) (remove_but h.part)
+        (same_test (λ o. not (is_some o)) no_record (fin.remove h.part key) edited)
 
-    pub update_above : (cs : List Change) → IsEditedWhere file u old new h.part (first_refusal ((not (is_some (fin.get h.part key)), no_record) ∷ [])) (updated h.part key cs) why
-        → IsEditedWhere file t old new f (first_refusal ((not (is_some (fin.get f key)), no_record) ∷ [])) (updated f key cs) why
+    pub update_above : (cs : List Change) → IsEditedWhere file u old new h.part
+        (first_refusal ((not (is_some (fin.get h.part key)), no_record) ∷ []))
+        (updated h.part key cs) why
+        → IsEditedWhere file t old new f
+        (first_refusal ((not (is_some (fin.get f key)), no_record) ∷ [])) (updated f key cs) why
     update_above cs edited =
         let now : fin.get (updated h.part key cs) key ≡ fin.get (updated f key cs) key =
-        inserted_at h.part _ ∙ ap (λ (o : Option (List Value)). Some (changed (unwrap_or o []) cs)) h.same ∙ sym (inserted_at f _) in
-        edited_at_home old new f (updated f key cs) h.part (updated h.part key cs) _ why is h.held h.same now (insert_but f _) (insert_but h.part _)
-        (subst (λ (o : Option (List Value)). IsEditedWhere file u old new h.part (first_refusal ((not (is_some o), no_record) ∷ [])) (updated h.part key cs) why) h.same edited)
+        inserted_at h.part _
+        ∙ ap (λ (o : Option (List Value)). Some (changed (unwrap_or o []) cs)) h.same
+        ∙ sym (inserted_at f _) in
+        edited_at_home old new f (updated f key cs) h.part (updated h.part key cs) _ why
+        is h.held h.same now (insert_but f _) (insert_but h.part _)
+        (same_test (λ o. not (is_some o)) no_record (updated h.part key cs) edited)
 
   -- ---- the cause of a full device
 
-  module _ (limit : Option Limits) (maps : List LeafMap) (f : File) (h : HoldsKey file key u maps f) where
-    pub insert_short : (vs : List Value) → AreFit (data_fields file) vs → (fin.get h.part key ≡ None) × IsCrowdedBy limit (entry_count maps + length (entries_of any_rule u (rec_of (key, vs))))
-        → (fin.get f key ≡ None) × IsCrowdedBy limit (entry_count maps + length (entries_of any_rule t (rec_of (key, vs))))
-    insert_short vs fit short = (
-      sym h.same ∙ short.0,
-      subst (λ (es : List LeafEntry). IsCrowdedBy limit (entry_count maps + length es)) (sym (home.entries vs fit)) short.1,
-    )
+  module _ (limit : Option Limits) (maps : List LeafMap) (f : File)
+      (h : HoldsKey file key u maps f) where
+    short_above : (vs : List Value) → AreFit (data_fields file) vs
+        → IsCrowdedBy limit (entry_count maps + length (entries_of any_rule u (rec_of (key, vs))))
+        → IsCrowdedBy limit (entry_count maps + length (entries_of any_rule t (rec_of (key, vs))))
+    short_above vs fit short =
+        subst (λ (es : List LeafEntry). IsCrowdedBy limit (entry_count maps + length es))
+        (sym (home.entries vs fit)) short
+
+    pub insert_short : (vs : List Value) → AreFit (data_fields file) vs
+        → (fin.get h.part key ≡ None)
+        × IsCrowdedBy limit (entry_count maps + length (entries_of any_rule u (rec_of (key, vs))))
+        → (fin.get f key ≡ None)
+        × IsCrowdedBy limit (entry_count maps + length (entries_of any_rule t (rec_of (key, vs))))
+    insert_short vs fit short = (sym h.same ∙ short.0, short_above vs fit short.1)
 
     pub update_short : (cs : List Change) → AllByRecursion (IsChangeOf file) cs
-        → (vs : List Value) × (fin.get h.part key ≡ Some vs) × IsCrowdedBy limit (entry_count maps + length (entries_of any_rule u (rec_of (key, changed vs cs))))
-        → (vs : List Value) × (fin.get f key ≡ Some vs) × IsCrowdedBy limit (entry_count maps + length (entries_of any_rule t (rec_of (key, changed vs cs))))
+        → (vs : List Value) × (fin.get h.part key ≡ Some vs)
+        × IsCrowdedBy limit
+        (entry_count maps + length (entries_of any_rule u (rec_of (key, changed vs cs))))
+        → (vs : List Value) × (fin.get f key ≡ Some vs)
+        × IsCrowdedBy limit
+        (entry_count maps + length (entries_of any_rule t (rec_of (key, changed vs cs))))
     update_short cs those short =
-        let fit = changed_fit file cs short.0 those (row_at file h.part key short.0 h.held.fit short.1).1 in (
-          short.0,
-          sym h.same ∙ short.1,
-          subst (λ (es : List LeafEntry). IsCrowdedBy limit (entry_count maps + length es)) (sym (home.entries (changed short.0 cs) fit)) short.2,
-        )
+        let row = row_at file h.part key short.0 h.held.fit short.1 in
+        let fit = changed_fit file cs short.0 those row.1 in
+        (short.0, sym h.same ∙ short.1, short_above (changed short.0 cs) fit short.2)

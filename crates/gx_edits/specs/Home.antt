@@ -17,21 +17,28 @@ use Rattle.gx_model.specs.States.{File}
 use Rattle.gx_scan.specs.Files.{rec_of, IsInternal, IsTreeFor}
 use Rattle.gx_scan.specs.Searched.{HasInside}
 
--- the second tree has all records of the first one whose keys are inside the span, with all their entries
+-- the second tree has all records of the first one whose keys are inside the span, with all their
+-- leaf entries
 pub record HasAllInside (span : Span) (t u : Tree AnyMapping) : Type 0 where
   pub records : HasInside span t u
   pub leaves : (n : ℕ) → In n (leaves_of u) → In n (leaves_of t)
-  pub entries : (r : Rec) → IsOf (tree_form any_rule t) r → is_inside span.lo span.hi (key_of r.key) ≡ true → entries_of any_rule t r ≡ entries_of any_rule u r
+  pub entries : (r : Rec) → IsOf (tree_form any_rule t) r
+      → is_inside span.lo span.hi (key_of r.key) ≡ true
+      → entries_of any_rule t r ≡ entries_of any_rule u r
 
 -- the leaves of the tree hold a part of the file, which has what the file has at the key
-pub record HoldsKey (file : FileDef) (key : Value) (t : Tree AnyMapping) (maps : List LeafMap) (f : File) : Type 0 where
+pub record HoldsKey (file : FileDef) (key : Value) (t : Tree AnyMapping) (maps : List LeafMap)
+    (f : File) : Type 0 where
   pub part : File
   pub held : IsInternal file t maps part
   pub same : fin.get part key ≡ fin.get f key
 
--- the second tree holds a part of the file that the first one holds, and of it all leaf entries of the record with this key
+-- the second tree holds such a part of each file that the first one holds, and has all leaf entries
+-- of the record with this key
 pub record IsHome (file : FileDef) (key : Value) (t u : Tree AnyMapping) : Type 0 where
   pub tree : (n : ℕ) → IsTreeFor file t n → IsTreeFor file u n
   pub leaves : (n : ℕ) → In n (leaves_of u) → In n (leaves_of t)
-  pub held : (maps : List LeafMap) (f : File) → IsInternal file t maps f → HoldsKey file key u maps f
-  pub entries : (values : List Value) → AreFit (data_fields file) values → entries_of any_rule t (rec_of (key, values)) ≡ entries_of any_rule u (rec_of (key, values))
+  pub held : (maps : List LeafMap) (f : File) → IsInternal file t maps f
+      → HoldsKey file key u maps f
+  pub entries : (values : List Value) → AreFit (data_fields file) values
+      → entries_of any_rule t (rec_of (key, values)) ≡ entries_of any_rule u (rec_of (key, values))

@@ -16,7 +16,8 @@ use gx_stack::Node;
 use gx_types::AnyMapping;
 use gx_values::{Span, Value};
 
-/// The lowest node, below partitions by the key, that has all leaf entries of the record with this key.
+/// The lowest node, below partitions by the key, that has all leaf entries of the record with this
+/// key.
 pub(crate) fn home_of<'a>(
     file: &FileDef,
     node: &'a Node<AnyMapping>,
@@ -42,7 +43,8 @@ pub(crate) fn home_of<'a>(
     home_inside(node, &span)
 }
 
-// The lowest node, below partitions by the key, that has all leaf entries of the records inside the span.
+// The lowest node, below partitions by the key, that has all leaf entries of the records whose keys
+// are inside the span.
 fn home_inside<'a>(node: &'a Node<AnyMapping>, span: &Span) -> &'a Node<AnyMapping>
     requires { IsValid any_rule (tree_of node.now) }
     ensures { HasAllInside span.now (tree_of node.now) (tree_of result.now) }

@@ -1,8 +1,11 @@
+use Rattle.gx_values.specs.declared.keys.Span.{Span}
 use Rattle.gx_stack.specs.Seen.{tree_of}
-use Rattle.gx_edits.proofs.HomeLemmas.{home_of_span}
+use Rattle.gx_edits.proofs.HomeLemmas.{home_itself, home_of_span}
 use Rattle.gx_edits.proofs.home.home_of.Goals as goal
 
 pub returns : goal.returns
 returns c =
-    home_of_span c.args.file.now c.args.key.now (record { lo = c.set_value.new.self; hi = c.set_value-2.new.self }) (tree_of c.args.node.now) (tree_of c.home_inside.result.now)
-    c.requires.storable c.requires.key c.set_value.ensures c.set_value-2.ensures c.requires.form c.home_inside.ensures
+    let span : Span = record { lo = c.set_value.new.self; hi = c.set_value-2.new.self } in
+    home_of_span c.args.file.now c.args.key.now span (tree_of c.args.node.now)
+    (tree_of c.home_inside.result.now) c.requires.storable c.requires.key
+    c.set_value.ensures c.set_value-2.ensures c.requires.form c.home_inside.ensures
