@@ -1,5 +1,5 @@
 -- Records that have an entry in one leaf and may have one in a second.
-use Rattle.std.proofs.Common.{◌≡◌, ℕ, ◌<◌, List, [], ◌∷◌, ◌++◌, length, get_or, map, Bool, true, false, cond, Option, Some, None, inl, inr, refl, sym, ap, subst, append-nil, ◌∙◌, arith, ◌≢◌, set}
+use Rattle.std.proofs.Common.{◌≡◌, ℕ, ◌<◌, List, [], ◌∷◌, ◌++◌, length, get_or, map, Bool, true, false, cond, Option, Some, None, Result, inl, inr, refl, sym, ap, subst, append-nil, ◌∙◌, arith, ◌≢◌, set}
 use Rattle.std.specs.Prelude.{◌⊎◌, is_some, not}
 use Rattle.std.specs.List.{flat_map}
 use Rattle.std.specs.FinMap as fin
@@ -10,6 +10,8 @@ use Rattle.std.proofs.lemmas.Bool.{true≢false}
 use Rattle.gx_values.specs.declared.records.Rec.{Rec}
 use Rattle.gx_values.specs.declared.values.Value.{Value}
 use Rattle.gx_values.specs.Keys.{key_of}
+use Rattle.gx_ports.specs.declared.stop.Stop.{Stop}
+use Rattle.gx_ports.specs.declared.view.View.{Ghosts}
 use Rattle.gx_ports.specs.LeafMaps.{LeafMap, map_at, with_entry, without_entry}
 use Rattle.gx_mapping.specs.declared.parts.Part.{Part}
 use Rattle.gx_mapping.specs.Rule.{In, IsOf}
@@ -30,7 +32,7 @@ use Rattle.gx_gather.proofs.Lists.{in_each, in_left, in_right, none_some, some_s
 use Rattle.gx_types.specs.declared.any.AnyMapping.{AnyMapping}
 use Rattle.gx_types.specs.declared.any.AnyMapping.TheVariants as any
 use Rattle.gx_types.specs.Any.{any_rule, any_laws}
-use Rattle.gx_edits.specs.Alone.{IsOnlyLeaf, Splits, AreTwoLeaves, AreOwnLeaves, AreDataOf, IsOnlyBody, IsFirstBody, AreBodies, other_entry, others_of, others_in, others_below}
+use Rattle.gx_edits.specs.Alone.{IsOnlyLeaf, Splits, AreTwoLeaves, AreOwnLeaves, AreDataOf, IsOnlyBody, IsFirstBody, AreBodies, other_entry, others_of, others_in, others_below, Puts, HasOthersIf}
 use Rattle.gx_edits.proofs.AloneLemmas.{only_in_tree, body_in, one_entry, one_of, HasOwn, only_has, own_removed, own_put}
 
 -- ---- the entries of a record
@@ -304,9 +306,11 @@ module _ (t : Tree AnyMapping) (n k : ℕ) (two : AreTwoLeaves t n k) (valid : I
       ]) is
 
   -- one comes in the place of another one that has the same second part
-  pub first_put : (old new : Rec) (body : List ℕ) (after : List LeafMap) → In old R → old.key ≡ new.key → IsOf (tree_form any_rule t) new → others_in t old.fields ≡ others_in t new.fields → In (record { leaf = n; key = key_of new.key; body = body }) (entries_of any_rule t new)
+  in_place : (old new : Rec) (body : List ℕ) (after : List LeafMap) → In old R → old.key ≡ new.key
+      → IsOf (tree_form any_rule t) new → others_in t old.fields ≡ others_in t new.fields
+      → In (record { leaf = n; key = key_of new.key; body = body }) (entries_of any_rule t new)
       → after ≡ with_entry maps n (key_of new.key) body → IsInternal any_rule t (changed R (Some old) (Some new)) after
-  first_put old new body after there same fits stay comes is =
+  in_place old new body after there same fits stay comes is =
       let was = two_shape t n k two old in
       let now = two_shape t n k two new in
       let e : LeafEntry = record { leaf = n; key = key_of new.key; body = body } in
@@ -338,3 +342,31 @@ module _ (t : Tree AnyMapping) (n k : ℕ) (two : AreTwoLeaves t n k) (valid : I
           (λ e h place. two_apart t n k two valid (ap (λ (y : LeafEntry). y.leaf) (sym (one_of e first h)) ∙ place.0)) in
           each_put (Some old) new body o after (there, same) fits come
           (is ∙ sym (same_with (with_entry maps n (key_of new.key) body) k (key_of new.key) o (kept ∙ ap (λ (key : List Value). at maps k (key_of key)) (sym same) ∙ stood)))
+
+  pub first_put : (gone : Option Rec) (new : Rec) (body : List ℕ) (after : List LeafMap)
+      → HasOthersIf true t new.fields gone → IsChange R gone (Some new)
+      → IsOf (tree_form any_rule t) new
+      → In (record { leaf = n; key = key_of new.key; body = body }) (entries_of any_rule t new)
+      → after ≡ with_entry maps n (key_of new.key) body
+      → IsInternal any_rule t (changed R gone (Some new)) after
+  first_put None new body after stay change fits comes is = absurd stay
+  first_put (Some old) new body after stay change fits comes is =
+      in_place old new body after change.0 change.1 fits (stay refl) comes is
+
+pub there_if : (same : Bool) (t : Tree AnyMapping) (fields : List Value) (gone : Option Rec)
+    → HasOthersIf same t fields gone → is_some gone ≡ true
+there_if same t fields None stay = absurd stay
+there_if same t fields (Some r) stay = refl
+
+-- what is put is told of less that was there
+pub puts_so : {S : Type 0} (g : Ghosts S) (t : Tree AnyMapping) (key : Value) (fields : List Value)
+    (Known More : Option Rec → Type 0) (old new : S) (result : Result (Unit {0}) Stop)
+    → ((gone : Option Rec) → More gone → Known gone)
+    → Puts g t key fields Known old new result → Puts g t key fields More old new result
+puts_so g t key fields Known More old new result so puts = record {
+  internal = λ R gone whole more. puts.internal R gone whole (so gone more);
+  others = puts.others;
+  keeps = puts.keeps;
+  ends = puts.ends;
+  full = puts.full;
+}

@@ -1,17 +1,25 @@
 -- Trees in which each record has one leaf entry, or two, under its own key.
-use Rattle.std.specs.Prelude.{◌≡◌, ℕ, List, [], ◌∷◌, Option, Some, None, map, not, if◌then◌else◌}
+use Rattle.std.specs.Prelude.{◌≡◌, ℕ, ◌+◌, Bool, true, List, [], ◌∷◌, Option, Some, None, Result, length, map, not, if◌then◌else◌, IsSomeAnd, OnOk, IsErrOf}
 use Rattle.gx_values.specs.declared.records.Form.{Form}
+use Rattle.gx_values.specs.declared.records.Rec.{Rec}
 use Rattle.gx_values.specs.declared.values.Value.{Value}
 use Rattle.gx_values.specs.Keys.{key_of}
+use Rattle.gx_ports.specs.declared.stop.Stop.{Stop}
+use Rattle.gx_ports.specs.declared.stop.Stop.TheVariants as stop
+use Rattle.gx_ports.specs.declared.view.View.{Ghosts}
+use Rattle.gx_ports.specs.LeafMaps.{map_at, entry_count, IsCrowdedBy}
+use Rattle.gx_ports.specs.Calls.{Keeps, Ends}
 use Rattle.gx_mapping.specs.Rule.{In, IsOf}
 use Rattle.gx_split.specs.declared.layer.Segment.{Segment}
 use Rattle.gx_split.specs.Groups.{chosen, are_default}
 use Rattle.gx_split.specs.SegmentRules.{form_of, mask_of}
 use Rattle.gx_stack.specs.declared.entries.LeafEntry.{LeafEntry}
-use Rattle.gx_stack.specs.Tree.{Tree, leaf, layer, no_kids, kid, entries_of}
+use Rattle.gx_stack.specs.Tree.{Tree, leaf, layer, no_kids, kid, leaves_of, tree_form, entries_of}
+use Rattle.gx_stack.specs.Internal.{IsSet, IsInternal, IsChange, changed}
 use Rattle.gx_types.specs.declared.any.AnyMapping.{AnyMapping}
 use Rattle.gx_types.specs.declared.any.AnyMapping.TheVariants as any
 use Rattle.gx_types.specs.Any.{any_rule}
+use Rattle.gx_scan.specs.Files.{rec_of}
 
 -- a layer of which each record has one part, for child 0 and with the record's own key
 abbrev pub KeepsKeys : AnyMapping → Type 0
@@ -77,3 +85,42 @@ IsFirstBody t fields body = (n k : ℕ) (key : List Value) → AreTwoLeaves t n 
 -- the bodies of the entries of each record with these data, in the first leaf and in the second one
 abbrev pub AreBodies : Tree AnyMapping → List Value → List ℕ → Option (List ℕ) → Type 0
 AreBodies t fields body other = (n k : ℕ) (key : List Value) → AreTwoLeaves t n k → entries_of any_rule t (record { key = key; fields = fields }) ≡ record { leaf = n; key = key_of key; body = body } ∷ other_entry k (key_of key) other
+
+-- ---- changes of one record
+
+-- the record with this key is taken out of the tree's leaves
+pub record Takes {S : Type 0} (g : Ghosts S) (t : Tree AnyMapping) (key : Value) (old new : S)
+    (result : Result (Unit {0}) Stop) : Type 0 where
+  pub internal : (R : List Rec) (gone : Rec) → g.whole old → gone.key ≡ key ∷ []
+      → IsSet (tree_form any_rule t) R → In gone R → IsInternal any_rule t R (g.working old)
+      → OnOk result (IsInternal any_rule t (changed R (Some gone) None) (g.working new))
+  -- all other leaves stay
+  pub others : (n : ℕ) → g.whole old → ¬ IsErrOf result stop.Fault → ¬ In n (leaves_of t)
+      → map_at (g.working new) n ≡ map_at (g.working old) n
+  pub keeps : Keeps g old new
+  pub ends : Ends g (g.whole old) old new result
+  pub not_full : ¬ IsErrOf result stop.Full
+
+-- the record of this key and these data is put into the tree's leaves, in the place of what is
+-- there at the key, of which `Known` holds
+pub record Puts {S : Type 0} (g : Ghosts S) (t : Tree AnyMapping) (key : Value)
+    (fields : List Value) (Known : Option Rec → Type 0) (old new : S)
+    (result : Result (Unit {0}) Stop) : Type 0 where
+  pub internal : (R : List Rec) (gone : Option Rec) → g.whole old → Known gone
+      → IsSet (tree_form any_rule t) R → IsChange R gone (Some (rec_of (key, fields)))
+      → IsInternal any_rule t R (g.working old)
+      → OnOk result (IsInternal any_rule t (changed R gone (Some (rec_of (key, fields))))
+      (g.working new))
+  -- all other leaves stay
+  pub others : (n : ℕ) → g.whole old → ¬ IsErrOf result stop.Fault → ¬ In n (leaves_of t)
+      → map_at (g.working new) n ≡ map_at (g.working old) n
+  pub keeps : Keeps g old new
+  pub ends : Ends g (g.whole old) old new result
+  -- the pages may not be enough for its entries besides all there are
+  pub full : g.whole old → IsErrOf result stop.Full → IsCrowdedBy (g.limit old)
+      (entry_count (g.working old) + length (entries_of any_rule t (rec_of (key, fields))))
+
+-- there is a record and, where `same`, its values of the second group are those of these data
+abbrev pub HasOthersIf : Bool → Tree AnyMapping → List Value → Option Rec → Type 0
+HasOthersIf same t fields gone =
+    IsSomeAnd gone (λ r. same ≡ true → others_in t r.fields ≡ others_in t fields)

@@ -1,20 +1,17 @@
 // Records that have one leaf entry each, under their own key: one is changed at its one place.
-ghost use Rattle.std.specs.Prelude.{◌≡◌, ◌<◌, ◌+◌, ◌∷◌, [], ℕ, List, Option, true, length, is_some, IfSome, IfOk, OnOk, IsErrOf};
+ghost use Rattle.std.specs.Prelude.{◌≡◌, ◌<◌, ℕ, true, length, is_some, IfSome, IfOk};
 ghost use Rattle.std.specs.FinMap as fin;
 ghost use Rattle.gx_values.specs.Values.{Fits};
-ghost use Rattle.gx_values.specs.declared.records.Rec.{Rec as Record};
 ghost use Rattle.gx_values.specs.Keys.{bytes_of};
-ghost use Rattle.gx_ports.specs.LeafMaps.{map_at, entry_count, IsCrowdedBy};
-ghost use Rattle.gx_ports.specs.Calls.{Keeps, ReadsMaps, Ends};
+ghost use Rattle.gx_ports.specs.Calls.{ReadsMaps};
 ghost use Rattle.gx_mapping.specs.Rule.{In, IsOf};
-ghost use Rattle.gx_stack.specs.Tree.{leaves_of, tree_form, entries_of, IsValid};
+ghost use Rattle.gx_stack.specs.Tree.{leaves_of, tree_form, IsValid};
 ghost use Rattle.gx_stack.specs.Seen.{tree_of};
-ghost use Rattle.gx_stack.specs.Internal.{IsSet, IsInternal, IsChange, changed};
 ghost use Rattle.gx_types.specs.Any.{any_rule};
 ghost use Rattle.gx_schema.specs.Lookups.{key_kind};
 ghost use Rattle.gx_model.specs.States.{File as FileMap};
 ghost use Rattle.gx_scan.specs.Files.{rec_of, IsInternal as IsStored, IsStorable, IsTreeFor};
-ghost use Rattle.gx_edits.specs.Alone.{AreOwnLeaves, IsOnlyLeaf, KeepsKeys};
+ghost use Rattle.gx_edits.specs.Alone.{AreOwnLeaves, IsOnlyLeaf, KeepsKeys, Takes, Puts};
 
 use crate::bodies::only_body;
 use crate::segments::OwnLeaves;
@@ -95,17 +92,7 @@ pub(crate) fn take_alone<B: Leaves>(
         n < length (B.working leaves.old) }
     requires only { IsOnlyLeaf (tree_of node.now) leaf }
     requires lo { span.now.lo ≡ bytes_of key.now }
-    ensures internal { (R : List Record) (old : Record) → B.whole leaves.old →
-        old.key ≡ key.now ∷ [] → IsSet (tree_form any_rule (tree_of node.now)) R → In old R →
-        IsInternal any_rule (tree_of node.now) R (B.working leaves.old) → OnOk result
-        (IsInternal any_rule (tree_of node.now) (changed R (Option.Some old) Option.None)
-        (B.working leaves.new)) }
-    ensures others { (n : ℕ) → B.whole leaves.old → ¬ IsErrOf result Stop.Fault →
-        ¬ In n (leaves_of (tree_of node.now)) →
-        map_at (B.working leaves.new) n ≡ map_at (B.working leaves.old) n }
-    ensures keeps { Keeps B.View leaves.old leaves.new }
-    ensures ends { Ends B.View (B.whole leaves.old) leaves.old leaves.new result }
-    ensures not_full { ¬ IsErrOf result Stop.Full }
+    ensures { Takes B.View (tree_of node.now) key.now leaves.old leaves.new result }
 {
     let (_, _) = (node, key);
     leaves.remove(alloc, leaf, span.lo.as_slice())
@@ -128,21 +115,8 @@ pub(crate) fn put_alone<B: Leaves>(
     requires only { IsOnlyLeaf (tree_of node.now) leaf }
     requires bytes { bytes.now ≡ bytes_of key.now }
     requires fits { IsOf (tree_form any_rule (tree_of node.now)) (rec_of (key.now, fields)) }
-    ensures internal { (R : List Record) (old : Option Record) → B.whole leaves.old →
-        IsSet (tree_form any_rule (tree_of node.now)) R →
-        IsChange R old (Option.Some (rec_of (key.now, fields))) →
-        IsInternal any_rule (tree_of node.now) R (B.working leaves.old) → OnOk result
-        (IsInternal any_rule (tree_of node.now)
-        (changed R old (Option.Some (rec_of (key.now, fields)))) (B.working leaves.new)) }
-    ensures others { (n : ℕ) → B.whole leaves.old → ¬ IsErrOf result Stop.Fault →
-        ¬ In n (leaves_of (tree_of node.now)) →
-        map_at (B.working leaves.new) n ≡ map_at (B.working leaves.old) n }
-    ensures keeps { Keeps B.View leaves.old leaves.new }
-    ensures ends { Ends B.View (B.whole leaves.old) leaves.old leaves.new result }
-    ensures full { B.whole leaves.old → IsErrOf result Stop.Full →
-        IsCrowdedBy (B.limit leaves.old)
-        (entry_count (B.working leaves.old)
-        + length (entries_of any_rule (tree_of node.now) (rec_of (key.now, fields)))) }
+    ensures { Puts B.View (tree_of node.now) key.now fields (λ gone. Unit {0})
+        leaves.old leaves.new result }
 {
     let _key = key;
     let body = only_body(alloc, node, fields)?;

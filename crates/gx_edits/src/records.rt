@@ -1,22 +1,15 @@
 // Edits of records: each is looked up and changed in the file's node.
-ghost use Rattle.std.specs.Prelude.{[], ◌≡◌, ◌<◌, ◌∷◌, ◌+◌, ℕ, List, length, IfOk, IsErrOf, Option, Some, not, is_some};
-ghost use Rattle.std.specs.FinMap as fin;
+ghost use Rattle.std.specs.Prelude.{◌≡◌, ◌<◌, length, IfOk};
 ghost use Rattle.std.specs.List.{AllByRecursion};
-ghost use Rattle.gx_values.specs.Values.{Fits, AreFit, AreSized};
-ghost use Rattle.gx_values.specs.declared.values.Value.{Value as TheValue};
+ghost use Rattle.gx_values.specs.Values.{Fits, AreFit};
 ghost use Rattle.gx_schema.specs.Lookups.{key_kind, data_fields};
 ghost use Rattle.gx_commands.specs.Commands.{IsChangeOf};
-ghost use Rattle.gx_ports.specs.LeafMaps.{entry_count, IsCrowdedBy};
-ghost use Rattle.gx_ports.specs.Calls.{Keeps, ReadsMaps, Ends};
 ghost use Rattle.gx_mapping.specs.Rule.{IsOf};
-ghost use Rattle.gx_stack.specs.Tree.{entries_of};
 ghost use Rattle.gx_stack.specs.Seen.{tree_of};
-ghost use Rattle.gx_types.specs.Any.{any_rule};
 ghost use Rattle.gx_typing.specs.Dues.{file_form};
-ghost use Rattle.gx_model.specs.States.{File as FileMap};
-ghost use Rattle.gx_model.specs.Commands.{changed, updated, first_refusal, key_exists, no_record};
-ghost use Rattle.gx_scan.specs.Files.{rec_of, IsInternal, HasFile, IsStorable, IsTreeFor};
-ghost use Rattle.gx_edits.specs.Records.{IsEditedWhere};
+ghost use Rattle.gx_model.specs.Commands.{changed};
+ghost use Rattle.gx_scan.specs.Files.{rec_of, IsStorable, IsTreeFor};
+ghost use Rattle.gx_edits.specs.Records.{Inserts, Deletes, Updates};
 ghost use Rattle.gx_edits.specs.Alone.{AreOwnLeaves};
 
 use crate::alone::is_there;
@@ -57,23 +50,7 @@ pub(crate) fn insert_record<B: Leaves>(
     requires storable { IsStorable file.now }
     requires key { Fits (key_kind file.now) key }
     requires values { AreFit (data_fields file.now) values }
-    ensures inserted { (f : FileMap) → B.whole leaves.old →
-        IsInternal file.now (tree_of node.now) (B.working leaves.old) f → IfOk result
-        (λ why. IsEditedWhere file.now (tree_of node.now)
-        (B.working leaves.old) (B.working leaves.new) f
-        (first_refusal ((is_some (fin.get f key), key_exists) ∷ []))
-        (fin.insert f key values) why) }
-    ensures keeps { Keeps B.View leaves.old leaves.new }
-    ensures ends { Ends B.View
-        (B.whole leaves.old × HasFile file.now (tree_of node.now) (B.working leaves.old))
-        leaves.old leaves.new result }
-    ensures block { (n : ℕ) → IsErrOf result (Stop.Damaged n) → B.whole leaves.old → n ≡ 0 }
-    ensures full { (f : FileMap) → B.whole leaves.old →
-        IsInternal file.now (tree_of node.now) (B.working leaves.old) f → IsErrOf result Stop.Full →
-        (fin.get f key ≡ Option.None)
-        × IsCrowdedBy (B.limit leaves.old)
-        (entry_count (B.working leaves.old)
-        + length (entries_of any_rule (tree_of node.now) (rec_of (key, values)))) }
+    ensures { Inserts B.View file.now (tree_of node.now) key values leaves.old leaves.new result }
 {
     if let Some(own) = own_leaves(node) {
         return insert_own(alloc, file, node, own, &key, values, leaves);
@@ -101,23 +78,8 @@ fn insert_own<B: Leaves>(
     requires own { AreOwnLeaves (tree_of node.now) own.first own.second }
     requires key { Fits (key_kind file.now) key.now }
     requires values { AreFit (data_fields file.now) values }
-    ensures inserted { (f : FileMap) → B.whole leaves.old →
-        IsInternal file.now (tree_of node.now) (B.working leaves.old) f → IfOk result
-        (λ why. IsEditedWhere file.now (tree_of node.now)
-        (B.working leaves.old) (B.working leaves.new) f
-        (first_refusal ((is_some (fin.get f key.now), key_exists) ∷ []))
-        (fin.insert f key.now values) why) }
-    ensures keeps { Keeps B.View leaves.old leaves.new }
-    ensures ends { Ends B.View
-        (B.whole leaves.old × HasFile file.now (tree_of node.now) (B.working leaves.old))
+    ensures { Inserts B.View file.now (tree_of node.now) key.now values
         leaves.old leaves.new result }
-    ensures block { (n : ℕ) → IsErrOf result (Stop.Damaged n) → B.whole leaves.old → n ≡ 0 }
-    ensures full { (f : FileMap) → B.whole leaves.old →
-        IsInternal file.now (tree_of node.now) (B.working leaves.old) f → IsErrOf result Stop.Full →
-        (fin.get f key.now ≡ Option.None)
-        × IsCrowdedBy (B.limit leaves.old)
-        (entry_count (B.working leaves.old)
-        + length (entries_of any_rule (tree_of node.now) (rec_of (key.now, values)))) }
 {
     let mut span = whole_span();
     span.lo.set_value(key);
@@ -141,18 +103,7 @@ pub(crate) fn delete_record<B: Leaves>(
     requires tree { IsTreeFor file.now (tree_of node.now) (length (B.working leaves.old)) }
     requires storable { IsStorable file.now }
     requires key { Fits (key_kind file.now) key }
-    ensures deleted { (f : FileMap) → B.whole leaves.old →
-        IsInternal file.now (tree_of node.now) (B.working leaves.old) f → IfOk result
-        (λ why. IsEditedWhere file.now (tree_of node.now)
-        (B.working leaves.old) (B.working leaves.new) f
-        (first_refusal ((not (is_some (fin.get f key)), no_record) ∷ []))
-        (fin.remove f key) why) }
-    ensures keeps { Keeps B.View leaves.old leaves.new }
-    ensures ends { Ends B.View
-        (B.whole leaves.old × HasFile file.now (tree_of node.now) (B.working leaves.old))
-        leaves.old leaves.new result }
-    ensures block { (n : ℕ) → IsErrOf result (Stop.Damaged n) → B.whole leaves.old → n ≡ 0 }
-    ensures not_full { ¬ IsErrOf result Stop.Full }
+    ensures { Deletes B.View file.now (tree_of node.now) key leaves.old leaves.new result }
 {
     if let Some(own) = own_leaves(node) {
         return delete_own(alloc, file, node, own, &key, leaves);
@@ -178,18 +129,7 @@ fn delete_own<B: Leaves>(
     requires storable { IsStorable file.now }
     requires own { AreOwnLeaves (tree_of node.now) own.first own.second }
     requires key { Fits (key_kind file.now) key.now }
-    ensures deleted { (f : FileMap) → B.whole leaves.old →
-        IsInternal file.now (tree_of node.now) (B.working leaves.old) f → IfOk result
-        (λ why. IsEditedWhere file.now (tree_of node.now)
-        (B.working leaves.old) (B.working leaves.new) f
-        (first_refusal ((not (is_some (fin.get f key.now)), no_record) ∷ []))
-        (fin.remove f key.now) why) }
-    ensures keeps { Keeps B.View leaves.old leaves.new }
-    ensures ends { Ends B.View
-        (B.whole leaves.old × HasFile file.now (tree_of node.now) (B.working leaves.old))
-        leaves.old leaves.new result }
-    ensures block { (n : ℕ) → IsErrOf result (Stop.Damaged n) → B.whole leaves.old → n ≡ 0 }
-    ensures not_full { ¬ IsErrOf result Stop.Full }
+    ensures { Deletes B.View file.now (tree_of node.now) key.now leaves.old leaves.new result }
 {
     let mut span = whole_span();
     span.lo.set_value(key);
@@ -214,23 +154,7 @@ pub(crate) fn update_record<B: Leaves>(
     requires storable { IsStorable file.now }
     requires key { Fits (key_kind file.now) key }
     requires changes { AllByRecursion (IsChangeOf file.now) changes }
-    ensures updated { (f : FileMap) → B.whole leaves.old →
-        IsInternal file.now (tree_of node.now) (B.working leaves.old) f → IfOk result
-        (λ why. IsEditedWhere file.now (tree_of node.now)
-        (B.working leaves.old) (B.working leaves.new) f
-        (first_refusal ((not (is_some (fin.get f key)), no_record) ∷ []))
-        (updated f key changes) why) }
-    ensures keeps { Keeps B.View leaves.old leaves.new }
-    ensures ends { Ends B.View
-        (B.whole leaves.old × HasFile file.now (tree_of node.now) (B.working leaves.old))
-        leaves.old leaves.new result }
-    ensures block { (n : ℕ) → IsErrOf result (Stop.Damaged n) → B.whole leaves.old → n ≡ 0 }
-    ensures full { (f : FileMap) → B.whole leaves.old →
-        IsInternal file.now (tree_of node.now) (B.working leaves.old) f → IsErrOf result Stop.Full →
-        (values : List TheValue) × (fin.get f key ≡ Option.Some values)
-        × IsCrowdedBy (B.limit leaves.old)
-        (entry_count (B.working leaves.old)
-        + length (entries_of any_rule (tree_of node.now) (rec_of (key, changed values changes)))) }
+    ensures { Updates B.View file.now (tree_of node.now) key changes leaves.old leaves.new result }
 {
     let Some(values) = find_values(alloc, file, node, &key, leaves)? else {
         return Ok(Some(Refused::NoRecord));

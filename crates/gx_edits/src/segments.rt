@@ -1,19 +1,17 @@
 // Records that have an entry in one leaf and may have one in a second, both under their own key.
-ghost use Rattle.std.specs.Prelude.{◌≡◌, ◌≢◌, ◌<◌, ◌≤◌, ◌+◌, ◌∷◌, [], ℕ, List, Option, length, true, is_some, if◌then◌else◌, IfSome, OnOk, IsErrOf};
-ghost use Rattle.gx_values.specs.declared.records.Rec.{Rec as Record};
+ghost use Rattle.std.specs.Prelude.{◌≡◌, ◌≢◌, ◌<◌, ◌≤◌, ◌+◌, ℕ, List, length, true, is_some, if◌then◌else◌, IfSome, OnOk, IsErrOf};
 ghost use Rattle.gx_values.specs.declared.values.Value.{Value as TheValue};
 ghost use Rattle.gx_values.specs.Keys.{bytes_of};
 ghost use Rattle.gx_ports.specs.LeafMaps.{map_at, with_entry, without_entry, entry_count, IsCrowdedBy};
 ghost use Rattle.gx_ports.specs.declared.leaves.TheConstants.{MAX_ENTRY_LEN};
 ghost use Rattle.gx_ports.specs.Calls.{Keeps, Ends};
 ghost use Rattle.gx_mapping.specs.Rule.{In, IsOf};
-ghost use Rattle.gx_stack.specs.Tree.{leaves_of, tree_form, entries_of, IsValid};
+ghost use Rattle.gx_stack.specs.Tree.{leaves_of, tree_form, IsValid};
 ghost use Rattle.gx_stack.specs.Seen.{tree_of};
-ghost use Rattle.gx_stack.specs.Internal.{IsSet, IsInternal, IsChange, changed};
 ghost use Rattle.gx_types.specs.Any.{any_rule};
 ghost use Rattle.gx_model.specs.Commands.{changed as changed_values};
 ghost use Rattle.gx_scan.specs.Files.{rec_of};
-ghost use Rattle.gx_edits.specs.Alone.{AreOwnLeaves, AreTwoLeaves, others_in};
+ghost use Rattle.gx_edits.specs.Alone.{AreOwnLeaves, AreTwoLeaves, others_in, Takes, Puts, HasOthersIf};
 
 use crate::alone::{only_leaf, put_alone, take_alone};
 use crate::bodies::{both_bodies, first_body};
@@ -69,17 +67,7 @@ pub(crate) fn take_own<B: Leaves>(
         n < length (B.working leaves.old) }
     requires own { AreOwnLeaves (tree_of node.now) own.first own.second }
     requires lo { span.now.lo ≡ bytes_of key.now }
-    ensures internal { (R : List Record) (old : Record) → B.whole leaves.old →
-        old.key ≡ key.now ∷ [] → IsSet (tree_form any_rule (tree_of node.now)) R → In old R →
-        IsInternal any_rule (tree_of node.now) R (B.working leaves.old) → OnOk result
-        (IsInternal any_rule (tree_of node.now) (changed R (Option.Some old) Option.None)
-        (B.working leaves.new)) }
-    ensures others { (n : ℕ) → B.whole leaves.old → ¬ IsErrOf result Stop.Fault →
-        ¬ In n (leaves_of (tree_of node.now)) →
-        map_at (B.working leaves.new) n ≡ map_at (B.working leaves.old) n }
-    ensures keeps { Keeps B.View leaves.old leaves.new }
-    ensures ends { Ends B.View (B.whole leaves.old) leaves.old leaves.new result }
-    ensures not_full { ¬ IsErrOf result Stop.Full }
+    ensures { Takes B.View (tree_of node.now) key.now leaves.old leaves.new result }
 {
     match own.second {
         None => take_alone(alloc, node, own.first, key, span, leaves),
@@ -102,17 +90,7 @@ fn take_both<B: Leaves>(
         n < length (B.working leaves.old) }
     requires two { AreTwoLeaves (tree_of node.now) first second }
     requires lo { span.now.lo ≡ bytes_of key.now }
-    ensures internal { (R : List Record) (old : Record) → B.whole leaves.old →
-        old.key ≡ key.now ∷ [] → IsSet (tree_form any_rule (tree_of node.now)) R → In old R →
-        IsInternal any_rule (tree_of node.now) R (B.working leaves.old) → OnOk result
-        (IsInternal any_rule (tree_of node.now) (changed R (Option.Some old) Option.None)
-        (B.working leaves.new)) }
-    ensures others { (n : ℕ) → B.whole leaves.old → ¬ IsErrOf result Stop.Fault →
-        ¬ In n (leaves_of (tree_of node.now)) →
-        map_at (B.working leaves.new) n ≡ map_at (B.working leaves.old) n }
-    ensures keeps { Keeps B.View leaves.old leaves.new }
-    ensures ends { Ends B.View (B.whole leaves.old) leaves.old leaves.new result }
-    ensures not_full { ¬ IsErrOf result Stop.Full }
+    ensures { Takes B.View (tree_of node.now) key.now leaves.old leaves.new result }
 {
     let (_, _) = (node, key);
     leaves.remove(alloc, second, span.lo.as_slice())?;
@@ -137,22 +115,8 @@ pub(crate) fn put_own<B: Leaves>(
     requires own { AreOwnLeaves (tree_of node.now) own.first own.second }
     requires bytes { bytes.now ≡ bytes_of key.now }
     requires fits { IsOf (tree_form any_rule (tree_of node.now)) (rec_of (key.now, fields)) }
-    ensures internal { (R : List Record) (old : Option Record) → B.whole leaves.old →
-        is_some old ≡ replaces →
-        IsSet (tree_form any_rule (tree_of node.now)) R →
-        IsChange R old (Option.Some (rec_of (key.now, fields))) →
-        IsInternal any_rule (tree_of node.now) R (B.working leaves.old) → OnOk result
-        (IsInternal any_rule (tree_of node.now)
-        (changed R old (Option.Some (rec_of (key.now, fields)))) (B.working leaves.new)) }
-    ensures others { (n : ℕ) → B.whole leaves.old → ¬ IsErrOf result Stop.Fault →
-        ¬ In n (leaves_of (tree_of node.now)) →
-        map_at (B.working leaves.new) n ≡ map_at (B.working leaves.old) n }
-    ensures keeps { Keeps B.View leaves.old leaves.new }
-    ensures ends { Ends B.View (B.whole leaves.old) leaves.old leaves.new result }
-    ensures full { B.whole leaves.old → IsErrOf result Stop.Full →
-        IsCrowdedBy (B.limit leaves.old)
-        (entry_count (B.working leaves.old)
-        + length (entries_of any_rule (tree_of node.now) (rec_of (key.now, fields)))) }
+    ensures { Puts B.View (tree_of node.now) key.now fields (λ gone. is_some gone ≡ replaces)
+        leaves.old leaves.new result }
 {
     match own.second {
         None => put_alone(alloc, node, own.first, key, bytes, fields, leaves),
@@ -182,22 +146,9 @@ pub(crate) fn put_changed<B: Leaves>(
     requires own { AreOwnLeaves (tree_of node.now) own.first own.second }
     requires bytes { bytes.now ≡ bytes_of key.now }
     requires fits { IsOf (tree_form any_rule (tree_of node.now)) (rec_of (key.now, fields)) }
-    ensures internal { (R : List Record) (old : Record) → B.whole leaves.old →
-        IsSet (tree_form any_rule (tree_of node.now)) R → In old R → old.key ≡ key.now ∷ [] →
-        (others_stay ≡ true → others_in (tree_of node.now) old.fields ≡ others_in (tree_of node.now) fields) →
-        IsInternal any_rule (tree_of node.now) R (B.working leaves.old) → OnOk result
-        (IsInternal any_rule (tree_of node.now)
-        (changed R (Option.Some old) (Option.Some (rec_of (key.now, fields))))
-        (B.working leaves.new)) }
-    ensures others { (n : ℕ) → B.whole leaves.old → ¬ IsErrOf result Stop.Fault →
-        ¬ In n (leaves_of (tree_of node.now)) →
-        map_at (B.working leaves.new) n ≡ map_at (B.working leaves.old) n }
-    ensures keeps { Keeps B.View leaves.old leaves.new }
-    ensures ends { Ends B.View (B.whole leaves.old) leaves.old leaves.new result }
-    ensures full { B.whole leaves.old → IsErrOf result Stop.Full →
-        IsCrowdedBy (B.limit leaves.old)
-        (entry_count (B.working leaves.old)
-        + length (entries_of any_rule (tree_of node.now) (rec_of (key.now, fields)))) }
+    ensures { Puts B.View (tree_of node.now) key.now fields
+        (HasOthersIf others_stay (tree_of node.now) fields)
+        leaves.old leaves.new result }
 {
     if others_stay && let Some(second) = own.second {
         return put_first(alloc, node, own.first, second, key, bytes, fields, leaves);
@@ -222,22 +173,8 @@ fn put_first<B: Leaves>(
     requires two { AreTwoLeaves (tree_of node.now) first second }
     requires bytes { bytes.now ≡ bytes_of key.now }
     requires fits { IsOf (tree_form any_rule (tree_of node.now)) (rec_of (key.now, fields)) }
-    ensures internal { (R : List Record) (old : Record) → B.whole leaves.old →
-        IsSet (tree_form any_rule (tree_of node.now)) R → In old R → old.key ≡ key.now ∷ [] →
-        others_in (tree_of node.now) old.fields ≡ others_in (tree_of node.now) fields →
-        IsInternal any_rule (tree_of node.now) R (B.working leaves.old) → OnOk result
-        (IsInternal any_rule (tree_of node.now)
-        (changed R (Option.Some old) (Option.Some (rec_of (key.now, fields))))
-        (B.working leaves.new)) }
-    ensures others { (n : ℕ) → B.whole leaves.old → ¬ IsErrOf result Stop.Fault →
-        ¬ In n (leaves_of (tree_of node.now)) →
-        map_at (B.working leaves.new) n ≡ map_at (B.working leaves.old) n }
-    ensures keeps { Keeps B.View leaves.old leaves.new }
-    ensures ends { Ends B.View (B.whole leaves.old) leaves.old leaves.new result }
-    ensures full { B.whole leaves.old → IsErrOf result Stop.Full →
-        IsCrowdedBy (B.limit leaves.old)
-        (entry_count (B.working leaves.old)
-        + length (entries_of any_rule (tree_of node.now) (rec_of (key.now, fields)))) }
+    ensures { Puts B.View (tree_of node.now) key.now fields
+        (HasOthersIf true (tree_of node.now) fields) leaves.old leaves.new result }
 {
     let (_, _) = (key, second);
     let body = first_body(alloc, node, fields)?;
@@ -276,22 +213,8 @@ fn put_both<B: Leaves>(
     requires two { AreTwoLeaves (tree_of node.now) first second }
     requires bytes { bytes.now ≡ bytes_of key.now }
     requires fits { IsOf (tree_form any_rule (tree_of node.now)) (rec_of (key.now, fields)) }
-    ensures internal { (R : List Record) (old : Option Record) → B.whole leaves.old →
-        is_some old ≡ replaces →
-        IsSet (tree_form any_rule (tree_of node.now)) R →
-        IsChange R old (Option.Some (rec_of (key.now, fields))) →
-        IsInternal any_rule (tree_of node.now) R (B.working leaves.old) → OnOk result
-        (IsInternal any_rule (tree_of node.now)
-        (changed R old (Option.Some (rec_of (key.now, fields)))) (B.working leaves.new)) }
-    ensures others { (n : ℕ) → B.whole leaves.old → ¬ IsErrOf result Stop.Fault →
-        ¬ In n (leaves_of (tree_of node.now)) →
-        map_at (B.working leaves.new) n ≡ map_at (B.working leaves.old) n }
-    ensures keeps { Keeps B.View leaves.old leaves.new }
-    ensures ends { Ends B.View (B.whole leaves.old) leaves.old leaves.new result }
-    ensures full { B.whole leaves.old → IsErrOf result Stop.Full →
-        IsCrowdedBy (B.limit leaves.old)
-        (entry_count (B.working leaves.old)
-        + length (entries_of any_rule (tree_of node.now) (rec_of (key.now, fields)))) }
+    ensures { Puts B.View (tree_of node.now) key.now fields (λ gone. is_some gone ≡ replaces)
+        leaves.old leaves.new result }
 {
     let _key = key;
     let (body, other) = both_bodies(alloc, node, fields)?;

@@ -1,3 +1,4 @@
+use Rattle.std.proofs.Common.{rules}
 use Rattle.gx_stack.specs.Seen.{tree_of}
 use Rattle.gx_scan.proofs.CallLemmas.{ok_one, ends_so}
 use Rattle.gx_edits.proofs.HomeLemmas.{delete_above}
@@ -6,19 +7,22 @@ use Rattle.gx_edits.proofs.files.delete_from_file.Goals as goal
 pub delete_record-requires-clause-tree : goal.delete_record-requires-clause-tree
 delete_record-requires-clause-tree g c = c.home_of-home.ensures.tree _ c.requires.tree
 
-pub returns-clause-deleted : goal.returns-clause-deleted
-returns-clause-deleted g c = λ f whole is.
-    let t = tree_of c.args.node.now in
-    let u = tree_of c.home_of-home.result.now in
-    let home = c.home_of-home.ensures in
-    let h = home.held _ f is in
-    let part = c.delete_record.ensures.deleted h.part whole h.held in
-    ok_one c.delete_record.result _ _ part
-    (λ why done. delete_above c.args.file.now c.args.key t u home _ c.requires.tree
-    c.requires.storable _ _ f is h why done)
-
-pub returns-clause-ends : goal.returns-clause-ends
-returns-clause-ends g c = ends_so g.B.View _ _ _ _ _
-    (λ sound.
-    let h = c.home_of-home.ensures.held _ sound.1.0 sound.1.1 in
-    (sound.0, (h.part, h.held))) c.delete_record.ensures.ends
+pub returns : goal.returns
+returns g c = record {
+  deleted = λ f whole is.
+      let t = tree_of c.args.node.now in
+      let u = tree_of c.home_of-home.result.now in
+      let home = c.home_of-home.ensures in
+      let h = home.held _ f is in
+      let part = c.delete_record.ensures.deleted h.part whole h.held in
+      ok_one c.delete_record.result _ _ part
+      (λ why done. delete_above c.args.file.now c.args.key t u home _ c.requires.tree
+      c.requires.storable _ _ f is h why done);
+  keeps = search rules;
+  ends = ends_so g.B.View _ _ _ _ _
+      (λ sound.
+      let h = c.home_of-home.ensures.held _ sound.1.0 sound.1.1 in
+      (sound.0, (h.part, h.held))) c.delete_record.ensures.ends;
+  block = search rules;
+  not_full = search rules;
+}

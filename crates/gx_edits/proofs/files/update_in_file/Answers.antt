@@ -1,3 +1,4 @@
+use Rattle.std.proofs.Common.{rules}
 use Rattle.gx_stack.specs.Seen.{tree_of}
 use Rattle.gx_scan.proofs.CallLemmas.{ok_one, ends_so}
 use Rattle.gx_edits.proofs.HomeLemmas.{update_above, update_short}
@@ -6,30 +7,30 @@ use Rattle.gx_edits.proofs.files.update_in_file.Goals as goal
 pub update_record-requires-clause-tree : goal.update_record-requires-clause-tree
 update_record-requires-clause-tree g c = c.home_of-home.ensures.tree _ c.requires.tree
 
-pub returns-clause-updated : goal.returns-clause-updated
-returns-clause-updated g c = λ f whole is.
-    let t = tree_of c.args.node.now in
-    let u = tree_of c.home_of-home.result.now in
-    let home = c.home_of-home.ensures in
-    let h = home.held _ f is in
-    let part = c.update_record.ensures.updated h.part whole h.held in
-    ok_one c.update_record.result _ _ part
-    (λ why done. update_above c.args.file.now c.args.key t u home _ c.requires.tree
-    c.requires.storable _ _ f is h why c.args.changes done)
-
-pub returns-clause-ends : goal.returns-clause-ends
-returns-clause-ends g c = ends_so g.B.View _ _ _ _ _
-    (λ sound.
-    let h = c.home_of-home.ensures.held _ sound.1.0 sound.1.1 in
-    (sound.0, (h.part, h.held))) c.update_record.ensures.ends
-
-pub returns-clause-full : goal.returns-clause-full
-returns-clause-full g c = λ f whole is stops.
-    let t = tree_of c.args.node.now in
-    let u = tree_of c.home_of-home.result.now in
-    let home = c.home_of-home.ensures in
-    let h = home.held _ f is in
-    let limit = g.B.View.limit c.args.leaves.now in
-    let short = c.update_record.ensures.full h.part whole h.held stops in
-    update_short c.args.file.now c.args.key t u home _ c.requires.tree c.requires.storable
-    limit _ f h c.args.changes c.requires.changes short
+pub returns : goal.returns
+returns g c = record {
+  updated = λ f whole is.
+      let t = tree_of c.args.node.now in
+      let u = tree_of c.home_of-home.result.now in
+      let home = c.home_of-home.ensures in
+      let h = home.held _ f is in
+      let part = c.update_record.ensures.updated h.part whole h.held in
+      ok_one c.update_record.result _ _ part
+      (λ why done. update_above c.args.file.now c.args.key t u home _ c.requires.tree
+      c.requires.storable _ _ f is h why c.args.changes done);
+  keeps = search rules;
+  ends = ends_so g.B.View _ _ _ _ _
+      (λ sound.
+      let h = c.home_of-home.ensures.held _ sound.1.0 sound.1.1 in
+      (sound.0, (h.part, h.held))) c.update_record.ensures.ends;
+  block = search rules;
+  full = λ f whole is stops.
+      let t = tree_of c.args.node.now in
+      let u = tree_of c.home_of-home.result.now in
+      let home = c.home_of-home.ensures in
+      let h = home.held _ f is in
+      let limit = g.B.View.limit c.args.leaves.now in
+      let short = c.update_record.ensures.full h.part whole h.held stops in
+      update_short c.args.file.now c.args.key t u home _ c.requires.tree c.requires.storable
+      limit _ f h c.args.changes c.requires.changes short;
+}

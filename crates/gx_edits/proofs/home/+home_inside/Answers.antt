@@ -3,7 +3,7 @@ use Rattle.gx_stack.specs.Seen.{tree_of}
 use Rattle.gx_stack.proofs.Seen.{child_valid, kid_lower}
 use Rattle.gx_types.specs.Any.{any_rule}
 use Rattle.gx_scan.proofs.SearchedLemmas.{kid_there}
-use Rattle.gx_edits.proofs.HomeLemmas.{all_itself, partition_passes, partition_alone, home_down}
+use Rattle.gx_edits.proofs.HomeLemmas.{partition_passes, partition_alone, home_down}
 use Rattle.gx_edits.proofs.home.+home_inside.Goals as goal
 
 pub index-requires : goal.index-requires

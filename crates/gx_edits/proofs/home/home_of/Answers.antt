@@ -1,6 +1,6 @@
 use Rattle.gx_values.specs.declared.keys.Span.{Span}
 use Rattle.gx_stack.specs.Seen.{tree_of}
-use Rattle.gx_edits.proofs.HomeLemmas.{home_itself, home_of_span}
+use Rattle.gx_edits.proofs.HomeLemmas.{home_of_span}
 use Rattle.gx_edits.proofs.home.home_of.Goals as goal
 
 pub returns : goal.returns

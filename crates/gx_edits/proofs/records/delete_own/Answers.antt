@@ -1,4 +1,4 @@
-use Rattle.std.proofs.Common.{◌<◌, ◌∙◌, List, length, refl, sym, ap, subst}
+use Rattle.std.proofs.Common.{rules, ◌<◌, ◌∙◌, List, length, refl, sym, ap, subst}
 use Rattle.std.specs.Prelude.{not, is_some}
 use Rattle.gx_ports.specs.LeafMaps.{LeafMap, map_at}
 use Rattle.gx_stack.specs.Seen.{tree_of}
@@ -13,17 +13,23 @@ use Rattle.gx_edits.proofs.records.delete_own.Goals as goal
 pub take_own-requires-clause-below : goal.take_own-requires-clause-below
 take_own-requires-clause-below g c = λ n h. subst (λ (maps : List LeafMap). n < length maps) (sym c.is_there.ensures.reads.reads.working) (c.requires.tree.below n h)
 
-pub returns-clause-deleted : goal.returns-clause-deleted
-returns-clause-deleted g c = λ f whole is.
-    let t = tree_of c.args.node.now in
-    let same = c.is_there.ensures.reads.reads.working in
-    let key = c.args.key.now in
-    let some = sym (c.in_ok-is_there.ensures.there f whole is) in
-    let one = some_there f key (some ∙ c.if-not-branch.false) in
-    let values = one.0 in
-    let after = c.in_ok-is_there.ensures.reads.ends.whole whole in
-    let set = subst (λ form. IsSet form (records_of f)) (sym c.requires.tree.form) (set_of c.args.file.now f c.requires.storable.keyed is.fit) in
-    let held = subst (λ (maps : List LeafMap). IsHeld any_rule t (records_of f) maps) (sym same) is.held in
-    let done = c.in_ok-take_own.ensures.internal (records_of f) (rec_of (key, values)) after refl set (there_in f key values one.1) held in
-    is_done c.args.file.now t _ _ f _ no_record _ (ap (λ o. not (is_some o)) one.1)
-    (delete_edit c.args.file.now t _ _ f key values (rec_of (key, values)) c.requires.tree.valid is refl done (λ n out. c.in_ok-take_own.ensures.others n after (λ e. cc) out ∙ ap (λ (maps : List LeafMap). map_at maps n) same))
+pub returns : goal.returns
+returns g c = record {
+  deleted = λ f whole is.
+      let t = tree_of c.args.node.now in
+      let same = c.is_there.ensures.reads.reads.working in
+      let key = c.args.key.now in
+      let some = sym (c.in_ok-is_there.ensures.there f whole is) in
+      let one = some_there f key (some ∙ c.if-not-branch.false) in
+      let values = one.0 in
+      let after = c.in_ok-is_there.ensures.reads.ends.whole whole in
+      let set = subst (λ form. IsSet form (records_of f)) (sym c.requires.tree.form) (set_of c.args.file.now f c.requires.storable.keyed is.fit) in
+      let held = subst (λ (maps : List LeafMap). IsHeld any_rule t (records_of f) maps) (sym same) is.held in
+      let done = c.in_ok-take_own.ensures.internal (records_of f) (rec_of (key, values)) after refl set (there_in f key values one.1) held in
+      is_done c.args.file.now t _ _ f _ no_record _ (ap (λ o. not (is_some o)) one.1)
+      (delete_edit c.args.file.now t _ _ f key values (rec_of (key, values)) c.requires.tree.valid is refl done (λ n out. c.in_ok-take_own.ensures.others n after (λ e. cc) out ∙ ap (λ (maps : List LeafMap). map_at maps n) same));
+  keeps = search rules;
+  ends = search rules;
+  block = search rules;
+  not_full = search rules;
+}

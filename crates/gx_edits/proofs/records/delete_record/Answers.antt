@@ -1,4 +1,4 @@
-use Rattle.std.proofs.Common.{◌≡◌, ◌<◌, ◌∙◌, List, Some, length, sym, ap, subst}
+use Rattle.std.proofs.Common.{rules, ◌≡◌, ◌<◌, ◌∙◌, List, Some, length, sym, ap, subst}
 use Rattle.std.specs.Prelude.{IfSome, not, is_some}
 use Rattle.std.specs.FinMap as fin
 use Rattle.gx_values.specs.declared.records.Rec.{Rec}
@@ -26,20 +26,26 @@ replace-requires-clause-old_fits g c =
     let fits = subst (λ o. IfSome o (AreFit (data_fields file))) c.in-Some-2.is c.in_ok-values.ensures.fits in
     subst (λ form. IsOf form c.in_ok-old.old) (sym c.requires.tree.form) (subst (IsOf _) (sym c.in_ok-old.ensures) (row_fits file (c.args.key, values) c.requires.storable.keyed (c.requires.key, fits)))
 
-pub returns-clause-deleted : goal.returns-clause-deleted
-returns-clause-deleted g c = λ f whole is.
-    let t = tree_of c.args.node.now in
-    let same = c.find_values.ensures.reads.reads.working in
-    let key = c.args.key in
-    let values = c.in-Some-2.values in
-    let was = c.in_ok-old.ensures in
-    let there : fin.get f key ≡ Some values = sym (sym c.in-Some-2.is ∙ c.in_ok-values.ensures.found f whole is) in
-    let after = c.in_ok-values.ensures.reads.ends.whole whole in
-    let set = subst (λ form. IsSet form (records_of f)) (sym c.requires.tree.form) (set_of c.args.file.now f c.requires.storable.keyed is.fit) in
-    let held = subst (λ (maps : List LeafMap). IsHeld any_rule t (records_of f) maps) (sym same) is.held in
-    let done = c.in_ok-replace.ensures.internal (records_of f) after set (subst (λ (r : Rec). In r (records_of f)) (sym was) (there_in f key values there)) held in
-    is_done c.args.file.now t _ _ f _ no_record _ (ap (λ o. not (is_some o)) there)
-    (delete_edit c.args.file.now t _ _ f key values c.in_ok-old.old c.requires.tree.valid is was done (λ n out. c.in_ok-replace.ensures.replaces.others n after (λ e. cc) out ∙ ap (λ (maps : List LeafMap). map_at maps n) same))
+pub returns : goal.returns
+returns g c = record {
+  deleted = λ f whole is.
+      let t = tree_of c.args.node.now in
+      let same = c.find_values.ensures.reads.reads.working in
+      let key = c.args.key in
+      let values = c.in-Some-2.values in
+      let was = c.in_ok-old.ensures in
+      let there : fin.get f key ≡ Some values = sym (sym c.in-Some-2.is ∙ c.in_ok-values.ensures.found f whole is) in
+      let after = c.in_ok-values.ensures.reads.ends.whole whole in
+      let set = subst (λ form. IsSet form (records_of f)) (sym c.requires.tree.form) (set_of c.args.file.now f c.requires.storable.keyed is.fit) in
+      let held = subst (λ (maps : List LeafMap). IsHeld any_rule t (records_of f) maps) (sym same) is.held in
+      let done = c.in_ok-replace.ensures.internal (records_of f) after set (subst (λ (r : Rec). In r (records_of f)) (sym was) (there_in f key values there)) held in
+      is_done c.args.file.now t _ _ f _ no_record _ (ap (λ o. not (is_some o)) there)
+      (delete_edit c.args.file.now t _ _ f key values c.in_ok-old.old c.requires.tree.valid is was done (λ n out. c.in_ok-replace.ensures.replaces.others n after (λ e. cc) out ∙ ap (λ (maps : List LeafMap). map_at maps n) same));
+  keeps = search rules;
+  ends = search rules;
+  block = search rules;
+  not_full = search rules;
+}
 
 -- ---- records in their own leaves
 

@@ -20,25 +20,37 @@ put_own-requires-clause-fits g c =
     let row : Row = (c.args.key.now, c.args.values) in
     subst (λ form. IsOf form (rec_of row)) (sym c.requires.tree.form) (row_fits c.args.file.now row c.requires.storable.keyed (c.requires.key, c.requires.values))
 
-pub returns-in_err-put_own-clause-full : goal.returns-in_err-put_own-clause-full
-returns-in_err-put_own-clause-full g c = λ f whole is e.
-    let t = tree_of c.args.node.now in
-    let row : Row = (c.args.key.now, c.args.values) in
-    let none = none_there f c.args.key.now (sym (c.in_ok-is_there.ensures.there f whole is) ∙ c.if-branch.false) in
-    let full = c.put_own.ensures.full (c.in_ok-is_there.ensures.reads.ends.whole whole) (search rules) in
-    (none, crowded_same (g.B.View.limit c.args.leaves.now) (g.B.View.limit c.is_there.new.leaves) (g.B.View.working c.args.leaves.now) (g.B.View.working c.is_there.new.leaves) t row (rec_of row) c.is_there.ensures.reads.reads.limit c.is_there.ensures.reads.reads.working refl full)
+pub returns-in_err-put_own : goal.returns-in_err-put_own
+returns-in_err-put_own g c = record {
+  inserted = search rules;
+  keeps = search rules;
+  ends = search rules;
+  block = search rules;
+  full = λ f whole is e.
+      let t = tree_of c.args.node.now in
+      let row : Row = (c.args.key.now, c.args.values) in
+      let none = none_there f c.args.key.now (sym (c.in_ok-is_there.ensures.there f whole is) ∙ c.if-branch.false) in
+      let full = c.put_own.ensures.full (c.in_ok-is_there.ensures.reads.ends.whole whole) (search rules) in
+      (none, crowded_same (g.B.View.limit c.args.leaves.now) (g.B.View.limit c.is_there.new.leaves) (g.B.View.working c.args.leaves.now) (g.B.View.working c.is_there.new.leaves) t row (rec_of row) c.is_there.ensures.reads.reads.limit c.is_there.ensures.reads.reads.working refl full);
+}
 
-pub returns-in_ok-put_own-clause-inserted : goal.returns-in_ok-put_own-clause-inserted
-returns-in_ok-put_own-clause-inserted g c = λ f whole is.
-    let t = tree_of c.args.node.now in
-    let key = c.args.key.now in
-    let values = c.args.values in
-    let same = c.is_there.ensures.reads.reads.working in
-    let absent = sym (c.in_ok-is_there.ensures.there f whole is) ∙ c.if-branch.false in
-    let none = none_there f key absent in
-    let after = c.in_ok-is_there.ensures.reads.ends.whole whole in
-    let set = subst (λ form. IsSet form (records_of f)) (sym c.requires.tree.form) (set_of c.args.file.now f c.requires.storable.keyed is.fit) in
-    let held = subst (λ (maps : List LeafMap). IsHeld any_rule t (records_of f) maps) (sym same) is.held in
-    let done = c.in_ok-put_own.ensures.internal (records_of f) None after refl set (is_insert f key values none) held in
-    is_done c.args.file.now t _ _ f _ key_exists _ absent
-    (insert_edit c.args.file.now t _ _ f key values (rec_of (key, values)) c.requires.tree.valid c.requires.key c.requires.values is none refl done (λ n out. c.in_ok-put_own.ensures.others n after (λ e. cc) out ∙ ap (λ (maps : List LeafMap). map_at maps n) same))
+pub returns-in_ok-put_own : goal.returns-in_ok-put_own
+returns-in_ok-put_own g c = record {
+  inserted = λ f whole is.
+      let t = tree_of c.args.node.now in
+      let key = c.args.key.now in
+      let values = c.args.values in
+      let same = c.is_there.ensures.reads.reads.working in
+      let absent = sym (c.in_ok-is_there.ensures.there f whole is) ∙ c.if-branch.false in
+      let none = none_there f key absent in
+      let after = c.in_ok-is_there.ensures.reads.ends.whole whole in
+      let set = subst (λ form. IsSet form (records_of f)) (sym c.requires.tree.form) (set_of c.args.file.now f c.requires.storable.keyed is.fit) in
+      let held = subst (λ (maps : List LeafMap). IsHeld any_rule t (records_of f) maps) (sym same) is.held in
+      let done = c.in_ok-put_own.ensures.internal (records_of f) None after refl set (is_insert f key values none) held in
+      is_done c.args.file.now t _ _ f _ key_exists _ absent
+      (insert_edit c.args.file.now t _ _ f key values (rec_of (key, values)) c.requires.tree.valid c.requires.key c.requires.values is none refl done (λ n out. c.in_ok-put_own.ensures.others n after (λ e. cc) out ∙ ap (λ (maps : List LeafMap). map_at maps n) same));
+  keeps = search rules;
+  ends = search rules;
+  block = search rules;
+  full = search rules;
+}

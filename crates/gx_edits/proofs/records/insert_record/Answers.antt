@@ -22,28 +22,40 @@ replace-requires-clause-new_fits g c =
     let new = c.in_ok-new.ensures in
     subst (λ form. IsOf form c.in_ok-new.new) (sym c.requires.tree.form) (subst (IsOf _) (sym new) (row_fits c.args.file.now (c.args.key, c.args.values) c.requires.storable.keyed (c.requires.key, c.requires.values)))
 
-pub returns-in_err-replace-clause-full : goal.returns-in_err-replace-clause-full
-returns-in_err-replace-clause-full g c = λ f whole is e.
-    let t = tree_of c.args.node.now in
-    let none = none_there f c.args.key (missing f c.args.key c.in_ok-find_record.field-0 _ (c.in_ok-find_record.ensures.found f whole is) (c.is_some.ensures) c.if-is_some.false) in
-    let new = c.in_ok-new.ensures in
-    let full = c.replace.ensures.replaces.full (c.in_ok-find_record.ensures.reads.ends.whole whole) (search rules) in
-    (none, crowded_same (g.B.View.limit c.args.leaves.now) (g.B.View.limit c.find_record.new.leaves) (g.B.View.working c.args.leaves.now) (g.B.View.working c.find_record.new.leaves) t (c.args.key, c.args.values) c.in_ok-new.new c.find_record.ensures.reads.reads.limit c.find_record.ensures.reads.reads.working new full)
+pub returns-in_err-replace : goal.returns-in_err-replace
+returns-in_err-replace g c = record {
+  inserted = search rules;
+  keeps = search rules;
+  ends = search rules;
+  block = search rules;
+  full = λ f whole is e.
+      let t = tree_of c.args.node.now in
+      let none = none_there f c.args.key (missing f c.args.key c.in_ok-find_record.field-0 _ (c.in_ok-find_record.ensures.found f whole is) (c.is_some.ensures) c.if-is_some.false) in
+      let new = c.in_ok-new.ensures in
+      let full = c.replace.ensures.replaces.full (c.in_ok-find_record.ensures.reads.ends.whole whole) (search rules) in
+      (none, crowded_same (g.B.View.limit c.args.leaves.now) (g.B.View.limit c.find_record.new.leaves) (g.B.View.working c.args.leaves.now) (g.B.View.working c.find_record.new.leaves) t (c.args.key, c.args.values) c.in_ok-new.new c.find_record.ensures.reads.reads.limit c.find_record.ensures.reads.reads.working new full);
+}
 
-pub returns-clause-inserted : goal.returns-clause-inserted
-returns-clause-inserted g c = λ f whole is.
-    let t = tree_of c.args.node.now in
-    let same = c.find_record.ensures.reads.reads.working in
-    let absent = missing f c.args.key c.in_ok-find_record.field-0 _ (c.in_ok-find_record.ensures.found f whole is) (c.is_some.ensures) c.if-is_some.false in
-    let none = none_there f c.args.key absent in
-    let after = c.in_ok-find_record.ensures.reads.ends.whole whole in
-    let new = c.in_ok-new.ensures in
-    let set = subst (λ form. IsSet form (records_of f)) (sym c.requires.tree.form) (set_of c.args.file.now f c.requires.storable.keyed is.fit) in
-    let held = subst (λ (maps : List LeafMap). IsHeld any_rule t (records_of f) maps) (sym same) is.held in
-    let change = subst (λ (r : Rec). (q : Rec) → In q (records_of f) → q.key ≢ r.key) (sym new) (is_insert f c.args.key c.args.values none) in
-    let done = c.in_ok-replace.ensures.internal (records_of f) after set change held in
-    is_done c.args.file.now t _ _ f _ key_exists _ absent
-    (insert_edit c.args.file.now t _ _ f c.args.key c.args.values c.in_ok-new.new c.requires.tree.valid c.requires.key c.requires.values is none new done (λ n out. c.in_ok-replace.ensures.replaces.others n after (λ e. cc) out ∙ ap (λ (maps : List LeafMap). map_at maps n) same))
+pub returns : goal.returns
+returns g c = record {
+  inserted = λ f whole is.
+      let t = tree_of c.args.node.now in
+      let same = c.find_record.ensures.reads.reads.working in
+      let absent = missing f c.args.key c.in_ok-find_record.field-0 _ (c.in_ok-find_record.ensures.found f whole is) (c.is_some.ensures) c.if-is_some.false in
+      let none = none_there f c.args.key absent in
+      let after = c.in_ok-find_record.ensures.reads.ends.whole whole in
+      let new = c.in_ok-new.ensures in
+      let set = subst (λ form. IsSet form (records_of f)) (sym c.requires.tree.form) (set_of c.args.file.now f c.requires.storable.keyed is.fit) in
+      let held = subst (λ (maps : List LeafMap). IsHeld any_rule t (records_of f) maps) (sym same) is.held in
+      let change = subst (λ (r : Rec). (q : Rec) → In q (records_of f) → q.key ≢ r.key) (sym new) (is_insert f c.args.key c.args.values none) in
+      let done = c.in_ok-replace.ensures.internal (records_of f) after set change held in
+      is_done c.args.file.now t _ _ f _ key_exists _ absent
+      (insert_edit c.args.file.now t _ _ f c.args.key c.args.values c.in_ok-new.new c.requires.tree.valid c.requires.key c.requires.values is none new done (λ n out. c.in_ok-replace.ensures.replaces.others n after (λ e. cc) out ∙ ap (λ (maps : List LeafMap). map_at maps n) same));
+  keeps = search rules;
+  ends = search rules;
+  block = search rules;
+  full = search rules;
+}
 
 -- ---- a record in its own leaves
 

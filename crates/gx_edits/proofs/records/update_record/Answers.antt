@@ -1,4 +1,4 @@
-use Rattle.std.proofs.Common.{◌≡◌, ◌<◌, ◌∙◌, List, Some, length, refl, sym, ap, subst}
+use Rattle.std.proofs.Common.{rules, ◌≡◌, ◌<◌, ◌∙◌, List, Some, length, refl, sym, ap, subst}
 use Rattle.std.specs.Prelude.{IfSome, not, is_some}
 use Rattle.std.specs.FinMap as fin
 use Rattle.gx_values.specs.declared.records.Rec.{Rec}
@@ -44,28 +44,34 @@ replace_entries-requires-clause-gone g c =
     let of_form = subst (λ form. IsOf form c.in_ok-old.old) (sym c.requires.tree.form) (subst (IsOf _) (sym c.in_ok-old.ensures) (row_fits file (c.args.key, values) c.requires.storable.keyed (c.requires.key, fits))) in
     (Some c.in_ok-old.old, of_form, c.deref.ensures.value ∙ c.in_ok-gone.ensures)
 
-pub returns-clause-updated : goal.returns-clause-updated
-returns-clause-updated g c = λ f whole is.
-    let file = c.args.file.now in
-    let t = tree_of c.args.node.now in
-    let same = c.find_values.ensures.reads.reads.working in
-    let key = c.args.key in
-    let values = c.in-Some.values in
-    let changes = c.args.changes in
-    let old = c.in_ok-old.old in
-    let new = c.changed_record-new.result in
-    let made = c.changed_record-new.ensures in
-    let was = c.in_ok-old.ensures in
-    let there : fin.get f key ≡ Some values = sym (sym c.in-Some.is ∙ c.in_ok-values.ensures.found f whole is) in
-    let after = c.in_ok-values.ensures.reads.ends.whole whole in
-    let is_new = rec_made old new key values changes was made.key made.fields in
-    let set = subst (λ form. IsSet form (records_of f)) (sym c.requires.tree.form) (set_of file f c.requires.storable.keyed is.fit) in
-    let held = subst (λ (maps : List LeafMap). IsHeld any_rule t (records_of f) maps) (sym same) is.held in
-    let done = c.in_ok-replace_entries.ensures.internal (records_of f) (Some old) after (c.deref.ensures.value ∙ c.in_ok-gone.ensures) set (subst (λ (r : Rec). In r (records_of f)) (sym was) (there_in f key values there), sym made.key) held in
-    is_done file t _ _ f _ no_record _ (ap (λ o. not (is_some o)) there)
-    (subst (IsEdited file t _ _) (updated_is f key changes values (changed values changes) (sym there) refl)
-    (update_edit file t _ _ f key values (changed values changes) old new c.requires.tree.valid c.requires.key (subst (λ (r : Rec). AreFit (data_fields file) r.fields) is_new made.fits.fields) is was is_new done
-    (λ n out. c.in_ok-replace_entries.ensures.replaces.others n after (λ e. cc) out ∙ ap (λ (maps : List LeafMap). map_at maps n) same)))
+pub returns : goal.returns
+returns g c = record {
+  updated = λ f whole is.
+      let file = c.args.file.now in
+      let t = tree_of c.args.node.now in
+      let same = c.find_values.ensures.reads.reads.working in
+      let key = c.args.key in
+      let values = c.in-Some.values in
+      let changes = c.args.changes in
+      let old = c.in_ok-old.old in
+      let new = c.changed_record-new.result in
+      let made = c.changed_record-new.ensures in
+      let was = c.in_ok-old.ensures in
+      let there : fin.get f key ≡ Some values = sym (sym c.in-Some.is ∙ c.in_ok-values.ensures.found f whole is) in
+      let after = c.in_ok-values.ensures.reads.ends.whole whole in
+      let is_new = rec_made old new key values changes was made.key made.fields in
+      let set = subst (λ form. IsSet form (records_of f)) (sym c.requires.tree.form) (set_of file f c.requires.storable.keyed is.fit) in
+      let held = subst (λ (maps : List LeafMap). IsHeld any_rule t (records_of f) maps) (sym same) is.held in
+      let done = c.in_ok-replace_entries.ensures.internal (records_of f) (Some old) after (c.deref.ensures.value ∙ c.in_ok-gone.ensures) set (subst (λ (r : Rec). In r (records_of f)) (sym was) (there_in f key values there), sym made.key) held in
+      is_done file t _ _ f _ no_record _ (ap (λ o. not (is_some o)) there)
+      (subst (IsEdited file t _ _) (updated_is f key changes values (changed values changes) (sym there) refl)
+      (update_edit file t _ _ f key values (changed values changes) old new c.requires.tree.valid c.requires.key (subst (λ (r : Rec). AreFit (data_fields file) r.fields) is_new made.fits.fields) is was is_new done
+      (λ n out. c.in_ok-replace_entries.ensures.replaces.others n after (λ e. cc) out ∙ ap (λ (maps : List LeafMap). map_at maps n) same)));
+  keeps = search rules;
+  ends = search rules;
+  block = search rules;
+  full = search rules;
+}
 
 -- ---- a record in its own leaves
 
@@ -83,21 +89,30 @@ put_changed-requires-clause-fits g c =
     let row : Row = (c.args.key, c.changed_values-values.result) in
     subst (λ form. IsOf form (rec_of row)) (sym c.requires.tree.form) (row_fits c.args.file.now row c.requires.storable.keyed (c.requires.key, c.changed_values-values.ensures.fits))
 
-pub returns-in-Some-own_leaves-clause-updated : goal.returns-in-Some-own_leaves-clause-updated
-returns-in-Some-own_leaves-clause-updated g c = λ f whole is.
-    let file = c.args.file.now in
-    let t = tree_of c.args.node.now in
-    let same = c.find_values.ensures.reads.reads.working in
-    let key = c.args.key in
-    let values = c.in-Some.values in
-    let made = c.changed_values-values.result in
-    let there : fin.get f key ≡ Some values = sym (sym c.in-Some.is ∙ c.in_ok-values.ensures.found f whole is) in
-    let after = c.in_ok-values.ensures.reads.ends.whole whole in
-    let set = subst (λ form. IsSet form (records_of f)) (sym c.requires.tree.form) (set_of file f c.requires.storable.keyed is.fit) in
-    let held = subst (λ (maps : List LeafMap). IsHeld any_rule t (records_of f) maps) (sym same) is.held in
-    let done = c.in_ok-put_changed.ensures.internal (records_of f) (rec_of (key, values)) after set (there_in f key values there) refl
-    (λ yes. sym (c.others_stay-stay.ensures yes values) ∙ ap (others_in t) (sym c.changed_values-values.ensures.changed)) held in
-    is_done file t _ _ f _ no_record _ (ap (λ o. not (is_some o)) there)
-    (subst (IsEdited file t _ _) (updated_is f key c.args.changes values made (sym there) c.changed_values-values.ensures.changed)
-    (update_edit file t _ _ f key values made (rec_of (key, values)) (rec_of (key, made)) c.requires.tree.valid c.requires.key c.changed_values-values.ensures.fits is refl refl done
-    (λ n out. c.in_ok-put_changed.ensures.others n after (λ e. cc) out ∙ ap (λ (maps : List LeafMap). map_at maps n) same)))
+pub returns-in-Some-own_leaves : goal.returns-in-Some-own_leaves
+returns-in-Some-own_leaves g c = record {
+  updated = λ f whole is.
+      let file = c.args.file.now in
+      let t = tree_of c.args.node.now in
+      let same = c.find_values.ensures.reads.reads.working in
+      let key = c.args.key in
+      let values = c.in-Some.values in
+      let made = c.changed_values-values.result in
+      let there : fin.get f key ≡ Some values = sym (sym c.in-Some.is ∙ c.in_ok-values.ensures.found f whole is) in
+      let after = c.in_ok-values.ensures.reads.ends.whole whole in
+      let set = subst (λ form. IsSet form (records_of f)) (sym c.requires.tree.form) (set_of file f c.requires.storable.keyed is.fit) in
+      let held = subst (λ (maps : List LeafMap). IsHeld any_rule t (records_of f) maps) (sym same) is.held in
+      let done = c.in_ok-put_changed.ensures.internal (records_of f) (Some (rec_of (key, values)))
+      after
+      (λ yes. sym (c.others_stay-stay.ensures yes values)
+      ∙ ap (others_in t) (sym c.changed_values-values.ensures.changed))
+      set (there_in f key values there, refl) held in
+      is_done file t _ _ f _ no_record _ (ap (λ o. not (is_some o)) there)
+      (subst (IsEdited file t _ _) (updated_is f key c.args.changes values made (sym there) c.changed_values-values.ensures.changed)
+      (update_edit file t _ _ f key values made (rec_of (key, values)) (rec_of (key, made)) c.requires.tree.valid c.requires.key c.changed_values-values.ensures.fits is refl refl done
+      (λ n out. c.in_ok-put_changed.ensures.others n after (λ e. cc) out ∙ ap (λ (maps : List LeafMap). map_at maps n) same)));
+  keeps = search rules;
+  ends = search rules;
+  block = search rules;
+  full = search rules;
+}
