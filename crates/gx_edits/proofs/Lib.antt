@@ -6,5 +6,6 @@ pub mod EditLemmas
 mod AloneLemmas
 mod BodyLemmas
 mod GroupLemmas
+mod PlainLemmas
 mod SegmentLemmas
 mod HomeLemmas

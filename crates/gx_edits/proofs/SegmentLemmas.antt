@@ -25,7 +25,7 @@ use Rattle.gx_stack.specs.declared.node.Node.TheVariants as nodes
 use Rattle.gx_stack.specs.Tree.{Tree, Kids, leaf, layer, no_kids, kid, IsValid, AreValid, leaves_of, kids_leaves, tree_form, entries_of, kid_entries}
 use Rattle.gx_stack.specs.Seen.{tree_of, kids_from}
 use Rattle.gx_stack.specs.Internal.{IsSet, IsInternal, IsChange, changed, at, put_entries}
-use Rattle.gx_stack.proofs.Seen.{seen_layer, layer_part}
+use Rattle.gx_stack.proofs.Seen.{seen_layer, child_valid, layer_part}
 use Rattle.gx_stack.proofs.Children.{union_from_internal}
 use Rattle.gx_stack.proofs.Maps.{key_eq-same, put_elsewhere}
 use Rattle.gx_gather.proofs.Lists.{in_each, in_left, in_right, none_some, some_same}
@@ -160,7 +160,7 @@ segment_first x a b ks fields body first = λ n k key two.
     let e : LeafEntry = record { leaf = n; key = key_of key; body = body } in
     subst (In e) (sym (segment_entries x a b ks r)) (in_left e (entries_of any_rule a (first_rec x r)) (cond (is_short x.mask x.form r) [] (entries_of any_rule b (other_rec x r))) (subst (In e) (sym (first n key two.1)) (inl refl)))
 
-read_second : (ks : List (Node AnyMapping)) (w z : Node AnyMapping) → 1 < length ks → w ≡ get_or ks 1 w → z ≡ get_or ks 1 z → w ≡ z
+pub read_second : (ks : List (Node AnyMapping)) (w z : Node AnyMapping) → 1 < length ks → w ≡ get_or ks 1 w → z ≡ get_or ks 1 z → w ≡ z
 read_second [] w z lt is_w is_z = absurd (omega arith)
 read_second (q ∷ []) w z lt is_w is_z = absurd (omega arith)
 read_second (q ∷ v ∷ ks) w z lt is_w is_z = is_w ∙ sym is_z
@@ -173,6 +173,17 @@ module _ (node : Node AnyMapping) (l : LayerNode AnyMapping) (is : node ≡ node
       many [] two = absurd two
       many (q ∷ []) two = absurd two
       many (q ∷ w ∷ ks) two = omega arith
+
+  pub first_only : (n k : ℕ) (q : Node AnyMapping) → q ≡ get_or l.kids.items 0 q → AreTwoLeaves (tree_of node) n k → IsOnlyLeaf (tree_of q) n
+  first_only n k q read two = below l.kids.items read (subst (λ (t : Tree AnyMapping). AreTwoLeaves t n k) (seen_layer node l is) two)
+    where
+      below : (ks : List (Node AnyMapping)) → q ≡ get_or ks 0 q → AreTwoLeaves (layer l.mapping (kids_from (map tree_of ks))) n k → IsOnlyLeaf (tree_of q) n
+      below [] read two = absurd two
+      below (y ∷ []) read two = absurd two
+      below (y ∷ v ∷ ks) read two = subst (λ (z : Node AnyMapping). IsOnlyLeaf (tree_of z) n) (sym read) two.1
+
+  pub first_valid : (n k : ℕ) (q : Node AnyMapping) → q ≡ get_or l.kids.items 0 q → AreTwoLeaves (tree_of node) n k → IsValid any_rule (tree_of node) → IsValid any_rule (tree_of q)
+  first_valid n k q read two valid = (child_valid any_rule node l is 0 q valid (omega (arith, two_kids n k two)) read).1
 
   pub second_only : (n k : ℕ) (w : Node AnyMapping) → w ≡ get_or l.kids.items 1 w → AreTwoLeaves (tree_of node) n k → IsOnlyLeaf (tree_of w) k
   second_only n k w read two = below l.kids.items read (subst (λ (t : Tree AnyMapping). AreTwoLeaves t n k) (seen_layer node l is) two)

@@ -1,5 +1,5 @@
 -- Trees in which each record has one leaf entry, or two, under its own key.
-use Rattle.std.specs.Prelude.{◌≡◌, ℕ, ◌+◌, Bool, true, List, [], ◌∷◌, Option, Some, None, Result, length, map, not, if◌then◌else◌, IsSomeAnd, OnOk, IsErrOf}
+use Rattle.std.specs.Prelude.{◌≡◌, ℕ, ◌+◌, Bool, true, false, List, [], ◌∷◌, Option, Some, None, Result, length, map, not, if◌then◌else◌, IsSomeAnd, OnOk, IsErrOf}
 use Rattle.gx_values.specs.declared.records.Form.{Form}
 use Rattle.gx_values.specs.declared.records.Rec.{Rec}
 use Rattle.gx_values.specs.declared.values.Value.{Value}
@@ -81,6 +81,22 @@ others_in (layer m ks) fields = others_below m fields
 -- the body of the first entry of each record with these data
 abbrev pub IsFirstBody : Tree AnyMapping → List Value → List ℕ → Type 0
 IsFirstBody t fields body = (n k : ℕ) (key : List Value) → AreTwoLeaves t n k → In (record { leaf = n; key = key_of key; body = body }) (entries_of any_rule t (record { key = key; fields = fields }))
+
+-- such a tree of one `actual` over a leaf: the body of a record is the joined bytes of its values
+abbrev pub IsActual : AnyMapping → Type 0
+IsActual (any.Actual m) = Unit {0}
+IsActual _ = ⊥
+
+abbrev pub IsPlain : Tree AnyMapping → Type 0
+IsPlain (leaf i form) = ⊥
+IsPlain (layer m no_kids) = ⊥
+IsPlain (layer m (kid (leaf i form) ks)) = IsActual m
+IsPlain (layer m (kid (layer q qs) ks)) = ⊥
+
+-- of each data field, whether it is in the first group, or in the second
+abbrev pub of_group : Bool → List Bool → List Bool
+of_group true mask = mask
+of_group false mask = map not mask
 
 -- the bodies of the entries of each record with these data, in the first leaf and in the second one
 abbrev pub AreBodies : Tree AnyMapping → List Value → List ℕ → Option (List ℕ) → Type 0

@@ -10,6 +10,7 @@ ghost use Rattle.gx_types.specs.Any.{any_rule};
 ghost use Rattle.gx_edits.specs.Alone.{AreBodies, AreDataOf, AreTwoLeaves, IsFirstBody, IsOnlyBody, IsOnlyLeaf};
 
 use crate::groups::{first_group, two_groups};
+use crate::plain::{is_plain, plain_bodies, plain_body};
 use gx_actual::body_bytes;
 use gx_encode::{Encode, coded};
 use gx_mapping::Mapping;
@@ -70,12 +71,17 @@ pub(crate) fn both_bodies(
     let AnyMapping::Segment(mapping) = &layer.mapping else {
         unreachable!();
     };
-    let (first, others) = two_groups(alloc, mapping, fields)?;
-    let body = only_body(alloc, &layer.kids[0], first)?;
+    let first = &layer.kids[0];
+    let second = &layer.kids[1];
+    if is_plain(first) && is_plain(second) {
+        return plain_bodies(alloc, mapping, &fields);
+    }
+    let (chosen, others) = two_groups(alloc, mapping, fields)?;
+    let body = only_body(alloc, first, chosen)?;
     match others {
         None => Ok((body, None)),
         Some(others) => {
-            let other = only_body(alloc, &layer.kids[1], others)?;
+            let other = only_body(alloc, second, others)?;
             Ok((body, Some(other)))
         }
     }
@@ -98,8 +104,12 @@ pub(crate) fn first_body(
     let AnyMapping::Segment(mapping) = &layer.mapping else {
         unreachable!();
     };
-    let first = first_group(alloc, mapping, fields)?;
-    only_body(alloc, &layer.kids[0], first)
+    let first = &layer.kids[0];
+    if is_plain(first) {
+        return plain_body(alloc, mapping.mask(), true, &fields.0);
+    }
+    let chosen = first_group(alloc, mapping, fields)?;
+    only_body(alloc, first, chosen)
 }
 
 // The bytes of the only value; none where there is none.

@@ -8,6 +8,7 @@ mod files;
 mod groups;
 mod home;
 mod links;
+mod plain;
 mod records;
 mod segments;
 
