@@ -59,7 +59,8 @@ pub(crate) fn plain_body(
 ) -> Result<Octets, NoMemory>
     requires long { length mask.now ≡ length values.now }
     requires lengths { AllByRecursion HasLength (chosen (of_group is_first mask.now) values.now) }
-    ensures { IfOk result (λ body. body ≡ body_of (chosen (of_group is_first mask.now) values.now)) }
+    ensures { IfOk result (λ body.
+        body ≡ body_of (chosen (of_group is_first mask.now) values.now)) }
 {
     let mut body = Vec::with_capacity(alloc, room_for(mask, is_first, values))?;
     for (i, value) in values.iter().enumerate() {
@@ -130,8 +131,8 @@ fn push_value(body: &mut Vec<u8>, value: &Value) -> Result<(), AllocError>
 fn are_others_default(fields: &Fields, mask: &[bool], values: &Values) -> bool
     requires mask { length mask.now ≡ length values.now }
     requires fields { length fields.now ≡ length values.now }
-    ensures { result
-        ≡ are_default (chosen (map not mask.now) fields.now) (chosen (map not mask.now) values.now) }
+    ensures { result ≡ are_default (chosen (map not mask.now) fields.now)
+        (chosen (map not mask.now) values.now) }
 {
     for (i, value) in values.0.iter().enumerate() {
         if !is_passed(!mask[i], &fields.0[i], value) {
