@@ -1,5 +1,5 @@
 -- A tree whose records stand whole in one leaf, and the record there at a key.
-use Rattle.std.proofs.Common.{[], ◌≡◌, ℕ, ◌+◌, ◌≤◌, List, ◌∷◌, length, map, take, get_or, true, Option, None, Some, inl, refl, sym, ap, subst, ◌∙◌, arith}
+use Rattle.std.proofs.Common.{[], ◌≡◌, ℕ, ◌+◌, ◌<◌, ◌≤◌, List, ◌∷◌, length, map, take, get_or, true, Option, None, Some, inl, refl, sym, ap, subst, ◌∙◌, arith}
 use Rattle.std.specs.Prelude.{filter, Result, Ok, Err, IfOk, IfSome, slice_get}
 use Rattle.std.specs.List.{AllByRecursion}
 use Rattle.std.specs.List.Sorted.{IsPermutation}
@@ -20,13 +20,20 @@ use Rattle.gx_ports.specs.declared.leaves.Entry.{Entry}
 use Rattle.gx_ports.specs.LeafMaps.{LeafMap, entry_of}
 use Rattle.gx_actual.specs.Bodies.{field_bytes, body_of}
 use Rattle.gx_actual.specs.BodyLaws.{same_body}
+use Rattle.gx_actual.specs.declared.layer.Actual.{Actual}
+use Rattle.gx_actual.specs.Rules.{actual_rec, actual_rule, form_of}
+use Rattle.gx_mapping.specs.Rule.{Rule}
 use Rattle.gx_stack.specs.declared.node.Node.{Node}
 use Rattle.gx_stack.specs.declared.node.LayerNode.{LayerNode}
+use Rattle.gx_stack.specs.declared.node.LeafNode.{LeafNode}
 use Rattle.gx_stack.specs.declared.node.Node.TheVariants as nodes
 use Rattle.gx_stack.specs.Tree.{Tree, leaves_of, IsValid}
 use Rattle.gx_stack.specs.Seen.{tree_of}
 use Rattle.gx_gather.proofs.Lists.{in_filter}
+use Rattle.gx_stack.proofs.Seen.{child_there, child_valid}
 use Rattle.gx_types.specs.declared.any.AnyMapping.{AnyMapping}
+use Rattle.gx_types.specs.declared.any.AnyMapping.TheVariants as any
+use Rattle.gx_types.specs.Passing.{PassesOne}
 use Rattle.gx_types.specs.Any.{any_rule}
 use Rattle.gx_model.specs.States.{File, Row, IsRowOf}
 use Rattle.gx_scan.specs.declared.places.Place.{Place}
@@ -36,7 +43,7 @@ use Rattle.gx_scan.specs.Records.{list_of_one}
 use Rattle.gx_scan.specs.Steps.{HaveAtMost, is_key_inside, rows_inside}
 use Rattle.gx_scan.proofs.KeyLemmas.{one_at_key, steps_at_key, row_found}
 use Rattle.gx_scan.proofs.ListingLemmas.{none_chosen, place_chosen, all_chosen}
-use Rattle.gx_scan.proofs.PlaceLemmas.{number, IsOnce, data_once, data_few, leaf_there, none_placed, kid_placed, layer_placed, kids_many}
+use Rattle.gx_scan.proofs.PlaceLemmas.{number, IsOnce, data_once, data_few, leaf_there, none_placed, kid_placed, layer_placed, kids_many, leaf_placed, wrapped_passes}
 use Rattle.gx_scan.proofs.ScanLemmas.{row_of}
 use Rattle.gx_scan.proofs.StepLemmas.{whole_most}
 
@@ -55,6 +62,31 @@ one_below node l n cs b ds k p is valid passes one rest read placed =
     let many = kids_many node l is valid in
     layer_placed node l n cs b ds 1 (p ∷ []) is valid passes (omega (arith, many, one))
     (kid_placed l.mapping b ds l.kids.items 0 k [] (p ∷ []) (omega (arith, many, one)) rest read (none_placed l.mapping b ds l.kids.items) placed)
+
+-- ---- a layer `actual` over a leaf
+
+module _ (node : Node AnyMapping) (l : LayerNode AnyMapping) (m : Actual) (is : node ≡ nodes.Layer l)
+    (wraps : l.mapping ≡ any.Actual m) (valid : IsValid any_rule (tree_of node)) where
+  rule_is : any_rule l.mapping ≡ actual_rule (form_of m)
+  rule_is = ap any_rule wraps
+
+  one_kid : (any_rule l.mapping).kids ≡ 1
+  one_kid = ap (λ (rule : Rule). rule.kids) rule_is
+
+  pub actual_kid : 0 < length l.kids.items
+  actual_kid = child_there any_rule node l is 0 valid (omega (arith, one_kid))
+
+  pub actual_placed : (k : Node AnyMapping) (n : LeafNode) (p : Place) → k ≡ get_or l.kids.items 0 k
+      → k ≡ nodes.Leaf n → p.leaf ≡ n.leaf → p.lengths ≡ 0 → p.codes ≡ []
+      → ArePlaces 0 (tree_of node) (p ∷ [])
+  actual_placed k n p read below number_is lengths_is codes_is =
+      let v = child_valid any_rule node l is 0 k valid actual_kid read in
+      let passes = wrapped_passes l.mapping 0 [] 1 refl
+      (subst (λ (rule : Rule). PassesOne rule actual_rec) (sym rule_is) (λ r. (0, refl))) in
+      one_below node l 0 [] 1 [] k p is valid passes one_kid
+      (ap (λ (rule : Rule). rule.holds_rest 0) rule_is) read
+      (leaf_placed k n 1 [] p below v.1 (λ none. absurd (omega (arith, none)))
+      (λ none no_codes. absurd (omega (arith, none))) number_is lengths_is codes_is)
 
 pub at_one : (t : Tree AnyMapping) (p : Place) → ArePlaces 0 t (p ∷ []) → IsPlaceOf t p
 at_one t p are = record { places = p ∷ []; are = are; there = inl refl }

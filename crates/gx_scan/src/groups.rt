@@ -7,7 +7,7 @@ ghost use Rattle.gx_types.specs.Any.{any_rule};
 ghost use Rattle.gx_scan.specs.Entries.{ArePlaces};
 ghost use Rattle.gx_scan.specs.Groups.{AreGroups, ArePlain};
 
-use crate::places::{Place, place_of, places_of};
+use crate::places::{Place, leaf_below_actual, place_of, places_of};
 use gx_stack::Node;
 use gx_types::AnyMapping;
 use gx_values::NoMemory;
@@ -80,6 +80,9 @@ fn only_place(alloc: Global, node: &Node<AnyMapping>) -> Result<Option<Place>, N
     ensures { IfOk result
         (λ found. IfSome found (λ p. ArePlaces 0 (tree_of node.now) (p ∷ []))) }
 {
+    if let Some(place) = leaf_below_actual(alloc, node) {
+        return Ok(Some(place));
+    }
     if let Some(place) = place_of(alloc, node)? {
         return Ok(Some(place));
     }

@@ -76,6 +76,27 @@ pub(crate) fn place_of(alloc: Global, node: &Node<AnyMapping>) -> Result<Option<
     place_below(alloc, node, above)
 }
 
+/// The leaf of a node that is one layer `actual` over a leaf, which is known with no walk.
+pub(crate) fn leaf_below_actual(alloc: Global, node: &Node<AnyMapping>) -> Option<Place>
+    requires { IsValid any_rule (tree_of node.now) }
+    ensures { IfSome result (λ place. ArePlaces 0 (tree_of node.now) (place ∷ [])) }
+{
+    let Node::Layer(layer) = node else {
+        return None;
+    };
+    let AnyMapping::Actual(_) = &layer.mapping else {
+        return None;
+    };
+    let Node::Leaf(below) = &layer.kids[0] else {
+        return None;
+    };
+    Some(Place {
+        leaf: below.leaf,
+        lengths: 0,
+        codes: Codes::none(alloc),
+    })
+}
+
 // The same of a node below others, which change its records so.
 fn place_below(
     alloc: Global,
