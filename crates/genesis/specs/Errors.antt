@@ -26,7 +26,8 @@ open_stop kind.InvalidFilename = attach.Missing
 open_stop kind.OutOfMemory = attach.NoMemory
 open_stop _ = attach.Fault
 
--- A device that is to be made can't be where something stands. All else but want of memory is a fault.
+-- A device that is to be made can't be where something stands. All else but want of memory is a
+-- fault.
 abbrev pub make_stop : ErrorKind → AttachStop
 make_stop kind.AlreadyExists = attach.Exists
 make_stop kind.OutOfMemory = attach.NoMemory

@@ -19,8 +19,8 @@ pub struct Drive {
 }
 
 impl Drive {
-    /// The device in the file of that path. It has as many blocks as the file has whole ones, and no
-    /// more than a number can count.
+    /// The device in the file of that path. It has as many blocks as the file has whole ones, and
+    /// no more than a number can count.
     pub fn open<R: Files<File = File>>(files: &R, path: &str) -> Result<Drive, AttachStop>
         ensures { ¬ IsErrOf result AttachStop.Exists }
     {
@@ -38,8 +38,8 @@ impl Drive {
         })
     }
 
-    /// A device of so many blocks of zeros, in a new file of that path, whose name is on the disk. Where it
-    /// can't be made whole, the file is removed again.
+    /// A device of so many blocks of zeros, in a new file of that path, whose name is on the disk.
+    /// Where it can't be made whole, the file is removed again.
     pub fn make<R: Files<File = File>>(
         files: &R,
         path: &str,

@@ -28,7 +28,8 @@ pub fn read_file<R: Files>(
 fn read_text<F: Read + Drop>(alloc: Global, file: F, limit: u32) -> Result<Vec<u8>, FetchStop>
     ensures whole { IfOk result (λ text. IfSome (F.remaining file) (λ bytes. text.items ≡ bytes)) }
     ensures short { IfOk result (λ text. length text.items ≤ limit) }
-    ensures too_long { IsErrOf result FetchStop.TooLong → IfSome (F.remaining file) (λ bytes. limit < length bytes) }
+    ensures too_long { IsErrOf result FetchStop.TooLong →
+        IfSome (F.remaining file) (λ bytes. limit < length bytes) }
 {
     let mut text = Vec::new(alloc);
     let mut front = file.take(u64::from(limit) + 1);

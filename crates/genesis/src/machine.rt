@@ -1,5 +1,5 @@
-// The real machine. A text and a device are files, the script is standard input, and what is said goes
-// to standard output. It tells no content, so its clauses speak of the count of faults alone.
+// The real machine. A text and a device are files, the script is standard input, and what is said
+// goes to standard output. It tells no content, so its clauses speak of the count of faults alone.
 ghost use Rattle.std.specs.Prelude.{◌≡◌, ◌≤◌, true, false, Ok, IfOk, OnOk, OnErr, is_err};
 ghost use Rattle.gx_device.specs.Content.{nothing_told};
 ghost use Rattle.gx_device.specs.Faults.{Rose};
@@ -136,9 +136,9 @@ impl<R: Files<File = File> + Input + Print + Drop> Machine for HostMachine<R> {
         }
     }
 
-    /// A device is the file of that path, which no other program has attached meanwhile. A folder is no
-    /// device. A file that is there and can't be opened for reading and writing is a fault, and so is
-    /// one that another program has attached.
+    /// A device is the file of that path, which no other program has attached meanwhile. A folder
+    /// is no device. A file that is there and can't be opened for reading and writing is a fault,
+    /// and so is one that another program has attached.
     fn attach(&mut self, _alloc: Global, name: &str, make: Option<u32>) -> Result<(), AttachStop> {
         let attached = match make {
             None => Drive::open(&self.rt, name),

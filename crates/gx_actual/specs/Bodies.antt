@@ -9,7 +9,8 @@ use Rattle.gx_values.specs.declared.values.Value.{Value}
 use Rattle.gx_values.specs.declared.values.Value.TheVariants as value
 use Rattle.gx_values.specs.declared.records.Field.{Field}
 
--- an int as 8 bytes two's complement, a text as one length byte and its bytes, bytes as a u16 length and the bytes
+-- an int as 8 bytes two's complement, a text as one length byte and its bytes, bytes as a u16
+-- length and the bytes
 abbrev pub field_bytes : Value → List ℕ
 field_bytes (value.Int n) = to_be_bytes w64 (cast_unsigned w64 n)
 field_bytes (value.Text text) = length text ∷ text

@@ -38,8 +38,12 @@ field_prefix (kind.Text most) short (value.Text t) (value.Text u) x y f g e =
     let s = same_front t u x y n (ap (drop 1) e) in
     (ap value.Text s.0, s.1)
 field_prefix (kind.Bytes most) short (value.Bytes t) (value.Bytes u) x y f g e =
-    let s = same_front (to_be_bytes w16 (length t)) (to_be_bytes w16 (length u)) (t ++ x) (u ++ y) refl (sym (append_assoc (to_be_bytes w16 (length t)) t x) ∙ e ∙ append_assoc (to_be_bytes w16 (length u)) u y) in
-    let r = same_front t u x y (same_length (length t) (length u) (omega (arith, f)) (omega (arith, g)) s.0) s.1 in
+    let s = same_front (to_be_bytes w16 (length t)) (to_be_bytes w16 (length u)) (t ++ x)
+    (u ++ y) refl
+    (sym (append_assoc (to_be_bytes w16 (length t)) t x) ∙ e ∙ append_assoc
+    (to_be_bytes w16 (length u)) u y) in
+    let r = same_front t u x y
+    (same_length (length t) (length u) (omega (arith, f)) (omega (arith, g)) s.0) s.1 in
     (ap value.Bytes r.0, r.1)
 field_prefix kind.Int short (value.Int n) (value.Text t) x y f g e = absurd g
 field_prefix kind.Int short (value.Int n) (value.Bytes t) x y f g e = absurd g
@@ -59,5 +63,6 @@ bodies_prefix_free [] short = tt
 bodies_prefix_free (f ∷ fs) short = (field_prefix f.kind short.0, bodies_prefix_free fs short.1)
 
 -- a body is that of one list of values
-pub same_body : (fs : List Field) (a b : List Value) → AreShort fs → AreFit fs a → AreFit fs b → body_of a ≡ body_of b → a ≡ b
+pub same_body : (fs : List Field) (a b : List Value) → AreShort fs → AreFit fs a → AreFit fs b
+    → body_of a ≡ body_of b → a ≡ b
 same_body fs a b short f g e = written_once field_bytes fs a b (bodies_prefix_free fs short) f g e

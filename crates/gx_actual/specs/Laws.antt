@@ -31,9 +31,12 @@ value_width (kind.Text most) (value.Bytes n) h = absurd h
 value_width (kind.Bytes most) (value.Int n) h = absurd h
 value_width (kind.Bytes most) (value.Text n) h = absurd h
 
-pub body_width : (fs : List Field) (vs : List Value) → AreFit fs vs → length (body_of vs) ≤ field_widths fs
+pub body_width : (fs : List Field) (vs : List Value) → AreFit fs vs
+    → length (body_of vs) ≤ field_widths fs
 body_width [] [] h = omega arith
-body_width (f ∷ fs) (v ∷ vs) h = omega (arith, length-append (field_bytes v) (body_of vs), value_width f.kind v h.0, body_width fs vs h.1)
+body_width (f ∷ fs) (v ∷ vs) h =
+    omega
+    (arith, length-append (field_bytes v) (body_of vs), value_width f.kind v h.0, body_width fs vs h.1)
 body_width [] (v ∷ vs) h = absurd h
 body_width (f ∷ fs) [] h = absurd h
 
@@ -46,22 +49,31 @@ bytes_in p = bytes_first p.rec.fields
     bytes_first (value.Bytes bytes ∷ vs) = bytes
     bytes_first other = []
 
-same_rec : (form : Form) (r s : Rec) → AreShort form.fields → IsOf form r → IsOf form s → actual_part r ≡ actual_part s → r ≡ s
+same_rec : (form : Form) (r s : Rec) → AreShort form.fields → IsOf form r → IsOf form s
+    → actual_part r ≡ actual_part s → r ≡ s
 unfolding bytes_in
 same_rec form r s short f g e =
     let keys : r.key ≡ s.key = ap (λ (p : Part). p.rec.key) e in
-    let fields : r.fields ≡ s.fields = same_body form.fields r.fields s.fields short f.fields g.fields (ap bytes_in e) in
+    let fields : r.fields ≡ s.fields =
+    same_body form.fields r.fields s.fields short f.fields g.fields (ap bytes_in e) in
     λ i. record { key = keys i; fields = fields i }
 
 pub actual_laws : (form : Form) → AreShort form.fields → MappingLaws (actual_rule form)
 actual_laws form short = record {
-  fit = λ r p is there. subst (λ (q : Part). (q.child < 1) × IsOf (actual_form form) q.rec) (sym (the_one p (actual_part r) there)) (omega arith, record { key = is.key; fields = (body_width form.fields r.fields is.fields, tt) });
+  fit = λ r p is there. subst (λ (q : Part). (q.child < 1)
+      × IsOf (actual_form form) q.rec) (sym (the_one p (actual_part r) there))
+      (omega arith, record { key = is.key; fields = (body_width form.fields r.fields is.fields, tt) });
   in_order = λ r is. sorted_one (actual_part r);
-  apart = λ r s p q is_r is_s i j child key. ap (λ (x : Part). x.rec.key) (sym (the_one p (actual_part r) i)) ∙ key ∙ ap (λ (x : Part). x.rec.key) (the_one q (actual_part s) j);
+  apart = λ r s p q is_r is_s i j child key.
+      ap (λ (x : Part). x.rec.key) (sym (the_one p (actual_part r) i)) ∙ key ∙ ap
+      (λ (x : Part). x.rec.key) (the_one q (actual_part s) j);
   has_data = λ r is. (actual_part r, inl refl);
-  told = λ r s is_r is_s e. same_rec form r s short is_r is_s (ap (λ (ps : List Part). get_or ps 0 (actual_part r)) e);
+  told = λ r s is_r is_s e.
+      same_rec form r s short is_r is_s (ap (λ (ps : List Part). get_or ps 0 (actual_part r)) e);
   keys_lead = λ c lt rest. ([], sym (append-nil form.keys));
-  key_leads = λ r p is there rest. ([], ap (λ (x : Part). x.rec.key) (the_one p (actual_part r) there) ∙ sym (append-nil r.key));
+  key_leads =
+      λ r p is there rest.
+      ([], ap (λ (x : Part). x.rec.key) (the_one p (actual_part r) there) ∙ sym (append-nil r.key));
   skipped = λ r p span is there skips. cc;
   carried = λ name c lt carries. cc;
   indexed = λ name c is. cc;

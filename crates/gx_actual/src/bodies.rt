@@ -9,8 +9,8 @@ ghost use Rattle.gx_actual.specs.Bodies.{field_bytes, body_of, IsShort, AreShort
 use gx_values::{Field, Kind, NoMemory, Octets, Value, Values};
 use std::alloc::{AllocError, Global};
 
-/// The body of the values of these fields, of which no text or bytes may be longer than what its length is
-/// written in. `NoMemory`: there was none for it.
+/// The body of the values of these fields, of which no text or bytes may be longer than what its
+/// length is written in. `NoMemory`: there was none for it.
 pub fn body_bytes(alloc: Global, fields: &[Field], values: &[Value]) -> Result<Octets, NoMemory>
     requires short { AreShort fields.now }
     requires fit { AreFit fields.now values.now }
@@ -56,7 +56,8 @@ fn push_value(body: &mut Vec<u8>, value: &Value) -> Result<(), AllocError>
     Ok(())
 }
 
-/// The values of these fields that the body is of. `None`: it is the body of no values that fit them.
+/// The values of these fields that the body is of. `None`: it is the body of no values that fit
+/// them.
 /// `NoMemory`: there was none for the values.
 pub fn read_body(alloc: Global, fields: &[Field], body: &[u8]) -> Result<Option<Values>, NoMemory>
     requires { AreShort fields.now }

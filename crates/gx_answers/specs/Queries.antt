@@ -15,9 +15,11 @@ use Rattle.gx_states.specs.Internal.{AreInternal, HaveState}
 use Rattle.gx_answers.specs.Work.{IsBounded}
 
 -- the result is the text of the command's answer, also where that is a refusal
-pub record Answers {S : Type 0} (g : Ghosts S) (schema : Schema) (built : Built) (c : Command) (old new : S)
+pub record Answers {S : Type 0} (g : Ghosts S) (schema : Schema) (built : Built) (c : Command)
+    (old new : S)
     (result : Result (List ℕ) Stop) : Type 0 where
-  pub answered : (s : State) → g.whole old → AreInternal schema built (g.working old) s → IfOk result (IsAnswer schema s c)
+  pub answered : (s : State) → g.whole old → AreInternal schema built (g.working old) s
+      → IfOk result (IsAnswer schema s c)
   pub few_steps : (s : State) → g.whole old → AreInternal schema built (g.working old) s
       → OnOk result (IsBounded schema built (length (g.working old)) s c (g.work old) (g.work new))
   pub reads : ReadsMaps g (g.whole old × HaveState schema built (g.working old)) old new result

@@ -1,4 +1,5 @@
--- How many steps a command may take that reads. A step is a selection from a leaf that was answered, or an entry that one gave.
+-- How many steps a command may take that reads. A step is a selection from a leaf that was
+-- answered, or an entry that one gave.
 use Rattle.std.specs.Prelude.{ℕ, zero, suc, ◌+◌, ◌≤◌, max, Bool, true, false, List, [], ◌∷◌, length, filter, Option, Some, None}
 use Rattle.std.specs.FinMap as fin
 use Rattle.gx_values.specs.declared.values.Op.TheVariants as op
@@ -28,7 +29,8 @@ use Rattle.gx_states.specs.Internal.{owner_count}
 
 -- ---- the candidates of a plan
 
--- whether a record meets the one condition of the plan: an equality, a range, or that it is a member of the owner
+-- whether a record meets the one condition of the plan: an equality, a range, or that it is a
+-- member of the owner
 abbrev pub meets_plan : (Row → Bool) → Find → Plan → Row → Bool
 meets_plan is_member q (Key number) r = meets_one (condition_of q (Key number)) r
 meets_plan is_member q ByLink r = is_member r
@@ -41,7 +43,8 @@ meets_plan is_member q Scan r = true
 abbrev pub candidates : Schema → Built → State → Find → List Row
 candidates schema built s q = filter
     (meets_plan (λ r. meets_of s q.of r.0) q
-    (plan_for (tree_at built.files q.file) (file_at schema q.file) q)) (fin.entries (file_in s q.file))
+    (plan_for (tree_at built.files q.file) (file_at schema q.file) q))
+    (fin.entries (file_in s q.file))
 
 -- ---- the entries of a record
 
@@ -71,14 +74,17 @@ most_owned (x ∷ xs) (l ∷ ls) (suc i) = most_owned xs ls i
 -- from one record of any file, or from one owner of the link of `of` where it stands
 abbrev pub most_with : Built → State → Option Of → ℕ
 most_with built s None = most_entries built.files s.files
-most_with built s (Some of) = max (most_entries built.files s.files) (most_owned built.links s.links of.link)
+most_with built s (Some of) =
+    max (most_entries built.files s.files) (most_owned built.links s.links of.link)
 
 -- ---- the bound
 
 abbrev pub find_bound : Schema → Built → ℕ → State → Find → ℕ
-find_bound schema built leaves s q = step_bound (length (candidates schema built s q)) (most_with built s q.of) leaves
+find_bound schema built leaves s q =
+    step_bound (length (candidates schema built s q)) (most_with built s q.of) leaves
 
--- The `find` as which a command's steps count: `get` has one equality on the key, `members` has its owner alone.
+-- The `find` as which a command's steps count: `get` has one equality on the key, `members` has its
+-- owner alone.
 abbrev pub counted_as : Schema → Command → Option Find
 counted_as schema (command.Get file key) =
     Some (record {
@@ -100,8 +106,10 @@ counted_as schema _ = None
 
 abbrev pub IsWithin : Schema → Built → ℕ → State → Option Find → ℕ → ℕ → Type 0
 IsWithin schema built leaves s None before after = Unit {0}
-IsWithin schema built leaves s (Some q) before after = after ≤ before + find_bound schema built leaves s q
+IsWithin schema built leaves s (Some q) before after =
+    after ≤ before + find_bound schema built leaves s q
 
 -- the steps of a command that reads are bounded; for other commands this says nothing
 abbrev pub IsBounded : Schema → Built → ℕ → State → Command → ℕ → ℕ → Type 0
-IsBounded schema built leaves s c before after = IsWithin schema built leaves s (counted_as schema c) before after
+IsBounded schema built leaves s c before after =
+    IsWithin schema built leaves s (counted_as schema c) before after

@@ -23,15 +23,16 @@ use gx_types::Built;
 use gx_values::{NoMemory, Octets, Rec, Value};
 use std::alloc::Global;
 
-/// The answer of a command that follows a link, `owner`, `members` or a `find` with `of`: the text that
-/// the abstract database answers, also where it is a refusal. The leaves hold what they held.
+/// The answer of a command that follows a link, `owner`, `members` or a `find` with `of`: the text
+/// that the abstract database answers, also where it is a refusal. The leaves hold what they held.
 ///
-/// `members` and `find` take at most `2 * (c + 1) * (w + l)` steps, where c is the number of records that
-/// meet the one condition of the plan, w the greatest number of leaf entries of a record or of an owner,
-/// and l the number of leaves.
+/// `members` and `find` take at most `2 * (c + 1) * (w + l)` steps, where c is the number of
+/// records that meet the one condition of the plan, w the greatest number of leaf entries of a
+/// record or of an owner, and l the number of leaves.
 ///
-/// `Damaged`: the leaves stood for no state, which is said of block 0 where each is whole. `Fault`: the
-/// count of faults rose; with any other answer it stays. `NoMemory`: an allocation failed. Never `Full`.
+/// `Damaged`: the leaves stood for no state, which is said of block 0 where each is whole. `Fault`:
+/// the count of faults rose; with any other answer it stays. `NoMemory`: an allocation failed.
+/// Never `Full`.
 pub fn answer<B: Leaves>(
     alloc: Global,
     schema: &Schema,

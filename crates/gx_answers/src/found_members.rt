@@ -23,8 +23,8 @@ use gx_ports::{Leaves, Stop};
 use gx_rows::Row;
 use std::alloc::Global;
 
-/// Appends the owner's members that meet the conditions to none, in any order, and answers whether there
-/// is a record of the owner. Where the key is given, no other record is looked at.
+/// Appends the owner's members that meet the conditions to none, in any order, and answers whether
+/// there is a record of the owner. Where the key is given, no other record is looked at.
 pub(crate) fn add_found_members<B: Leaves, L: Linkset>(
     alloc: Global,
     stored: &StoredLink<L>,

@@ -21,11 +21,14 @@ no_spec = record { kind = leaf.Heap; first = kind.Int; key_width = 0 }
 
 -- the names of the definitions: those of the files, and then those of the links
 abbrev pub definition_names : Schema → List (List ℕ)
-definition_names schema = map (λ (f : FileDef). f.name) schema.files ++ map (λ (l : LinkDef). l.name) schema.links
+definition_names schema =
+    map (λ (f : FileDef). f.name) schema.files ++ map (λ (l : LinkDef). l.name) schema.links
 
 -- of a leaf with this number, name and kind, with so many entries
 abbrev pub leaf_text : ℕ → List ℕ → LeafKind → ℕ → List ℕ
-leaf_text i name k entries = codes "leaf " ++ decimal i ++ codes " " ++ name ++ codes " " ++ head_text (heads.Leaf k) ++ codes " entries " ++ decimal entries ++ codes "\n"
+leaf_text i name k entries =
+    codes "leaf " ++ decimal i ++ codes " " ++ name ++ codes " " ++ head_text (heads.Leaf k)
+    ++ codes " entries " ++ decimal entries ++ codes "\n"
 
 abbrev pub file_text : List ℕ → ℕ → List ℕ
 file_text name records = codes "file " ++ name ++ codes " records " ++ decimal records ++ codes "\n"
@@ -35,7 +38,9 @@ link_text name members = codes "link " ++ name ++ codes " members " ++ decimal m
 
 -- the lines of the leaf, the file and the link with a number
 abbrev pub leaf_line : Schema → List LeafSpec → List ℕ → List LeafMap → ℕ → List ℕ
-leaf_line schema specs owners maps i = leaf_text i (slice_index_or (definition_names schema) (slice_index_or owners i 0) []) (slice_index_or specs i no_spec).kind (len (map_at maps i))
+leaf_line schema specs owners maps i =
+    leaf_text i (slice_index_or (definition_names schema) (slice_index_or owners i 0) [])
+    (slice_index_or specs i no_spec).kind (len (map_at maps i))
 
 abbrev pub file_line : Schema → State → ℕ → List ℕ
 file_line schema s i = file_text (file_at schema i).name (len (file_in s i))
@@ -48,7 +53,8 @@ abbrev pub lines_below : (ℕ → List ℕ) → ℕ → List ℕ
 lines_below line zero = []
 lines_below line (suc n) = lines_below line n ++ line n
 
--- the lines of the leaves, the files and the links of a database that stands for a state, and the word that it does
+-- the lines of the leaves, the files and the links of a database that stands for a state, and the
+-- word that it does
 abbrev pub inspect_text : Schema → List LeafSpec → List ℕ → List LeafMap → State → List ℕ
 inspect_text schema specs owners maps s =
     lines_below (leaf_line schema specs owners maps) (length maps)

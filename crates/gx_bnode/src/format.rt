@@ -46,7 +46,9 @@ pub(crate) fn branch_len(separator: &[u8]) -> usize
 pub(crate) fn write_branch(bytes: &mut [u8], at: usize, separator: &[u8], child: u32)
     requires short { length separator.now ≤ 400 }
     requires room { at + (6 + length separator.now) ≤ length bytes.old }
-    ensures { bytes.new ≡ overwritten bytes.old at (branch_bytes (record { separator = separator.now; child = child })) }
+    ensures { bytes.new
+        ≡ overwritten bytes.old at
+        (branch_bytes (record { separator = separator.now; child = child })) }
 {
     overwrite(bytes, at, &(separator.len() as u16).to_be_bytes());
     overwrite(bytes, at + LENGTH_LEN, separator);

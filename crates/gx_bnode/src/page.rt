@@ -74,9 +74,12 @@ pub fn child(page: &[u8], i: u16) -> u32
 /// The place of the child for the key: the number of separators at or below it.
 pub fn child_of(page: &[u8], key: &[u8]) -> u16
     requires { IsInnerPage page.now }
-    ensures number { result ≡ count_by (λ separator. is_le (slice_cmp nat_cmp separator key.now)) (separators_of page.now) }
-    ensures before { All (λ separator. IsTrue (is_le (slice_cmp nat_cmp separator key.now))) (take result (separators_of page.now)) }
-    ensures behind { All (λ separator. slice_cmp nat_cmp key.now separator ≡ Less) (drop result (separators_of page.now)) }
+    ensures number { result ≡ count_by (λ separator. is_le (slice_cmp nat_cmp separator key.now))
+        (separators_of page.now) }
+    ensures before { All (λ separator. IsTrue (is_le (slice_cmp nat_cmp separator key.now)))
+        (take result (separators_of page.now)) }
+    ensures behind { All (λ separator. slice_cmp nat_cmp key.now separator ≡ Less)
+        (drop result (separators_of page.now)) }
 {
     let mut place = 0;
     for (separator, _) in branches(page) {
@@ -96,8 +99,8 @@ pub fn has_room(page: &[u8]) -> bool
     HEADER_LEN + branches_len(page_body(page), separators(page)) + MAX_BRANCH_LEN <= PAGE_LEN
 }
 
-/// Puts a separator of at most 400 bytes at place `i`, and a child right of it. The page has room, and
-/// the separators still ascend.
+/// Puts a separator of at most 400 bytes at place `i`, and a child right of it. The page has room,
+/// and the separators still ascend.
 pub fn insert(page: &mut [u8], i: u16, key: &[u8], right: u32)
     requires page { IsInnerPage page.old }
     requires room { HasRoom (separators_of page.old) }

@@ -20,7 +20,8 @@ pub fn split(page: &mut [u8], right: &mut [u8]) -> KeyBuf
     requires size { length right.old ≡ 4096 }
     ensures left { IsInnerPage page.new }
     ensures right { IsInnerPage right.new }
-    ensures separators { separators_of page.old ≡ separators_of page.new ++ result ∷ separators_of right.new }
+    ensures separators { separators_of page.old ≡ separators_of page.new ++ result
+        ∷ separators_of right.new }
     ensures children { children_of page.old ≡ children_of page.new ++ children_of right.new }
     ensures left_room { HasRoom (separators_of page.new) }
     ensures right_room { HasRoom (separators_of right.new) }

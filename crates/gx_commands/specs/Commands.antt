@@ -16,7 +16,8 @@ use Rattle.gx_commands.specs.declared.command.Command.TheVariants as command
 use Rattle.gx_commands.specs.declared.command.LineWhy.{LineWhy}
 use Rattle.gx_commands.specs.declared.command.LineWhy.TheVariants as why
 
--- ---- commands of a schema: their numbers are those of its files, links and fields, and their values fit
+-- ---- commands of a schema: their numbers are those of its files, links and fields, and their
+-- values fit
 
 -- the value is a key of the file, whether or not a record has it
 abbrev pub IsKeyOf : FileDef → Value → Type 0
@@ -43,7 +44,9 @@ IsOrderOf file order = order.field < length file.fields
 -- the link's members are of the file, and the owner is a key of its owner file
 abbrev pub IsOfOf : Schema → ℕ → Option Of → Type 0
 IsOfOf schema file None = Unit {0}
-IsOfOf schema file (Some of) = (of.link < length schema.links) × ((link_at schema of.link).member ≡ file) × IsKeyOf (file_at schema (link_at schema of.link).owner) of.owner
+IsOfOf schema file (Some of) =
+    (of.link < length schema.links) × ((link_at schema of.link).member ≡ file)
+    × IsKeyOf (file_at schema (link_at schema of.link).owner) of.owner
 
 pub record IsFindOf (schema : Schema) (q : Find) : Type 0 where
   pub file : q.file < length schema.files
@@ -53,14 +56,25 @@ pub record IsFindOf (schema : Schema) (q : Find) : Type 0 where
 
 -- the command is of the schema
 abbrev pub IsOfSchema : Schema → Command → Type 0
-IsOfSchema schema (command.Insert file values) = (file < length schema.files) × AreFit (file_at schema file).fields values
-IsOfSchema schema (command.Get file key) = (file < length schema.files) × IsKeyOf (file_at schema file) key
-IsOfSchema schema (command.Update file key changes) = (file < length schema.files) × IsKeyOf (file_at schema file) key × AllByRecursion (IsChangeOf (file_at schema file)) changes × AreApart changes
-IsOfSchema schema (command.Delete file key) = (file < length schema.files) × IsKeyOf (file_at schema file) key
-IsOfSchema schema (command.Connect link owner member) = (link < length schema.links) × IsKeyOf (file_at schema (link_at schema link).owner) owner × IsKeyOf (file_at schema (link_at schema link).member) member
-IsOfSchema schema (command.Disconnect link member) = (link < length schema.links) × IsKeyOf (file_at schema (link_at schema link).member) member
-IsOfSchema schema (command.Members link owner order) = (link < length schema.links) × IsKeyOf (file_at schema (link_at schema link).owner) owner × IsOrderOf (file_at schema (link_at schema link).member) order
-IsOfSchema schema (command.Owner link member) = (link < length schema.links) × IsKeyOf (file_at schema (link_at schema link).member) member
+IsOfSchema schema (command.Insert file values) =
+    (file < length schema.files) × AreFit (file_at schema file).fields values
+IsOfSchema schema (command.Get file key) =
+    (file < length schema.files) × IsKeyOf (file_at schema file) key
+IsOfSchema schema (command.Update file key changes) =
+    (file < length schema.files) × IsKeyOf (file_at schema file) key
+    × AllByRecursion (IsChangeOf (file_at schema file)) changes × AreApart changes
+IsOfSchema schema (command.Delete file key) =
+    (file < length schema.files) × IsKeyOf (file_at schema file) key
+IsOfSchema schema (command.Connect link owner member) =
+    (link < length schema.links) × IsKeyOf (file_at schema (link_at schema link).owner) owner
+    × IsKeyOf (file_at schema (link_at schema link).member) member
+IsOfSchema schema (command.Disconnect link member) =
+    (link < length schema.links) × IsKeyOf (file_at schema (link_at schema link).member) member
+IsOfSchema schema (command.Members link owner order) =
+    (link < length schema.links) × IsKeyOf (file_at schema (link_at schema link).owner) owner
+    × IsOrderOf (file_at schema (link_at schema link).member) order
+IsOfSchema schema (command.Owner link member) =
+    (link < length schema.links) × IsKeyOf (file_at schema (link_at schema link).member) member
 IsOfSchema schema (command.Find q) = IsFindOf schema q
 IsOfSchema schema (command.ReorganizeFile file) = file < length schema.files
 IsOfSchema schema (command.ReorganizeLink link) = link < length schema.links

@@ -35,7 +35,8 @@ abbrev pub spelling : Word → List ℕ
 spelling (Bare text) = text
 spelling (Quoted text) = 34 ∷ text ++ 34 ∷ []
 
--- a bare word is bytes without a blank, of which the first is no quote; a quoted text is printable bytes, with quotes in pairs
+-- a bare word is bytes without a blank, of which the first is no quote; a quoted text is printable
+-- bytes, with quotes in pairs
 abbrev pub IsWord : Word → Type 0
 IsWord (Bare []) = ⊥
 IsWord (Bare (b ∷ bs)) = (b ≢ 34) × AllByRecursion (λ c. is_blank c ≡ false) (b ∷ bs)

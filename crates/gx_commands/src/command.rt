@@ -7,7 +7,8 @@ use gx_values::{Op, Value, Values};
 use std::alloc::{AllocError, AllocFailed};
 use std::marker::Model;
 
-/// A condition on a field: its number in the file, the key being field 0, and what it is compared with.
+/// A condition on a field: its number in the file, the key being field 0, and what it is compared
+/// with.
 #[derive(Debug, Drop)]
 pub struct Cond {
     pub field: u16,

@@ -8,7 +8,8 @@ use crate::command::LineWhy;
 use memchr::memchr;
 use std::marker::Model;
 
-/// What is left of a script, seen as its lines: without LF, and without the CR that is dropped before an LF.
+/// What is left of a script, seen as its lines: without LF, and without the CR that is dropped
+/// before an LF.
 #[derive(Debug, Drop)]
 pub struct ScriptLines<'a> {
     rest: &'a [u8],
@@ -62,7 +63,8 @@ impl<'a> ScriptLines<'a> {
         // The parts of a script are its bytes, cut at each LF.
         ensures parts { ArePartsOf script.now (parts_of script.now) }
         // What stands behind the first byte too many has no bearing on them.
-        ensures enough { script_lines (take (longest_script + 1) script.now) ≡ script_lines script.now }
+        ensures enough { script_lines (take (longest_script + 1) script.now)
+            ≡ script_lines script.now }
     {
         ScriptLines {
             rest: script,
@@ -70,12 +72,15 @@ impl<'a> ScriptLines<'a> {
         }
     }
 
-    /// The next line, and none where there are no more. `TooLong`: exactly where that line has more than 4,096 bytes, a CR at its
-    /// end counted and its LF not. `ScriptTooLong`: exactly where it has not, and in it stands the byte by which the script
-    /// is too long. After an error, or where there are no more lines, the next call answers the same.
+    /// The next line, and none where there are no more. `TooLong`: exactly where that line has more
+    /// than 4,096 bytes, a CR at its end counted and its LF not. `ScriptTooLong`: exactly where it
+    /// has not, and in it stands the byte by which the script is too long. After an error, or where
+    /// there are no more lines, the next call answers the same.
     pub fn next_line(&mut self) -> Result<Option<&'a [u8]>, LineWhy>
-        ensures next { IsNext self.old self.new (map_ok (λ line. option_map (λ bytes. bytes.now) line) result) }
-        ensures short { IfOk result (λ line. IfSome line (λ bytes. length bytes.now ≤ longest_line)) }
+        ensures next { IsNext self.old self.new
+            (map_ok (λ line. option_map (λ bytes. bytes.now) line) result) }
+        ensures short { IfOk result
+            (λ line. IfSome line (λ bytes. length bytes.now ≤ longest_line)) }
     {
         let seen = &self.rest[..self.rest.len().min(self.most)];
         let len = line_len(seen);

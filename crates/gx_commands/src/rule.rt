@@ -5,10 +5,11 @@ ghost use Rattle.gx_commands.specs.Commands.{place_reason};
 
 use crate::command::{Command, LineWhy};
 
-/// Whether the command may stand where it does, inside a transaction or outside: `begin` stands outside alone;
-/// `commit`, `abort` and all that changes or reorganizes records and links stands inside alone; what only reads, and
-/// an empty line or a comment, stands in both places. `InTransaction`: exactly for `begin` inside. `NoTransaction`:
-/// exactly for a command outside that stands inside alone.
+/// Whether the command may stand where it does, inside a transaction or outside: `begin` stands
+/// outside alone; `commit`, `abort` and all that changes or reorganizes records and links stands
+/// inside alone; what only reads, and an empty line or a comment, stands in both places.
+/// `InTransaction`: exactly for `begin` inside. `NoTransaction`: exactly for a command outside that
+/// stands inside alone.
 pub fn allowed(inside: bool, command: &Command) -> Result<(), LineWhy>
     ensures { result_err result ≡ place_reason inside command.now }
 {

@@ -10,7 +10,8 @@ use crate::command::LineWhy;
 use gx_tokens::split_quoted;
 use memchr::memchr;
 
-/// A word as it is spelled: a quoted text without the quotes around it, with each quote in it twice.
+/// A word as it is spelled: a quoted text without the quotes around it, with each quote in it
+/// twice.
 #[derive(Clone, Copy, Debug, PartialEq, Eq)]
 pub enum LineWord<'a> {
     Bare(&'a [u8]),
@@ -89,7 +90,8 @@ fn ends_word(rest: &[u8]) -> bool
 
 // The quoted text whose first quote stands right before, where the word ends with it.
 fn split_quoted_word(text: &[u8]) -> Option<(LineWord<'_>, &[u8])>
-    ensures { option_map (λ x. (word_of x.0, x.1.now)) result ≡ quoted_word (split_quoted text.now) }
+    ensures { option_map (λ x. (word_of x.0, x.1.now)) result
+        ≡ quoted_word (split_quoted text.now) }
 {
     let (quoted, rest) = split_quoted(text)?;
     if ends_word(rest) {
@@ -99,8 +101,8 @@ fn split_quoted_word(text: &[u8]) -> Option<(LineWord<'_>, &[u8])>
     }
 }
 
-// The word at the front of a text without a blank there, and what follows it. None where the text is empty or begins with
-// a quoted text that isn't good.
+// The word at the front of a text without a blank there, and what follows it. None where the text
+// is empty or begins with a quoted text that isn't good.
 fn split_word(text: &[u8]) -> Option<(LineWord<'_>, &[u8])>
     ensures { option_map (λ x. (word_of x.0, x.1.now)) result ≡ split_word text.now }
 {
@@ -121,10 +123,11 @@ fn first_word(line: &[u8]) -> Option<(LineWord<'_>, &[u8])>
     split_word(after_blanks(line))
 }
 
-// What stands behind words without a quote at the front of a line: a quote that begins a word, or nothing. It is the
-// whole line where its first quote stands inside of a word.
+// What stands behind words without a quote at the front of a line: a quote that begins a word, or
+// nothing. It is the whole line where its first quote stands inside of a word.
 fn from_quote(line: &[u8]) -> &[u8]
-    ensures same { ((ws : List Word) × AreWords result.now ws) ↔ ((ws : List Word) × AreWords line.now ws) }
+    ensures same { ((ws : List Word) × AreWords result.now ws) ↔
+        ((ws : List Word) × AreWords line.now ws) }
     ensures within { length result.now ≤ length line.now }
 {
     match memchr(b'"', line) {
@@ -140,8 +143,8 @@ fn from_quote(line: &[u8]) -> &[u8]
     }
 }
 
-/// Whether the line is words with blanks between them: each quoted text is closed, has no tab inside, and is followed by a
-/// blank or the end.
+/// Whether the line is words with blanks between them: each quoted text is closed, has no tab
+/// inside, and is followed by a blank or the end.
 pub fn are_words(line: &[u8]) -> bool
     ensures { IsTrue result ↔ ((ws : List Word) × AreWords line.now ws) }
 {

@@ -14,7 +14,8 @@ pub record IsImage (m : Moment) (image : Image) : Type 0 where
   pub said : image.said ≡ m.said
   pub shelf : image.shelf ≡ m.shelf
   pub count : length image.blocks ≡ length m.blocks
-  pub same : (n : ℕ) → n < length m.blocks → is_pending m n ≡ false → get_or image.blocks n [] ≡ block_of m n
+  pub same : (n : ℕ) → n < length m.blocks → is_pending m n ≡ false
+      → get_or image.blocks n [] ≡ block_of m n
 
 -- each image of this moment has P
 abbrev pub EachImage : (Image → Type 0) → Moment → Type 0

@@ -8,9 +8,10 @@ use Rattle.gx_device.specs.Crash.{Image, EachImage}
 abbrev pub IsPrefix : List ℕ → List ℕ → Type 0
 IsPrefix xs ys = (rest : List ℕ) × (ys ≡ xs ++ rest)
 
--- The blocks stand for something, what was said lies between what had been said at a moment and this,
--- and the devices are those of that moment.
-pub record IsQuiet (stands : List (List ℕ) → Type 0) (start : Moment) (last : List ℕ) (image : Image) : Type 0 where
+-- The blocks stand for something, what was said lies between what had been said at a moment and
+-- this, and the devices are those of that moment.
+pub record IsQuiet (stands : List (List ℕ) → Type 0) (start : Moment) (last : List ℕ)
+    (image : Image) : Type 0 where
   pub is : stands image.blocks
   pub begins : IsPrefix start.said image.said
   pub goes_on : IsPrefix image.said last
@@ -25,7 +26,8 @@ pub record QuietSince (stands : List (List ℕ) → Type 0) (start now : Content
   pub begun : IsPrefix start.now.said now.now.said
 
 -- the blocks stand for the old or for the new, and this was said
-pub record IsOldOrNew (old new : List (List ℕ) → Type 0) (start : Moment) (image : Image) : Type 0 where
+pub record IsOldOrNew (old new : List (List ℕ) → Type 0) (start : Moment)
+    (image : Image) : Type 0 where
   pub is : old image.blocks ⊎ new image.blocks
   pub said : image.said ≡ start.said
   pub shelf : image.shelf ≡ start.shelf

@@ -23,7 +23,9 @@ bytes_in (value.Bytes bytes ∷ vs) = bytes
 bytes_in other = []
 
 abbrev pub piece_part : List Value → ℕ → List ℕ → Part
-piece_part key j piece = record { child = 0; rec = record { key = key ++ value.Int (pos j) ∷ []; fields = value.Bytes piece ∷ [] } }
+piece_part key j piece =
+    record
+    { child = 0; rec = record { key = key ++ value.Int (pos j) ∷ []; fields = value.Bytes piece ∷ [] } }
 
 -- pieces under their numbers, from j on
 abbrev pub numbered : List Value → ℕ → List (List ℕ) → List Part
@@ -63,5 +65,8 @@ piece_in p = bytes_in p.rec.fields
 -- the bytes of which these are the pieces from number j on, or none
 abbrev pub joined : ℕ → ℕ → ℕ → List Part → Option (List ℕ)
 joined size width j [] = None
-joined size width j (p ∷ []) = if is_at width j p && nat_lt (length (piece_in p)) size then Some (piece_in p) else None
-joined size width j (p ∷ q ∷ ps) = if is_at width j p && nat_eq (length (piece_in p)) size then option_map (λ more. piece_in p ++ more) (joined size width (suc j) (q ∷ ps)) else None
+joined size width j (p ∷ []) =
+    if is_at width j p && nat_lt (length (piece_in p)) size then Some (piece_in p) else None
+joined size width j (p ∷ q ∷ ps) =
+    if is_at width j p && nat_eq (length (piece_in p)) size
+    then option_map (λ more. piece_in p ++ more) (joined size width (suc j) (q ∷ ps)) else None

@@ -7,8 +7,8 @@ use crate::layer::Divide;
 use gx_values::{Field, Fields, Form, Kind, Name, NoMemory};
 use std::alloc::Global;
 
-/// The layer of records of this form, in pieces of `size` bytes and a last one of fewer. `NoMemory`:
-/// there was none for its forms.
+/// The layer of records of this form, in pieces of `size` bytes and a last one of fewer.
+/// `NoMemory`: there was none for its forms.
 pub fn divide(alloc: Global, form: &Form, size: u16) -> Result<Divide, NoMemory>
     requires { IsDivide form.now size }
     ensures form { IfOk result (λ made. form_of made ≡ form.now) }

@@ -98,8 +98,8 @@ fn value_at(key: &Values, width: usize) -> &Value
     &key.0[width]
 }
 
-/// The bytes of which these parts are the pieces, where the number stands in each key behind so many
-/// values. `None`: they are the pieces of no bytes. `NoMemory`: there was none for the bytes.
+/// The bytes of which these parts are the pieces, where the number stands in each key behind so
+/// many values. `None`: they are the pieces of no bytes. `NoMemory`: there was none for the bytes.
 pub(crate) fn joined(
     alloc: Global,
     size: u16,
@@ -107,7 +107,8 @@ pub(crate) fn joined(
     parts: &[Part],
 ) -> Result<Option<Vec<u8>>, NoMemory>
     requires { (p : ThePart) → In p parts.now → width < length p.rec.key }
-    ensures { IfOk result (λ found. option_map (λ bytes. bytes.items) found ≡ joined size width 0 parts.now) }
+    ensures { IfOk result (λ found. option_map (λ bytes. bytes.items) found
+        ≡ joined size width 0 parts.now) }
 {
     let mut bytes = Vec::new(alloc);
     for index in 0..parts.len() {

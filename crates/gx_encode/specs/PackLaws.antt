@@ -18,7 +18,8 @@ equal : (a b : ℕ) → a ≡ b → nat_eq a b ≡ true
 equal a b e = grind (arith, nat_tests)
 
 -- a sign in front has the sign of what follows
-sign_again : (bytes : List ℕ) → ◌≡◌ {A = ℕ} (cond (nat_le 128 (sign_of bytes)) 255 0) (sign_of bytes)
+sign_again : (bytes : List ℕ)
+    → ◌≡◌ {A = ℕ} (cond (nat_le 128 (sign_of bytes)) 255 0) (sign_of bytes)
 sign_again [] = grind (arith, nat_tests)
 sign_again (b ∷ bytes) = by_test (nat_le 128 b)
   where
@@ -35,7 +36,8 @@ pub no_longer : (bytes : List ℕ) → length (shortest bytes) ≤ length bytes
 no_longer [] = omega arith
 no_longer (b ∷ bytes) = by_test (nat_eq b (sign_of bytes)) (no_longer bytes)
   where
-    by_test : (t : Bool) → length (shortest bytes) ≤ length bytes → length (cond t (shortest bytes) (b ∷ bytes)) ≤ suc (length bytes)
+    by_test : (t : Bool) → length (shortest bytes) ≤ length bytes
+        → length (cond t (shortest bytes) (b ∷ bytes)) ≤ suc (length bytes)
     by_test true le = omega arith
     by_test false le = omega arith
 
@@ -43,22 +45,30 @@ same_sign : (bytes : List ℕ) → sign_of (shortest bytes) ≡ sign_of bytes
 same_sign [] = refl
 same_sign (b ∷ bytes) = by_test (nat_eq b (sign_of bytes)) refl (same_sign bytes)
   where
-    by_test : (t : Bool) → t ≡ nat_eq b (sign_of bytes) → sign_of (shortest bytes) ≡ sign_of bytes → sign_of (cond t (shortest bytes) (b ∷ bytes)) ≡ sign_of (b ∷ bytes)
+    by_test : (t : Bool) → t ≡ nat_eq b (sign_of bytes) → sign_of (shortest bytes) ≡ sign_of bytes
+        → sign_of (cond t (shortest bytes) (b ∷ bytes)) ≡ sign_of (b ∷ bytes)
     by_test true is again = again ∙ sym (sign_in_front b bytes (same b (sign_of bytes) (sym is)))
     by_test false is again = refl
 
-extended_more : (n : ℕ) (bytes : List ℕ) → length bytes ≤ n → extended (suc n) bytes ≡ sign_of bytes ∷ extended n bytes
-extended_more n bytes le = ap (λ (k : ℕ). replicate k (sign_of bytes) ++ bytes) (let more : suc n - length bytes ≡ suc (n - length bytes) = omega arith in more)
+extended_more : (n : ℕ) (bytes : List ℕ) → length bytes ≤ n
+    → extended (suc n) bytes ≡ sign_of bytes ∷ extended n bytes
+extended_more n bytes le =
+    ap (λ (k : ℕ). replicate k (sign_of bytes) ++ bytes)
+    (let more : suc n - length bytes ≡ suc (n - length bytes) = omega arith in more)
 
 extended_whole : (bytes : List ℕ) → extended (length bytes) bytes ≡ bytes
-extended_whole bytes = ap (λ (k : ℕ). replicate k (sign_of bytes) ++ bytes) (let none : length bytes - length bytes ≡ 0 = omega arith in none)
+extended_whole bytes =
+    ap (λ (k : ℕ). replicate k (sign_of bytes) ++ bytes)
+    (let none : length bytes - length bytes ≡ 0 = omega arith in none)
 
 -- the shortest bytes are extended to the bytes
 pub extended_shortest : (bytes : List ℕ) → extended (length bytes) (shortest bytes) ≡ bytes
 extended_shortest [] = refl
 extended_shortest (b ∷ bytes) = by_test (nat_eq b (sign_of bytes)) refl (extended_shortest bytes)
   where
-    by_test : (t : Bool) → t ≡ nat_eq b (sign_of bytes) → extended (length bytes) (shortest bytes) ≡ bytes → extended (suc (length bytes)) (cond t (shortest bytes) (b ∷ bytes)) ≡ b ∷ bytes
+    by_test : (t : Bool) → t ≡ nat_eq b (sign_of bytes)
+        → extended (length bytes) (shortest bytes) ≡ bytes
+        → extended (suc (length bytes)) (cond t (shortest bytes) (b ∷ bytes)) ≡ b ∷ bytes
     by_test true is again =
         let sign = same_sign bytes ∙ sym (same b (sign_of bytes) (sym is)) in
         extended_more (length bytes) (shortest bytes) (no_longer bytes) ∙ (λ i. sign i ∷ again i)
@@ -77,23 +87,31 @@ pub is_shortest : (bytes : List ℕ) → IsShortest (shortest bytes)
 is_shortest [] = tt
 is_shortest (b ∷ bytes) = by_test (nat_eq b (sign_of bytes)) refl (is_shortest bytes)
   where
-    by_test : (t : Bool) → t ≡ nat_eq b (sign_of bytes) → IsShortest (shortest bytes) → IsShortest (cond t (shortest bytes) (b ∷ bytes))
+    by_test : (t : Bool) → t ≡ nat_eq b (sign_of bytes) → IsShortest (shortest bytes)
+        → IsShortest (cond t (shortest bytes) (b ∷ bytes))
     by_test true is again = again
     by_test false is again = sym is
 
 -- bytes and what they are extended to have the same shortest bytes
-front_sign : (k : ℕ) (bytes : List ℕ) → sign_of (replicate k (sign_of bytes) ++ bytes) ≡ sign_of bytes
+front_sign : (k : ℕ) (bytes : List ℕ)
+    → sign_of (replicate k (sign_of bytes) ++ bytes) ≡ sign_of bytes
 front_sign zero bytes = refl
 front_sign (suc k) bytes = sign_again bytes
 
-pub shortest_extended : (k : ℕ) (bytes : List ℕ) → shortest (replicate k (sign_of bytes) ++ bytes) ≡ shortest bytes
+pub shortest_extended : (k : ℕ) (bytes : List ℕ)
+    → shortest (replicate k (sign_of bytes) ++ bytes) ≡ shortest bytes
 shortest_extended zero bytes = refl
 shortest_extended (suc k) bytes =
-    ap (λ (t : Bool). cond t (shortest (replicate k (sign_of bytes) ++ bytes)) (sign_of bytes ∷ (replicate k (sign_of bytes) ++ bytes))) (equal (sign_of bytes) (sign_of (replicate k (sign_of bytes) ++ bytes)) (sym (front_sign k bytes)))
+    ap (λ (t : Bool). cond t (shortest (replicate k (sign_of bytes) ++ bytes))
+    (sign_of bytes ∷ (replicate k (sign_of bytes) ++ bytes)))
+    (equal (sign_of bytes) (sign_of (replicate k (sign_of bytes) ++ bytes))
+    (sym (front_sign k bytes)))
     ∙ shortest_extended k bytes
 
 pub length_extended : (n : ℕ) (bytes : List ℕ) → length bytes ≤ n → length (extended n bytes) ≡ n
-length_extended n bytes le = omega (arith, length-append (replicate (n - length bytes) (sign_of bytes)) bytes, length-replicate (n - length bytes) (sign_of bytes))
+length_extended n bytes le =
+    omega
+    (arith, length-append (replicate (n - length bytes) (sign_of bytes)) bytes, length-replicate (n - length bytes) (sign_of bytes))
 
 -- ---- ints
 
@@ -101,14 +119,17 @@ pub pack_is : (n : ℤ) → IsPack n (pack n)
 pack_is n = record {
   value = extended_shortest (int_bytes n);
   shortest = λ other le e. (
-      let same : shortest other ≡ pack n = sym (shortest_extended (8 - length other) other) ∙ ap shortest e in
+      let same : shortest other ≡ pack n =
+      sym (shortest_extended (8 - length other) other) ∙ ap shortest e in
       omega (arith, no_longer other, ap length same)
       );
 }
 
 -- a code is that of one int
 pub same_pack : (y z : ℤ) → FitsSigned w64 y → FitsSigned w64 z → pack y ≡ pack z → y ≡ z
-same_pack y z f g e = same_int y z f g (sym (extended_shortest (int_bytes y)) ∙ ap (extended 8) e ∙ extended_shortest (int_bytes z))
+same_pack y z f g e =
+    same_int y z f g
+    (sym (extended_shortest (int_bytes y)) ∙ ap (extended 8) e ∙ extended_shortest (int_bytes z))
 
 -- and no longer than the int
 pub short_pack : (n : ℤ) → length (pack n) ≤ 8

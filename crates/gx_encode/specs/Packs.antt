@@ -8,7 +8,8 @@ use Rattle.std.specs.Int.RustNames.{FitsSigned}
 abbrev pub int_bytes : ℤ → List ℕ
 int_bytes n = to_be_bytes w64 (cast_unsigned w64 n)
 
--- the byte that may be put in front without a change of the number: 255 for a negative one, otherwise 0
+-- the byte that may be put in front without a change of the number: 255 for a negative one,
+-- otherwise 0
 abbrev pub sign_of : List ℕ → ℕ
 sign_of [] = 0
 sign_of (b ∷ bytes) = if nat_le 128 b then 255 else 0
@@ -28,7 +29,8 @@ pack n = shortest (int_bytes n)
 -- the bytes are extended to those of the int, and no fewer bytes are
 pub record IsPack (n : ℤ) (bytes : List ℕ) : Type 0 where
   pub value : extended 8 bytes ≡ int_bytes n
-  pub shortest : (other : List ℕ) → length other ≤ 8 → extended 8 other ≡ int_bytes n → length bytes ≤ length other
+  pub shortest : (other : List ℕ) → length other ≤ 8 → extended 8 other ≡ int_bytes n
+      → length bytes ≤ length other
 
 -- the int whose code these bytes are, or they are the code of none
 abbrev pub IsUnpacked : List ℕ → Option ℤ → Type 0

@@ -28,21 +28,27 @@ with_joined : (b : ℕ) (runs : List (ℕ × ℕ)) → joined (with_byte b runs)
 with_joined b [] = refl
 with_joined b (run ∷ runs) = by_test (nat_eq b run.1) refl
   where
-    by_test : (t : Bool) → t ≡ nat_eq b run.1 → joined (cond t ((suc run.0, b) ∷ runs) ((1, b) ∷ run ∷ runs)) ≡ b ∷ joined (run ∷ runs)
+    by_test : (t : Bool) → t ≡ nat_eq b run.1
+        → joined (cond t ((suc run.0, b) ∷ runs) ((1, b) ∷ run ∷ runs)) ≡ b ∷ joined (run ∷ runs)
     by_test true is = ap (λ (x : ℕ). b ∷ (replicate run.0 x ++ joined runs)) (same b run.1 (sym is))
     by_test false is = refl
 
-with_longest : (b : ℕ) (runs : List (ℕ × ℕ)) → AreLongest None runs → AreLongest None (with_byte b runs)
+with_longest : (b : ℕ) (runs : List (ℕ × ℕ)) → AreLongest None runs
+    → AreLongest None (with_byte b runs)
 with_longest b [] are = (omega arith, no_some b, tt)
 with_longest b (run ∷ runs) are = by_test (nat_eq b run.1) refl
   where
-    by_test : (t : Bool) → t ≡ nat_eq b run.1 → AreLongest None (cond t ((suc run.0, b) ∷ runs) ((1, b) ∷ run ∷ runs))
-    by_test true is = (omega arith, no_some b, subst (λ (x : ℕ). AreLongest (Some x) runs) (sym (same b run.1 (sym is))) are.2)
-    by_test false is = (omega arith, no_some b, (are.0, (λ e. other b run.1 (sym is) (some_same b run.1 e)), are.2))
+    by_test : (t : Bool) → t ≡ nat_eq b run.1
+        → AreLongest None (cond t ((suc run.0, b) ∷ runs) ((1, b) ∷ run ∷ runs))
+    by_test true is =
+        (omega arith, no_some b, subst (λ (x : ℕ). AreLongest (Some x) runs) (sym (same b run.1 (sym is))) are.2)
+    by_test false is =
+        (omega arith, no_some b, (are.0, (λ e. other b run.1 (sym is) (some_same b run.1 e)), are.2))
 
 pub runs_joined : (text : List ℕ) → joined (runs_of text) ≡ text
 runs_joined [] = refl
-runs_joined (b ∷ text) = with_joined b (runs_of text) ∙ ap (λ (rest : List ℕ). b ∷ rest) (runs_joined text)
+runs_joined (b ∷ text) =
+    with_joined b (runs_of text) ∙ ap (λ (rest : List ℕ). b ∷ rest) (runs_joined text)
 
 pub runs_longest : (text : List ℕ) → AreLongest None (runs_of text)
 runs_longest [] = tt
@@ -59,7 +65,8 @@ pub record BeginWith (runs done : List (ℕ × ℕ)) (rest : List ℕ) : Type 0 
   pub is : runs ≡ done ++ more
   pub pairs : pairs_of more ≡ rest
 
-pub pairs_cut : (runs done : List (ℕ × ℕ)) (rest : List ℕ) → pairs_of runs ≡ pairs_of done ++ rest → BeginWith runs done rest
+pub pairs_cut : (runs done : List (ℕ × ℕ)) (rest : List ℕ) → pairs_of runs ≡ pairs_of done ++ rest
+    → BeginWith runs done rest
 pairs_cut runs [] rest e = record { more = runs; is = refl; pairs = e }
 pairs_cut [] (d ∷ done) rest e = absurd (let n = ap length e in omega (arith, n))
 pairs_cut (r ∷ runs) (d ∷ done) rest e =
@@ -81,14 +88,18 @@ same_pairs (r ∷ a) (s ∷ b) e =
 
 -- a code is that of one text
 pub same_rle : (a b : List ℕ) → rle a ≡ rle b → a ≡ b
-same_rle a b e = sym (runs_joined a) ∙ ap joined (same_pairs (runs_of a) (runs_of b) e) ∙ runs_joined b
+same_rle a b e =
+    sym (runs_joined a) ∙ ap joined (same_pairs (runs_of a) (runs_of b) e) ∙ runs_joined b
 
 -- and at most twice as long
-with_pairs : (b : ℕ) (runs : List (ℕ × ℕ)) → length (pairs_of (with_byte b runs)) ≤ length (pairs_of runs) + 2
+with_pairs : (b : ℕ) (runs : List (ℕ × ℕ))
+    → length (pairs_of (with_byte b runs)) ≤ length (pairs_of runs) + 2
 with_pairs b [] = omega arith
 with_pairs b (run ∷ runs) = by_test (nat_eq b run.1)
   where
-    by_test : (t : Bool) → length (pairs_of (cond t ((suc run.0, b) ∷ runs) ((1, b) ∷ run ∷ runs))) ≤ length (pairs_of (run ∷ runs)) + 2
+    by_test : (t : Bool)
+        → length (pairs_of (cond t ((suc run.0, b) ∷ runs) ((1, b) ∷ run ∷ runs)))
+        ≤ length (pairs_of (run ∷ runs)) + 2
     by_test true = omega arith
     by_test false = omega arith
 
@@ -98,85 +109,117 @@ short_rle (b ∷ text) = omega (arith, with_pairs b (runs_of text), short_rle te
 
 -- ---- the first run
 
-pub first_run : (b : ℕ) (text : List ℕ) → runs_of (b ∷ text) ≡ (suc (repeats b text), b) ∷ runs_of (drop (repeats b text) text)
+pub first_run : (b : ℕ) (text : List ℕ)
+    → runs_of (b ∷ text) ≡ (suc (repeats b text), b) ∷ runs_of (drop (repeats b text) text)
 first_run b [] = refl
 first_run b (x ∷ text) =
     ap (with_byte b) (first_run x text) ∙ by_test (first_run x text) (nat_eq b x) refl
   where
-    by_test : runs_of (x ∷ text) ≡ (suc (repeats x text), x) ∷ runs_of (drop (repeats x text) text) → (t : Bool) → t ≡ nat_eq b x
-        → cond t ((suc (suc (repeats x text)), b) ∷ runs_of (drop (repeats x text) text)) ((1, b) ∷ (suc (repeats x text), x) ∷ runs_of (drop (repeats x text) text))
-        ≡ (suc (cond t (suc (repeats b text)) 0), b) ∷ runs_of (drop (cond t (suc (repeats b text)) 0) (x ∷ text))
-    by_test first true is = ap (λ (y : ℕ). (suc (suc (repeats y text)), b) ∷ runs_of (drop (repeats y text) text)) (sym (same b x (sym is)))
+    by_test : runs_of (x ∷ text) ≡ (suc (repeats x text), x) ∷ runs_of (drop (repeats x text) text)
+        → (t : Bool) → t ≡ nat_eq b x
+        → cond t ((suc (suc (repeats x text)), b) ∷ runs_of (drop (repeats x text) text))
+        ((1, b) ∷ (suc (repeats x text), x) ∷ runs_of (drop (repeats x text) text))
+        ≡ (suc (cond t (suc (repeats b text)) 0), b)
+        ∷ runs_of (drop (cond t (suc (repeats b text)) 0) (x ∷ text))
+    by_test first true is =
+        ap (λ (y : ℕ). (suc (suc (repeats y text)), b) ∷ runs_of (drop (repeats y text) text))
+        (sym (same b x (sym is)))
     by_test first false is = ap (λ (runs : List (ℕ × ℕ)). (1, b) ∷ runs) (sym first)
 
 -- ---- a run behind
 
-pub last_more : (previous : Option ℕ) (runs : List (ℕ × ℕ)) (run : ℕ × ℕ) → last_from previous (runs ++ run ∷ []) ≡ Some run.1
+pub last_more : (previous : Option ℕ) (runs : List (ℕ × ℕ)) (run : ℕ × ℕ)
+    → last_from previous (runs ++ run ∷ []) ≡ Some run.1
 last_more previous [] run = refl
 last_more previous (r ∷ runs) run = last_more (Some r.1) runs run
 
 -- a run that is followed by others isn't merged with what comes in front of it
-with_behind : (x : ℕ) (r : ℕ × ℕ) (runs : List (ℕ × ℕ)) (run : ℕ × ℕ) → with_byte x ((r ∷ runs) ++ run ∷ []) ≡ with_byte x (r ∷ runs) ++ run ∷ []
+with_behind : (x : ℕ) (r : ℕ × ℕ) (runs : List (ℕ × ℕ)) (run : ℕ × ℕ)
+    → with_byte x ((r ∷ runs) ++ run ∷ []) ≡ with_byte x (r ∷ runs) ++ run ∷ []
 with_behind x r runs run = by_test (nat_eq x r.1)
   where
-    by_test : (t : Bool) → cond t ((suc r.0, x) ∷ (runs ++ run ∷ [])) ((1, x) ∷ r ∷ (runs ++ run ∷ [])) ≡ cond t ((suc r.0, x) ∷ runs) ((1, x) ∷ r ∷ runs) ++ run ∷ []
+    by_test : (t : Bool)
+        → cond t ((suc r.0, x) ∷ (runs ++ run ∷ [])) ((1, x) ∷ r ∷ (runs ++ run ∷ []))
+        ≡ cond t ((suc r.0, x) ∷ runs) ((1, x) ∷ r ∷ runs) ++ run ∷ []
     by_test true = refl
     by_test false = refl
 
-with_last : (x : ℕ) (r : ℕ × ℕ) (runs : List (ℕ × ℕ)) → last_from None (with_byte x (r ∷ runs)) ≡ last_from None (r ∷ runs)
+with_last : (x : ℕ) (r : ℕ × ℕ) (runs : List (ℕ × ℕ))
+    → last_from None (with_byte x (r ∷ runs)) ≡ last_from None (r ∷ runs)
 with_last x r runs = by_test (nat_eq x r.1) refl
   where
-    by_test : (t : Bool) → t ≡ nat_eq x r.1 → last_from None (cond t ((suc r.0, x) ∷ runs) ((1, x) ∷ r ∷ runs)) ≡ last_from (Some r.1) runs
+    by_test : (t : Bool) → t ≡ nat_eq x r.1
+        → last_from None (cond t ((suc r.0, x) ∷ runs) ((1, x) ∷ r ∷ runs))
+        ≡ last_from (Some r.1) runs
     by_test true is = ap (λ (y : ℕ). last_from (Some y) runs) (same x r.1 (sym is))
     by_test false is = refl
 
 one_run : (k b : ℕ) → runs_of (replicate (suc k) b) ≡ (suc k, b) ∷ []
 one_run zero b = refl
-one_run (suc k) b = ap (with_byte b) (one_run k b) ∙ ap (λ (t : Bool). cond t ((suc (suc k), b) ∷ []) ((1, b) ∷ (suc k, b) ∷ [])) (itself b)
+one_run (suc k) b =
+    ap (with_byte b) (one_run k b) ∙ ap
+    (λ (t : Bool). cond t ((suc (suc k), b) ∷ []) ((1, b) ∷ (suc k, b) ∷ [])) (itself b)
 
 unequal : (a b : ℕ) → a ≢ b → nat_eq a b ≡ false
 unequal a b ne = grind (arith, nat_tests)
 
-pub run_behind : (text : List ℕ) (k b : ℕ) → last_from None (runs_of text) ≢ Some b → runs_of (text ++ replicate (suc k) b) ≡ runs_of text ++ (suc k, b) ∷ []
+pub run_behind : (text : List ℕ) (k b : ℕ) → last_from None (runs_of text) ≢ Some b
+    → runs_of (text ++ replicate (suc k) b) ≡ runs_of text ++ (suc k, b) ∷ []
 run_behind [] k b apart = one_run k b
 run_behind (x ∷ []) k b apart =
-    ap (with_byte x) (one_run k b) ∙ ap (λ (t : Bool). cond t ((suc (suc k), x) ∷ []) ((1, x) ∷ (suc k, b) ∷ [])) (unequal x b (λ e. apart (ap Some e)))
+    ap (with_byte x) (one_run k b) ∙ ap
+    (λ (t : Bool). cond t ((suc (suc k), x) ∷ []) ((1, x) ∷ (suc k, b) ∷ []))
+    (unequal x b (λ e. apart (ap Some e)))
 run_behind (x ∷ y ∷ text) k b apart =
     let first = first_run y text in
     let last = with_last x (suc (repeats y text), y) (runs_of (drop (repeats y text) text)) in
-    let apart_later : last_from None (runs_of (y ∷ text)) ≢ Some b = λ e. apart (ap (λ runs. last_from None (with_byte x runs)) first ∙ last ∙ ap (last_from None) (sym first) ∙ e) in
+    let apart_later : last_from None (runs_of (y ∷ text)) ≢ Some b =
+    λ e. apart
+    (ap (λ runs. last_from None (with_byte x runs)) first ∙ last ∙ ap (last_from None)
+    (sym first) ∙ e) in
     ap (with_byte x) (run_behind (y ∷ text) k b apart_later)
     ∙ ap (λ runs. with_byte x (runs ++ (suc k, b) ∷ [])) first
     ∙ with_behind x (suc (repeats y text), y) (runs_of (drop (repeats y text) text)) (suc k, b)
     ∙ ap (λ runs. with_byte x runs ++ (suc k, b) ∷ []) (sym first)
 
-pub pairs_behind : (runs : List (ℕ × ℕ)) (run : ℕ × ℕ) → pairs_of (runs ++ run ∷ []) ≡ pairs_of runs ++ run.0 ∷ run.1 ∷ []
+pub pairs_behind : (runs : List (ℕ × ℕ)) (run : ℕ × ℕ)
+    → pairs_of (runs ++ run ∷ []) ≡ pairs_of runs ++ run.0 ∷ run.1 ∷ []
 pairs_behind [] run = refl
 pairs_behind (r ∷ runs) run = ap (λ (rest : List ℕ). r.0 ∷ r.1 ∷ rest) (pairs_behind runs run)
 
-pub short_behind : (runs : List (ℕ × ℕ)) (run : ℕ × ℕ) → AreShort runs → run.0 ≤ 200 → AreShort (runs ++ run ∷ [])
+pub short_behind : (runs : List (ℕ × ℕ)) (run : ℕ × ℕ) → AreShort runs → run.0 ≤ 200
+    → AreShort (runs ++ run ∷ [])
 short_behind [] run short le = (le, tt)
 short_behind (r ∷ runs) run short le = (short.0, short_behind runs run short.1 le)
 
 -- ---- a run among others
 
-pub longest_at : (previous : Option ℕ) (done more : List (ℕ × ℕ)) (run : ℕ × ℕ) → AreLongest previous (done ++ run ∷ more) → (0 < run.0) × (last_from previous done ≢ Some run.1)
+pub longest_at : (previous : Option ℕ) (done more : List (ℕ × ℕ)) (run : ℕ × ℕ)
+    → AreLongest previous (done ++ run ∷ more)
+    → (0 < run.0) × (last_from previous done ≢ Some run.1)
 longest_at previous [] more run are = (are.0, are.1)
 longest_at previous (d ∷ done) more run are = longest_at (Some d.1) done more run are.2
 
-pub short_at : (done more : List (ℕ × ℕ)) (run : ℕ × ℕ) → AreShort (done ++ run ∷ more) → run.0 ≤ 200
+pub short_at : (done more : List (ℕ × ℕ)) (run : ℕ × ℕ) → AreShort (done ++ run ∷ more)
+    → run.0 ≤ 200
 short_at [] more run short = short.0
 short_at (d ∷ done) more run short = short_at done more run short.1
 
-pub joined_at : (done more : List (ℕ × ℕ)) (run : ℕ × ℕ) → joined (done ++ run ∷ more) ≡ joined done ++ (replicate run.0 run.1 ++ joined more)
+pub joined_at : (done more : List (ℕ × ℕ)) (run : ℕ × ℕ)
+    → joined (done ++ run ∷ more) ≡ joined done ++ (replicate run.0 run.1 ++ joined more)
 joined_at [] more run = refl
-joined_at (d ∷ done) more run = ap (λ (rest : List ℕ). replicate d.0 d.1 ++ rest) (joined_at done more run) ∙ sym (append_assoc (replicate d.0 d.1) (joined done) (replicate run.0 run.1 ++ joined more))
+joined_at (d ∷ done) more run =
+    ap (λ (rest : List ℕ). replicate d.0 d.1 ++ rest) (joined_at done more run) ∙ sym
+    (append_assoc (replicate d.0 d.1) (joined done) (replicate run.0 run.1 ++ joined more))
 
 -- ---- printable bytes
 
-pub printable_append : (a b : List ℕ) → list_all is_printable (a ++ b) ≡ list_all is_printable a && list_all is_printable b
+pub printable_append : (a b : List ℕ)
+    → list_all is_printable (a ++ b) ≡ list_all is_printable a && list_all is_printable b
 printable_append [] b = refl
-printable_append (x ∷ a) b = ap (λ (t : Bool). is_printable x && t) (printable_append a b) ∙ assoc (is_printable x) (list_all is_printable a) (list_all is_printable b)
+printable_append (x ∷ a) b =
+    ap (λ (t : Bool). is_printable x && t) (printable_append a b) ∙ assoc (is_printable x)
+    (list_all is_printable a) (list_all is_printable b)
   where
     assoc : (p q r : Bool) → p && (q && r) ≡ (p && q) && r
     assoc true q r = refl

@@ -30,7 +30,8 @@ joined = flat_map (λ (run : ℕ × ℕ). replicate run.0 run.1)
 -- runs that come after a byte: each has some bytes, and another byte than the one before it
 abbrev pub AreLongest : Option ℕ → List (ℕ × ℕ) → Type 0
 AreLongest previous [] = Unit {0}
-AreLongest previous (run ∷ runs) = (0 < run.0) × (previous ≢ Some run.1) × AreLongest (Some run.1) runs
+AreLongest previous (run ∷ runs) =
+    (0 < run.0) × (previous ≢ Some run.1) × AreLongest (Some run.1) runs
 
 -- the longest runs of the text
 pub record AreRuns (text : List ℕ) (runs : List (ℕ × ℕ)) : Type 0 where
@@ -66,7 +67,9 @@ is_same (Some a) b = nat_eq a b
 
 -- whether a run of the byte may come after the one before, where so many bytes have room
 abbrev pub is_next : Option ℕ → ℕ → ℕ → ℕ → Bool
-is_next previous count b room = not (is_same previous b) && nat_le 1 count && nat_le count 200 && nat_le count room && is_printable b
+is_next previous count b room =
+    not (is_same previous b) && nat_le 1 count && nat_le count 200 && nat_le count room &&
+    is_printable b
 
 -- how many bytes at the front are this one
 abbrev pub repeats : ℕ → List ℕ → ℕ

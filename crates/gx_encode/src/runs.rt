@@ -7,8 +7,8 @@ ghost use Rattle.gx_encode.specs.Runs.{rle, IsCodeOfRuns, IsUnrle, is_next, repe
 use gx_values::{NoMemory, Octets};
 use std::alloc::{AllocError, Global};
 
-/// The code of a text of at most 200 bytes: for each of its longest runs of one byte the count and the
-/// byte. `NoMemory`: there was none for it.
+/// The code of a text of at most 200 bytes: for each of its longest runs of one byte the count and
+/// the byte. `NoMemory`: there was none for it.
 pub fn rle_into(alloc: Global, text: &[u8]) -> Result<Octets, NoMemory>
     requires { length text.now ≤ 200 }
     ensures code { IfOk result (λ code. code ≡ rle text.now) }
@@ -27,7 +27,8 @@ pub fn rle_into(alloc: Global, text: &[u8]) -> Result<Octets, NoMemory>
 fn push_first(code: &mut Vec<u8>, text: &[u8]) -> Result<usize, AllocError>
     requires some { 0 < length text.now }
     requires few { length text.now ≤ 200 }
-    ensures code { IfOk result (λ count. code.new.items ++ rle (drop count text.now) ≡ code.old.items ++ rle text.now) }
+    ensures code { IfOk result (λ count. code.new.items ++ rle (drop count text.now)
+        ≡ code.old.items ++ rle text.now) }
     ensures some { IfOk result (λ count. 0 < count) }
     ensures few { IfOk result (λ count. count ≤ length text.now) }
 {
@@ -58,9 +59,9 @@ fn repeats(byte: u8, text: &[u8]) -> usize
     text.len()
 }
 
-/// The text of at most `longest` printable bytes whose code these bytes are. `None`: they are the code
-/// of no such text, as where a count is 0 or above 200, two runs of one byte follow each other, or a
-/// count has no byte. `NoMemory`: there was none for the text.
+/// The text of at most `longest` printable bytes whose code these bytes are. `None`: they are the
+/// code of no such text, as where a count is 0 or above 200, two runs of one byte follow each
+/// other, or a count has no byte. `NoMemory`: there was none for the text.
 pub fn unrle(alloc: Global, bytes: &[u8], longest: u16) -> Result<Option<Octets>, NoMemory>
     ensures { IfOk result (IsUnrle longest bytes.now) }
 {

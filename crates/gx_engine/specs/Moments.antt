@@ -11,14 +11,16 @@ use Rattle.gx_states.specs.Internal.{AreInternal}
 use Rattle.gx_edits.specs.Edits.{may_bring}
 
 -- what the engine has stands for a moment of the play
-pub record Stands (schema : Schema) (built : Built) (inside : Bool) (commits : ℕ) (working kept : List LeafMap) (p : Playing) : Type 0 where
+pub record Stands (schema : Schema) (built : Built) (inside : Bool) (commits : ℕ)
+    (working kept : List LeafMap) (p : Playing) : Type 0 where
   pub inside_same : inside ≡ is_inside p
   pub commits_same : commits ≡ p.commits
   pub working_is : AreInternal schema built working (seen_state p)
   pub kept_is : AreInternal schema built kept p.kept
 
 -- a command was carried out: its answer was appended, and the leaves stand for what comes after
-pub record IsCarried (schema : Schema) (built : Built) (p : Playing) (c : Command) (old new : List ℕ) (inside : Bool) (commits : ℕ) (working kept : List LeafMap) : Type 0 where
+pub record IsCarried (schema : Schema) (built : Built) (p : Playing) (c : Command)
+    (old new : List ℕ) (inside : Bool) (commits : ℕ) (working kept : List LeafMap) : Type 0 where
   pub answer : List ℕ
   pub said : new ≡ old ++ answer
   pub answered : IsAnswered schema p c answer

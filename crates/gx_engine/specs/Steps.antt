@@ -53,7 +53,8 @@ stop_of e = e.stopped
 abbrev pub IsReady : {S : Type 0} → Ghosts S → Engine S → Type 0
 IsReady g e = AreFor (schema_of e) (built_of e) (length (g.working (leaves_of e)))
 
--- the command is of the schema, may stand where the engine is, and has conditions that a plan can number
+-- the command is of the schema, may stand where the engine is, and has conditions that a plan can
+-- number
 pub record IsDue {S : Type 0} (e : Engine S) (c : Command) : Type 0 where
   pub of_schema : IsOfSchema (schema_of e) c
   pub few : length (conds_of c) < 2 ^ 16
@@ -61,7 +62,9 @@ pub record IsDue {S : Type 0} (e : Engine S) (c : Command) : Type 0 where
 
 -- the engine's leaves stand for a moment of the play
 abbrev pub StandsFor : {S : Type 0} → Ghosts S → Engine S → Playing → Type 0
-StandsFor g e p = Stands (schema_of e) (built_of e) (is_open e) (commits_of e) (g.working (leaves_of e)) (g.kept (leaves_of e)) p
+StandsFor g e p =
+    Stands (schema_of e) (built_of e) (is_open e) (commits_of e) (g.working (leaves_of e))
+    (g.kept (leaves_of e)) p
 
 -- so they do, and they are whole
 pub record IsAt {S : Type 0} (g : Ghosts S) (p : Playing) (e : Engine S) : Type 0 where
@@ -73,15 +76,24 @@ pub record IsAt {S : Type 0} (g : Ghosts S) (p : Playing) (e : Engine S) : Type 
 abbrev pub IsSound : {S : Type 0} → Ghosts S → Engine S → Type 0
 IsSound g e = (p : Playing) × IsAt g p e
 
--- the command may want room, and the pages may not be enough for the entries that there are and those of what comes after it
+-- the command may want room, and the pages may not be enough for the entries that there are and
+-- those of what comes after it
 abbrev pub IsShortFor : {S : Type 0} → Ghosts S → Engine S → Playing → Command → Type 0
-IsShortFor g e p c = MayWantRoom (schema_of e) p c × IsCrowdedBy (g.limit (leaves_of e)) (entry_count (g.working (leaves_of e)) + state_entries (built_of e) (seen_state (next_of (schema_of e) p c)))
+IsShortFor g e p c =
+    MayWantRoom (schema_of e) p c
+    × IsCrowdedBy (g.limit (leaves_of e))
+    (entry_count (g.working (leaves_of e))
+    + state_entries (built_of e) (seen_state (next_of (schema_of e) p c)))
 
 -- ---- one command
 
--- the command was carried out: its answer was appended, and the engine stands for what comes after it
-abbrev pub CarriesOut : {S : Type 0} → Ghosts S → Playing → Command → Engine S → Engine S → List ℕ → List ℕ → Type 0
-CarriesOut g p c old new out now = IsCarried (schema_of old) (built_of old) p c out now (is_open new) (commits_of new) (g.working (leaves_of new)) (g.kept (leaves_of new))
+-- the command was carried out: its answer was appended, and the engine stands for what comes after
+-- it
+abbrev pub CarriesOut : {S : Type 0} → Ghosts S → Playing → Command → Engine S → Engine S → List ℕ
+    → List ℕ → Type 0
+CarriesOut g p c old new out now =
+    IsCarried (schema_of old) (built_of old) p c out now (is_open new) (commits_of new)
+    (g.working (leaves_of new)) (g.kept (leaves_of new))
 
 -- each of the leaves with these numbers is fresh
 abbrev pub IsFresh : {S : Type 0} → Ghosts S → Engine S → List ℕ → Type 0
@@ -89,8 +101,10 @@ IsFresh g e numbers = (leaf : ℕ) → In leaf numbers → g.fresh (leaves_of e)
 
 -- after a file or a link was reorganized, each leaf of its nodes is fresh
 abbrev pub AreFresh : {S : Type 0} → Ghosts S → Command → Engine S → Type 0
-AreFresh g (command.ReorganizeFile file) e = IsFresh g e (tree_leaves (tree_at (built_of e).files file))
-AreFresh g (command.ReorganizeLink link) e = IsFresh g e (kids_leaves (link_kids_at (built_of e).links link))
+AreFresh g (command.ReorganizeFile file) e =
+    IsFresh g e (tree_leaves (tree_at (built_of e).files file))
+AreFresh g (command.ReorganizeLink link) e =
+    IsFresh g e (kids_leaves (link_kids_at (built_of e).links link))
 AreFresh g _ e = Unit {0}
 
 abbrev pub is_commit : Command → Bool
@@ -106,7 +120,8 @@ selects command.Nothing = false
 selects _ = true
 
 -- what a command keeps of the engine and of its leaves
-pub record KeepsEngine {S E : Type 0} (g : Ghosts S) (old new : Engine S) (c : Command) (result : Result (Unit {0}) E) : Type 0 where
+pub record KeepsEngine {S E : Type 0} (g : Ghosts S) (old new : Engine S) (c : Command)
+    (result : Result (Unit {0}) E) : Type 0 where
   pub schema : schema_of new ≡ schema_of old
   pub built : built_of new ≡ built_of old
   pub inside : OnOk result (is_open new ≡ inside_after (is_open old) c)
@@ -116,29 +131,38 @@ pub record KeepsEngine {S E : Type 0} (g : Ghosts S) (old new : Engine S) (c : C
   pub limit : g.limit (leaves_of new) ≡ g.limit (leaves_of old)
   pub head : g.head (leaves_of new) ≡ g.head (leaves_of old)
   pub silent : Silent (g.content (leaves_of old)) (g.content (leaves_of new))
-  pub whole : OnOk result (g.whole (leaves_of old) → g.kept_whole (leaves_of old) → g.whole (leaves_of new))
-  pub kept_whole : OnOk result (g.whole (leaves_of old) → g.kept_whole (leaves_of old) → g.kept_whole (leaves_of new))
+  pub whole : OnOk result (g.whole (leaves_of old) → g.kept_whole (leaves_of old)
+      → g.whole (leaves_of new))
+  pub kept_whole : OnOk result (g.whole (leaves_of old) → g.kept_whole (leaves_of old)
+      → g.kept_whole (leaves_of new))
   pub keeps : is_commit c ≡ false → Keeps g (leaves_of old) (leaves_of new)
   pub work : selects c ≡ false → g.work (leaves_of new) ≡ g.work (leaves_of old)
 
 -- the steps that the command took are bounded by what the state has that it sees
-abbrev pub TakesFewSteps : {S : Type 0} → Ghosts S → Playing → Command → Engine S → Engine S → Type 0
-TakesFewSteps g p c old new = IsBounded (schema_of old) (built_of old) (length (g.working (leaves_of old))) (seen_state p) c (g.work (leaves_of old)) (g.work (leaves_of new))
+abbrev pub TakesFewSteps : {S : Type 0} → Ghosts S → Playing → Command → Engine S → Engine S
+    → Type 0
+TakesFewSteps g p c old new =
+    IsBounded (schema_of old) (built_of old) (length (g.working (leaves_of old))) (seen_state p) c
+    (g.work (leaves_of old)) (g.work (leaves_of new))
 
--- What a command leaves and how it ends: the leaves of what was reorganized are fresh; a stop says nothing, and where it isn't a
--- fault, what was last committed stays. Damage is found only where the leaves stood for no moment, of block 0 where each is whole.
-pub record EndsCommand {S : Type 0} (g : Ghosts S) (old new : Engine S) (c : Command) (out now : List ℕ) (result : Result (Unit {0}) Stop) : Type 0 where
+-- What a command leaves and how it ends: the leaves of what was reorganized are fresh; a stop says
+-- nothing, and where it isn't a fault, what was last committed stays. Damage is found only where
+-- the leaves stood for no moment, of block 0 where each is whole.
+pub record EndsCommand {S : Type 0} (g : Ghosts S) (old new : Engine S) (c : Command)
+    (out now : List ℕ) (result : Result (Unit {0}) Stop) : Type 0 where
   pub keeps : KeepsEngine g old new c result
   pub stopped : stop_of new ≡ stop_of old
   pub fresh : g.whole (leaves_of old) → OnOk result (AreFresh g c new)
   pub unsaid : OnErr result (now ≡ out)
   pub kept : is_fault result ≡ false → OnErr result (Keeps g (leaves_of old) (leaves_of new))
-  pub cause : HasStopCause (g.faults (leaves_of old)) (g.faults (leaves_of new)) (IsSound g old) result
+  pub cause : HasStopCause (g.faults (leaves_of old)) (g.faults (leaves_of new))
+      (IsSound g old) result
   pub block : (n : ℕ) → result ≡ Err (stop.Damaged n) → g.whole (leaves_of old) → n ≡ 0
 
--- what one command does: on Ok it was carried out, and Full comes only of a command that may want room, for which the pages
--- may not be enough
-pub record IsStep {S : Type 0} (g : Ghosts S) (old new : Engine S) (c : Command) (out now : List ℕ) (result : Result (Unit {0}) Stop) : Type 0 where
+-- what one command does: on Ok it was carried out, and Full comes only of a command that may want
+-- room, for which the pages may not be enough
+pub record IsStep {S : Type 0} (g : Ghosts S) (old new : Engine S) (c : Command) (out now : List ℕ)
+    (result : Result (Unit {0}) Stop) : Type 0 where
   pub carried : (p : Playing) → IsAt g p old → OnOk result (CarriesOut g p c old new out now)
   pub full : (p : Playing) → IsAt g p old → result ≡ Err stop.Full → IsShortFor g old p c
   pub ends : EndsCommand g old new c out now result
@@ -148,11 +172,14 @@ abbrev pub is_fault_now : Result (Unit {0}) StepStop → Bool
 is_fault_now (Err (Now why)) = is_outside why
 is_fault_now _ = false
 
--- How a step ends: the count of faults never falls, `Now(Fault)` comes only where it rose, and with any other answer it
--- stays. Damage is found only where the leaves stood for no moment, of block 0 where each is whole.
-pub record HasStepCause {S : Type 0} (g : Ghosts S) (old new : Engine S) (result : Result (Unit {0}) StepStop) : Type 0 where
+-- How a step ends: the count of faults never falls, `Now(Fault)` comes only where it rose, and with
+-- any other answer it stays. Damage is found only where the leaves stood for no moment, of block 0
+-- where each is whole.
+pub record HasStepCause {S : Type 0} (g : Ghosts S) (old new : Engine S)
+    (result : Result (Unit {0}) StepStop) : Type 0 where
   pub later : g.faults (leaves_of old) ≤ g.faults (leaves_of new)
-  pub fault : result ≡ Err (Now stop.Fault) → Rose (g.faults (leaves_of old)) (g.faults (leaves_of new))
+  pub fault : result ≡ Err (Now stop.Fault)
+      → Rose (g.faults (leaves_of old)) (g.faults (leaves_of new))
   pub counted : is_fault_now result ≡ false → g.faults (leaves_of new) ≡ g.faults (leaves_of old)
   pub damaged : (block : ℕ) → result ≡ Err (Now (stop.Damaged block)) → ¬ IsSound g old
   pub block : (n : ℕ) → result ≡ Err (Now (stop.Damaged n)) → g.whole (leaves_of old) → n ≡ 0

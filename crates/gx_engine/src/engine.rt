@@ -48,8 +48,8 @@ impl<B: Leaves + Drop> Engine<B> {
     ghost use Rattle.gx_engine.specs.Steps.{schema_of, built_of, leaves_of, is_open, commits_of, stop_of, is_fault_now, IsReady, IsDue, StandsFor, IsAt, IsShortFor, CarriesOut, AreFresh, KeepsEngine, HasStepCause, IsStep, TakesFewSteps, IsServed, IsSame};
     ghost use Rattle.gx_engine.specs.declared.engine.StepStop.TheVariants.{Now, Stopped};
 
-    /// An engine over leaves, which hold the files and the links of the schema as they are built. No
-    /// transaction is open, and no stop is kept.
+    /// An engine over leaves, which hold the files and the links of the schema as they are built.
+    /// No transaction is open, and no stop is kept.
     pub fn start(schema: Schema, built: Built, leaves: B) -> Engine<B>
         requires { AreFor schema built (length (B.working leaves)) }
         ensures ready { IsReady B.View result }
@@ -86,22 +86,24 @@ impl<B: Leaves + Drop> Engine<B> {
         self.inside
     }
 
-    /// Carries out a command of the schema, where the transaction rule lets it stand, and appends its
-    /// answer, which is that of the abstract database; the leaves stand for what comes after it.
+    /// Carries out a command of the schema, where the transaction rule lets it stand, and appends
+    /// its answer, which is that of the abstract database; the leaves stand for what comes after
+    /// it.
     ///
     /// `Now` gives this call up and is kept: `out` is as before, and each later call answers
     /// `Stopped` with it and does nothing. Where it isn't `Now(Fault)`, the state of the last
     /// commit stays. `Now(Fault)`: the count of faults rose; with any other answer it stays.
-    /// `Now(Full)`: the command changes records or links, isn't refused and is no delete, or it lays
-    /// leaves out anew, and the pages may be too few for the entries of the states before and after.
-    /// `Now(Damaged)`: the leaves stood for no state, which is said of block 0 where the stored
-    /// form of each is whole. `Now(NoMemory)`: there was no memory.
+    /// `Now(Full)`: the command changes records or links, isn't refused and is no delete, or it
+    /// lays leaves out anew, and the pages may be too few for the entries of the states before and
+    /// after. `Now(Damaged)`: the leaves stood for no state, which is said of block 0 where the
+    /// stored form of each is whole. `Now(NoMemory)`: there was no memory.
     ///
-    /// After `ReorganizeFile` or `ReorganizeLink` each leaf of the file or the link is fresh. `Begin`,
-    /// `Commit`, `Abort` and a line without a command take no step. `Get`, `Members` and `Find` take at most
-    /// `2 * (c + 1) * (w + l)`, where c is the number of records that meet the one condition of the plan, w
-    /// the greatest number of leaf entries of a record, and of an owner where the command asks for members,
-    /// and l the number of leaves. Each command but `Commit` leaves what was last committed as it is.
+    /// After `ReorganizeFile` or `ReorganizeLink` each leaf of the file or the link is fresh.
+    /// `Begin`, `Commit`, `Abort` and a line without a command take no step. `Get`, `Members` and
+    /// `Find` take at most `2 * (c + 1) * (w + l)`, where c is the number of records that meet the
+    /// one condition of the plan, w the greatest number of leaf entries of a record, and of an
+    /// owner where the command asks for members, and l the number of leaves. Each command but
+    /// `Commit` leaves what was last committed as it is.
     pub fn step(
         &mut self,
         alloc: Global,
@@ -217,8 +219,8 @@ impl<B: Leaves + Drop> Engine<B> {
         Ok(())
     }
 
-    // The answer is there before the commit, and is taken back where the commit fails: so no want of
-    // memory comes after it.
+    // The answer is there before the commit, and is taken back where the commit fails: so no want
+    // of memory comes after it.
     fn commit(&mut self, alloc: Global, out: &mut Octets) -> Result<(), Stop>
         requires ready { IsReady B.View self.old }
         requires due { IsDue self.old command.Commit }

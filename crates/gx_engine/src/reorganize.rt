@@ -7,8 +7,8 @@ use gx_ports::{Leaves, Stop};
 use gx_typing::Owners;
 use std::alloc::Global;
 
-/// Lays the entries of each leaf of a file or a link out anew. What they hold stays. The definitions are
-/// numbered as the owners of the leaves are: the files first, and then the links.
+/// Lays the entries of each leaf of a file or a link out anew. What they hold stays. The
+/// definitions are numbered as the owners of the leaves are: the files first, and then the links.
 pub(crate) fn reorganize<B: Leaves>(
     alloc: Global,
     owners: &Owners,

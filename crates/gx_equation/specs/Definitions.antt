@@ -51,14 +51,17 @@ side_at places bytes = do
   ]
 
 -- a definition of this name, behind the name
-unfoldable pub definition_behind : List ℕ → List ℕ → List ℕ → Result ((DefinitionTree × List ℕ) × List ℕ) Fault
+unfoldable pub definition_behind : List ℕ → List ℕ → List ℕ
+    → Result ((DefinitionTree × List ℕ) × List ℕ) Fault
 definition_behind name places bytes = do
   equals ← want an_equals bytes
   side ← side_at places equals.1
   Ok ((record { name = name; side = side.0.0 }, side.0.1), side.1)
 
--- the definitions before, and those of the text up to its end; there is fuel for each byte, so that it never runs out
-unfoldable pub definitions_at : ℕ → List DefinitionTree → List ℕ → List ℕ → Result (List DefinitionTree × List ℕ) Fault
+-- the definitions before, and those of the text up to its end; there is fuel for each byte, so that
+-- it never runs out
+unfoldable pub definitions_at : ℕ → List DefinitionTree → List ℕ → List ℕ
+    → Result (List DefinitionTree × List ℕ) Fault
 definitions_at zero before places bytes = do
   x ← want (λ _. Err why.Count) bytes
   Ok x.0
@@ -66,7 +69,8 @@ definitions_at (suc fuel) before places bytes = do
   start ← want a_start bytes
   elim start.0 [
     | None ↦ Ok (before, places)
-    | Some name ↦ definition_behind name (places ++ left_of bytes ∷ []) start.1 >>= λ d. definitions_at fuel (before ++ d.0.0 ∷ []) d.0.1 d.1
+    | Some name ↦ definition_behind name (places ++ left_of bytes ∷ []) start.1 >>= λ d.
+        definitions_at fuel (before ++ d.0.0 ∷ []) d.0.1 d.1
   ]
 
 -- the definitions of a whole text, and the places of their names and heads

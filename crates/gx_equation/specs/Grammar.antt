@@ -39,12 +39,14 @@ BoundText (value.Text text) = the (Quoted (doubled text))
 BoundText (value.Bytes b) = λ _ _. ⊥
 
 -- items up to a comma
-abbrev pub MoreText : {X : Type 0} → (X → List ℕ → List ℕ → Type 0) → List X → List ℕ → List ℕ → Type 0
+abbrev pub MoreText : {X : Type 0} → (X → List ℕ → List ℕ → Type 0) → List X → List ℕ → List ℕ
+    → Type 0
 MoreText Text [] = the Comma
 MoreText Text (x ∷ xs) = Text x ⨾ MoreText Text xs
 
 -- one or more of them
-abbrev pub ItemsText : {X : Type 0} → (X → List ℕ → List ℕ → Type 0) → List X → List ℕ → List ℕ → Type 0
+abbrev pub ItemsText : {X : Type 0} → (X → List ℕ → List ℕ → Type 0) → List X → List ℕ → List ℕ
+    → Type 0
 ItemsText Text [] = λ _ _. ⊥
 ItemsText Text (x ∷ xs) = Text x ⨾ MoreText Text xs
 
@@ -57,14 +59,17 @@ code_word code.Rle = codes "rle"
 -- a head, and what stands before its first term
 abbrev pub HeadText : Head → List ℕ → List ℕ → Type 0
 HeadText (heads.Leaf leaf.Heap) = the (Word (codes "heap"))
-HeadText (heads.Leaf (leaf.Hash n)) = the (Word (codes "hash")) ⨾ the Open ⨾ SizeText 64 n ⨾ the Close
+HeadText (heads.Leaf (leaf.Hash n)) =
+    the (Word (codes "hash")) ⨾ the Open ⨾ SizeText 64 n ⨾ the Close
 HeadText (heads.Leaf leaf.Isam) = the (Word (codes "isam"))
 HeadText (heads.Leaf leaf.Bplus) = the (Word (codes "bplus"))
 HeadText heads.Actual = the (Word (codes "actual")) ⨾ the Open
-HeadText (heads.Encode name code) = the (Word (codes "encode")) ⨾ the Open ⨾ NameText name ⨾ the (Word (code_word code)) ⨾ the Comma
+HeadText (heads.Encode name code) =
+    the (Word (codes "encode")) ⨾ the Open ⨾ NameText name ⨾ the (Word (code_word code)) ⨾ the Comma
 HeadText (heads.Segment names) = the (Word (codes "segment")) ⨾ the Open ⨾ ItemsText NameText names
 HeadText heads.Transpose = the (Word (codes "transpose")) ⨾ the Open
-HeadText (heads.Partition name bounds) = the (Word (codes "partition")) ⨾ the Open ⨾ NameText name ⨾ ItemsText BoundText bounds
+HeadText (heads.Partition name bounds) =
+    the (Word (codes "partition")) ⨾ the Open ⨾ NameText name ⨾ ItemsText BoundText bounds
 HeadText (heads.Divide n) = the (Word (codes "divide")) ⨾ the Open ⨾ SizeText 16000 n ⨾ the Comma
 HeadText (heads.Index name) = the (Word (codes "index")) ⨾ the Open ⨾ NameText name ⨾ the Comma
 
@@ -75,7 +80,8 @@ linkset_word linksets.Inverted = codes "inverted"
 
 -- ---- terms
 
--- The text of a term, with the places of the heads before it, and those behind it, which end with its own.
+-- The text of a term, with the places of the heads before it, and those behind it, which end with
+-- its own.
 abbrev pub TextOf : Type 1
 TextOf = Tree → List ℕ → List ℕ → List ℕ → List ℕ → Type 0
 
@@ -83,41 +89,57 @@ TextOf = Tree → List ℕ → List ℕ → List ℕ → List ℕ → Type 0
 abbrev pub ListText : TextOf → List Tree → List ℕ → List ℕ → List ℕ → List ℕ → Type 0
 ListText Text [] before after = λ _ _. ⊥
 ListText Text (t ∷ []) before after = Text t before after ⨾ the Close
-ListText Text (t ∷ u ∷ us) before after = λ bytes rest. (mid : List ℕ) × (Text t before mid ⨾ the Comma ⨾ ListText Text (u ∷ us) mid after) bytes rest
+ListText Text (t ∷ u ∷ us) before after =
+    λ bytes rest. (mid : List ℕ)
+    × (Text t before mid ⨾ the Comma ⨾ ListText Text (u ∷ us) mid after) bytes rest
 
 -- so many terms
 abbrev pub KidsText : TextOf → Arity → List Tree → List ℕ → List ℕ → List ℕ → List ℕ → Type 0
 KidsText Text No_kids ts before after = λ bytes rest. (ts ≡ []) × (before ≡ after) × (bytes ≡ rest)
-KidsText Text One_kid ts before after = λ bytes rest. (length ts ≡ 1) × ListText Text ts before after bytes rest
-KidsText Text Two_kids ts before after = λ bytes rest. (length ts ≡ 2) × ListText Text ts before after bytes rest
+KidsText Text One_kid ts before after =
+    λ bytes rest. (length ts ≡ 1) × ListText Text ts before after bytes rest
+KidsText Text Two_kids ts before after =
+    λ bytes rest. (length ts ≡ 2) × ListText Text ts before after bytes rest
 KidsText Text Some_kids ts before after = ListText Text ts before after
 
--- A term of at most so many levels of heads: the place of its head comes behind those before, and then those of its terms.
+-- A term of at most so many levels of heads: the place of its head comes behind those before, and
+-- then those of its terms.
 abbrev pub TermText : ℕ → TextOf
 TermText zero t before after = λ _ _. ⊥
-TermText (suc levels) (node top kids) before after = λ bytes rest. (HeadText top ⨾ KidsText (TermText levels) (arity top) (list_of kids) (before ++ left_of bytes ∷ []) after) bytes rest
+TermText (suc levels) (node top kids) before after =
+    λ bytes rest.
+    (HeadText top ⨾ KidsText (TermText levels) (arity top) (list_of kids)
+    (before ++ left_of bytes ∷ []) after) bytes rest
 
 -- ---- definitions
 
 -- the head of a link's side counts as a level
 abbrev pub SideText : SideTree → List ℕ → List ℕ → List ℕ → List ℕ → Type 0
 SideText (file_side t) before after = TermText 16 t before after
-SideText (link_side linkset ts) before after = λ bytes rest. (the (Word (linkset_word linkset)) ⨾ the Open ⨾ KidsText (TermText 15) (linkset_arity linkset) ts (before ++ left_of bytes ∷ []) after) bytes rest
+SideText (link_side linkset ts) before after =
+    λ bytes rest.
+    (the (Word (linkset_word linkset)) ⨾ the Open ⨾ KidsText (TermText 15)
+    (linkset_arity linkset) ts (before ++ left_of bytes ∷ []) after) bytes rest
 
 abbrev pub DefinitionText : DefinitionTree → List ℕ → List ℕ → List ℕ → List ℕ → Type 0
-DefinitionText d before after = λ bytes rest. (NameText d.name ⨾ the Equals ⨾ SideText d.side (before ++ left_of bytes ∷ []) after) bytes rest
+DefinitionText d before after =
+    λ bytes rest.
+    (NameText d.name ⨾ the Equals ⨾ SideText d.side (before ++ left_of bytes ∷ []) after) bytes rest
 
 -- definitions up to the end of the text
 abbrev pub DefinitionsText : List DefinitionTree → List ℕ → List ℕ → List ℕ → List ℕ → Type 0
 DefinitionsText [] before after = λ bytes rest. (before ≡ after) × the End bytes rest
-DefinitionsText (d ∷ ds) before after = λ bytes rest. (mid : List ℕ) × (DefinitionText d before mid ⨾ DefinitionsText ds mid after) bytes rest
+DefinitionsText (d ∷ ds) before after =
+    λ bytes rest. (mid : List ℕ)
+    × (DefinitionText d before mid ⨾ DefinitionsText ds mid after) bytes rest
 
 -- The text of one or more definitions, in which their names and heads stand at these places.
 pub record EquationText (ds : List DefinitionTree) (places bytes : List ℕ) : Type 0 where
   pub some : 0 < length ds
   pub text : DefinitionsText ds [] places bytes []
 
--- The text is that of these definitions, and these are the lines of their names and heads, and then the text's last line.
+-- The text is that of these definitions, and these are the lines of their names and heads, and then
+-- the text's last line.
 pub record Means (bytes : List ℕ) (meaning : List DefinitionTree × List ℕ) : Type 0 where
   pub places : List ℕ
   pub text : EquationText meaning.0 places bytes

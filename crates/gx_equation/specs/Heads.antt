@@ -98,8 +98,10 @@ abbrev pub or_comma : {X : Type 0} → (Lexeme → Result X Why) → Lexeme → 
 or_comma item Comma = Ok None
 or_comma item other = map_ok (λ x. Some x) (item other)
 
--- the items before, and those of the text up to the comma; there is fuel for each byte, so that it never runs out
-unfoldable pub items_at : {X : Type 0} → (Lexeme → Result X Why) → ℕ → List X → List ℕ → Result (List X × List ℕ) Fault
+-- the items before, and those of the text up to the comma; there is fuel for each byte, so that it
+-- never runs out
+unfoldable pub items_at : {X : Type 0} → (Lexeme → Result X Why) → ℕ → List X → List ℕ
+    → Result (List X × List ℕ) Fault
 items_at item zero before bytes = want (λ _. Err why.Count) bytes
 items_at item (suc fuel) before bytes = do
   x ← want (or_comma item) bytes

@@ -89,7 +89,8 @@ IsHead heads.Actual = Unit {0}
 IsHead (heads.Encode name code) = IsWord name
 IsHead (heads.Segment names) = (0 < length names) × AllByRecursion IsWord names
 IsHead heads.Transpose = Unit {0}
-IsHead (heads.Partition name bounds) = IsWord name × (0 < length bounds) × AllByRecursion IsBound bounds
+IsHead (heads.Partition name bounds) =
+    IsWord name × (0 < length bounds) × AllByRecursion IsBound bounds
 IsHead (heads.Divide n) = (0 < n) × (n ≤ 16000)
 IsHead (heads.Index name) = IsWord name
 
@@ -103,7 +104,8 @@ IsCount Some_kids ts = 0 < length ts
 -- a term of at most so many levels of heads
 abbrev pub IsTerm : ℕ → Tree → Type 0
 IsTerm zero t = ⊥
-IsTerm (suc levels) (node top kids) = IsHead top × IsCount (arity top) (list_of kids) × AllByRecursion (IsTerm levels) (list_of kids)
+IsTerm (suc levels) (node top kids) =
+    IsHead top × IsCount (arity top) (list_of kids) × AllByRecursion (IsTerm levels) (list_of kids)
 
 -- the head of a link's side counts as a level
 abbrev pub IsSide : SideTree → Type 0

@@ -1,4 +1,5 @@
--- The bare grammar: the texts whose numbers may be out of range, and whose heads may stand at any depth.
+-- The bare grammar: the texts whose numbers may be out of range, and whose heads may stand at any
+-- depth.
 use Rattle.std.specs.Prelude.{◌≡◌, ℕ, zero, suc, ◌⊎◌, List, codes}
 use Rattle.gx_tokens.specs.Grammar.{◌⨾◌, the, AWord, ANumber, AQuoted}
 use Rattle.gx_tokens.specs.Lexemes.{Word, Open, Close, Comma, Equals, End}
@@ -77,7 +78,9 @@ BehindShape Term w = ArgumentsShape w ⨾ KidsShape Term (word_arity w)
 -- a term of at most so many levels of heads
 abbrev pub TermShape : ℕ → List ℕ → List ℕ → Type 0
 TermShape zero = λ _ _. ⊥
-TermShape (suc levels) = λ bytes rest. (w : HeadWord) × (the (Word (spell w)) ⨾ BehindShape (TermShape levels) w) bytes rest
+TermShape (suc levels) =
+    λ bytes rest. (w : HeadWord)
+    × (the (Word (spell w)) ⨾ BehindShape (TermShape levels) w) bytes rest
 
 -- ---- definitions
 
@@ -87,7 +90,9 @@ LinkShape levels l = the Open ⨾ KidsShape (TermShape levels) (linkset_arity l)
 
 -- the head of a link's side counts as a level
 abbrev pub SideShape : ℕ → List ℕ → List ℕ → Type 0
-SideShape levels bytes rest = TermShape (suc levels) bytes rest ⊎ ((l : Linkset) × (the (Word (linkset_word l)) ⨾ LinkShape levels l) bytes rest)
+SideShape levels bytes rest =
+    TermShape (suc levels) bytes rest
+    ⊎ ((l : Linkset) × (the (Word (linkset_word l)) ⨾ LinkShape levels l) bytes rest)
 
 -- NAME "=" side
 abbrev pub DefinitionShape : ℕ → List ℕ → List ℕ → Type 0
@@ -100,4 +105,5 @@ DefinitionsShape levels (suc n) = DefinitionShape levels ⨾ DefinitionsShape le
 
 -- the text is in the bare grammar
 abbrev pub IsShaped : List ℕ → Type 0
-IsShaped bytes = (levels : ℕ) × (more : ℕ) × (rest : List ℕ) × DefinitionsShape levels (suc more) bytes rest
+IsShaped bytes =
+    (levels : ℕ) × (more : ℕ) × (rest : List ℕ) × DefinitionsShape levels (suc more) bytes rest

@@ -16,16 +16,20 @@ left_of bytes = length (after_blanks false bytes)
 abbrev pub Reader : Type 0
 Reader = List ℕ → List ℕ → Result ((Tree × List ℕ) × List ℕ) Fault
 
--- the terms before, and those of the text up to the `)`; there is fuel for each byte, so that it never runs out
-unfoldable pub kids_at : Reader → ℕ → List Tree → List ℕ → List ℕ → Result ((List Tree × List ℕ) × List ℕ) Fault
+-- the terms before, and those of the text up to the `)`; there is fuel for each byte, so that it
+-- never runs out
+unfoldable pub kids_at : Reader → ℕ → List Tree → List ℕ → List ℕ
+    → Result ((List Tree × List ℕ) × List ℕ) Fault
 kids_at term zero before places bytes = want (λ _. Err why.Count) bytes
 kids_at term (suc fuel) before places bytes = do
   t ← term places bytes
   more ← want comma_or_close t.1
-  if more.0 then kids_at term fuel (before ++ t.0.0 ∷ []) t.0.1 more.1 else Ok ((before ++ t.0.0 ∷ [], t.0.1), more.1)
+  if more.0 then kids_at term fuel (before ++ t.0.0 ∷ []) t.0.1 more.1
+      else Ok ((before ++ t.0.0 ∷ [], t.0.1), more.1)
 
 -- so many terms, up to the `)`
-abbrev pub kids_behind : Reader → Arity → List ℕ → List ℕ → Result ((List Tree × List ℕ) × List ℕ) Fault
+abbrev pub kids_behind : Reader → Arity → List ℕ → List ℕ
+    → Result ((List Tree × List ℕ) × List ℕ) Fault
 kids_behind term No_kids places bytes = Ok (([], places), bytes)
 kids_behind term One_kid places bytes = do
   t ← term places bytes

@@ -71,7 +71,8 @@ fn read_code(bytes: &[u8]) -> Result<(Code, &[u8]), Fault>
 // One more name, or none at the comma behind the last one.
 fn read_name_or_comma(bytes: &[u8]) -> Result<(Option<&[u8]>, &[u8]), Fault>
     ensures word { IfOk result (λ x. IfSome x.0 (λ word. IsWord word.now)) }
-    ensures exact { map_ok (λ x. (option_map (λ word. word.now) x.0, x.1.now)) result ≡ want (or_comma a_word) bytes.now }
+    ensures exact { map_ok (λ x. (option_map (λ word. word.now) x.0, x.1.now)) result
+        ≡ want (or_comma a_word) bytes.now }
 {
     match next_token(bytes)? {
         (Token::Word(word), rest) => Ok((Some(word), rest)),
@@ -86,7 +87,8 @@ fn read_names<'a>(
     first: Name,
     bytes: &'a [u8],
 ) -> Result<(Names, &'a [u8]), ReadError>
-    ensures { Gives (λ x. (x.0, x.1.now)) result (items_at a_word (suc (length bytes.now)) (first ∷ []) bytes.now) }
+    ensures { Gives (λ x. (x.0, x.1.now)) result
+        (items_at a_word (suc (length bytes.now)) (first ∷ []) bytes.now) }
 {
     let mut names = Vec::new(alloc);
     names.push(first)?;
@@ -119,7 +121,8 @@ fn bound_of<'a>(
     token: Token,
     rest: &'a [u8],
 ) -> Result<(Value, &'a [u8]), ReadError>
-    ensures { Gives (λ x. (x.0, x.1.now)) result (met bytes.now (a_bound (lexeme_of token.entry)) rest.now) }
+    ensures { Gives (λ x. (x.0, x.1.now)) result
+        (met bytes.now (a_bound (lexeme_of token.entry)) rest.now) }
 {
     match token {
         Token::Number(text) => match int_bound(signed_number(text)) {
@@ -157,7 +160,8 @@ fn read_bounds<'a>(
     first: Value,
     bytes: &'a [u8],
 ) -> Result<(Values, &'a [u8]), ReadError>
-    ensures { Gives (λ x. (x.0, x.1.now)) result (items_at a_bound (suc (length bytes.now)) (first ∷ []) bytes.now) }
+    ensures { Gives (λ x. (x.0, x.1.now)) result
+        (items_at a_bound (suc (length bytes.now)) (first ∷ []) bytes.now) }
 {
     let mut bounds = Vec::new(alloc);
     bounds.push(first)?;

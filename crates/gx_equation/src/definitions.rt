@@ -47,7 +47,8 @@ fn read_linkset_head(bytes: &[u8]) -> Result<(Option<Linkset>, &[u8]), Fault>
 // The name of one more definition, or none at the end of the text.
 fn read_start(bytes: &[u8]) -> Result<(Option<&[u8]>, &[u8]), Fault>
     ensures word { IfOk result (λ x. IfSome x.0 (λ word. IsWord word.now)) }
-    ensures exact { map_ok (λ x. (option_map (λ word. word.now) x.0, x.1.now)) result ≡ want a_start bytes.now }
+    ensures exact { map_ok (λ x. (option_map (λ word. word.now) x.0, x.1.now)) result
+        ≡ want a_start bytes.now }
 {
     match next_token(bytes)? {
         (Token::Word(word), rest) => Ok((Some(word), rest)),
@@ -62,7 +63,8 @@ fn read_file_side<'a>(
     places: &mut Vec<usize>,
     bytes: &'a [u8],
 ) -> Result<(Side, &'a [u8]), ReadError>
-    ensures { Gives (λ x. ((side_of x.0, places.new.items), x.1.now)) result (file_at places.old.items bytes.now) }
+    ensures { Gives (λ x. ((side_of x.0, places.new.items), x.1.now)) result
+        (file_at places.old.items bytes.now) }
 {
     let (term, rest) = read_term(alloc, LEVELS, places, bytes)?;
     Ok((Side::File(term), rest))
@@ -75,7 +77,8 @@ fn read_linkset_side<'a>(
     places: &mut Vec<usize>,
     bytes: &'a [u8],
 ) -> Result<(Side, &'a [u8]), ReadError>
-    ensures { Gives (λ x. ((side_of x.0, places.new.items), x.1.now)) result (linkset_at linkset places.old.items bytes.now) }
+    ensures { Gives (λ x. ((side_of x.0, places.new.items), x.1.now)) result
+        (linkset_at linkset places.old.items bytes.now) }
 {
     let rest = read_open(bytes)?;
     match linkset {
@@ -100,7 +103,8 @@ fn read_side<'a>(
     places: &mut Vec<usize>,
     bytes: &'a [u8],
 ) -> Result<(Side, &'a [u8]), ReadError>
-    ensures { Gives (λ x. ((side_of x.0, places.new.items), x.1.now)) result (side_at places.old.items bytes.now) }
+    ensures { Gives (λ x. ((side_of x.0, places.new.items), x.1.now)) result
+        (side_at places.old.items bytes.now) }
 {
     let (linkset, rest) = read_linkset_head(bytes)?;
     match linkset {
@@ -120,7 +124,8 @@ fn read_definition_behind<'a>(
     bytes: &'a [u8],
 ) -> Result<(Definition, &'a [u8]), ReadError>
     requires { IsWord name.now }
-    ensures { Gives (λ x. ((definition_of x.0, places.new.items), x.1.now)) result (definition_behind name.now places.old.items bytes.now) }
+    ensures { Gives (λ x. ((definition_of x.0, places.new.items), x.1.now)) result
+        (definition_behind name.now places.old.items bytes.now) }
 {
     let rest = read_equals(bytes)?;
     let (side, rest) = read_side(alloc, places, rest)?;
@@ -135,7 +140,9 @@ fn read_more_definitions(
     places: &mut Vec<usize>,
     bytes: &[u8],
 ) -> Result<Definitions, ReadError>
-    ensures { Gives (λ ds. (definitions_of ds, places.new.items)) result (definitions_at (suc (length bytes.now)) (definition_of first ∷ []) places.old.items bytes.now) }
+    ensures { Gives (λ ds. (definitions_of ds, places.new.items)) result
+        (definitions_at (suc (length bytes.now))
+        (definition_of first ∷ []) places.old.items bytes.now) }
 {
     let mut definitions = Vec::new(alloc);
     definitions.push(first)?;

@@ -16,7 +16,8 @@ impl Model for Names {
     ghost view = { λ n. n.0.items };
 }
 
-/// How records are stored: in a leaf, or changed by a head and then by the terms that are its children.
+/// How records are stored: in a leaf, or changed by a head and then by the terms that are its
+/// children.
 #[derive(Drop)]
 pub enum Term {
     /// One file of this kind.
@@ -29,15 +30,18 @@ pub enum Term {
     Segment(Names, Box<Term>, Box<Term>),
     /// Each data field in a child of its own.
     Transpose(Vec<Term>),
-    /// Each record in the child that its value of the named field gives, by the ascending bounds between the children.
+    /// Each record in the child that its value of the named field gives, by the ascending bounds
+    /// between the children.
     Partition(Name, Values, Vec<Term>),
     /// The one data field in pieces of so many bytes, 1 to 16,000.
     Divide(u16, Box<Term>),
-    /// The records in the first child, and in the second one the named field's values with the keys.
+    /// The records in the first child, and in the second one the named field's values with the
+    /// keys.
     Index(Name, Box<Term>, Box<Term>),
 }
 
-/// What a definition says of its name: how a file's records are stored, or a link's pairs of owner and member.
+/// What a definition says of its name: how a file's records are stored, or a link's pairs of owner
+/// and member.
 #[derive(Drop)]
 pub enum Side {
     /// A file by its term.
@@ -86,8 +90,9 @@ impl Model for Lines {
     ghost view = { λ l. l.0.items };
 }
 
-/// An equation: its definitions in the order of the text, and the lines of their places. Those are for each definition the
-/// line of its name and then the lines of the heads of its side in the order of the text, and last the text's last line.
+/// An equation: its definitions in the order of the text, and the lines of their places. Those are
+/// for each definition the line of its name and then the lines of the heads of its side in the
+/// order of the text, and last the text's last line.
 #[derive(Drop)]
 pub struct Equation {
     pub definitions: Definitions,

@@ -12,8 +12,8 @@ use gx_tokens::{Fault, ReadError, Why, fault_at, read_open, read_word};
 use gx_values::{Code, Name, Values};
 use std::alloc::Global;
 
-/// A head of a term with its names, numbers and bounds, and without the terms that are its children: what a term of the
-/// same name has besides them.
+/// A head of a term with its names, numbers and bounds, and without the terms that are its
+/// children: what a term of the same name has besides them.
 #[derive(Debug, Drop)]
 pub enum Head {
     /// The kind of the leaf; no child.
@@ -133,7 +133,8 @@ fn read_arguments(alloc: Global, word: HeadWord, bytes: &[u8]) -> Result<(Head, 
     }
 }
 
-/// A head and what stands between it and its first child, where so many levels of heads may still stand, and what follows.
+/// A head and what stands between it and its first child, where so many levels of heads may still
+/// stand, and what follows.
 #[tactic(auto, unfolding(crate::specs::Heads::head_at))]
 pub fn read_head(alloc: Global, levels: u8, bytes: &[u8]) -> Result<(Head, &[u8]), ReadError>
     ensures levels { OnOk result (0 < levels) }

@@ -15,7 +15,8 @@ fn count_ends(bytes: &[u8]) -> usize
     bytes.iter().filter(|byte| **byte == b'\n').count()
 }
 
-// The line of the place `to`, counted on from the line of the place `from`, which doesn't stand behind it.
+// The line of the place `to`, counted on from the line of the place `from`, which doesn't stand
+// behind it.
 fn line_from(bytes: &[u8], from: usize, line: u32, to: usize) -> u32
     requires short { length bytes.now < 4294967295 }
     requires start { line ≡ line_of bytes.now from }

@@ -1,4 +1,5 @@
--- What `explain` says: the plan of each `find` of a script, by the fields that are indexed in the terms of its files.
+-- What `explain` says: the plan of each `find` of a script, by the fields that are indexed in the
+-- terms of its files.
 use Rattle.std.specs.Prelude.{◌≡◌, ◌⊎◌, ℕ, ◌+◌, List, [], ◌∷◌, ◌++◌, length, map, Bool, false, Option, Some, None, Result, Ok, Err}
 use Rattle.gx_device.specs.Content.{Content}
 use Rattle.gx_schema.specs.declared.schema.Schema.{Schema}
@@ -22,18 +23,21 @@ use Rattle.gx_play.specs.Played.{SaysText, SaysFront}
 
 -- for each field of the file of this number whether it is indexed in the file's term
 abbrev pub indexed_fields : Schema → List DefinitionTree → ℕ → List Bool
-indexed_fields schema ds file = map (λ f. file_indexed schema.files ds file f.name) (file_at schema file).fields
+indexed_fields schema ds file =
+    map (λ f. file_indexed schema.files ds file f.name) (file_at schema file).fields
 
 -- ---- of the lines of a script, where `indexed` tells of each file which fields are indexed
 
 -- what is said of the command of the line of this number: the plan of a `find`
 abbrev pub command_text : Schema → (ℕ → List Bool) → ℕ → Command → List ℕ
-command_text schema indexed number (command.Find q) = plan_text schema number q (least_plan q (indexed q.file))
+command_text schema indexed number (command.Find q) =
+    plan_text schema number q (least_plan q (indexed q.file))
 command_text schema indexed number other = []
 
--- Good lines that may stand where they do, the first of which has this number: what is said of all of them, and whether a
--- transaction is open behind them. None of them is carried out.
-abbrev pub AreExplained : Schema → (ℕ → List Bool) → ℕ → Bool → List (List ℕ) → List ℕ → Bool → Type 0
+-- Good lines that may stand where they do, the first of which has this number: what is said of all
+-- of them, and whether a transaction is open behind them. None of them is carried out.
+abbrev pub AreExplained : Schema → (ℕ → List Bool) → ℕ → Bool → List (List ℕ) → List ℕ → Bool
+    → Type 0
 AreExplained schema indexed number inside [] text final = (text ≡ []) × (final ≡ inside)
 AreExplained schema indexed number inside (line ∷ lines) text final =
     (c : Command) × (more : List ℕ)
@@ -41,8 +45,8 @@ AreExplained schema indexed number inside (line ∷ lines) text final =
     × AreExplained schema indexed (number + 1) (inside_after inside c) lines more final
     × (text ≡ command_text schema indexed number c ++ more)
 
--- where it ends behind the line of this number: at the next one, which is bad or can't be had; or with the script, also where a
--- transaction is open
+-- where it ends behind the line of this number: at the next one, which is bad or can't be had; or
+-- with the script, also where a transaction is open
 abbrev pub IsExplainEnd : Schema → Bool → ℕ → Result (Option (List ℕ)) LineWhy → End → Type 0
 IsExplainEnd schema inside last (Ok (Some line)) end =
     (why : LineWhy) × IsBadLine schema inside line why × (end ≡ stopped (last + 1) why)
@@ -50,7 +54,8 @@ IsExplainEnd schema inside last (Ok None) end = end ≡ good
 IsExplainEnd schema inside last (Err why) end = end ≡ stopped (last + 1) why
 
 -- what is said of all lines up to this end
-pub record IsExplainedTo (schema : Schema) (indexed : ℕ → List Bool) (all : Lines) (end : End) (text : List ℕ) : Type 0 where
+pub record IsExplainedTo (schema : Schema) (indexed : ℕ → List Bool) (all : Lines) (end : End)
+    (text : List ℕ) : Type 0 where
   pub ran : List (List ℕ)
   pub next : Result (Option (List ℕ)) LineWhy
   pub first : AreFirstLines all ran next
@@ -59,7 +64,8 @@ pub record IsExplainedTo (schema : Schema) (indexed : ℕ → List Bool) (all : 
   pub ends : IsExplainEnd schema inside (length ran) next end
 
 -- what is said of some first lines
-pub record AreFirstExplained (schema : Schema) (indexed : ℕ → List Bool) (all : Lines) (text : List ℕ) : Type 0 where
+pub record AreFirstExplained (schema : Schema) (indexed : ℕ → List Bool) (all : Lines)
+    (text : List ℕ) : Type 0 where
   pub ran : List (List ℕ)
   pub later : List (List ℕ)
   pub parts : all.lines ≡ ran ++ later
@@ -69,29 +75,38 @@ pub record AreFirstExplained (schema : Schema) (indexed : ℕ → List Bool) (al
 -- ---- of a script
 
 -- what is said of its lines up to this end, and then the line of the end
-pub record IsExplainText (schema : Schema) (indexed : ℕ → List Bool) (script : List ℕ) (end : End) (text : List ℕ) : Type 0 where
+pub record IsExplainText (schema : Schema) (indexed : ℕ → List Bool) (script : List ℕ) (end : End)
+    (text : List ℕ) : Type 0 where
   pub plans : List ℕ
   pub explained : IsExplainedTo schema indexed (script_lines script) end plans
   pub text_is : text ≡ plans ++ end_text end
 
 -- the same, where it ends at a line
 abbrev pub IsStoppedExplanation : Schema → (ℕ → List Bool) → List ℕ → List ℕ → Type 0
-IsStoppedExplanation schema indexed script text = (number : ℕ) × (why : LineWhy) × IsExplainText schema indexed script (stopped number why) text
+IsStoppedExplanation schema indexed script text =
+    (number : ℕ) × (why : LineWhy) × IsExplainText schema indexed script (stopped number why) text
 
 -- what is said of its first lines, and then the line that there was no memory
-pub record IsMemoryExplanation (schema : Schema) (indexed : ℕ → List Bool) (script : List ℕ) (text : List ℕ) : Type 0 where
+pub record IsMemoryExplanation (schema : Schema) (indexed : ℕ → List Bool) (script : List ℕ)
+    (text : List ℕ) : Type 0 where
   pub plans : List ℕ
   pub explained : AreFirstExplained schema indexed (script_lines script) plans
   pub text_is : text ≡ plans ++ memory_line
 
 -- one of these
 abbrev pub IsSomeText : Schema → (ℕ → List Bool) → List ℕ → List ℕ → Type 0
-IsSomeText schema indexed script text = ((end : End) × IsExplainText schema indexed script end text) ⊎ IsMemoryExplanation schema indexed script text
+IsSomeText schema indexed script text =
+    ((end : End) × IsExplainText schema indexed script end text)
+    ⊎ IsMemoryExplanation schema indexed script text
 
 -- what was said of the script, by the status
 abbrev pub IsScriptExplained : Schema → (ℕ → List Bool) → Content → Content → Status → Type 0
-IsScriptExplained schema indexed old new status.Done = SaysText (IsExplainText schema indexed old.script good) old new
-IsScriptExplained schema indexed old new status.Script = SaysText (IsStoppedExplanation schema indexed old.script) old new
-IsScriptExplained schema indexed old new status.Memory = SaysText (IsMemoryExplanation schema indexed old.script) old new
-IsScriptExplained schema indexed old new status.Outside = SaysFront (IsSomeText schema indexed old.script) old new
+IsScriptExplained schema indexed old new status.Done =
+    SaysText (IsExplainText schema indexed old.script good) old new
+IsScriptExplained schema indexed old new status.Script =
+    SaysText (IsStoppedExplanation schema indexed old.script) old new
+IsScriptExplained schema indexed old new status.Memory =
+    SaysText (IsMemoryExplanation schema indexed old.script) old new
+IsScriptExplained schema indexed old new status.Outside =
+    SaysFront (IsSomeText schema indexed old.script) old new
 IsScriptExplained schema indexed old new other = ⊥

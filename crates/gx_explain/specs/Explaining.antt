@@ -27,7 +27,8 @@ fields_in schema nodes file =
     map (λ f. is_indexed any_rule (tree_at nodes file) f.name) (file_at schema file).fields
 
 -- a good line that may stand there: what is said of it, and whether a transaction is open behind it
-pub record IsLineExplained (schema : Schema) (indexed : ℕ → List Bool) (inside : Bool) (number : ℕ) (line : List ℕ) (x : ExplainedLine) : Type 0 where
+pub record IsLineExplained (schema : Schema) (indexed : ℕ → List Bool) (inside : Bool) (number : ℕ)
+    (line : List ℕ) (x : ExplainedLine) : Type 0 where
   pub command : Command
   pub means : IsLineOf schema line command
   pub placed : place_reason inside command ≡ None
@@ -40,9 +41,14 @@ HasEndCause before now (play_end.Line number why) = Unit {0}
 HasEndCause before now (play_end.Stop why) = HasCause before now why
 
 -- what was said of the lines of a script, where explaining them ends so
-abbrev pub SaysPlans : Schema → (ℕ → List Bool) → Lines → Content → Content → Result (Unit {0}) PlayEnd → Type 0
-SaysPlans schema indexed all old new (Ok x) = SaysText (IsExplainedTo schema indexed all good) old new
-SaysPlans schema indexed all old new (Err (play_end.Line number why)) = SaysText (IsExplainedTo schema indexed all (stopped number why)) old new
-SaysPlans schema indexed all old new (Err (play_end.Stop stop.NoMemory)) = SaysText (AreFirstExplained schema indexed all) old new
-SaysPlans schema indexed all old new (Err (play_end.Stop stop.Fault)) = SaysFront (AreFirstExplained schema indexed all) old new
+abbrev pub SaysPlans : Schema → (ℕ → List Bool) → Lines → Content → Content
+    → Result (Unit {0}) PlayEnd → Type 0
+SaysPlans schema indexed all old new (Ok x) =
+    SaysText (IsExplainedTo schema indexed all good) old new
+SaysPlans schema indexed all old new (Err (play_end.Line number why)) =
+    SaysText (IsExplainedTo schema indexed all (stopped number why)) old new
+SaysPlans schema indexed all old new (Err (play_end.Stop stop.NoMemory)) =
+    SaysText (AreFirstExplained schema indexed all) old new
+SaysPlans schema indexed all old new (Err (play_end.Stop stop.Fault)) =
+    SaysFront (AreFirstExplained schema indexed all) old new
 SaysPlans schema indexed all old new (Err (play_end.Stop other)) = ⊥

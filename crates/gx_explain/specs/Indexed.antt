@@ -12,8 +12,8 @@ abbrev pub some_carries : (ℕ → Bool) → ℕ → Trees → Bool
 some_carries carries i none = false
 some_carries carries i (kid t ts) = carries i || some_carries carries (suc i) ts
 
--- A field of records of the form is indexed in a term where the head has an index by it, or where some child carries it and it
--- is indexed in each child that carries it. In a leaf none is.
+-- A field of records of the form is indexed in a term where the head has an index by it, or where
+-- some child carries it and it is indexed in each child that carries it. In a leaf none is.
 abbrev mutual
   pub term_indexed : Form → Tree → List ℕ → Bool
   term_indexed form (node top kids) name =
@@ -25,7 +25,8 @@ abbrev mutual
   pub terms_indexed : (ℕ → Form) → (ℕ → Bool) → ℕ → Trees → List ℕ → Bool
   terms_indexed forms carries i none name = true
   terms_indexed forms carries i (kid t ts) name =
-      (not (carries i) || term_indexed (forms i) t name) && terms_indexed forms carries (suc i) ts name
+      (not (carries i) || term_indexed (forms i) t name) && terms_indexed forms carries
+      (suc i) ts name
 
 -- ---- files
 
@@ -33,7 +34,8 @@ abbrev pub side_indexed : Form → SideTree → List ℕ → Bool
 side_indexed form (file_side t) name = term_indexed form t name
 side_indexed form (link_side linkset ts) name = false
 
--- whether the file of this number is indexed by a field, where the definitions are those of the files in their order
+-- whether the file of this number is indexed by a field, where the definitions are those of the
+-- files in their order
 abbrev pub file_indexed : List FileDef → List DefinitionTree → ℕ → List ℕ → Bool
 file_indexed [] ds i name = false
 file_indexed (file ∷ files) [] i name = false

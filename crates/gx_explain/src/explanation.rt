@@ -31,12 +31,12 @@ struct ExplainedLine {
     inside: bool,
 }
 
-/// Says the plan of each `find` of a script of the schema, whose files are stored in these nodes, up
-/// to the script's end or the line that ends it. No line is carried out, and each plan is said whole
-/// before the next line is read. On a device that tells its content: after `Ok` and `Line` exactly
-/// the plans up to there were said; after `Stop` those of the first lines, and after `Stop(Fault)` a
-/// front of them. Of a stop, `Fault` comes only where the count of faults rose, and the other one is
-/// `NoMemory`. No block is written.
+/// Says the plan of each `find` of a script of the schema, whose files are stored in these nodes,
+/// up to the script's end or the line that ends it. No line is carried out, and each plan is said
+/// whole before the next line is read. On a device that tells its content: after `Ok` and `Line`
+/// exactly the plans up to there were said; after `Stop` those of the first lines, and after
+/// `Stop(Fault)` a front of them. Of a stop, `Fault` comes only where the count of faults rose, and
+/// the other one is `NoMemory`. No block is written.
 pub fn explain_lines<D: Device>(
     alloc: Global,
     schema: &Schema,
@@ -69,7 +69,8 @@ pub fn explain_lines<D: Device>(
     Ok(())
 }
 
-// What is said of the line of this number, which stands inside a transaction or outside, as is told.
+// What is said of the line of this number, which stands inside a transaction or outside, as is
+// told.
 fn explained_line(
     alloc: Global,
     schema: &Schema,

@@ -15,8 +15,9 @@ use gx_schema::Schema;
 use gx_types::Built;
 use std::alloc::Global;
 
-/// Hears the script of a schema whose files are stored in these nodes and says the plan of each `find`,
-/// and why it ends early. No line is carried out, no block is written, and no device is attached.
+/// Hears the script of a schema whose files are stored in these nodes and says the plan of each
+/// `find`, and why it ends early. No line is carried out, no block is written, and no device is
+/// attached.
 pub fn explain_script<M: Machine>(
     alloc: Global,
     schema: &Schema,

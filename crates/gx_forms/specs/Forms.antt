@@ -22,19 +22,23 @@ coded_kind code.Rle (kinds.Text most) = kinds.Bytes (2 * most)
 coded_kind code.Rle other = other
 
 abbrev pub coded_field : List ℕ → Code → Field → Field
-coded_field name code f = if pointwise nat_eq f.name name then field f.name (coded_kind code f.kind) else f
+coded_field name code f =
+    if pointwise nat_eq f.name name then field f.name (coded_kind code f.kind) else f
 
 -- (K; D with the field by its code)
 abbrev pub encode_form : List ℕ → Code → Form → Form
-encode_form name code form = record { keys = form.keys; fields = map (coded_field name code) form.fields }
+encode_form name code form =
+    record { keys = form.keys; fields = map (coded_field name code) form.fields }
 
 -- (K; the named fields, in the order of D)
 abbrev pub named_form : List (List ℕ) → Form → Form
-named_form names form = record { keys = form.keys; fields = filter (λ f. has_name names f.name) form.fields }
+named_form names form =
+    record { keys = form.keys; fields = filter (λ f. has_name names f.name) form.fields }
 
 -- (K; the others)
 abbrev pub others_form : List (List ℕ) → Form → Form
-others_form names form = record { keys = form.keys; fields = filter (λ f. not (has_name names f.name)) form.fields }
+others_form names form =
+    record { keys = form.keys; fields = filter (λ f. not (has_name names f.name)) form.fields }
 
 abbrev pub segment_form : List (List ℕ) → Form → ℕ → Form
 segment_form names form zero = named_form names form
@@ -42,11 +46,14 @@ segment_form names form (suc i) = others_form names form
 
 -- (K; field i)
 abbrev pub one_field : Form → ℕ → Form
-one_field form i = record { keys = form.keys; fields = slice_index_or form.fields i (field [] kinds.Int) ∷ [] }
+one_field form i =
+    record { keys = form.keys; fields = slice_index_or form.fields i (field [] kinds.Int) ∷ [] }
 
 -- (K and `_seq` int; `_piece` bytes n)
 abbrev pub divide_form : ℕ → Form → Form
-divide_form size form = record { keys = form.keys ++ field (codes "_seq") kinds.Int ∷ []; fields = field (codes "_piece") (kinds.Bytes size) ∷ [] }
+divide_form size form =
+    record
+    { keys = form.keys ++ field (codes "_seq") kinds.Int ∷ []; fields = field (codes "_piece") (kinds.Bytes size) ∷ [] }
 
 -- the kind of the field that is indexed, an int or a text
 abbrev pub index_kind : Option Kind → Kind
@@ -55,7 +62,8 @@ index_kind other = kinds.Int
 
 -- (the field, K; nothing)
 abbrev pub index_form : List ℕ → Form → Form
-index_form name form = record { keys = field name (index_kind (kind_in form.fields name)) ∷ form.keys; fields = [] }
+index_form name form =
+    record { keys = field name (index_kind (kind_in form.fields name)) ∷ form.keys; fields = [] }
 
 abbrev pub index_forms : List ℕ → Form → ℕ → Form
 index_forms name form zero = form
@@ -79,17 +87,24 @@ key_field name kind = field name kind ∷ []
 
 -- (`owner` O; `members` bytes 500 w(M))
 abbrev pub array_form : Kind → Kind → Form
-array_form o m = record { keys = key_field (codes "owner") o; fields = field (codes "members") (kinds.Bytes (500 * width_of m)) ∷ [] }
+array_form o m =
+    record
+    { keys = key_field (codes "owner") o; fields = field (codes "members") (kinds.Bytes (500 * width_of m)) ∷ [] }
 
 -- (`owner` O; `first` M) and (`member` M; `last` int, `next` bytes max (w(O), w(M)), `owner` O)
 abbrev pub ring_form : Kind → Kind → ℕ → Form
-ring_form o m zero = record { keys = key_field (codes "owner") o; fields = field (codes "first") m ∷ [] }
-ring_form o m (suc i) = record { keys = key_field (codes "member") m; fields = field (codes "last") kinds.Int ∷ field (codes "next") (kinds.Bytes (max (width_of o) (width_of m))) ∷ field (codes "owner") o ∷ [] }
+ring_form o m zero =
+    record { keys = key_field (codes "owner") o; fields = field (codes "first") m ∷ [] }
+ring_form o m (suc i) =
+    record
+    { keys = key_field (codes "member") m; fields = field (codes "last") kinds.Int ∷ field (codes "next") (kinds.Bytes (max (width_of o) (width_of m))) ∷ field (codes "owner") o ∷ [] }
 
 -- (`owner` O, `member` M; nothing) and (`member` M; `owner` O)
 abbrev pub inverted_form : Kind → Kind → ℕ → Form
-inverted_form o m zero = record { keys = field (codes "owner") o ∷ field (codes "member") m ∷ []; fields = [] }
-inverted_form o m (suc i) = record { keys = key_field (codes "member") m; fields = field (codes "owner") o ∷ [] }
+inverted_form o m zero =
+    record { keys = field (codes "owner") o ∷ field (codes "member") m ∷ []; fields = [] }
+inverted_form o m (suc i) =
+    record { keys = key_field (codes "member") m; fields = field (codes "owner") o ∷ [] }
 
 -- the form of each child of a link's head
 abbrev pub link_form : Linkset → Kind → Kind → ℕ → Form

@@ -1,4 +1,5 @@
--- Forms as a program keeps them: the numbers of bytes of data fields go up to 65,535, which is past what a leaf takes.
+-- Forms as a program keeps them: the numbers of bytes of data fields go up to 65,535, which is past
+-- what a leaf takes.
 use Rattle.std.specs.Prelude.{min, map}
 use Rattle.gx_values.specs.declared.values.Kind.{Kind}
 use Rattle.gx_values.specs.declared.values.Kind.TheVariants as kinds

@@ -53,7 +53,8 @@ fn form_of(alloc: Global, keys: &Fields, field: Field) -> Result<Form, AllocErro
     })
 }
 
-/// The form of the child of `actual`. A body counts as no longer than 65,535 bytes, which is past what a leaf takes.
+/// The form of the child of `actual`. A body counts as no longer than 65,535 bytes, which is past
+/// what a leaf takes.
 pub fn actual_form(alloc: Global, form: &Form) -> Result<Form, AllocError>
     ensures { IfOk result (λ made. narrow made ≡ narrow (actual_form form.now)) }
 {
@@ -103,7 +104,8 @@ fn split_fields(
     fields: &[Field],
     names: &Names,
 ) -> Result<(Fields, Fields), AllocError>
-    ensures { IfOk result (λ parts. (parts.0 ≡ filter (λ f. has_name names.now f.name) fields.now) × (parts.1 ≡ filter (λ f. not (has_name names.now f.name)) fields.now)) }
+    ensures { IfOk result (λ parts. (parts.0 ≡ filter (λ f. has_name names.now f.name) fields.now)
+        × (parts.1 ≡ filter (λ f. not (has_name names.now f.name)) fields.now)) }
 {
     let mut named = Vec::new(alloc);
     let mut others = Vec::new(alloc);
@@ -119,7 +121,8 @@ fn split_fields(
 
 /// The forms of the two children of `segment`: the named fields, and the others.
 pub fn segment_forms(alloc: Global, form: &Form, names: &Names) -> Result<(Form, Form), AllocError>
-    ensures { IfOk result (λ made. (made.0 ≡ named_form names.now form.now) × (made.1 ≡ others_form names.now form.now)) }
+    ensures { IfOk result (λ made. (made.0 ≡ named_form names.now form.now)
+        × (made.1 ≡ others_form names.now form.now)) }
 {
     let (named, others) = split_fields(alloc, &form.fields.0, names)?;
     let first = Form {
@@ -192,7 +195,8 @@ fn index_forms(alloc: Global, form: &Form, name: &Name) -> Result<(Form, Form), 
 /// The form of the child of a term that has one.
 pub fn only_form(alloc: Global, form: &Form, term: &Term) -> Result<Form, AllocError>
     requires { arity (head_of (tree_of term.now)) ≡ One_kid }
-    ensures { IfOk result (λ made. narrow made ≡ narrow (kid_form (head_of (tree_of term.now)) form.now 0)) }
+    ensures { IfOk result
+        (λ made. narrow made ≡ narrow (kid_form (head_of (tree_of term.now)) form.now 0)) }
 {
     match term {
         Term::Actual(_) => actual_form(alloc, form),
@@ -205,8 +209,10 @@ pub fn only_form(alloc: Global, form: &Form, term: &Term) -> Result<Form, AllocE
 /// The forms of the children of a term that has two.
 pub fn two_forms(alloc: Global, form: &Form, term: &Term) -> Result<(Form, Form), AllocError>
     requires { arity (head_of (tree_of term.now)) ≡ Two_kids }
-    ensures first { IfOk result (λ made. narrow made.0 ≡ narrow (kid_form (head_of (tree_of term.now)) form.now 0)) }
-    ensures second { IfOk result (λ made. narrow made.1 ≡ narrow (kid_form (head_of (tree_of term.now)) form.now 1)) }
+    ensures first { IfOk result
+        (λ made. narrow made.0 ≡ narrow (kid_form (head_of (tree_of term.now)) form.now 0)) }
+    ensures second { IfOk result
+        (λ made. narrow made.1 ≡ narrow (kid_form (head_of (tree_of term.now)) form.now 1)) }
 {
     match term {
         Term::Segment(names, _, _) => segment_forms(alloc, form, names),

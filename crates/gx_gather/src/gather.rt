@@ -16,7 +16,8 @@ use gx_values::{NoMemory, Rec, Value, Values};
 use std::alloc::{AllocError, Global};
 use std::mem;
 
-/// The block that is reported where records show damage: no record knows from which block it was read.
+/// The block that is reported where records show damage: no record knows from which block it was
+/// read.
 pub const NO_BLOCK: u32 = 0;
 
 /// Appends the records of one child, as parts of that child. An error is an allocation failure.
@@ -57,8 +58,8 @@ pub fn gather_parts<M: Mapping>(
     gather_sorted(alloc, mapping, width, parts, out)
 }
 
-/// Replaces each of these records of one child by the record that has it as its only data part, under
-/// the same key. What is its own part already stays.
+/// Replaces each of these records of one child by the record that has it as its only data part,
+/// under the same key. What is its own part already stays.
 ///
 /// `Damaged`: one of them is the only data part of no record; the block is `NO_BLOCK`. `Memory`: an
 /// allocation failure. After either, nothing is said of the records.

@@ -52,8 +52,8 @@ fn compare_parts(width: usize, a: &Part, b: &Part) -> Ordering
         .then(compare_keys(&a.rec.key.0, &b.rec.key.0))
 }
 
-/// Brings parts into the order in which they are gathered: by the first `width` values of the key, which
-/// are those of one record, then by child, then by key. An error is an allocation failure.
+/// Brings parts into the order in which they are gathered: by the first `width` values of the key,
+/// which are those of one record, then by child, then by key. An error is an allocation failure.
 pub fn sort_parts(width: usize, parts: &mut Vec<Part>) -> Result<(), AllocError>
     ensures those { IsPermutation parts.old.items parts.new.items }
     ensures in_order { OnOk result

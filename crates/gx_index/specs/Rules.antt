@@ -33,7 +33,9 @@ index_rule form i = record {
   holds_rest = λ child. nat_eq child 0;
   parts = λ r. record_part r ∷ entry_part i r ∷ [];
   skips = λ child span. false;
-  indexes = λ name. if is_field form.fields name && nat_eq (first_in form.fields name) i then Some 1 else None;
+  indexes =
+      λ name. if is_field form.fields name && nat_eq (first_in form.fields name) i then Some 1
+      else None;
   carries = λ child name. nat_eq child 0 && is_field form.fields name;
 }
 

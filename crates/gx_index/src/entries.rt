@@ -6,8 +6,8 @@ ghost use Rattle.gx_index.specs.Rules.{entry_of};
 use gx_values::{NoMemory, Rec, Value, Values};
 use std::alloc::Global;
 
-/// The value of the data field of the number and then the key, and no data. `NoMemory`: there was none
-/// for them.
+/// The value of the data field of the number and then the key, and no data. `NoMemory`: there was
+/// none for them.
 pub(crate) fn entry(alloc: Global, rec: &Rec, field: usize) -> Result<Rec, NoMemory>
     requires place { field < length rec.now.fields }
     requires key { AreSized rec.now.key }

@@ -7,8 +7,8 @@ use crate::layer::Index;
 use gx_values::{Field, Fields, Form, NoMemory};
 use std::alloc::Global;
 
-/// The layer of records of this form, with an entry for each under the value of the data field of the
-/// number, from 0. `NoMemory`: there was none for its forms.
+/// The layer of records of this form, with an entry for each under the value of the data field of
+/// the number, from 0. `NoMemory`: there was none for its forms.
 pub fn index(alloc: Global, form: &Form, field: u16) -> Result<Index, NoMemory>
     requires { CanIndex form.now field }
     ensures form { IfOk result (λ made. form_of made ≡ form.now) }

@@ -44,7 +44,8 @@ pub fn are_ordered(entries: &Entries) -> bool
 
 // Whether an entry fits a page.
 fn fits_page(entry: &EntryRef<'_>) -> bool
-    ensures { IsTrue result ↔ FitsPage (record { key = entry.now.key.now; body = entry.now.body.now }) }
+    ensures { IsTrue result ↔
+        FitsPage (record { key = entry.now.key.now; body = entry.now.body.now }) }
 {
     entry.key.len() <= MAX_KEY_LEN && entry.key.len() + entry.body.len() <= MAX_ENTRY_LEN
 }

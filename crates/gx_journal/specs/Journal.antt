@@ -19,7 +19,9 @@ module _ {D : Type 0} {g : device.Ghosts D} where
 
   -- the pages as they were written last
   abbrev pub working_of : Journal D g → List (List ℕ)
-  working_of j = pages_told g.tells (size_of j) (content_of j) j.working.spilled.items j.working.frames.resident
+  working_of j =
+      pages_told g.tells (size_of j)
+      (content_of j) j.working.spilled.items j.working.frames.resident
 
   -- the pages of the last commit
   abbrev pub kept_of : Journal D g → List (List ℕ)
@@ -37,8 +39,8 @@ module _ {D : Type 0} {g : device.Ghosts D} where
   abbrev pub IsUnchanged : Journal D g → Type 0
   IsUnchanged j = IsUnchangedIn j.working
 
-  -- A crash at any moment since that content leaves blocks that stand for the kept pages, and no commit
-  -- has failed.
+  -- A crash at any moment since that content leaves blocks that stand for the kept pages, and no
+  -- commit has failed.
   abbrev pub IsCalm : Journal D g → Content → Type 0
   IsCalm j start = CalmSince g.tells j.failed (size_of j) start (content_of j)
 

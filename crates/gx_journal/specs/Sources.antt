@@ -10,15 +10,18 @@ use Rattle.gx_layout.specs.Calm.{Calm}
 
 -- page p on the device: in its slot where it is spilled, else at home
 abbrev pub stored : ℕ → List (List ℕ) → List Bool → ℕ → List ℕ
-stored P blocks spilled p = if get_or spilled p false then get_or blocks (7 + p) [] else get_or blocks (home P p) []
+stored P blocks spilled p =
+    if get_or spilled p false then get_or blocks (7 + p) [] else get_or blocks (home P p) []
 
 -- page p: in a frame where it is resident, else as it is stored
 abbrev pub page_of : ℕ → List (List ℕ) → List Bool → List Resident → ℕ → List ℕ
-page_of P blocks spilled residents p = option_map_or (λ r. r.bytes) (find_page p residents) (stored P blocks spilled p)
+page_of P blocks spilled residents p =
+    option_map_or (λ r. r.bytes) (find_page p residents) (stored P blocks spilled p)
 
 -- a resident page that hasn't changed has the bytes that are stored of it
 abbrev pub IsCached : ℕ → List (List ℕ) → List Bool → List Resident → Type 0
-IsCached P blocks spilled residents = (p : ℕ) (r : Resident) → find_page p residents ≡ Some r → r.changed ≡ false → r.bytes ≡ stored P blocks spilled p
+IsCached P blocks spilled residents = (p : ℕ) (r : Resident) → find_page p residents ≡ Some r
+    → r.changed ≡ false → r.bytes ≡ stored P blocks spilled p
 
 -- each page is what it was
 abbrev pub SamePages : (old new : ℕ → List ℕ) → Type 0

@@ -17,7 +17,9 @@ fn put(frames: &mut Frames, p: u32, from: &[u8])
     requires below { p < frames.old.pages }
     requires free { IsResident frames.old p ⊎ HasFreeFrame frames.old }
     requires size { length from.now ≡ 4096 }
-    ensures { frames.new ≡ with_residents frames.old (record { page = p; bytes = from.now; changed = true } ∷ without p frames.old.resident) }
+    ensures { frames.new
+        ≡ with_residents frames.old (record { page = p; bytes = from.now; changed = true }
+        ∷ without p frames.old.resident) }
 {
     if !frames.is_resident(p) {
         frames.carry_out(Call::Admit(p, from));
@@ -35,12 +37,21 @@ pub(crate) fn write<D: Device>(
     requires below { p < size_in working.old }
     requires bytes { length from.now ≡ 4096 }
     requires room { 7 + 2 * size_in working.old ≤ D.size device.old }
-    requires cached { IsTrue D.tells → IsCachedIn (size_in working.old) (D.content device.old) working.old }
-    ensures page { IsTrue D.tells → OnOk result (page_in (size_in working.old) (D.content device.new) working.new p ≡ from.now) }
-    ensures others { IsTrue D.tells → (q : ℕ) → p ≢ q → page_in (size_in working.old) (D.content device.new) working.new q ≡ page_in (size_in working.old) (D.content device.old) working.old q }
-    ensures failed { IsTrue D.tells → OnErr result (SamePages (page_in (size_in working.old) (D.content device.old) working.old) (page_in (size_in working.old) (D.content device.new) working.new)) }
+    requires cached { IsTrue D.tells →
+        IsCachedIn (size_in working.old) (D.content device.old) working.old }
+    ensures page { IsTrue D.tells →
+        OnOk result (page_in (size_in working.old) (D.content device.new) working.new p
+        ≡ from.now) }
+    ensures others { IsTrue D.tells → (q : ℕ) → p ≢ q →
+        page_in (size_in working.old) (D.content device.new) working.new q
+        ≡ page_in (size_in working.old) (D.content device.old) working.old q }
+    ensures failed { IsTrue D.tells →
+        OnErr result
+        (SamePages (page_in (size_in working.old) (D.content device.old) working.old)
+        (page_in (size_in working.old) (D.content device.new) working.new)) }
     ensures long { size_in working.new ≡ size_in working.old }
-    ensures cached { IsTrue D.tells → IsCachedIn (size_in working.old) (D.content device.new) working.new }
+    ensures cached { IsTrue D.tells →
+        IsCachedIn (size_in working.old) (D.content device.new) working.new }
     ensures slots { OnlySlots (size_in working.old) (D.content device.old) (D.content device.new) }
     ensures size { D.size device.new ≡ D.size device.old }
     ensures cause { IsCounted (D.faults device.old) (D.faults device.new) result }
@@ -62,7 +73,10 @@ fn fetch<D: Device>(
     requires bytes { length into.old ≡ 4096 }
     requires room { 7 + 2 * pages ≤ D.size device.old }
     requires few { pages ≤ 32768 }
-    ensures page { IsTrue D.tells → OnOk result (into.new ≡ (if is_spilled then slice_index_or (D.content device.old).now.blocks (7 + p) [] else slice_index_or (D.content device.old).now.blocks (home pages p) [])) }
+    ensures page { IsTrue D.tells →
+        OnOk result
+        (into.new ≡ (if is_spilled then slice_index_or (D.content device.old).now.blocks (7 + p) []
+        else slice_index_or (D.content device.old).now.blocks (home pages p) [])) }
     ensures rest { OnlyTime (D.content device.old) (D.content device.new) }
     ensures size { D.size device.new ≡ D.size device.old }
     ensures cause { IsCounted (D.faults device.old) (D.faults device.new) result }
@@ -84,12 +98,18 @@ pub(crate) fn read<D: Device>(
     requires below { p < size_in working.old }
     requires bytes { length into.old ≡ 4096 }
     requires room { 7 + 2 * size_in working.old ≤ D.size device.old }
-    requires cached { IsTrue D.tells → IsCachedIn (size_in working.old) (D.content device.old) working.old }
-    ensures page { IsTrue D.tells → OnOk result (into.new ≡ page_in (size_in working.old) (D.content device.old) working.old p) }
-    ensures same { IsTrue D.tells → SamePages (page_in (size_in working.old) (D.content device.old) working.old) (page_in (size_in working.old) (D.content device.new) working.new) }
+    requires cached { IsTrue D.tells →
+        IsCachedIn (size_in working.old) (D.content device.old) working.old }
+    ensures page { IsTrue D.tells →
+        OnOk result
+        (into.new ≡ page_in (size_in working.old) (D.content device.old) working.old p) }
+    ensures same { IsTrue D.tells →
+        SamePages (page_in (size_in working.old) (D.content device.old) working.old)
+        (page_in (size_in working.old) (D.content device.new) working.new) }
     ensures unchanged { IsUnchangedIn working.old → IsUnchangedIn working.new }
     ensures long { size_in working.new ≡ size_in working.old }
-    ensures cached { IsTrue D.tells → IsCachedIn (size_in working.old) (D.content device.new) working.new }
+    ensures cached { IsTrue D.tells →
+        IsCachedIn (size_in working.old) (D.content device.new) working.new }
     ensures slots { OnlySlots (size_in working.old) (D.content device.old) (D.content device.new) }
     ensures size { D.size device.new ≡ D.size device.old }
     ensures cause { IsCounted (D.faults device.old) (D.faults device.new) result }

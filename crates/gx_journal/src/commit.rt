@@ -18,12 +18,17 @@ fn spill_one<D: Device>(device: &mut D, working: &mut WorkingPages, p: u32) -> R
     requires below { p < size_in working.old }
     requires changed { IsChanged working.old.frames p }
     requires room { 7 + 2 * size_in working.old ≤ D.size device.old }
-    requires cached { IsTrue D.tells → IsCachedIn (size_in working.old) (D.content device.old) working.old }
+    requires cached { IsTrue D.tells →
+        IsCachedIn (size_in working.old) (D.content device.old) working.old }
     ensures clean { OnOk result (¬ IsChanged working.new.frames p) }
-    ensures still { OnOk result ((q : ℕ) → ¬ IsChanged working.old.frames q → ¬ IsChanged working.new.frames q) }
+    ensures still { OnOk result ((q : ℕ) → ¬ IsChanged working.old.frames q →
+        ¬ IsChanged working.new.frames q) }
     ensures long { size_in working.new ≡ size_in working.old }
-    ensures same { IsTrue D.tells → SamePages (page_in (size_in working.old) (D.content device.old) working.old) (page_in (size_in working.old) (D.content device.new) working.new) }
-    ensures cached { IsTrue D.tells → IsCachedIn (size_in working.old) (D.content device.new) working.new }
+    ensures same { IsTrue D.tells →
+        SamePages (page_in (size_in working.old) (D.content device.old) working.old)
+        (page_in (size_in working.old) (D.content device.new) working.new) }
+    ensures cached { IsTrue D.tells →
+        IsCachedIn (size_in working.old) (D.content device.new) working.new }
     ensures slots { OnlySlots (size_in working.old) (D.content device.old) (D.content device.new) }
     ensures size { D.size device.new ≡ D.size device.old }
     ensures cause { IsCounted (D.faults device.old) (D.faults device.new) result }
@@ -36,13 +41,21 @@ fn spill_one<D: Device>(device: &mut D, working: &mut WorkingPages, p: u32) -> R
 /// Each changed page goes to its slot: then each page is as it is stored.
 pub(crate) fn spill_all<D: Device>(device: &mut D, working: &mut WorkingPages) -> Result<(), Failed>
     requires room { 7 + 2 * size_in working.old ≤ D.size device.old }
-    requires cached { IsTrue D.tells → IsCachedIn (size_in working.old) (D.content device.old) working.old }
-    ensures unchanged { ((q : ℕ) → ¬ IsChanged working.old.frames q) → (device.new ≡ device.old) × (working.new ≡ working.old) }
+    requires cached { IsTrue D.tells →
+        IsCachedIn (size_in working.old) (D.content device.old) working.old }
+    ensures unchanged { ((q : ℕ) → ¬ IsChanged working.old.frames q) →
+        (device.new ≡ device.old) × (working.new ≡ working.old) }
     ensures none_changed { OnOk result ((q : ℕ) → ¬ IsChanged working.new.frames q) }
-    ensures stored { IsTrue D.tells → OnOk result ((q : ℕ) → page_in (size_in working.old) (D.content device.new) working.new q ≡ stored (size_in working.old) (D.content device.new).now.blocks working.new.spilled.items q) }
+    ensures stored { IsTrue D.tells →
+        OnOk result ((q : ℕ) → page_in (size_in working.old) (D.content device.new) working.new q
+        ≡ stored (size_in working.old)
+        (D.content device.new).now.blocks working.new.spilled.items q) }
     ensures long { size_in working.new ≡ size_in working.old }
-    ensures same { IsTrue D.tells → SamePages (page_in (size_in working.old) (D.content device.old) working.old) (page_in (size_in working.old) (D.content device.new) working.new) }
-    ensures cached { IsTrue D.tells → IsCachedIn (size_in working.old) (D.content device.new) working.new }
+    ensures same { IsTrue D.tells →
+        SamePages (page_in (size_in working.old) (D.content device.old) working.old)
+        (page_in (size_in working.old) (D.content device.new) working.new) }
+    ensures cached { IsTrue D.tells →
+        IsCachedIn (size_in working.old) (D.content device.new) working.new }
     ensures slots { OnlySlots (size_in working.old) (D.content device.old) (D.content device.new) }
     ensures size { D.size device.new ≡ D.size device.old }
     ensures cause { IsCounted (D.faults device.old) (D.faults device.new) result }
@@ -72,15 +85,32 @@ pub(crate) fn clear(spilled: &mut Vec<bool>, listed: &mut Vec<u32>)
 /// Makes the pages as they are those at home, all at once.
 pub(crate) fn commit<D: Device>(device: &mut D, working: &mut WorkingPages) -> Result<(), Failed>
     requires room { 7 + 2 * size_in working.old ≤ D.size device.old }
-    requires cached { IsTrue D.tells → IsCachedIn (size_in working.old) (D.content device.old) working.old }
-    ensures home { IsTrue D.tells → OnOk result ((q : ℕ) → page_in (size_in working.old) (D.content device.new) working.new q ≡ slice_index_or (D.content device.new).now.blocks (home (size_in working.old) q) []) }
-    ensures same { IsTrue D.tells → OnOk result (SamePages (page_in (size_in working.old) (D.content device.old) working.old) (page_in (size_in working.old) (D.content device.new) working.new)) }
-    ensures images { IsTrue D.tells → (kept : View) → length kept.pages ≡ size_in working.old → AtRest (D.content device.old).now kept
-        → LeavesOnly (Either kept (with_pages kept (pages_in D.tells (size_in working.old) (D.content device.old) working.old))) (D.content device.old) (D.content device.new) }
-    ensures at_rest { IsTrue D.tells → (kept : View) → length kept.pages ≡ size_in working.old → AtRest (D.content device.old).now kept
-        → OnOk result (AtRest (D.content device.new).now (with_pages kept (pages_in D.tells (size_in working.old) (D.content device.old) working.old))) }
-    ensures closed { IsTrue D.tells → is_open (block_of (D.content device.old).now 1) ≡ false → OnOk result (is_open (block_of (D.content device.new).now 1) ≡ false) }
-    ensures cached { IsTrue D.tells → IsCachedIn (size_in working.old) (D.content device.new) working.new }
+    requires cached { IsTrue D.tells →
+        IsCachedIn (size_in working.old) (D.content device.old) working.old }
+    ensures home { IsTrue D.tells →
+        OnOk result ((q : ℕ) → page_in (size_in working.old) (D.content device.new) working.new q
+        ≡ slice_index_or (D.content device.new).now.blocks (home (size_in working.old) q) []) }
+    ensures same { IsTrue D.tells →
+        OnOk result
+        (SamePages (page_in (size_in working.old) (D.content device.old) working.old)
+        (page_in (size_in working.old) (D.content device.new) working.new)) }
+    ensures images { IsTrue D.tells → (kept : View) → length kept.pages ≡ size_in working.old →
+        AtRest (D.content device.old).now kept
+        → LeavesOnly
+        (Either kept
+        (with_pages kept
+        (pages_in D.tells (size_in working.old) (D.content device.old) working.old)))
+        (D.content device.old) (D.content device.new) }
+    ensures at_rest { IsTrue D.tells → (kept : View) → length kept.pages ≡ size_in working.old →
+        AtRest (D.content device.old).now kept
+        → OnOk result
+        (AtRest (D.content device.new).now
+        (with_pages kept
+        (pages_in D.tells (size_in working.old) (D.content device.old) working.old))) }
+    ensures closed { IsTrue D.tells → is_open (block_of (D.content device.old).now 1) ≡ false →
+        OnOk result (is_open (block_of (D.content device.new).now 1) ≡ false) }
+    ensures cached { IsTrue D.tells →
+        IsCachedIn (size_in working.old) (D.content device.new) working.new }
     ensures unchanged { IsUnchangedIn working.old → device.new ≡ device.old }
     ensures saved { OnOk result (IsUnchangedIn working.new) }
     ensures body { OnlyBlocks IsBody (D.content device.old) (D.content device.new) }

@@ -13,7 +13,8 @@ use gx_frames::Frames;
 fn leave(frames: &mut Frames, p: u32)
     requires below { p < frames.old.pages }
     ensures gone { find_page p frames.new.resident ≡ None }
-    ensures others { (q : ℕ) → p ≢ q → find_page q frames.new.resident ≡ find_page q frames.old.resident }
+    ensures others { (q : ℕ) → p ≢ q →
+        find_page q frames.new.resident ≡ find_page q frames.old.resident }
     ensures pages { frames.new.pages ≡ frames.old.pages }
 {
     if frames.is_resident(p) {
@@ -23,8 +24,10 @@ fn leave(frames: &mut Frames, p: u32)
 
 // Only pages that haven't changed stay in the frames.
 fn forget_changed(frames: &mut Frames)
-    ensures kept { (q : ℕ) (r : Resident) → find_page q frames.new.resident ≡ Some r → find_page q frames.old.resident ≡ Some r }
-    ensures unchanged { (q : ℕ) (r : Resident) → find_page q frames.new.resident ≡ Some r → r.changed ≡ false }
+    ensures kept { (q : ℕ) (r : Resident) → find_page q frames.new.resident ≡ Some r →
+        find_page q frames.old.resident ≡ Some r }
+    ensures unchanged { (q : ℕ) (r : Resident) → find_page q frames.new.resident ≡ Some r →
+        r.changed ≡ false }
     ensures pages { frames.new.pages ≡ frames.old.pages }
 {
     let _victim = frames.victim();
@@ -33,8 +36,10 @@ fn forget_changed(frames: &mut Frames)
 
 /// Forgets all changes: each page is as at home. The device isn't called.
 pub(crate) fn forget(working: &mut WorkingPages)
-    ensures same { (P : ℕ) (c : Content) → IsCachedIn P c working.old → (q : ℕ) → page_in P c working.new q ≡ block_of c.now (home P q) }
-    ensures cached { (P : ℕ) (c : Content) → IsCachedIn P c working.old → IsCachedIn P c working.new }
+    ensures same { (P : ℕ) (c : Content) → IsCachedIn P c working.old → (q : ℕ) →
+        page_in P c working.new q ≡ block_of c.now (home P q) }
+    ensures cached { (P : ℕ) (c : Content) → IsCachedIn P c working.old →
+        IsCachedIn P c working.new }
     ensures unchanged { IsUnchangedIn working.new }
     ensures long { size_in working.new ≡ size_in working.old }
 {

@@ -21,8 +21,9 @@ use std::alloc::Global;
 
 /// Pages that are committed all at once.
 ///
-/// The kept pages, those of the last commit, are in their home blocks. A working page stands in a frame;
-/// one that has changed goes to its slot before it leaves the frames, and is read back from there.
+/// The kept pages, those of the last commit, are in their home blocks. A working page stands in a
+/// frame; one that has changed goes to its slot before it leaves the frames, and is read back from
+/// there.
 #[derive(Drop)]
 pub struct Journal<D: Device> {
     device: D,
@@ -31,8 +32,11 @@ pub struct Journal<D: Device> {
     ghost room: { 7 + 2 * length working.spilled.items ≤ D.size device },
     ghost limit: { D.size device ≤ 65543 },
     ghost count: { length working.spilled.items ≡ pages_of (D.size device) },
-    ghost closed: { IsTrue D.tells → failed ≡ false → is_open (block_of (D.content device).now 1) ≡ false },
-    ghost cached: { IsTrue D.tells → IsCached (length working.spilled.items) (D.content device).now.blocks working.spilled.items working.frames.resident },
+    ghost closed: { IsTrue D.tells → failed ≡ false →
+        is_open (block_of (D.content device).now 1) ≡ false },
+    ghost cached: { IsTrue D.tells →
+        IsCached (length working.spilled.items)
+        (D.content device).now.blocks working.spilled.items working.frames.resident },
 }
 
 impl<D: Device> Journal<D> {
@@ -73,14 +77,16 @@ impl<D: Device> Journal<D> {
         requires most { frames ≤ 1024 }
         requires blocks { 7 ≤ D.size device }
         requires limit { D.size device ≤ 65543 }
-        ensures kept { IsTrue D.tells → IfOk result (λ j. kept_of j ≡ replayed_pages (D.content device).now.blocks) }
+        ensures kept { IsTrue D.tells →
+            IfOk result (λ j. kept_of j ≡ replayed_pages (D.content device).now.blocks) }
         ensures working { IfOk result (λ j. working_of j ≡ kept_of j) }
         ensures head { IfOk result (λ j. head_blocks j ≡ head_told D.tells (D.content device)) }
         ensures size { IfOk result (λ j. size_of j ≡ pages_of (D.size device)) }
         ensures unchanged { IfOk result (λ j. IsUnchanged j) }
         ensures steady { IfOk result (λ j. IsSteady j) }
         ensures calm { IsTrue D.tells → IfOk result (λ j. IsCalm j (content_of j)) }
-        ensures magic { IsTrue D.tells → OnOk result (HasMagic (block_of (D.content device).now 0)) }
+        ensures magic { IsTrue D.tells →
+            OnOk result (HasMagic (block_of (D.content device).now 0)) }
         ensures no_magic { IsTrue D.tells → IfErr result
             (λ e. e.1 ≡ Unopened.NoDatabase → ¬ HasMagic (block_of (D.content device).now 0)) }
         ensures unwritten { IfErr result (λ e. e.1 ≡ Unopened.NoDatabase →
@@ -94,7 +100,8 @@ impl<D: Device> Journal<D> {
             (D.content device) (content_left result) }
         ensures silent { Silent (D.content device) (content_left result) }
         ensures blocks { D.size (device_left result) ≡ D.size device }
-        ensures faults { Counted (has_no_fault result) (D.faults device) (D.faults (device_left result)) }
+        ensures faults { Counted (has_no_fault result) (D.faults device)
+            (D.faults (device_left result)) }
     {
         let Ok(working) = WorkingPages::make(alloc, frames, device.blocks()) else {
             return Err((device, Unopened::NoMemory));
@@ -106,11 +113,11 @@ impl<D: Device> Journal<D> {
         }
     }
 
-    /// Lays out a device with two texts, with 8 to 1,024 frames. Block 0 and the pages stay as they are,
-    /// so that there is no database before a `seal` if there was none.
+    /// Lays out a device with two texts, with 8 to 1,024 frames. Block 0 and the pages stay as they
+    /// are, so that there is no database before a `seal` if there was none.
     ///
-    /// Else the device is handed back. `NoMemory`: it wasn't called. `Fault`: a call of it failed, and
-    /// some of the blocks 1 to 6 may have been written.
+    /// Else the device is handed back. `NoMemory`: it wasn't called. `Fault`: a call of it failed,
+    /// and some of the blocks 1 to 6 may have been written.
     pub fn format(
         alloc: Global,
         mut device: D,
@@ -123,7 +130,8 @@ impl<D: Device> Journal<D> {
         requires blocks { 7 ≤ D.size device }
         requires limit { D.size device ≤ 65543 }
         requires texts { length schema.now + length equation.now ≤ 16380 }
-        ensures kept { IfOk result (λ j. kept_of j ≡ homes_told D.tells (size_of j) (D.content device)) }
+        ensures kept { IfOk result
+            (λ j. kept_of j ≡ homes_told D.tells (size_of j) (D.content device)) }
         ensures working { IfOk result (λ j. working_of j ≡ kept_of j) }
         ensures head { IsTrue D.tells → IfOk result (λ j. head_blocks j
             ≡ block_of (D.content device).now 0 ∷ text_blocks schema.now equation.now) }
@@ -137,7 +145,8 @@ impl<D: Device> Journal<D> {
             (D.content device) (content_left result) }
         ensures touched { OnlyBlocks IsFormatted (D.content device) (content_left result) }
         ensures blocks { D.size (device_left result) ≡ D.size device }
-        ensures faults { Counted (has_no_fault result) (D.faults device) (D.faults (device_left result)) }
+        ensures faults { Counted (has_no_fault result) (D.faults device)
+            (D.faults (device_left result)) }
     {
         let Ok(working) = WorkingPages::make(alloc, frames, device.blocks()) else {
             return Err((device, Unopened::NoMemory));
@@ -148,29 +157,32 @@ impl<D: Device> Journal<D> {
         }
     }
 
-    /// Writes the magic: from then on there is a database on the device. After `Failed` block 0 may hold
-    /// anything.
+    /// Writes the magic: from then on there is a database on the device. After `Failed` block 0 may
+    /// hold anything.
     pub fn seal(&mut self) -> Result<(), Failed>
-        ensures magic { IsTrue D.tells → OnOk result (HasMagic (slice_index_or (head_blocks self.new) 0 [])) }
+        ensures magic { IsTrue D.tells →
+            OnOk result (HasMagic (slice_index_or (head_blocks self.new) 0 [])) }
         ensures texts { drop 1 (head_blocks self.new) ≡ drop 1 (head_blocks self.old) }
         ensures working { working_of self.new ≡ working_of self.old }
         ensures kept { kept_of self.new ≡ kept_of self.old }
         ensures size { size_of self.new ≡ size_of self.old }
         ensures blocks { D.size (device_of self.new) ≡ D.size (device_of self.old) }
         ensures steady { IsSteady self.old ↔ IsSteady self.new }
-        ensures calm { (start : Content) → IsCalm self.old start → OnOk result (IsCalm self.new (content_of self.new)) }
+        ensures calm { (start : Content) → IsCalm self.old start →
+            OnOk result (IsCalm self.new (content_of self.new)) }
         ensures images { (start : Content) → IsCalm self.old start → LeavesOnly
             (IsUnsealed (view_now (kept_of self.old) (content_of self.old)))
             (content_of self.old) (content_of self.new) }
         ensures touched { OnlyBlocks (λ n. n ≡ 0) (content_of self.old) (content_of self.new) }
-        ensures faults { IsCounted (D.faults (device_of self.old)) (D.faults (device_of self.new)) result }
+        ensures faults { IsCounted (D.faults (device_of self.old))
+            (D.faults (device_of self.new)) result }
     {
         seal(&mut self.device)
     }
 
-    /// The first place of the text area, counted from 0, in which the device differs from these texts;
-    /// None where it has them. The text area is the bytes of the text blocks: the lengths of the texts,
-    /// the texts, and zeros.
+    /// The first place of the text area, counted from 0, in which the device differs from these
+    /// texts; None where it has them. The text area is the bytes of the text blocks: the lengths of
+    /// the texts, the texts, and zeros.
     pub fn texts_differ(&mut self, schema: &[u8], equation: &[u8]) -> Result<Option<u16>, Failed>
         requires { length schema.now + length equation.now ≤ 16380 }
         ensures place { IsTrue D.tells → IfOk result (DifferFirst (text_at (head_blocks self.old))
@@ -180,7 +192,8 @@ impl<D: Device> Journal<D> {
         ensures blocks { (content_of self.new).now.blocks ≡ (content_of self.old).now.blocks }
         ensures keeps { Keeps self.old self.new }
         ensures silent { Silent (content_of self.old) (content_of self.new) }
-        ensures faults { IsCounted (D.faults (device_of self.old)) (D.faults (device_of self.new)) result }
+        ensures faults { IsCounted (D.faults (device_of self.old))
+            (D.faults (device_of self.new)) result }
     {
         texts_differ(&mut self.device, schema, equation)
     }
@@ -204,12 +217,14 @@ impl<D: Device> Journal<D> {
     pub fn read_page(&mut self, p: u32, into: &mut [u8]) -> Result<(), Failed>
         requires below { p < size_of self.old }
         requires bytes { length into.old ≡ 4096 }
-        ensures page { IsTrue D.tells → OnOk result (into.new ≡ slice_index_or (working_of self.old) p []) }
+        ensures page { IsTrue D.tells →
+            OnOk result (into.new ≡ slice_index_or (working_of self.old) p []) }
         ensures working { working_of self.new ≡ working_of self.old }
         ensures unchanged { IsUnchanged self.old → IsUnchanged self.new }
         ensures keeps { Keeps self.old self.new }
         ensures silent { Silent (content_of self.old) (content_of self.new) }
-        ensures faults { IsCounted (D.faults (device_of self.old)) (D.faults (device_of self.new)) result }
+        ensures faults { IsCounted (D.faults (device_of self.old))
+            (D.faults (device_of self.new)) result }
     {
         read(&mut self.device, &mut self.working, p, into)
     }
@@ -218,17 +233,19 @@ impl<D: Device> Journal<D> {
     pub fn write_page(&mut self, p: u32, from: &[u8]) -> Result<(), Failed>
         requires below { p < size_of self.old }
         requires bytes { length from.now ≡ 4096 }
-        ensures page { IsTrue D.tells → OnOk result (working_of self.new ≡ slice_set (working_of self.old) p from.now) }
+        ensures page { IsTrue D.tells →
+            OnOk result (working_of self.new ≡ slice_set (working_of self.old) p from.now) }
         ensures failed { OnErr result (working_of self.new ≡ working_of self.old) }
         ensures keeps { Keeps self.old self.new }
         ensures silent { Silent (content_of self.old) (content_of self.new) }
-        ensures faults { IsCounted (D.faults (device_of self.old)) (D.faults (device_of self.new)) result }
+        ensures faults { IsCounted (D.faults (device_of self.old))
+            (D.faults (device_of self.new)) result }
     {
         write(&mut self.device, &mut self.working, p, from)
     }
 
-    /// Makes the working pages the kept ones, all at once. Where no page has changed the device isn't
-    /// called. After `Failed` the journal is to be opened again.
+    /// Makes the working pages the kept ones, all at once. Where no page has changed the device
+    /// isn't called. After `Failed` the journal is to be opened again.
     pub fn commit(&mut self) -> Result<(), Failed>
         ensures kept { OnOk result (kept_of self.new ≡ working_of self.old) }
         ensures working { OnOk result (working_of self.new ≡ working_of self.old) }
@@ -237,14 +254,17 @@ impl<D: Device> Journal<D> {
         ensures blocks { D.size (device_of self.new) ≡ D.size (device_of self.old) }
         ensures steady { OnOk result (IsSteady self.old ↔ IsSteady self.new) }
         ensures images { (start : Content) → IsCalm self.old start → LeavesOnly
-            (IsOldOrNew (Shows (head_blocks self.old) (kept_of self.old)) (Shows (head_blocks self.old) (working_of self.old))
+            (IsOldOrNew (Shows (head_blocks self.old) (kept_of self.old))
+            (Shows (head_blocks self.old) (working_of self.old))
             (content_of self.old).now)
             (content_of self.old) (content_of self.new) }
-        ensures calm { (start : Content) → IsCalm self.old start → OnOk result (IsCalm self.new (content_of self.new)) }
+        ensures calm { (start : Content) → IsCalm self.old start →
+            OnOk result (IsCalm self.new (content_of self.new)) }
         ensures unchanged { IsUnchanged self.old → device_of self.new ≡ device_of self.old }
         ensures saved { OnOk result (IsUnchanged self.new) }
         ensures silent { Silent (content_of self.old) (content_of self.new) }
-        ensures faults { IsCounted (D.faults (device_of self.old)) (D.faults (device_of self.new)) result }
+        ensures faults { IsCounted (D.faults (device_of self.old))
+            (D.faults (device_of self.new)) result }
     {
         let committed = commit(&mut self.device, &mut self.working);
         self.failed |= committed.is_err();
@@ -265,10 +285,13 @@ impl<D: Device> Journal<D> {
     pub fn hear(&mut self, into: &mut [u8]) -> Result<usize, Failed>
         requires { 0 < length into.old }
         ensures bound { IfOk result (λ n. n ≤ length into.new) }
-        ensures heard { IsTrue D.tells → IfOk result (λ n. Hears n into.new (content_of self.old) (content_of self.new)) }
-        ensures not_heard { OnErr result ((content_of self.new).script ≡ (content_of self.old).script) }
+        ensures heard { IsTrue D.tells →
+            IfOk result (λ n. Hears n into.new (content_of self.old) (content_of self.new)) }
+        ensures not_heard { OnErr result ((content_of self.new).script
+            ≡ (content_of self.old).script) }
         ensures rest { Listens (content_of self.old) (content_of self.new) }
-        ensures faults { IsCounted (D.faults (device_of self.old)) (D.faults (device_of self.new)) result }
+        ensures faults { IsCounted (D.faults (device_of self.old))
+            (D.faults (device_of self.new)) result }
         ensures working { working_of self.new ≡ working_of self.old }
         ensures unchanged { IsUnchanged self.old → IsUnchanged self.new }
         ensures keeps { Keeps self.old self.new }
@@ -279,12 +302,17 @@ impl<D: Device> Journal<D> {
     /// Says the first bytes of a piece, as the device does.
     pub fn say(&mut self, from: &[u8]) -> Result<usize, Failed>
         ensures bound { IfOk result (λ n. n ≤ length from.now) }
-        ensures said { IsTrue D.tells → IfOk result (λ n. Says n from.now (content_of self.old) (content_of self.new)) }
-        ensures not_said { OnErr result ((content_of self.new).now.said ≡ (content_of self.old).now.said) }
+        ensures said { IsTrue D.tells →
+            IfOk result (λ n. Says n from.now (content_of self.old) (content_of self.new)) }
+        ensures not_said { OnErr result ((content_of self.new).now.said
+            ≡ (content_of self.old).now.said) }
         ensures rest { Speaks (content_of self.old) (content_of self.new) }
-        ensures cause { HasCause (D.faults (device_of self.old)) (D.faults (device_of self.new)) result }
-        ensures counted { IfOk result (λ n. 0 < n → D.faults (device_of self.new) ≡ D.faults (device_of self.old)) }
-        ensures none_taken { result ≡ Ok 0 → 0 < length from.now → Rose (D.faults (device_of self.old)) (D.faults (device_of self.new)) }
+        ensures cause { HasCause (D.faults (device_of self.old))
+            (D.faults (device_of self.new)) result }
+        ensures counted { IfOk result (λ n. 0 < n → D.faults (device_of self.new)
+            ≡ D.faults (device_of self.old)) }
+        ensures none_taken { result ≡ Ok 0 → 0 < length from.now →
+            Rose (D.faults (device_of self.old)) (D.faults (device_of self.new)) }
         ensures working { working_of self.new ≡ working_of self.old }
         ensures unchanged { IsUnchanged self.old → IsUnchanged self.new }
         ensures keeps { Keeps self.old self.new }

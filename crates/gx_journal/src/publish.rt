@@ -17,9 +17,13 @@ fn copy_home<D: Device>(device: &mut D, pages: u32, p: u32) -> Result<(), Failed
     requires below { p < pages }
     requires few { pages ≤ 32768 }
     requires room { 7 + 2 * pages ≤ D.size device.old }
-    ensures home { IsTrue D.tells → OnOk result (block_of (D.content device.new).now (home pages p) ≡ block_of (D.content device.old).now (7 + p)) }
-    ensures run { Through (Outside (λ n. n ≡ home pages p) (D.content device.old).now) (D.content device.old) (D.content device.new) }
-    ensures rest { OnlyBlocks (λ n. n ≡ home pages p) (D.content device.old) (D.content device.new) }
+    ensures home { IsTrue D.tells →
+        OnOk result (block_of (D.content device.new).now (home pages p)
+        ≡ block_of (D.content device.old).now (7 + p)) }
+    ensures run { Through (Outside (λ n. n ≡ home pages p) (D.content device.old).now)
+        (D.content device.old) (D.content device.new) }
+    ensures rest { OnlyBlocks (λ n. n ≡ home pages p) (D.content device.old)
+        (D.content device.new) }
     ensures size { D.size device.new ≡ D.size device.old }
     ensures faults { IsCounted (D.faults device.old) (D.faults device.new) result }
 {
@@ -39,12 +43,17 @@ fn write_home<D: Device>(
     requires few { pages ≤ 32768 }
     requires room { 7 + 2 * pages ≤ D.size device.old }
     requires pages { frames.old.pages ≡ pages }
-    requires slot { IsTrue D.tells → (r : Resident) → find_page p frames.old.resident ≡ Some r → r.bytes ≡ block_of (D.content device.old).now (7 + p) }
-    ensures home { IsTrue D.tells → OnOk result (block_of (D.content device.new).now (home pages p) ≡ block_of (D.content device.old).now (7 + p)) }
+    requires slot { IsTrue D.tells → (r : Resident) → find_page p frames.old.resident ≡ Some r →
+        r.bytes ≡ block_of (D.content device.old).now (7 + p) }
+    ensures home { IsTrue D.tells →
+        OnOk result (block_of (D.content device.new).now (home pages p)
+        ≡ block_of (D.content device.old).now (7 + p)) }
     ensures order { (q : ℕ) → find_page q frames.new.resident ≡ find_page q frames.old.resident }
     ensures pages { frames.new.pages ≡ frames.old.pages }
-    ensures run { Through (Outside (λ n. n ≡ home pages p) (D.content device.old).now) (D.content device.old) (D.content device.new) }
-    ensures rest { OnlyBlocks (λ n. n ≡ home pages p) (D.content device.old) (D.content device.new) }
+    ensures run { Through (Outside (λ n. n ≡ home pages p) (D.content device.old).now)
+        (D.content device.old) (D.content device.new) }
+    ensures rest { OnlyBlocks (λ n. n ≡ home pages p) (D.content device.old)
+        (D.content device.new) }
     ensures size { D.size device.new ≡ D.size device.old }
     ensures faults { IsCounted (D.faults device.old) (D.faults device.new) result }
 {
@@ -62,16 +71,24 @@ fn write_homes<D: Device>(
     pages: u32,
     listed: &Vec<u32>,
 ) -> Result<(), Failed>
-    requires within { (i : ℕ) → i < length listed.now.items → slice_index_or listed.now.items i 0 < pages }
+    requires within { (i : ℕ) → i < length listed.now.items →
+        slice_index_or listed.now.items i 0 < pages }
     requires few { pages ≤ 32768 }
     requires room { 7 + 2 * pages ≤ D.size device.old }
     requires pages { frames.old.pages ≡ pages }
-    requires slots { IsTrue D.tells → (i : ℕ) (r : Resident) → i < length listed.now.items → find_page (slice_index_or listed.now.items i 0) frames.old.resident ≡ Some r → r.bytes ≡ block_of (D.content device.old).now (7 + slice_index_or listed.now.items i 0) }
-    ensures homes { IsTrue D.tells → OnOk result ((i : ℕ) → i < length listed.now.items → block_of (D.content device.new).now (home pages (slice_index_or listed.now.items i 0)) ≡ block_of (D.content device.old).now (7 + slice_index_or listed.now.items i 0)) }
+    requires slots { IsTrue D.tells → (i : ℕ) (r : Resident) → i < length listed.now.items →
+        find_page (slice_index_or listed.now.items i 0) frames.old.resident ≡ Some r →
+        r.bytes ≡ block_of (D.content device.old).now (7 + slice_index_or listed.now.items i 0) }
+    ensures homes { IsTrue D.tells →
+        OnOk result ((i : ℕ) → i < length listed.now.items →
+        block_of (D.content device.new).now (home pages (slice_index_or listed.now.items i 0))
+        ≡ block_of (D.content device.old).now (7 + slice_index_or listed.now.items i 0)) }
     ensures order { (q : ℕ) → find_page q frames.new.resident ≡ find_page q frames.old.resident }
     ensures pages { frames.new.pages ≡ frames.old.pages }
-    ensures run { Through (Outside (IsHomeOf pages listed.now.items) (D.content device.old).now) (D.content device.old) (D.content device.new) }
-    ensures rest { OnlyBlocks (IsHomeOf pages listed.now.items) (D.content device.old) (D.content device.new) }
+    ensures run { Through (Outside (IsHomeOf pages listed.now.items) (D.content device.old).now)
+        (D.content device.old) (D.content device.new) }
+    ensures rest { OnlyBlocks (IsHomeOf pages listed.now.items) (D.content device.old)
+        (D.content device.new) }
     ensures size { D.size device.new ≡ D.size device.old }
     ensures faults { IsCounted (D.faults device.old) (D.faults device.new) result }
 {
@@ -85,7 +102,9 @@ fn write_homes<D: Device>(
 fn log<D: Device>(device: &mut D, spilled: &Vec<bool>) -> Result<(), Failed>
     requires few { length spilled.now.items ≤ 32768 }
     requires room { 2 < D.size device.old }
-    ensures names { IsTrue D.tells → OnOk result (Names spilled.now.items (block_of (D.content device.new).now 2) (length spilled.now.items)) }
+    ensures names { IsTrue D.tells →
+        OnOk result
+        (Names spilled.now.items (block_of (D.content device.new).now 2) (length spilled.now.items)) }
     ensures none_pending { IsTrue D.tells → OnOk result (NonePending (D.content device.new)) }
     ensures flushes { Flushes (λ n. n ≡ 2) (D.content device.old) (D.content device.new) }
     ensures rest { OnlyBlocks (λ n. n ≡ 2) (D.content device.old) (D.content device.new) }
@@ -103,17 +122,25 @@ fn bring_home<D: Device>(
     pages: u32,
     listed: &Vec<u32>,
 ) -> Result<(), Failed>
-    requires within { (i : ℕ) → i < length listed.now.items → slice_index_or listed.now.items i 0 < pages }
+    requires within { (i : ℕ) → i < length listed.now.items →
+        slice_index_or listed.now.items i 0 < pages }
     requires few { pages ≤ 32768 }
     requires room { 7 + 2 * pages ≤ D.size device.old }
     requires pages { frames.old.pages ≡ pages }
-    requires slots { IsTrue D.tells → (i : ℕ) (r : Resident) → i < length listed.now.items → find_page (slice_index_or listed.now.items i 0) frames.old.resident ≡ Some r → r.bytes ≡ block_of (D.content device.old).now (7 + slice_index_or listed.now.items i 0) }
-    ensures homes { IsTrue D.tells → OnOk result ((i : ℕ) → i < length listed.now.items → block_of (D.content device.new).now (home pages (slice_index_or listed.now.items i 0)) ≡ block_of (D.content device.old).now (7 + slice_index_or listed.now.items i 0)) }
+    requires slots { IsTrue D.tells → (i : ℕ) (r : Resident) → i < length listed.now.items →
+        find_page (slice_index_or listed.now.items i 0) frames.old.resident ≡ Some r →
+        r.bytes ≡ block_of (D.content device.old).now (7 + slice_index_or listed.now.items i 0) }
+    ensures homes { IsTrue D.tells →
+        OnOk result ((i : ℕ) → i < length listed.now.items →
+        block_of (D.content device.new).now (home pages (slice_index_or listed.now.items i 0))
+        ≡ block_of (D.content device.old).now (7 + slice_index_or listed.now.items i 0)) }
     ensures order { (q : ℕ) → find_page q frames.new.resident ≡ find_page q frames.old.resident }
     ensures pages { frames.new.pages ≡ frames.old.pages }
-    ensures flushes { Flushes (IsHomeOf pages listed.now.items) (D.content device.old) (D.content device.new) }
+    ensures flushes { Flushes (IsHomeOf pages listed.now.items) (D.content device.old)
+        (D.content device.new) }
     ensures none_pending { IsTrue D.tells → OnOk result (NonePending (D.content device.new)) }
-    ensures rest { OnlyBlocks (IsHomeOf pages listed.now.items) (D.content device.old) (D.content device.new) }
+    ensures rest { OnlyBlocks (IsHomeOf pages listed.now.items) (D.content device.old)
+        (D.content device.new) }
     ensures size { D.size device.new ≡ D.size device.old }
     ensures faults { IsCounted (D.faults device.old) (D.faults device.new) result }
 {
@@ -121,8 +148,8 @@ fn bring_home<D: Device>(
     device.sync()
 }
 
-/// The pages in the slots go home: the bitmap and then the open gate say that the slots count, and the
-/// gate is closed over the homes. Each step is synced before the next one.
+/// The pages in the slots go home: the bitmap and then the open gate say that the slots count, and
+/// the gate is closed over the homes. Each step is synced before the next one.
 pub(crate) fn publish<D: Device>(
     device: &mut D,
     frames: &mut Frames,
@@ -133,18 +160,32 @@ pub(crate) fn publish<D: Device>(
     requires room { 7 + 2 * length spilled.now.items ≤ D.size device.old }
     requires pages { frames.old.pages ≡ length spilled.now.items }
     requires listed { IsListed spilled.now.items listed.now.items }
-    requires slots { IsTrue D.tells → (p : ℕ) (r : Resident) → find_page p frames.old.resident ≡ Some r → slice_index_or spilled.now.items p false ≡ true → r.bytes ≡ block_of (D.content device.old).now (7 + p) }
-    ensures homes { IsTrue D.tells → OnOk result ((p : ℕ) → slice_index_or spilled.now.items p false ≡ true → block_of (D.content device.new).now (home (length spilled.now.items) p) ≡ block_of (D.content device.old).now (7 + p)) }
-    ensures images { IsTrue D.tells → (kept : View) (pages : List (List ℕ)) → length kept.pages ≡ length pages → length spilled.now.items ≡ length pages
-        → AtRest (D.content device.old).now kept → SameButChanged spilled.now.items kept.pages pages → Holds 7 pages spilled.now.items (D.content device.old).now
-        → LeavesOnly (Either kept (with_pages kept pages)) (D.content device.old) (D.content device.new) }
-    ensures at_rest { IsTrue D.tells → (kept : View) (pages : List (List ℕ)) → length kept.pages ≡ length pages → length spilled.now.items ≡ length pages
-        → AtRest (D.content device.old).now kept → SameButChanged spilled.now.items kept.pages pages → Holds 7 pages spilled.now.items (D.content device.old).now
+    requires slots { IsTrue D.tells → (p : ℕ) (r : Resident) →
+        find_page p frames.old.resident ≡ Some r → slice_index_or spilled.now.items p false ≡ true →
+        r.bytes ≡ block_of (D.content device.old).now (7 + p) }
+    ensures homes { IsTrue D.tells →
+        OnOk result ((p : ℕ) → slice_index_or spilled.now.items p false ≡ true →
+        block_of (D.content device.new).now (home (length spilled.now.items) p)
+        ≡ block_of (D.content device.old).now (7 + p)) }
+    ensures images { IsTrue D.tells → (kept : View) (pages : List (List ℕ)) →
+        length kept.pages ≡ length pages → length spilled.now.items ≡ length pages
+        → AtRest (D.content device.old).now kept →
+        SameButChanged spilled.now.items kept.pages pages →
+        Holds 7 pages spilled.now.items (D.content device.old).now
+        → LeavesOnly (Either kept (with_pages kept pages)) (D.content device.old)
+        (D.content device.new) }
+    ensures at_rest { IsTrue D.tells → (kept : View) (pages : List (List ℕ)) →
+        length kept.pages ≡ length pages → length spilled.now.items ≡ length pages
+        → AtRest (D.content device.old).now kept →
+        SameButChanged spilled.now.items kept.pages pages →
+        Holds 7 pages spilled.now.items (D.content device.old).now
         → OnOk result (AtRest (D.content device.new).now (with_pages kept pages)) }
-    ensures closed { IsTrue D.tells → OnOk result (is_open (block_of (D.content device.new).now 1) ≡ false) }
+    ensures closed { IsTrue D.tells →
+        OnOk result (is_open (block_of (D.content device.new).now 1) ≡ false) }
     ensures order { (q : ℕ) → find_page q frames.new.resident ≡ find_page q frames.old.resident }
     ensures pages { frames.new.pages ≡ frames.old.pages }
-    ensures rest { OnlyBlocks (IsCommitted (length spilled.now.items) listed.now.items) (D.content device.old) (D.content device.new) }
+    ensures rest { OnlyBlocks (IsCommitted (length spilled.now.items) listed.now.items)
+        (D.content device.old) (D.content device.new) }
     ensures size { D.size device.new ≡ D.size device.old }
     ensures faults { IsCounted (D.faults device.old) (D.faults device.new) result }
 {

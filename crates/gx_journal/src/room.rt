@@ -17,7 +17,8 @@ fn write_slot<D: Device>(device: &mut D, frames: &mut Frames, p: u32) -> Result<
     requires below { p < frames.old.pages }
     requires resident { IsResident frames.old p }
     ensures frames { frames.new ≡ with_residents frames.old (to_front p frames.old.resident) }
-    ensures written { IsTrue D.tells → (r : Resident) → find_page p frames.old.resident ≡ Some r → OnOk result (Written (7 + p) r.bytes (D.content device.old) (D.content device.new)) }
+    ensures written { IsTrue D.tells → (r : Resident) → find_page p frames.old.resident ≡ Some r →
+        OnOk result (Written (7 + p) r.bytes (D.content device.old) (D.content device.new)) }
     ensures rest { Writes (7 + p) (D.content device.old) (D.content device.new) }
     ensures size { D.size device.new ≡ D.size device.old }
     ensures cause { IsCounted (D.faults device.old) (D.faults device.new) result }
@@ -53,12 +54,22 @@ pub(crate) fn spill<D: Device>(
     requires room { 7 + 2 * size_in working.old ≤ D.size device.old }
     requires below { p < size_in working.old }
     requires resident { IsResident working.old.frames p }
-    requires changed { (r : Resident) → find_page p working.old.frames.resident ≡ Some r → r.changed ≡ true }
-    requires cached { IsTrue D.tells → IsCachedIn (size_in working.old) (D.content device.old) working.old }
-    ensures frames { working.new.frames ≡ with_residents working.old.frames (to_front p working.old.frames.resident) }
-    ensures stored { IsTrue D.tells → (r : Resident) → find_page p working.old.frames.resident ≡ Some r → OnOk result (stored (size_in working.old) (D.content device.new).now.blocks working.new.spilled.items p ≡ r.bytes) }
-    ensures same { IsTrue D.tells → SamePages (page_in (size_in working.old) (D.content device.old) working.old) (page_in (size_in working.old) (D.content device.new) working.new) }
-    ensures cached { IsTrue D.tells → IsCachedIn (size_in working.old) (D.content device.new) working.new }
+    requires changed { (r : Resident) → find_page p working.old.frames.resident ≡ Some r →
+        r.changed ≡ true }
+    requires cached { IsTrue D.tells →
+        IsCachedIn (size_in working.old) (D.content device.old) working.old }
+    ensures frames { working.new.frames
+        ≡ with_residents working.old.frames (to_front p working.old.frames.resident) }
+    ensures stored { IsTrue D.tells → (r : Resident) →
+        find_page p working.old.frames.resident ≡ Some r →
+        OnOk result
+        (stored (size_in working.old) (D.content device.new).now.blocks working.new.spilled.items p
+        ≡ r.bytes) }
+    ensures same { IsTrue D.tells →
+        SamePages (page_in (size_in working.old) (D.content device.old) working.old)
+        (page_in (size_in working.old) (D.content device.new) working.new) }
+    ensures cached { IsTrue D.tells →
+        IsCachedIn (size_in working.old) (D.content device.new) working.new }
     ensures slots { OnlySlots (size_in working.old) (D.content device.old) (D.content device.new) }
     ensures long { size_in working.new ≡ size_in working.old }
     ensures size { D.size device.new ≡ D.size device.old }
@@ -79,15 +90,25 @@ fn settle<D: Device>(
     requires room { 7 + 2 * size_in working.old ≤ D.size device.old }
     requires below { p < size_in working.old }
     requires resident { IsResident working.old.frames p }
-    requires changed { (r : Resident) → find_page p working.old.frames.resident ≡ Some r → r.changed ≡ changed }
-    requires cached { IsTrue D.tells → IsCachedIn (size_in working.old) (D.content device.old) working.old }
+    requires changed { (r : Resident) → find_page p working.old.frames.resident ≡ Some r →
+        r.changed ≡ changed }
+    requires cached { IsTrue D.tells →
+        IsCachedIn (size_in working.old) (D.content device.old) working.old }
     ensures untouched { changed ≡ false → working.new ≡ working.old }
-    ensures order { (q : ℕ) → find_page q working.new.frames.resident ≡ find_page q working.old.frames.resident }
+    ensures order { (q : ℕ) →
+        find_page q working.new.frames.resident ≡ find_page q working.old.frames.resident }
     ensures count { length working.new.frames.resident ≤ length working.old.frames.resident }
     ensures frames { working.new.frames.frames ≡ working.old.frames.frames }
-    ensures stored { IsTrue D.tells → (r : Resident) → find_page p working.old.frames.resident ≡ Some r → OnOk result (stored (size_in working.old) (D.content device.new).now.blocks working.new.spilled.items p ≡ r.bytes) }
-    ensures same { IsTrue D.tells → SamePages (page_in (size_in working.old) (D.content device.old) working.old) (page_in (size_in working.old) (D.content device.new) working.new) }
-    ensures cached { IsTrue D.tells → IsCachedIn (size_in working.old) (D.content device.new) working.new }
+    ensures stored { IsTrue D.tells → (r : Resident) →
+        find_page p working.old.frames.resident ≡ Some r →
+        OnOk result
+        (stored (size_in working.old) (D.content device.new).now.blocks working.new.spilled.items p
+        ≡ r.bytes) }
+    ensures same { IsTrue D.tells →
+        SamePages (page_in (size_in working.old) (D.content device.old) working.old)
+        (page_in (size_in working.old) (D.content device.new) working.new) }
+    ensures cached { IsTrue D.tells →
+        IsCachedIn (size_in working.old) (D.content device.new) working.new }
     ensures slots { OnlySlots (size_in working.old) (D.content device.old) (D.content device.new) }
     ensures long { size_in working.new ≡ size_in working.old }
     ensures size { D.size device.new ≡ D.size device.old }
@@ -103,12 +124,17 @@ fn settle<D: Device>(
 /// its slot where it has changed.
 pub(crate) fn make_room<D: Device>(device: &mut D, working: &mut WorkingPages) -> Result<(), Failed>
     requires room { 7 + 2 * size_in working.old ≤ D.size device.old }
-    requires cached { IsTrue D.tells → IsCachedIn (size_in working.old) (D.content device.old) working.old }
+    requires cached { IsTrue D.tells →
+        IsCachedIn (size_in working.old) (D.content device.old) working.old }
     ensures free { OnOk result (HasFreeFrame working.new.frames) }
     ensures unchanged { IsUnchangedIn working.old → IsUnchangedIn working.new }
-    ensures absent { (p : ℕ) → find_page p working.old.frames.resident ≡ None → find_page p working.new.frames.resident ≡ None }
-    ensures same { IsTrue D.tells → SamePages (page_in (size_in working.old) (D.content device.old) working.old) (page_in (size_in working.old) (D.content device.new) working.new) }
-    ensures cached { IsTrue D.tells → IsCachedIn (size_in working.old) (D.content device.new) working.new }
+    ensures absent { (p : ℕ) → find_page p working.old.frames.resident ≡ None →
+        find_page p working.new.frames.resident ≡ None }
+    ensures same { IsTrue D.tells →
+        SamePages (page_in (size_in working.old) (D.content device.old) working.old)
+        (page_in (size_in working.old) (D.content device.new) working.new) }
+    ensures cached { IsTrue D.tells →
+        IsCachedIn (size_in working.old) (D.content device.new) working.new }
     ensures slots { OnlySlots (size_in working.old) (D.content device.old) (D.content device.new) }
     ensures long { size_in working.new ≡ size_in working.old }
     ensures size { D.size device.new ≡ D.size device.old }
@@ -130,10 +156,14 @@ pub(crate) fn reserve<D: Device>(
 ) -> Result<(), Failed>
     requires below { p < size_in working.old }
     requires room { 7 + 2 * size_in working.old ≤ D.size device.old }
-    requires cached { IsTrue D.tells → IsCachedIn (size_in working.old) (D.content device.old) working.old }
+    requires cached { IsTrue D.tells →
+        IsCachedIn (size_in working.old) (D.content device.old) working.old }
     ensures free { OnOk result (IsResident working.new.frames p ⊎ HasFreeFrame working.new.frames) }
-    ensures same { IsTrue D.tells → SamePages (page_in (size_in working.old) (D.content device.old) working.old) (page_in (size_in working.old) (D.content device.new) working.new) }
-    ensures cached { IsTrue D.tells → IsCachedIn (size_in working.old) (D.content device.new) working.new }
+    ensures same { IsTrue D.tells →
+        SamePages (page_in (size_in working.old) (D.content device.old) working.old)
+        (page_in (size_in working.old) (D.content device.new) working.new) }
+    ensures cached { IsTrue D.tells →
+        IsCachedIn (size_in working.old) (D.content device.new) working.new }
     ensures slots { OnlySlots (size_in working.old) (D.content device.old) (D.content device.new) }
     ensures long { size_in working.new ≡ size_in working.old }
     ensures size { D.size device.new ≡ D.size device.old }

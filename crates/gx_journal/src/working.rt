@@ -7,8 +7,8 @@ use gx_device::NoMemory;
 use gx_frames::Frames;
 use std::alloc::Global;
 
-// The working pages: some stand in frames, the spilled ones of the others in their slots, and the rest
-// at home.
+// The working pages: some stand in frames, the spilled ones of the others in their slots, and the
+// rest at home.
 #[derive(Drop)]
 pub(crate) struct WorkingPages {
     pub(crate) frames: Frames,
@@ -29,7 +29,8 @@ impl WorkingPages {
         requires limit { blocks ≤ 65543 }
         ensures count { IfOk result (λ working. length working.spilled.items ≡ pages_of blocks) }
         ensures absent { IfOk result (λ working. working.frames.resident ≡ []) }
-        ensures unspilled { IfOk result (λ working. working.spilled.items ≡ replicate (length working.spilled.items) false) }
+        ensures unspilled { IfOk result (λ working. working.spilled.items
+            ≡ replicate (length working.spilled.items) false) }
     {
         let pages = (blocks - 7) / 2;
         Ok(WorkingPages {

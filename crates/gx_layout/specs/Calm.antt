@@ -6,8 +6,8 @@ use Rattle.gx_device.specs.Crash.{EachImage}
 use Rattle.gx_device.specs.Quiet.{IsPrefix, IsQuiet}
 use Rattle.gx_layout.specs.Layout.{View, Shows, AtRest, head_of, with_said}
 
--- At rest now, and since an earlier content each image stands for the view's pages and head, has said
--- what was said then, and no more than what is said now.
+-- At rest now, and since an earlier content each image stands for the view's pages and head, has
+-- said what was said then, and no more than what is said now.
 pub record Calm (start : Content) (v : View) (c : Content) : Type 0 where
   pub since : List Moment
   pub past : c.past ≡ start.past ++ since
@@ -18,7 +18,9 @@ pub record Calm (start : Content) (v : View) (c : Content) : Type 0 where
 
 -- the pages at home as they read, and the head
 abbrev pub kept_view : ℕ → Content → View
-kept_view P c = record { pages = take P (drop (7 + P) c.now.blocks); head = head_of c.now.blocks; said = []; shelf = c.now.shelf }
+kept_view P c =
+    record
+    { pages = take P (drop (7 + P) c.now.blocks); head = head_of c.now.blocks; said = []; shelf = c.now.shelf }
 
 -- reads, which change nothing and keep what is calm
 pub record OnlyReads (old new : Content) : Type 0 where

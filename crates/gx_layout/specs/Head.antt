@@ -12,11 +12,13 @@ HasMagic block = IsPrefix magic block
 
 -- the lengths of two texts, and the texts
 abbrev pub written_texts : List ℕ → List ℕ → List ℕ
-written_texts schema equation = ((to_be_bytes w16 (length schema) ++ to_be_bytes w16 (length equation)) ++ schema) ++ equation
+written_texts schema equation =
+    ((to_be_bytes w16 (length schema) ++ to_be_bytes w16 (length equation)) ++ schema) ++ equation
 
 -- the bytes of the text blocks: the lengths, the texts, and zeros
 abbrev pub text_area : List ℕ → List ℕ → List ℕ
-text_area schema equation = written_texts schema equation ++ replicate (16384 - length (written_texts schema equation)) 0
+text_area schema equation =
+    written_texts schema equation ++ replicate (16384 - length (written_texts schema equation)) 0
 
 -- block i of those that hold these bytes
 abbrev pub block_in : List ℕ → ℕ → List ℕ
@@ -41,4 +43,6 @@ text_at head q = get_or (get_or head (1 + q / 4096) []) (q % 4096) 0
 
 -- the first place of the text area in which the bytes differ, or none
 abbrev pub DifferFirst : (ℕ → ℕ) → (ℕ → ℕ) → Option ℕ → Type 0
-DifferFirst xs ys found = MatchOption found ((q : ℕ) → q < 16384 → xs q ≡ ys q) (λ q. (q < 16384) × (xs q ≢ ys q) × ((p : ℕ) → p < q → xs p ≡ ys p))
+DifferFirst xs ys found =
+    MatchOption found ((q : ℕ) → q < 16384 → xs q ≡ ys q)
+    (λ q. (q < 16384) × (xs q ≢ ys q) × ((p : ℕ) → p < q → xs p ≡ ys p))

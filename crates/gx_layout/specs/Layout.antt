@@ -23,7 +23,8 @@ Names changed bitmap n = (p : ℕ) → p < n → has_bit bitmap p ≡ get_or cha
 -- page p of P pages, as recovery would find it
 abbrev pub replayed : ℕ → List (List ℕ) → ℕ → List ℕ
 replayed P blocks p =
-    if is_open (get_or blocks 1 []) && has_bit (get_or blocks 2 []) p then get_or blocks (7 + p) [] else get_or blocks (7 + P + p) []
+    if is_open (get_or blocks 1 []) && has_bit (get_or blocks 2 []) p then get_or blocks (7 + p) []
+    else get_or blocks (7 + P + p) []
 
 -- the blocks replay to these pages
 pub record Replays (blocks pages : List (List ℕ)) : Type 0 where
@@ -40,7 +41,9 @@ pub record View : Type 0 where
 
 -- the block of the magic and those of the texts
 abbrev pub head_of : List (List ℕ) → List (List ℕ)
-head_of blocks = get_or blocks 0 [] ∷ get_or blocks 3 [] ∷ get_or blocks 4 [] ∷ get_or blocks 5 [] ∷ get_or blocks 6 [] ∷ []
+head_of blocks =
+    get_or blocks 0 [] ∷ get_or blocks 3 [] ∷ get_or blocks 4 [] ∷ get_or blocks 5 []
+    ∷ get_or blocks 6 [] ∷ []
 
 abbrev pub IsHead : ℕ → Type 0
 IsHead n = (n ≡ 0) ⊎ ((3 ≤ n) × (n < 7))
@@ -74,7 +77,8 @@ pub record IsIn (base : ℕ) (changed : List Bool) (n : ℕ) : Type 0 where
 
 -- each changed page below i stands in that area
 abbrev pub HoldsBelow : ℕ → ℕ → List (List ℕ) → List Bool → Moment → Type 0
-HoldsBelow i base pages changed m = (p : ℕ) → p < i → get_or changed p false ≡ true → block_of m (base + p) ≡ get_or pages p []
+HoldsBelow i base pages changed m = (p : ℕ) → p < i → get_or changed p false ≡ true
+    → block_of m (base + p) ≡ get_or pages p []
 
 -- each changed page does
 abbrev pub Holds : ℕ → List (List ℕ) → List Bool → Moment → Type 0
@@ -103,23 +107,27 @@ pub record AtRest (m : Moment) (v : View) : Type 0 where
   pub fits : Fits m v
   pub gate_kept : is_pending m 1 ≡ false
   pub gate : is_open (block_of m 1) ≡ false
-  pub homes : (p : ℕ) → p < length v.pages → IsFirm m (home (length v.pages) p) (get_or v.pages p [])
+  pub homes : (p : ℕ) → p < length v.pages
+      → IsFirm m (home (length v.pages) p) (get_or v.pages p [])
 
 -- the changed pages are in their slots, and the bitmap names them
 pub record IsLogged (m : Moment) (pages : List (List ℕ)) (changed : List Bool) : Type 0 where
   pub bitmap_kept : is_pending m 2 ≡ false
   pub bits : (p : ℕ) → p < length pages → has_bit (block_of m 2) p ≡ get_or changed p false
-  pub slots : (p : ℕ) → p < length pages → get_or changed p false ≡ true → IsFirm m (7 + p) (get_or pages p [])
+  pub slots : (p : ℕ) → p < length pages → get_or changed p false ≡ true
+      → IsFirm m (7 + p) (get_or pages p [])
 
 -- the pages that have not changed are the same
 abbrev pub SameButChanged : List Bool → List (List ℕ) → List (List ℕ) → Type 0
-SameButChanged changed kept pages = (p : ℕ) → p < length pages → get_or changed p false ≡ false → get_or kept p [] ≡ get_or pages p []
+SameButChanged changed kept pages = (p : ℕ) → p < length pages → get_or changed p false ≡ false
+    → get_or kept p [] ≡ get_or pages p []
 
 -- the changed pages are logged, and each kept one is at home: the gate decides
 pub record IsReady (m : Moment) (kept new : View) (changed : List Bool) : Type 0 where
   pub fits : Fits m new
   pub fits_kept : Fits m kept
-  pub homes : (p : ℕ) → p < length kept.pages → IsFirm m (home (length kept.pages) p) (get_or kept.pages p [])
+  pub homes : (p : ℕ) → p < length kept.pages
+      → IsFirm m (home (length kept.pages) p) (get_or kept.pages p [])
   pub logged : IsLogged m new.pages changed
   pub same : SameButChanged changed kept.pages new.pages
 
@@ -129,7 +137,8 @@ pub record IsOpened (m : Moment) (v : View) (changed : List Bool) : Type 0 where
   pub gate_kept : is_pending m 1 ≡ false
   pub gate : is_open (block_of m 1) ≡ true
   pub logged : IsLogged m v.pages changed
-  pub homes : (p : ℕ) → p < length v.pages → get_or changed p false ≡ false → IsFirm m (home (length v.pages) p) (get_or v.pages p [])
+  pub homes : (p : ℕ) → p < length v.pages → get_or changed p false ≡ false
+      → IsFirm m (home (length v.pages) p) (get_or v.pages p [])
 
 -- an image stands for either
 abbrev pub Either : View → View → Image → Type 0
@@ -146,7 +155,8 @@ flags bitmap (suc n) = flags bitmap n ++ has_bit bitmap n ∷ []
 
 -- each page below i that the bitmap names has been copied from its slot
 abbrev pub CopiedBelow : ℕ → ℕ → List ℕ → Moment → Moment → Type 0
-CopiedBelow i P bitmap old m = (p : ℕ) → p < i → has_bit bitmap p ≡ true → block_of m (home P p) ≡ block_of old (7 + p)
+CopiedBelow i P bitmap old m = (p : ℕ) → p < i → has_bit bitmap p ≡ true
+    → block_of m (home P p) ≡ block_of old (7 + p)
 
 -- no block changed that isn't free, and nothing was said, heard or attached
 pub record OnlyBlocks (free : ℕ → Type 0) (old new : Content) : Type 0 where

@@ -7,11 +7,13 @@ use Rattle.gx_layout.specs.Layout.{View, StandsFor, IsIn, flags, is_open, head_o
 
 -- the pages of these blocks, as recovery finds them
 abbrev pub replayed_pages : List (List ℕ) → List (List ℕ)
-replayed_pages blocks = map (replayed (pages_of (length blocks)) blocks) (range_with_len 0 (pages_of (length blocks)))
+replayed_pages blocks =
+    map (replayed (pages_of (length blocks)) blocks) (range_with_len 0 (pages_of (length blocks)))
 
 -- these pages, beside what reads now
 abbrev pub view_now : List (List ℕ) → Content → View
-view_now pages c = record { pages = pages; head = head_of c.now.blocks; said = c.now.said; shelf = c.now.shelf }
+view_now pages c =
+    record { pages = pages; head = head_of c.now.blocks; said = c.now.said; shelf = c.now.shelf }
 
 -- after the first sync nothing is pending, and each image stands for the view
 pub record AfterSync (v : View) (old new : Content) : Type 0 where
@@ -24,6 +26,9 @@ pub record AfterSync (v : View) (old new : Content) : Type 0 where
 abbrev pub Recovers : View → Content → Content → Type 0
 Recovers v old new = LeavesOnly (IsImage old.now) old new ⊎ AfterSync v old new
 
--- a block that recovery may write: where the gate is open, the gate and the homes of the pages that the bitmap names
+-- a block that recovery may write: where the gate is open, the gate and the homes of the pages that
+-- the bitmap names
 abbrev pub IsOfRecovery : ℕ → List (List ℕ) → ℕ → Type 0
-IsOfRecovery P blocks n = (is_open (get_or blocks 1 []) ≡ true) × ((n ≡ 1) ⊎ IsIn (7 + P) (flags (get_or blocks 2 []) P) n)
+IsOfRecovery P blocks n =
+    (is_open (get_or blocks 1 []) ≡ true)
+    × ((n ≡ 1) ⊎ IsIn (7 + P) (flags (get_or blocks 2 []) P) n)

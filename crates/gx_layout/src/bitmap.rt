@@ -34,10 +34,13 @@ fn bitmap_of(changed: &[bool]) -> [u8; 4096]
 pub fn write_bitmap<D: Device>(device: &mut D, changed: &[bool]) -> Result<(), Failed>
     requires room { 2 < D.size device.old }
     requires limit { length changed.now ≤ 32768 }
-    ensures written { IsTrue D.tells → OnOk result (Names changed.now (block_of (D.content device.new).now 2) (length changed.now)) }
+    ensures written { IsTrue D.tells →
+        OnOk result
+        (Names changed.now (block_of (D.content device.new).now 2) (length changed.now)) }
     ensures others { IsTrue D.tells → OnOk result ((p : ℕ) → length changed.now ≤ p →
         has_bit (block_of (D.content device.new).now 2) p ≡ false) }
-    ensures run { Through (Outside (λ n. n ≡ 2) (D.content device.old).now) (D.content device.old) (D.content device.new) }
+    ensures run { Through (Outside (λ n. n ≡ 2) (D.content device.old).now) (D.content device.old)
+        (D.content device.new) }
     ensures rest { OnlyBlocks (λ n. n ≡ 2) (D.content device.old) (D.content device.new) }
     ensures size { D.size device.new ≡ D.size device.old }
     ensures faults { IsCounted (D.faults device.old) (D.faults device.new) result }

@@ -60,7 +60,8 @@ fn write_texts<D: Device>(device: &mut D, area: &[u8]) -> Result<(), Failed>
     requires bytes { length area.now ≡ 16384 }
     ensures texts { IsTrue D.tells → OnOk result
         ((i : ℕ) → i < 4 → block_of (D.content device.new).now (3 + i) ≡ block_in area.now i) }
-    ensures run { Through (Outside IsText (D.content device.old).now) (D.content device.old) (D.content device.new) }
+    ensures run { Through (Outside IsText (D.content device.old).now) (D.content device.old)
+        (D.content device.new) }
     ensures rest { OnlyBlocks IsText (D.content device.old) (D.content device.new) }
     ensures size { D.size device.new ≡ D.size device.old }
     ensures faults { IsCounted (D.faults device.old) (D.faults device.new) result }
@@ -77,10 +78,12 @@ fn lay_out<D: Device>(device: &mut D, schema: &[u8], equation: &[u8]) -> Result<
     requires texts { length schema.now + length equation.now ≤ 16380 }
     ensures head { IsTrue D.tells → OnOk result (head_of (D.content device.new).now.blocks
         ≡ block_of (D.content device.old).now 0 ∷ text_blocks schema.now equation.now) }
-    ensures closed { IsTrue D.tells → OnOk result (is_open (block_of (D.content device.new).now 1) ≡ false) }
+    ensures closed { IsTrue D.tells →
+        OnOk result (is_open (block_of (D.content device.new).now 1) ≡ false) }
     ensures bitmap { IsTrue D.tells → OnOk result ((p : ℕ) →
         has_bit (block_of (D.content device.new).now 2) p ≡ false) }
-    ensures run { Through (Outside IsFormatted (D.content device.old).now) (D.content device.old) (D.content device.new) }
+    ensures run { Through (Outside IsFormatted (D.content device.old).now) (D.content device.old)
+        (D.content device.new) }
     ensures rest { OnlyBlocks IsFormatted (D.content device.old) (D.content device.new) }
     ensures size { D.size device.new ≡ D.size device.old }
     ensures faults { IsCounted (D.faults device.old) (D.faults device.new) result }
@@ -90,14 +93,15 @@ fn lay_out<D: Device>(device: &mut D, schema: &[u8], equation: &[u8]) -> Result<
     write_texts(device, &text_area(schema, equation))
 }
 
-/// Lays out a device: the gate is closed, the bitmap is empty, and the text blocks hold the texts. The
-/// block of the magic and the pages stay as they are.
+/// Lays out a device: the gate is closed, the bitmap is empty, and the text blocks hold the texts.
+/// The block of the magic and the pages stay as they are.
 pub fn format<D: Device>(device: &mut D, schema: &[u8], equation: &[u8]) -> Result<(), Failed>
     requires room { 7 ≤ D.size device.old }
     requires texts { length schema.now + length equation.now ≤ 16380 }
     ensures head { IsTrue D.tells → OnOk result (head_of (D.content device.new).now.blocks
         ≡ block_of (D.content device.old).now 0 ∷ text_blocks schema.now equation.now) }
-    ensures closed { IsTrue D.tells → OnOk result (is_open (block_of (D.content device.new).now 1) ≡ false) }
+    ensures closed { IsTrue D.tells →
+        OnOk result (is_open (block_of (D.content device.new).now 1) ≡ false) }
     ensures bitmap { IsTrue D.tells → OnOk result ((p : ℕ) →
         has_bit (block_of (D.content device.new).now 2) p ≡ false) }
     ensures none_pending { IsTrue D.tells → OnOk result (NonePending (D.content device.new)) }

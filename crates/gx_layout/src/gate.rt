@@ -10,8 +10,10 @@ use gx_device::{Device, Failed};
 /// Writes the gate.
 pub fn set_gate<D: Device>(device: &mut D, opened: bool) -> Result<(), Failed>
     requires { 1 < D.size device.old }
-    ensures written { IsTrue D.tells → OnOk result (is_open (block_of (D.content device.new).now 1) ≡ opened) }
-    ensures run { Through (Outside (λ n. n ≡ 1) (D.content device.old).now) (D.content device.old) (D.content device.new) }
+    ensures written { IsTrue D.tells →
+        OnOk result (is_open (block_of (D.content device.new).now 1) ≡ opened) }
+    ensures run { Through (Outside (λ n. n ≡ 1) (D.content device.old).now) (D.content device.old)
+        (D.content device.new) }
     ensures rest { OnlyBlocks (λ n. n ≡ 1) (D.content device.old) (D.content device.new) }
     ensures size { D.size device.new ≡ D.size device.old }
     ensures faults { IsCounted (D.faults device.old) (D.faults device.new) result }
@@ -24,9 +26,11 @@ pub fn set_gate<D: Device>(device: &mut D, opened: bool) -> Result<(), Failed>
 /// Opens the gate, which is the moment of the commit.
 pub fn open_gate<D: Device>(device: &mut D) -> Result<(), Failed>
     requires { 1 < D.size device.old }
-    ensures images { IsTrue D.tells → (kept new : View) (changed : List Bool) → IsReady (D.content device.old).now kept new changed
+    ensures images { IsTrue D.tells → (kept new : View) (changed : List Bool) →
+        IsReady (D.content device.old).now kept new changed
         → LeavesOnly (Either kept new) (D.content device.old) (D.content device.new) }
-    ensures opened { IsTrue D.tells → (kept new : View) (changed : List Bool) → IsReady (D.content device.old).now kept new changed
+    ensures opened { IsTrue D.tells → (kept new : View) (changed : List Bool) →
+        IsReady (D.content device.old).now kept new changed
         → OnOk result (IsOpened (D.content device.new).now new changed) }
     ensures rest { OnlyBlocks (λ n. n ≡ 1) (D.content device.old) (D.content device.new) }
     ensures size { D.size device.new ≡ D.size device.old }
@@ -39,11 +43,14 @@ pub fn open_gate<D: Device>(device: &mut D) -> Result<(), Failed>
 /// Closes the gate over pages that are all at home.
 pub fn close_gate<D: Device>(device: &mut D) -> Result<(), Failed>
     requires { 1 < D.size device.old }
-    ensures images { IsTrue D.tells → (v : View) (changed : List Bool) → IsReady (D.content device.old).now v v changed
+    ensures images { IsTrue D.tells → (v : View) (changed : List Bool) →
+        IsReady (D.content device.old).now v v changed
         → LeavesOnly (StandsFor v) (D.content device.old) (D.content device.new) }
-    ensures at_rest { IsTrue D.tells → (v : View) (changed : List Bool) → IsReady (D.content device.old).now v v changed
+    ensures at_rest { IsTrue D.tells → (v : View) (changed : List Bool) →
+        IsReady (D.content device.old).now v v changed
         → OnOk result (AtRest (D.content device.new).now v) }
-    ensures closed { IsTrue D.tells → OnOk result (is_open (block_of (D.content device.new).now 1) ≡ false) }
+    ensures closed { IsTrue D.tells →
+        OnOk result (is_open (block_of (D.content device.new).now 1) ≡ false) }
     ensures rest { OnlyBlocks (λ n. n ≡ 1) (D.content device.old) (D.content device.new) }
     ensures size { D.size device.new ≡ D.size device.old }
     ensures faults { IsCounted (D.faults device.old) (D.faults device.new) result }

@@ -44,7 +44,8 @@ fn magic_block() -> [u8; 4096]
 /// Writes the magic. After `Failed` block 0 may read as anything, and may be pending.
 pub fn seal<D: Device>(device: &mut D) -> Result<(), Failed>
     requires { 0 < D.size device.old }
-    ensures magic { IsTrue D.tells → OnOk result (HasMagic (block_of (D.content device.new).now 0)) }
+    ensures magic { IsTrue D.tells →
+        OnOk result (HasMagic (block_of (D.content device.new).now 0)) }
     ensures none_pending { IsTrue D.tells → OnOk result (NonePending (D.content device.new)) }
     ensures images { (v : View) → AtRest (D.content device.old).now v
         → LeavesOnly (IsUnsealed v) (D.content device.old) (D.content device.new) }

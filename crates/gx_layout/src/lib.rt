@@ -1,4 +1,5 @@
-//! The blocks of a device that keeps pages: where each stands, and what they stand for at each moment.
+//! The blocks of a device that keeps pages: where each stands, and what they stand for at each
+//! moment.
 #![tactic(auto)]
 
 mod bitmap;

@@ -21,7 +21,8 @@ fn bit_of(bitmap: &[u8], p: usize) -> bool
 
 fn is_gate_open<D: Device>(device: &mut D) -> Result<bool, Failed>
     requires { 1 < D.size device.old }
-    ensures gate { IsTrue D.tells → IfOk result (λ opened. is_open (block_of (D.content device.old).now 1) ≡ opened) }
+    ensures gate { IsTrue D.tells →
+        IfOk result (λ opened. is_open (block_of (D.content device.old).now 1) ≡ opened) }
     ensures rest { OnlyTime (D.content device.old) (D.content device.new) }
     ensures size { D.size device.new ≡ D.size device.old }
     ensures faults { IsCounted (D.faults device.old) (D.faults device.new) result }
@@ -34,8 +35,11 @@ fn is_gate_open<D: Device>(device: &mut D) -> Result<bool, Failed>
 fn copy_page<D: Device>(device: &mut D, slot: u32, home: u32) -> Result<(), Failed>
     requires slot { slot < D.size device.old }
     requires home { home < D.size device.old }
-    ensures copied { IsTrue D.tells → OnOk result (block_of (D.content device.new).now home ≡ block_of (D.content device.old).now slot) }
-    ensures rest { Through (Outside (λ n. n ≡ home) (D.content device.old).now) (D.content device.old) (D.content device.new) }
+    ensures copied { IsTrue D.tells →
+        OnOk result (block_of (D.content device.new).now home
+        ≡ block_of (D.content device.old).now slot) }
+    ensures rest { Through (Outside (λ n. n ≡ home) (D.content device.old).now)
+        (D.content device.old) (D.content device.new) }
     ensures touched { OnlyBlocks (λ n. n ≡ home) (D.content device.old) (D.content device.new) }
     ensures size { D.size device.new ≡ D.size device.old }
     ensures faults { IsCounted (D.faults device.old) (D.faults device.new) result }
@@ -49,9 +53,13 @@ fn copy_home<D: Device>(device: &mut D, bitmap: &[u8], pages: u32) -> Result<(),
     requires room { 7 + 2 * pages ≤ D.size device.old }
     requires limit { pages ≤ 32768 }
     requires bits { length bitmap.now ≡ 4096 }
-    ensures copied { IsTrue D.tells → OnOk result (CopiedBelow pages pages bitmap.now (D.content device.old).now (D.content device.new).now) }
-    ensures rest { Through (Outside (IsIn (7 + pages) (flags bitmap.now pages)) (D.content device.old).now) (D.content device.old) (D.content device.new) }
-    ensures touched { OnlyBlocks (IsIn (7 + pages) (flags bitmap.now pages)) (D.content device.old) (D.content device.new) }
+    ensures copied { IsTrue D.tells →
+        OnOk result
+        (CopiedBelow pages pages bitmap.now (D.content device.old).now (D.content device.new).now) }
+    ensures rest { Through (Outside (IsIn (7 + pages) (flags bitmap.now pages))
+        (D.content device.old).now) (D.content device.old) (D.content device.new) }
+    ensures touched { OnlyBlocks (IsIn (7 + pages) (flags bitmap.now pages)) (D.content device.old)
+        (D.content device.new) }
     ensures size { D.size device.new ≡ D.size device.old }
     ensures faults { IsCounted (D.faults device.old) (D.faults device.new) result }
 {
@@ -67,12 +75,19 @@ fn copy_home<D: Device>(device: &mut D, bitmap: &[u8], pages: u32) -> Result<(),
 fn bring_back<D: Device>(device: &mut D, pages: u32) -> Result<(), Failed>
     requires room { 7 + 2 * pages ≤ D.size device.old }
     requires limit { pages ≤ 32768 }
-    ensures images { IsTrue D.tells → (v : View) → length v.pages ≡ pages → NonePending (D.content device.old) → ReadsAs (D.content device.old).now v
-        → is_open (block_of (D.content device.old).now 1) ≡ true → LeavesOnly (StandsFor v) (D.content device.old) (D.content device.new) }
-    ensures ready { IsTrue D.tells → (v : View) → length v.pages ≡ pages → NonePending (D.content device.old) → ReadsAs (D.content device.old).now v
+    ensures images { IsTrue D.tells → (v : View) → length v.pages ≡ pages →
+        NonePending (D.content device.old) → ReadsAs (D.content device.old).now v
+        → is_open (block_of (D.content device.old).now 1) ≡ true →
+        LeavesOnly (StandsFor v) (D.content device.old) (D.content device.new) }
+    ensures ready { IsTrue D.tells → (v : View) → length v.pages ≡ pages →
+        NonePending (D.content device.old) → ReadsAs (D.content device.old).now v
         → is_open (block_of (D.content device.old).now 1) ≡ true
-        → OnOk result (IsReady (D.content device.new).now v v (flags (block_of (D.content device.old).now 2) pages)) }
-    ensures touched { IsTrue D.tells → OnlyBlocks (IsIn (7 + pages) (flags (block_of (D.content device.old).now 2) pages)) (D.content device.old) (D.content device.new) }
+        → OnOk result
+        (IsReady (D.content device.new).now v v
+        (flags (block_of (D.content device.old).now 2) pages)) }
+    ensures touched { IsTrue D.tells →
+        OnlyBlocks (IsIn (7 + pages) (flags (block_of (D.content device.old).now 2) pages))
+        (D.content device.old) (D.content device.new) }
     ensures silent { Silent (D.content device.old) (D.content device.new) }
     ensures size { D.size device.new ≡ D.size device.old }
     ensures faults { IsCounted (D.faults device.old) (D.faults device.new) result }
@@ -83,16 +98,21 @@ fn bring_back<D: Device>(device: &mut D, pages: u32) -> Result<(), Failed>
     device.sync()
 }
 
-// Settles what a crash left, after a sync: the gate is closed over the pages that the blocks stand for.
+// Settles what a crash left, after a sync: the gate is closed over the pages that the blocks stand
+// for.
 /// A crash at any moment leaves the same pages.
 fn settle<D: Device>(device: &mut D, pages: u32) -> Result<(), Failed>
     requires room { 7 + 2 * pages ≤ D.size device.old }
     requires limit { pages ≤ 32768 }
-    ensures images { IsTrue D.tells → (v : View) → length v.pages ≡ pages → NonePending (D.content device.old) → ReadsAs (D.content device.old).now v
+    ensures images { IsTrue D.tells → (v : View) → length v.pages ≡ pages →
+        NonePending (D.content device.old) → ReadsAs (D.content device.old).now v
         → LeavesOnly (StandsFor v) (D.content device.old) (D.content device.new) }
-    ensures at_rest { IsTrue D.tells → (v : View) → length v.pages ≡ pages → NonePending (D.content device.old) → ReadsAs (D.content device.old).now v
+    ensures at_rest { IsTrue D.tells → (v : View) → length v.pages ≡ pages →
+        NonePending (D.content device.old) → ReadsAs (D.content device.old).now v
         → OnOk result (AtRest (D.content device.new).now v) }
-    ensures touched { IsTrue D.tells → OnlyBlocks (IsOfRecovery pages (D.content device.old).now.blocks) (D.content device.old) (D.content device.new) }
+    ensures touched { IsTrue D.tells →
+        OnlyBlocks (IsOfRecovery pages (D.content device.old).now.blocks) (D.content device.old)
+        (D.content device.new) }
     ensures silent { Silent (D.content device.old) (D.content device.new) }
     ensures size { D.size device.new ≡ D.size device.old }
     ensures faults { IsCounted (D.faults device.old) (D.faults device.new) result }
@@ -104,23 +124,28 @@ fn settle<D: Device>(device: &mut D, pages: u32) -> Result<(), Failed>
     Ok(())
 }
 
-/// Recovers what a crash left, where the device has the magic, and tells whether it has. Until the first
-/// sync a crash leaves what one right before the call could have left; from then on it leaves the
-/// same pages. Without the magic no block is written, whatever is answered.
+/// Recovers what a crash left, where the device has the magic, and tells whether it has. Until the
+/// first sync a crash leaves what one right before the call could have left; from then on it leaves
+/// the same pages. Without the magic no block is written, whatever is answered.
 pub fn recover<D: Device>(device: &mut D, pages: u32) -> Result<bool, Failed>
     requires room { 7 + 2 * pages ≤ D.size device.old }
     requires limit { pages ≤ 32768 }
     ensures magic { IsTrue D.tells → IfOk result
         (λ found. IsTrue found ↔ HasMagic (block_of (D.content device.old).now 0)) }
-    ensures images { IsTrue D.tells → (v : View) → length v.pages ≡ pages → ReadsAs (D.content device.old).now v → Recovers v (D.content device.old) (D.content device.new) }
-    ensures at_rest { IsTrue D.tells → (v : View) → length v.pages ≡ pages → ReadsAs (D.content device.old).now v
+    ensures images { IsTrue D.tells → (v : View) → length v.pages ≡ pages →
+        ReadsAs (D.content device.old).now v →
+        Recovers v (D.content device.old) (D.content device.new) }
+    ensures at_rest { IsTrue D.tells → (v : View) → length v.pages ≡ pages →
+        ReadsAs (D.content device.old).now v
         → IfOk result (λ found. found ≡ true → AtRest (D.content device.new).now v) }
     ensures unwritten { IfOk result (λ found. found ≡ false →
         (D.content device.new).now.blocks ≡ (D.content device.old).now.blocks) }
     ensures failed { IsTrue D.tells → OnErr result
         (¬ HasMagic (block_of (D.content device.old).now 0) →
         (D.content device.new).now.blocks ≡ (D.content device.old).now.blocks) }
-    ensures touched { IsTrue D.tells → OnlyBlocks (IsOfRecovery pages (D.content device.old).now.blocks) (D.content device.old) (D.content device.new) }
+    ensures touched { IsTrue D.tells →
+        OnlyBlocks (IsOfRecovery pages (D.content device.old).now.blocks) (D.content device.old)
+        (D.content device.new) }
     ensures silent { Silent (D.content device.old) (D.content device.new) }
     ensures size { D.size device.new ≡ D.size device.old }
     ensures faults { IsCounted (D.faults device.old) (D.faults device.new) result }

@@ -24,8 +24,8 @@ fn first_difference(xs: &[u8], ys: &[u8]) -> Option<usize>
     None
 }
 
-/// The first place of the text area, counted from 0, in which the device differs from these texts; None
-/// where it has them.
+/// The first place of the text area, counted from 0, in which the device differs from these texts;
+/// None where it has them.
 pub fn texts_differ<D: Device>(
     device: &mut D,
     schema: &[u8],
@@ -33,7 +33,8 @@ pub fn texts_differ<D: Device>(
 ) -> Result<Option<u16>, Failed>
     requires room { 7 ≤ D.size device.old }
     requires texts { length schema.now + length equation.now ≤ 16380 }
-    ensures place { IsTrue D.tells → IfOk result (DifferFirst (text_at (head_of (D.content device.old).now.blocks))
+    ensures place { IsTrue D.tells →
+        IfOk result (DifferFirst (text_at (head_of (D.content device.old).now.blocks))
         (λ q. slice_index_or (text_area schema.now equation.now) q 0)) }
     ensures reads { OnlyReads (D.content device.old) (D.content device.new) }
     ensures size { D.size device.new ≡ D.size device.old }

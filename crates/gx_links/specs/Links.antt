@@ -16,7 +16,8 @@ is_same = eq_by_cmp value_cmp
 
 -- the members of an owner, ascending
 abbrev pub members_of : Link → Value → List Value
-members_of link owner = map (λ pair. pair.0) (filter (λ pair. is_same pair.1 owner) (fin.entries link))
+members_of link owner =
+    map (λ pair. pair.0) (filter (λ pair. is_same pair.1 owner) (fin.entries link))
 
 -- each once
 abbrev pub distinct : List Value → List Value
@@ -31,7 +32,8 @@ owners_of link = distinct (map (λ pair. pair.1) (fin.entries link))
 abbrev pub most_members : ℕ
 most_members = 500
 
--- a link that nodes can hold: members and owners are of their kinds, and no owner has too many members
+-- a link that nodes can hold: members and owners are of their kinds, and no owner has too many
+-- members
 pub record IsLink (owner member : Kind) (link : Link) : Type 0 where
   pub fit : (m o : Value) → fin.get link m ≡ Some o → Fits member m × Fits owner o
   pub few : (o : Value) → length (members_of link o) ≤ most_members

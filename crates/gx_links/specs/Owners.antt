@@ -36,7 +36,8 @@ is_last (g ∷ h ∷ gs) o = is_last (h ∷ gs) o
 -- a pair more, whose owner is the last one or comes behind it
 abbrev pub with_pair : List Owned → Value × Value → List Owned
 with_pair [] p = first_of p ∷ []
-with_pair (g ∷ []) p = if is_same g.owner p.1 then with_member_last g p.0 ∷ [] else g ∷ first_of p ∷ []
+with_pair (g ∷ []) p =
+    if is_same g.owner p.1 then with_member_last g p.0 ∷ [] else g ∷ first_of p ∷ []
 with_pair (g ∷ h ∷ gs) p = g ∷ with_pair (h ∷ gs) p
 
 -- the pairs of owners with their members

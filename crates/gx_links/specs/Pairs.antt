@@ -21,27 +21,34 @@ use Rattle.gx_links.specs.Linksets.{LinkRule, HasLink}
 use Rattle.gx_links.specs.Rows.{link_parts}
 
 -- the maps stand for a link, and these are its pairs in the order of the members
-pub record AreAllPairs (rule : LinkRule) (held : Link → List LeafMap → Type 0) (maps : List LeafMap) (pairs : List (Value × Value)) : Type 0 where
+pub record AreAllPairs (rule : LinkRule) (held : Link → List LeafMap → Type 0) (maps : List LeafMap)
+    (pairs : List (Value × Value)) : Type 0 where
   pub link : Link
   pub is_link : IsLink rule.owner rule.member link
   pub is_held : held link maps
   pub those : pairs ≡ fin.entries link
 
 -- where the leaves are whole: all pairs of the link that they hold, or they hold none
-abbrev pub ArePairs : LinkRule → (Link → List LeafMap → Type 0) → Type 0 → List LeafMap → Option (List (Value × Value)) → Type 0
+abbrev pub ArePairs : LinkRule → (Link → List LeafMap → Type 0) → Type 0 → List LeafMap
+    → Option (List (Value × Value)) → Type 0
 ArePairs rule held whole maps None = whole → HasLink rule held maps → ⊥
 ArePairs rule held whole maps (Some pairs) = whole → AreAllPairs rule held maps pairs
 
 -- the parts that nodes hold are just the rows of the link
-pub record AreRows (owner member : Kind) (rows : Value → List Value → List Part) (parts : List Part) (link : Link) : Type 0 where
+pub record AreRows (owner member : Kind) (rows : Value → List Value → List Part) (parts : List Part)
+    (link : Link) : Type 0 where
   pub is_link : IsLink owner member link
   pub to : (p : Part) → In p parts → In p (link_parts rows link)
   pub from : (p : Part) → In p (link_parts rows link) → In p parts
 
--- where the parts stand by node and key: all pairs of the link whose rows they are, or they are those of none
-abbrev pub IsTold : (owner member : Kind) → (Value → List Value → List Part) → List Part → Option (List (Value × Value)) → Type 0
-IsTold owner member rows parts None = IsStrictlySortedBy part_cmp parts → (link : Link) → AreRows owner member rows parts link → ⊥
-IsTold owner member rows parts (Some pairs) = IsStrictlySortedBy part_cmp parts → (link : Link) × AreRows owner member rows parts link × (pairs ≡ fin.entries link)
+-- where the parts stand by node and key: all pairs of the link whose rows they are, or they are
+-- those of none
+abbrev pub IsTold : (owner member : Kind) → (Value → List Value → List Part) → List Part
+    → Option (List (Value × Value)) → Type 0
+IsTold owner member rows parts None = IsStrictlySortedBy part_cmp parts → (link : Link)
+    → AreRows owner member rows parts link → ⊥
+IsTold owner member rows parts (Some pairs) = IsStrictlySortedBy part_cmp parts
+    → (link : Link) × AreRows owner member rows parts link × (pairs ≡ fin.entries link)
 
 -- the rows of owners with their members
 abbrev pub rows_of : (Value → List Value → List Part) → List Owned → List Part
@@ -64,7 +71,8 @@ abbrev pub pair_at : ℕ → Rec → Value × Value
 pair_at owner r = (get_or r.key 0 no_value, get_or r.fields owner no_value)
 
 -- The pairs, where no owner has too many members, and the rows are just the parts. None: an owner
--- has too many, or the rows are others, where they are distinct and the parts stand by node and key.
+-- has too many, or the rows are others, where they are distinct and the parts stand by node and
+-- key.
 abbrev pub ArePairsOfRows : List (Value × Value) → List Owned → List Part → List Part
     → Option (List (Value × Value)) → Type 0
 ArePairsOfRows pairs owners rows parts None =

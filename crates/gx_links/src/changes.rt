@@ -47,9 +47,11 @@ impl Change {
 
 /// Changes a record of one node and then one of another or of the same.
 ///
-/// `Full`: the pages may not be enough for the entries of the new records, besides all that there are.
-/// `Damaged`: some leaf's stored form isn't whole. `Fault`: the count of faults rose; with any other
-/// answer it stays. `NoMemory`: there was none. After a refusal a part of the changes may be made.
+/// `Full`: the pages may not be enough for the entries of the new records, besides all that there
+/// are.
+/// `Damaged`: some leaf's stored form isn't whole. `Fault`: the count of faults rose; with any
+/// other answer it stays. `NoMemory`: there was none. After a refusal a part of the changes may be
+/// made.
 pub fn replace_both<M: Mapping, B: Leaves>(
     alloc: Global,
     leaves: &mut B,

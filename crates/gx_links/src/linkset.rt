@@ -27,12 +27,13 @@ pub enum Joining {
     NoRoom,
 }
 
-/// What keeps a link in nodes: of each member it knows the owner, if there is one, and of each owner the
-/// members.
+/// What keeps a link in nodes: of each member it knows the owner, if there is one, and of each
+/// owner the members.
 ///
-/// Members and owners are keys of one value. What the nodes' leaves hold is said by `held`, for leaves
-/// that are whole. Refusals of all calls: `Damaged`, some leaf's stored form isn't whole, or the leaves hold
-/// no link, which is said of block 0. `Fault`: the count of faults rose; with any other answer it stays.
+/// Members and owners are keys of one value. What the nodes' leaves hold is said by `held`, for
+/// leaves that are whole. Refusals of all calls: `Damaged`, some leaf's stored form isn't whole, or
+/// the leaves hold no link, which is said of block 0. `Fault`: the count of faults rose; with any
+/// other answer it stays.
 /// `NoMemory`: there was none.
 pub trait Linkset {
     /// What contracts see of a linkset.
@@ -48,8 +49,8 @@ pub trait Linkset {
     fn finds(&self) -> bool
         ensures { result ≡ (rule self.now).finds };
 
-    /// Appends the members of an owner, in ascending order. After a refusal `out` may have more at its
-    /// end.
+    /// Appends the members of an owner, in ascending order. After a refusal `out` may have more at
+    /// its end.
     fn members<B: Leaves>(
         &self,
         alloc: Global,
@@ -89,8 +90,8 @@ pub trait Linkset {
     /// Gives a member without an owner its owner, where that has room for it: it has fewer than
     /// `MOST_MEMBERS` members.
     ///
-    /// `Full`: the pages may not be enough for the entries of the owner with its new member, besides all
-    /// that there are. After a refusal a part of the change may be made.
+    /// `Full`: the pages may not be enough for the entries of the owner with its new member,
+    /// besides all that there are. After a refusal a part of the change may be made.
     fn connect<B: Leaves>(
         &self,
         alloc: Global,
@@ -103,7 +104,8 @@ pub trait Linkset {
         requires owner { Fits (rule self.now).owner owner.now }
         requires member { Fits (rule self.now).member member.now }
 
-        // The leaves hold the link with the pair where the owner had room, and all other leaves stay.
+        // The leaves hold the link with the pair where the owner had room, and all other leaves
+        // stay.
         ensures joined { (link : Link) → B.whole leaves.old →
             CanConnect (rule self.now) (held self.now) (B.working leaves.old) link member.now →
             IfOk result
@@ -131,8 +133,8 @@ pub trait Linkset {
 
     /// Takes a member from its owner.
     ///
-    /// `Full`: the pages may not be enough for the entries of the owner without the member, besides all
-    /// that there are. After a refusal a part of the change may be made.
+    /// `Full`: the pages may not be enough for the entries of the owner without the member, besides
+    /// all that there are. After a refusal a part of the change may be made.
     fn disconnect_from<B: Leaves>(
         &self,
         alloc: Global,
@@ -166,9 +168,9 @@ pub trait Linkset {
             + length ((rule self.now).entries owner.now
             (members_of (remove link member.now) owner.now))) };
 
-    /// All pairs of the link, each a member with its owner, in the order of the members. `None`: the
-    /// leaves hold no link. `Damaged`: some leaf's stored form isn't whole. The entries of each leaf
-    /// that is read are counted, as by `held` of a node.
+    /// All pairs of the link, each a member with its owner, in the order of the members. `None`:
+    /// the leaves hold no link. `Damaged`: some leaf's stored form isn't whole. The entries of each
+    /// leaf that is read are counted, as by `held` of a node.
     fn pairs<B: Leaves>(
         &self,
         alloc: Global,

@@ -16,8 +16,8 @@ use gx_values::{NoMemory, Value, compare};
 use std::alloc::{AllocError, Global};
 use std::cmp::Ordering;
 
-/// The owners in the pairs of a link, in ascending order, each with its members. They have just these
-/// pairs, also where those are of no link. `NoMemory`: there was none for them.
+/// The owners in the pairs of a link, in ascending order, each with its members. They have just
+/// these pairs, also where those are of no link. `NoMemory`: there was none for them.
 pub fn owners_of(alloc: Global, pairs: &Pairs) -> Result<Owners, NoMemory>
     requires { (pair : FieldValue × FieldValue) → In pair pairs.now →
         IsSized pair.0 × IsSized pair.1 }

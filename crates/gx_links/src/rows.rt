@@ -11,7 +11,8 @@ use gx_mapping::Parts;
 use gx_stack::are_same_parts;
 use std::alloc::AllocError;
 
-// Whether rows, in any order, are just the parts that were found in nodes, which stand by node and key.
+// Whether rows, in any order, are just the parts that were found in nodes, which stand by node and
+// key.
 pub fn are_rows(rows: Parts, found: &Parts) -> Result<bool, AllocError>
     ensures yes { result ≡ Ok true → (p : ThePart) → In p found.now ↔ In p rows }
     ensures no { result ≡ Ok false → IsStrictlySortedBy part_cmp found.now →

@@ -14,8 +14,8 @@ use gx_mapping::Parts;
 use gx_values::{NoMemory, Value, Values};
 use std::alloc::Global;
 
-/// The pairs in records of members, each with its owner in the field at this index. `NoMemory`: there was
-/// none for them.
+/// The pairs in records of members, each with its owner in the field at this index. `NoMemory`:
+/// there was none for them.
 pub fn pairs_at(alloc: Global, records: &Recs, index: usize) -> Result<Pairs, NoMemory>
     requires keys { (r : Record) → In r records.now →
         (0 < length r.key) × IsSized (pair_at index r).0 }
@@ -39,8 +39,8 @@ fn value_at(values: &Values, index: usize) -> &Value
     &values.0[index]
 }
 
-/// The pairs, where no owner has too many members, and the rows are just the records that were found
-/// in two nodes. `None`: they are not. `NoMemory`: there was none for the comparison.
+/// The pairs, where no owner has too many members, and the rows are just the records that were
+/// found in two nodes. `None`: they are not. `NoMemory`: there was none for the comparison.
 pub fn pairs_of_rows(
     alloc: Global,
     pairs: Pairs,

@@ -22,8 +22,10 @@ any_link_rule (Inverted l) = inverted_rule any_rule (tree_of l.down.now) (tree_o
 
 abbrev pub IsHeldBy : AnyLinkset → Link → List LeafMap → Type 0
 IsHeldBy (Array l) = IsHeldLink any_rule (one_node (tree_of l.tree.now)) array_rows
-IsHeldBy (Ring l) = IsHeldLink any_rule (two_nodes (tree_of l.heads.now) (tree_of l.chain.now)) ring_rows
-IsHeldBy (Inverted l) = IsHeldLink any_rule (two_nodes (tree_of l.down.now) (tree_of l.up.now)) inverted_rows
+IsHeldBy (Ring l) =
+    IsHeldLink any_rule (two_nodes (tree_of l.heads.now) (tree_of l.chain.now)) ring_rows
+IsHeldBy (Inverted l) =
+    IsHeldLink any_rule (two_nodes (tree_of l.down.now) (tree_of l.up.now)) inverted_rows
 
 abbrev pub IsValidLinkset : AnyLinkset → Type 0
 IsValidLinkset (Array l) = IsArray any_rule (tree_of l.tree.now) l.member
@@ -32,5 +34,7 @@ IsValidLinkset (Inverted l) = IsInverted any_rule (tree_of l.down.now) (tree_of 
 
 pub any_link_laws : (l : AnyLinkset) → IsValidLinkset l → LinksetLaws (any_link_rule l) (IsHeldBy l)
 any_link_laws (Array l) valid = array_laws any_rule any_laws (tree_of l.tree.now) l.member valid
-any_link_laws (Ring l) valid = ring_laws any_rule any_laws (tree_of l.heads.now) (tree_of l.chain.now) valid
-any_link_laws (Inverted l) valid = inverted_laws any_rule any_laws (tree_of l.down.now) (tree_of l.up.now) valid
+any_link_laws (Ring l) valid =
+    ring_laws any_rule any_laws (tree_of l.heads.now) (tree_of l.chain.now) valid
+any_link_laws (Inverted l) valid =
+    inverted_laws any_rule any_laws (tree_of l.down.now) (tree_of l.up.now) valid

@@ -1,4 +1,5 @@
--- Pointer arrays: a record of each owner that has a member, with the key bytes of its members joined.
+-- Pointer arrays: a record of each owner that has a member, with the key bytes of its members
+-- joined.
 use Rattle.std.specs.Prelude.{◌≡◌, ◌≢◌, ℕ, suc, ◌*◌, ◌≤◌, ◌<◌, false, List, [], ◌∷◌, ◌++◌, length, Option, Some, None, get_or, if◌then◌else◌}
 use Rattle.std.specs.List.Sorted.{IsStrictlySortedBy}
 use Rattle.std.specs.Ordering.{is_lt}
@@ -44,7 +45,8 @@ pub record IsArray {M : Type 0} (rule : M → Rule) (tree : Tree M) (member : Ki
   pub nodes : AreValid rule (λ c. tree_form rule tree) (one_node tree)
 
 abbrev pub array_rule : {M : Type 0} (rule : M → Rule) → Tree M → Kind → LinkRule
-array_rule rule tree member = link_rule rule (one_node tree) array_rows (owner_kind rule tree) member (λ _. 1) false
+array_rule rule tree member =
+    link_rule rule (one_node tree) array_rows (owner_kind rule tree) member (λ _. 1) false
 
 -- ---- joined members
 
@@ -58,8 +60,12 @@ first_body (r ∷ rs) = leaf_body r.fields
 
 -- as many bytes as a value at the front has, if there is one
 abbrev pub IsFrontWidth : Kind → List ℕ → Option ℕ → Type 0
-IsFrontWidth kind bytes None = (v : Value) (rest : List ℕ) → Fits kind v → bytes ≢ bytes_of v ++ rest
-IsFrontWidth kind bytes (Some width) = (0 < width) × (width ≤ length bytes) × ((v : Value) (rest : List ℕ) → Fits kind v → bytes ≡ bytes_of v ++ rest → length (bytes_of v) ≡ width)
+IsFrontWidth kind bytes None = (v : Value) (rest : List ℕ) → Fits kind v
+    → bytes ≢ bytes_of v ++ rest
+IsFrontWidth kind bytes (Some width) =
+    (0 < width) × (width ≤ length bytes)
+    × ((v : Value) (rest : List ℕ) → Fits kind v → bytes ≡ bytes_of v ++ rest
+    → length (bytes_of v) ≡ width)
 
 -- the members with these bytes were appended
 pub record AreCut (kind : Kind) (bytes : List ℕ) (before now : List Value) : Type 0 where
@@ -96,7 +102,8 @@ WithoutMember kind r member = (has : HasMembers kind r) × (In member has.member
 
 -- the owner of one of the records, whose members this one is among; or it is among those of none
 abbrev pub IsOwnerAmong : Kind → Value → List Rec → Option Value → Type 0
-IsOwnerAmong kind member found (Some owner) = (r : Rec) × In r found × (get_or r.key 0 no_value ≡ owner) × WithMember kind r member
+IsOwnerAmong kind member found (Some owner) =
+    (r : Rec) × In r found × (get_or r.key 0 no_value ≡ owner) × WithMember kind r member
 IsOwnerAmong kind member found None = (r : Rec) → In r found → WithoutMember kind r member
 
 -- ---- owners cut out of records
@@ -116,7 +123,8 @@ pub record IsCutOf (kind : Kind) (r : Rec) (g : Owned) : Type 0 where
 
 -- the record is that of no owner
 abbrev pub IsOfNoOwner : Kind → Rec → Type 0
-IsOfNoOwner kind r = (ms : List Value) → AreOfKind kind ms → AreOfOneOwner ms → key_of ms ≢ leaf_body r.fields
+IsOfNoOwner kind r = (ms : List Value) → AreOfKind kind ms → AreOfOneOwner ms
+    → key_of ms ≢ leaf_body r.fields
 
 abbrev pub IsCutOwner : Kind → Rec → Option Owned → Type 0
 IsCutOwner kind r None = IsOfNoOwner kind r

@@ -23,7 +23,8 @@ owned_rec owner member = record { key = member ∷ []; fields = owner ∷ [] }
 
 -- the two records of a pair, in the first node and in the second
 abbrev pub pair_rows : Value → Value → List Part
-pair_rows owner member = part_for 0 (pair_rec owner member) ∷ part_for 1 (owned_rec owner member) ∷ []
+pair_rows owner member =
+    part_for 0 (pair_rec owner member) ∷ part_for 1 (owned_rec owner member) ∷ []
 
 abbrev pub inverted_rows : Value → List Value → List Part
 inverted_rows owner = flat_map (pair_rows owner)
@@ -34,14 +35,18 @@ inverted_rows owner = flat_map (pair_rows owner)
 pub record IsInverted {M : Type 0} (rule : M → Rule) (down up : Tree M) : Type 0 where
   pub owner : IsSpanKind (owner_kind rule down)
   pub member : IsSpanKind (member_kind rule up)
-  pub down_keys : kinds_of (tree_form rule down).keys ≡ owner_kind rule down ∷ member_kind rule up ∷ []
+  pub down_keys : kinds_of (tree_form rule down).keys
+      ≡ owner_kind rule down ∷ member_kind rule up ∷ []
   pub down_fields : kinds_of (tree_form rule down).fields ≡ []
   pub up_keys : kinds_of (tree_form rule up).keys ≡ member_kind rule up ∷ []
   pub up_fields : kinds_of (tree_form rule up).fields ≡ owner_kind rule down ∷ []
-  pub nodes : AreValid rule (two_forms (tree_form rule down) (tree_form rule up)) (two_nodes down up)
+  pub nodes : AreValid rule (two_forms (tree_form rule down) (tree_form rule up))
+      (two_nodes down up)
 
 abbrev pub inverted_rule : {M : Type 0} (rule : M → Rule) → Tree M → Tree M → LinkRule
-inverted_rule rule down up = link_rule rule (two_nodes down up) inverted_rows (owner_kind rule down) (member_kind rule up) (λ _. 1) true
+inverted_rule rule down up =
+    link_rule rule (two_nodes down up) inverted_rows (owner_kind rule down) (member_kind rule up)
+    (λ _. 1) true
 
 -- ---- what is read of the records
 

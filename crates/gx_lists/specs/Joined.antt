@@ -26,17 +26,26 @@ rest_of : (k : Kind) (m : Value) (ms : List Value) → AreOfKind k (m ∷ ms) �
 rest_of k m ms fit = λ x h. fit x (inr h)
 
 -- they tell the members
-pub same_joined : (k : Kind) (xs ys : List Value) → IsKeyKind k → AreOfKind k xs → AreOfKind k ys → key_of xs ≡ key_of ys → xs ≡ ys
+pub same_joined : (k : Kind) (xs ys : List Value) → IsKeyKind k → AreOfKind k xs → AreOfKind k ys
+    → key_of xs ≡ key_of ys → xs ≡ ys
 same_joined k [] [] key f g e = refl
-same_joined k [] (y ∷ ys) key f g e = absurd (omega (arith, some_bytes k y key (one_of k y ys g), ap length e, length-append (bytes_of y) (key_of ys)))
-same_joined k (x ∷ xs) [] key f g e = absurd (omega (arith, some_bytes k x key (one_of k x xs f), ap length e, length-append (bytes_of x) (key_of xs)))
+same_joined k [] (y ∷ ys) key f g e =
+    absurd (omega
+    (arith, some_bytes k y key (one_of k y ys g), ap length e, length-append (bytes_of y) (key_of ys)))
+same_joined k (x ∷ xs) [] key f g e =
+    absurd (omega
+    (arith, some_bytes k x key (one_of k x xs f), ap length e, length-append (bytes_of x) (key_of xs)))
 same_joined k (x ∷ xs) (y ∷ ys) key f g e =
-    let both = value_prefix_free k key x y (key_of xs) (key_of ys) (one_of k x xs f) (one_of k y ys g) e in
+    let both =
+    value_prefix_free k key x y (key_of xs) (key_of ys) (one_of k x xs f) (one_of k y ys g) e in
     λ i. both.0 i ∷ same_joined k xs ys key (rest_of k x xs f) (rest_of k y ys g) both.1 i
 
 one_more : (n w : ℕ) → suc n * w ≡ w + n * w
 one_more n w = omega arith
 
-pub joined_small : (k : Kind) (ms : List Value) → AreOfKind k ms → length (key_of ms) ≤ length ms * width_of k
+pub joined_small : (k : Kind) (ms : List Value) → AreOfKind k ms
+    → length (key_of ms) ≤ length ms * width_of k
 joined_small k [] fit = omega arith
-joined_small k (m ∷ ms) fit = omega (arith, length-append (bytes_of m) (key_of ms), fit_bytes k m (one_of k m ms fit), joined_small k ms (rest_of k m ms fit), one_more (length ms) (width_of k))
+joined_small k (m ∷ ms) fit =
+    omega
+    (arith, length-append (bytes_of m) (key_of ms), fit_bytes k m (one_of k m ms fit), joined_small k ms (rest_of k m ms fit), one_more (length ms) (width_of k))

@@ -23,8 +23,8 @@ use gx_stack::{Node, whole_span};
 use gx_values::{Kind, NoMemory, Value, Values};
 use std::alloc::Global;
 
-/// A pointer array: a link in one node, with a record of each owner that has a member. An owner is found
-/// by reading all of it.
+/// A pointer array: a link in one node, with a record of each owner that has a member. An owner is
+/// found by reading all of it.
 #[derive(Drop)]
 pub struct PointerArray<'a, M: Mapping> {
     /// a record of each owner, with the key bytes of its members joined
@@ -149,7 +149,8 @@ impl<'a, M: Mapping> PointerArray<'a, M> {
         requires room { length members.now < MOST_MEMBERS }
         ensures { Joins B.View
             (array_rule M.rule (tree_of self.now.tree.now) self.now.member)
-            (IsHeldLink M.rule (one_node (tree_of self.now.tree.now)) array_rows) owner.now member.now
+            (IsHeldLink M.rule (one_node (tree_of self.now.tree.now)) array_rows) owner.now
+            member.now
             (λ link. members.now ≡ members_of link owner.now) leaves.old leaves.new result }
     {
         let with = with_member(alloc, member, members)?;

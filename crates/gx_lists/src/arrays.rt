@@ -135,8 +135,8 @@ fn has_member(alloc: Global, kind: Kind, rec: &Rec, member: &Value) -> Result<bo
     }
 }
 
-// The owner in the first record whose members this one is among. `Damaged`: some record is that of no
-// members.
+// The owner in the first record whose members this one is among. `Damaged`: some record is that of
+// no members.
 pub fn owner_among(
     alloc: Global,
     kind: Kind,

@@ -130,7 +130,8 @@ impl<'a, M: Mapping> Inverted<'a, M> {
     ) -> Result<usize, Stop>
         requires valid { IsInverted M.rule (tree_of self.now.down.now) (tree_of self.now.up.now) }
         requires below { (n : ℕ) →
-            In n (inverted_rule M.rule (tree_of self.now.down.now) (tree_of self.now.up.now)).leaves →
+            In n (inverted_rule M.rule (tree_of self.now.down.now)
+            (tree_of self.now.up.now)).leaves →
             n < length (B.working leaves.old) }
         requires owner { Fits (owner_kind M.rule (tree_of self.now.down.now)) owner.now }
         ensures count { IfOk result
@@ -162,7 +163,8 @@ impl<'a, M: Mapping> Inverted<'a, M> {
     ) -> Result<(), Stop>
         requires valid { IsInverted M.rule (tree_of self.now.down.now) (tree_of self.now.up.now) }
         requires below { (n : ℕ) →
-            In n (inverted_rule M.rule (tree_of self.now.down.now) (tree_of self.now.up.now)).leaves →
+            In n (inverted_rule M.rule (tree_of self.now.down.now)
+            (tree_of self.now.up.now)).leaves →
             n < length (B.working leaves.old) }
         requires owner { Fits (owner_kind M.rule (tree_of self.now.down.now)) owner.now }
         requires member { Fits (member_kind M.rule (tree_of self.now.up.now)) member.now }
@@ -177,8 +179,8 @@ impl<'a, M: Mapping> Inverted<'a, M> {
         replace_both(alloc, leaves, self.down, pair, self.up, owned)
     }
 
-    // The pairs of the link whose rows these records of the two nodes are. `None`: they are those of no
-    // link.
+    // The pairs of the link whose rows these records of the two nodes are. `None`: they are those
+    // of no link.
     fn told(&self, alloc: Global, down: Recs, up: Recs) -> Result<Option<Pairs>, NoMemory>
         requires valid { IsInverted M.rule (tree_of self.now.down.now) (tree_of self.now.up.now) }
         requires up { (r : Record) → In r up → IsOf (tree_form M.rule (tree_of self.now.up.now)) r }

@@ -1,4 +1,5 @@
--- The cells of a leaf in memory, what the open transaction replaced in them, and the maps that they stand for.
+-- The cells of a leaf in memory, what the open transaction replaced in them, and the maps that they
+-- stand for.
 use Rattle.std.specs.Prelude.{◌≡◌, ℕ, List, [], ◌∷◌, Bool, true, false, Option, Some, None, is_some, length, take, if◌then◌else◌}
 use Rattle.std.specs.List.{AllByRecursion, filter_map}
 use Rattle.std.specs.List.Sorted.{IsStrictlySortedBy}
@@ -79,7 +80,8 @@ pub record LeafPair : Type 0 where
   pub kept : LeafMap
 
 abbrev pub pair_of : Cells → List (List ℕ) → List Undo → LeafPair
-pair_of cells made undos = record { working = bodies cells; kept = bodies (kept_cells made undos cells) }
+pair_of cells made undos =
+    record { working = bodies cells; kept = bodies (kept_cells made undos cells) }
 
 -- a leaf once a transaction has ended
 abbrev pub ended : End → LeafPair → LeafPair
@@ -97,7 +99,8 @@ is_up_to hi key = is_le (key_cmp (take (length hi) key) hi)
 -- the entry of a body inside a span
 abbrev pub picked_body : List ℕ → List ℕ → List ℕ → Cell → List Entry
 picked_body lo hi key None = []
-picked_body lo hi key (Some body) = if is_inside lo hi key then record { key = key; body = body } ∷ [] else []
+picked_body lo hi key (Some body) =
+    if is_inside lo hi key then record { key = key; body = body } ∷ [] else []
 
 abbrev pub picked : List ℕ → List ℕ → List ℕ × Cell → List Entry
 picked lo hi e = picked_body lo hi e.0 e.1

@@ -17,4 +17,5 @@ empty_pair = record { working = empty; kept = empty }
 
 -- there are as many kept maps as working ones
 pub as_many : (ls : List LeafPair) → length (kepts ls) ≡ length (workings ls)
-as_many ls = length-map ls (λ (l : LeafPair). l.kept) ∙ sym (length-map ls (λ (l : LeafPair). l.working))
+as_many ls =
+    length-map ls (λ (l : LeafPair). l.kept) ∙ sym (length-map ls (λ (l : LeafPair). l.working))

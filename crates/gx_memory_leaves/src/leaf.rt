@@ -25,8 +25,8 @@ pub struct Leaf {
     made: Vec<Key>,
     // its changes of cells that stood there, the last one last
     undos: Vec<Undo>,
-    // whether the last key that was looked for was past all: then the next one may be too, and is first
-    // compared with the last
+    // whether the last key that was looked for was past all: then the next one may be too, and is
+    // first compared with the last
     ascending: bool,
 }
 
@@ -102,7 +102,8 @@ impl Leaf {
 }
 
 fn has_body(cells: &BTreeMap<Key, Cell>, key: &Key) -> bool
-    ensures { result ≡ is_some (option_and_then (λ c. c) (get (cells_of cells.now.entries) key.now)) }
+    ensures { result ≡ is_some
+        (option_and_then (λ c. c) (get (cells_of cells.now.entries) key.now)) }
 {
     match cells.get(key) {
         Some(cell) => cell.is_some(),
@@ -243,8 +244,8 @@ fn take_out(cells: &mut BTreeMap<Key, Cell>, made: &mut Vec<Key>)
     }
 }
 
-// Appends the entries inside the span: they stand together, from its lower end on. Answers whether that is
-// past all keys; where it may be, it is first compared with the last one.
+// Appends the entries inside the span: they stand together, from its lower end on. Answers whether
+// that is past all keys; where it may be, it is first compared with the last one.
 fn select_cells(
     alloc: Global,
     cells: &BTreeMap<Key, Cell>,
@@ -254,7 +255,8 @@ fn select_cells(
 ) -> Result<bool, NoMemory>
     requires { IsAscending cells.now.entries }
     ensures ok { OnOk result
-        (out.new ≡ out.old ++ selected span.now.lo span.now.hi (bodies (cells_of cells.now.entries))) }
+        (out.new
+        ≡ out.old ++ selected span.now.lo span.now.hi (bodies (cells_of cells.now.entries))) }
     ensures extends { Extends out.old out.new }
 {
     let lo = Key::from_slice(alloc, span.lo.as_slice())?;
@@ -275,7 +277,8 @@ fn select_cells(
     Ok(is_past)
 }
 
-// Whether the key is known to be past each key of the leaf, as one that comes in ascending order is.
+// Whether the key is known to be past each key of the leaf, as one that comes in ascending order
+// is.
 fn is_past_all(cells: &BTreeMap<Key, Cell>, key: &Key) -> bool
     ensures { result ≡ true → IsPastAll key.now cells.now.entries }
 {

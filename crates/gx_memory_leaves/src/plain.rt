@@ -11,9 +11,9 @@ use gx_ports::{Entries, Leaves, Stop, View};
 use gx_values::{NoMemory, Span};
 use std::alloc::{AllocError, Global};
 
-/// Leaves in memory: nothing of them is on the device, whose block calls never happen. They never answer
-/// `Full` or `Damaged`. A call on one key costs the logarithm of the leaf's entries; `commit` and
-/// `abort` cost the keys that were changed since the last one.
+/// Leaves in memory: nothing of them is on the device, whose block calls never happen. They never
+/// answer `Full` or `Damaged`. A call on one key costs the logarithm of the leaf's entries;
+/// `commit` and `abort` cost the keys that were changed since the last one.
 #[derive(Drop)]
 pub struct PlainLeaves<D: Device> {
     device: D,

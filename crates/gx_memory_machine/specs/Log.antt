@@ -41,10 +41,13 @@ with_block m n bytes = record {
 }
 
 abbrev pub all_synced : Moment → Moment
-all_synced m = record { blocks = m.blocks; pending = replicate (length m.pending) false; said = m.said; shelf = m.shelf }
+all_synced m =
+    record
+    { blocks = m.blocks; pending = replicate (length m.pending) false; said = m.said; shelf = m.shelf }
 
 abbrev pub with_said : Moment → List ℕ → Moment
-with_said m piece = record { blocks = m.blocks; pending = m.pending; said = m.said ++ piece; shelf = m.shelf }
+with_said m piece =
+    record { blocks = m.blocks; pending = m.pending; said = m.said ++ piece; shelf = m.shelf }
 
 -- the moment after a call, which has the first of these bytes
 abbrev pub advance : Moment → Step → List ℕ → Moment
@@ -67,4 +70,6 @@ latest m (s ∷ steps) bytes = latest (advance m s bytes) steps (drop (uses s) b
 
 -- at first no device is attached, and nothing was said
 abbrev pub first : Devices → Moment
-first devices = record { blocks = []; pending = []; said = []; shelf = record { name = None; devices = devices } }
+first devices =
+    record
+    { blocks = []; pending = []; said = []; shelf = record { name = None; devices = devices } }

@@ -26,7 +26,8 @@ empty_machine = record {
 
 -- it tells everything
 abbrev pub content_of : Memory → Content
-content_of m = record { now = m.now; script = m.script; aside = record { texts = m.texts }; past = m.past }
+content_of m =
+    record { now = m.now; script = m.script; aside = record { texts = m.texts }; past = m.past }
 
 -- the moments before a call of a device with so many bytes has ended; a call without room has none
 abbrev pub past_after : Memory → ℕ → List Moment

@@ -19,14 +19,16 @@ pub record Traced : Type 0 where
 -- the device of that name is attached, if one is named
 abbrev pub shelf_of : Option (Vec ℕ) → Devices → Shelf
 shelf_of None devices = record { name = None; devices = devices }
-shelf_of (Some name) devices = record { name = Some name.items; devices = remove devices name.items }
+shelf_of (Some name) devices =
+    record { name = Some name.items; devices = remove devices name.items }
 
 -- no device has more blocks than a number can count
 abbrev pub AreFew : Devices → Type 0
 AreFew devices = (name : List ℕ) → length (blocks_in devices name) < 2 ^ 32
 
 -- the log gives this moment, and there are flags for as many blocks as a number can count
-pub record IsTrace (start : Moment) (steps : List Step) (written : List ℕ) (now : Moment) : Type 0 where
+pub record IsTrace (start : Moment) (steps : List Step) (written : List ℕ)
+    (now : Moment) : Type 0 where
   pub is : now ≡ latest start steps written
   pub total : length written ≡ total steps
   pub flags : length now.pending ≡ length now.blocks
@@ -50,7 +52,8 @@ abbrev pub is_there : Devices → List ℕ → Bool
 is_there devices name = is_some (get devices name)
 
 -- why a device isn't attached: it is to be opened and isn't there, or to be made and is
-pub record HasAttachCause {T : Type 0} (devices : Devices) (name : List ℕ) (make : Option ℕ) (result : Result T AttachStop) : Type 0 where
+pub record HasAttachCause {T : Type 0} (devices : Devices) (name : List ℕ) (make : Option ℕ)
+    (result : Result T AttachStop) : Type 0 where
   pub there : OnOk result (is_there devices name ≡ is_none make)
   pub missing : IsErrOf result attach.Missing → (make ≡ None) × (get devices name ≡ None)
   pub exists : IsErrOf result attach.Exists → IsSome make × IsSome (get devices name)

@@ -22,7 +22,8 @@ impl Model for Counter {
 
     ghost Value = { Counts };
 
-    ghost view = { λ c. record { faults = c.faults; calls = c.calls; failing = c.failing.items; spare_calls = c.spare_calls; spare_bytes = c.spare_bytes } };
+    ghost view = { λ c. record
+        { faults = c.faults; calls = c.calls; failing = c.failing.items; spare_calls = c.spare_calls; spare_bytes = c.spare_bytes } };
 
     // Each spare call has its number.
     ghost invariant = { λ c. c.calls + c.spare_calls < 2 ^ 32 };
@@ -30,7 +31,8 @@ impl Model for Counter {
 
 impl Counter {
     pub fn new(alloc: Global) -> Counter
-        ensures { result ≡ record { faults = 0; calls = 0; failing = []; spare_calls = 0; spare_bytes = 0 } }
+        ensures { result ≡ record
+            { faults = 0; calls = 0; failing = []; spare_calls = 0; spare_bytes = 0 } }
     {
         Counter {
             faults: 0,
@@ -42,7 +44,8 @@ impl Counter {
     }
 
     pub fn fail_at(&mut self, call: u32) -> Result<(), NoMemory>
-        ensures ok { OnOk result (self.new ≡ record self.old { failing = self.old.failing ++ call ∷ [] }) }
+        ensures ok { OnOk result
+            (self.new ≡ record self.old { failing = self.old.failing ++ call ∷ [] }) }
         ensures err { OnErr result (self.new ≡ self.old) }
     {
         self.failing.push(call)?;
@@ -63,7 +66,10 @@ impl Counter {
 
     /// Makes each spare number at least so much, where so many calls can have numbers.
     pub fn reserve(&mut self, calls: u32, bytes: u32) -> Result<(), NoMemory>
-        ensures ok { OnOk result (self.new ≡ record self.old { spare_calls = max self.old.spare_calls calls; spare_bytes = max self.old.spare_bytes bytes }) }
+        ensures ok { OnOk result
+            (self.new
+            ≡ record self.old
+            { spare_calls = max self.old.spare_calls calls; spare_bytes = max self.old.spare_bytes bytes }) }
         ensures err { OnErr result (self.new ≡ self.old) }
     {
         if calls > u32::MAX - self.calls {

@@ -1,4 +1,5 @@
-//! A machine in memory, which tells all that it holds and each moment that went by. Tests run on it.
+//! A machine in memory, which tells all that it holds and each moment that went by. Tests run on
+//! it.
 #![tactic(auto)]
 
 mod counter;

@@ -47,13 +47,17 @@ impl Model for Trace {
     ghost coded = { Prim.hlevel (codes, coded_devices) };
 
     ghost view = { λ t. record {
-      now = record { blocks = t.blocks.items; pending = t.pending.items; said = t.said.items; shelf = shelf_of t.name (by_name t.start.entries) };
+      now = record
+          { blocks = t.blocks.items; pending = t.pending.items; said = t.said.items; shelf = shelf_of t.name (by_name t.start.entries) };
       past = earlier (first (by_name t.start.entries)) t.steps.items t.written.items;
       calls = vec_capacity t.steps - vec_len t.steps;
-      bytes = min (vec_capacity t.written - vec_len t.written) (vec_capacity t.said - vec_len t.said);
+      bytes = min (vec_capacity t.written - vec_len t.written)
+          (vec_capacity t.said - vec_len t.said);
     } };
 
-    ghost invariant = { λ t. IsTrace (first (by_name t.start.entries)) t.steps.items t.written.items (record { blocks = t.blocks.items; pending = t.pending.items; said = t.said.items; shelf = shelf_of t.name (by_name t.start.entries) }) };
+    ghost invariant = { λ t. IsTrace (first (by_name t.start.entries)) t.steps.items t.written.items
+        (record
+        { blocks = t.blocks.items; pending = t.pending.items; said = t.said.items; shelf = shelf_of t.name (by_name t.start.entries) }) };
 }
 
 // Puts bytes at the end, for which there is room.
@@ -248,8 +252,10 @@ fn blocks_of(
     name: &[u8],
     make: Option<u32>,
 ) -> Result<Vec<[u8; 4096]>, AttachStop>
-    ensures blocks { IfOk result (λ blocks. blocks.items ≡ blocks_given (by_name start.now.entries) name.now make) }
-    ensures few { AreFew (by_name start.now.entries) → IfOk result (λ blocks. length blocks.items < 2 ^ 32) }
+    ensures blocks { IfOk result
+        (λ blocks. blocks.items ≡ blocks_given (by_name start.now.entries) name.now make) }
+    ensures few { AreFew (by_name start.now.entries) →
+        IfOk result (λ blocks. length blocks.items < 2 ^ 32) }
     ensures cause { HasAttachCause (by_name start.now.entries) name.now make result }
 {
     match (find(start, name), make) {
@@ -263,7 +269,8 @@ fn blocks_of(
 fn prepare(alloc: Global, name: &[u8], blocks: Vec<[u8; 4096]>) -> Result<Drive, NoMemory>
     ensures name { IfOk result (λ drive. drive.name.items ≡ name.now) }
     ensures blocks { IfOk result (λ drive. drive.blocks ≡ blocks) }
-    ensures pending { IfOk result (λ drive. drive.pending.items ≡ replicate (length blocks.items) false) }
+    ensures pending { IfOk result (λ drive. drive.pending.items
+        ≡ replicate (length blocks.items) false) }
 {
     Ok(Drive {
         name: name.to_vec(alloc)?,
@@ -283,7 +290,10 @@ impl Trace {
         requires place { 0 < self.old.calls }
         requires room { length name.now ≤ self.old.bytes }
         requires first { self.old.now.shelf.name ≡ None }
-        ensures ok { OnOk result (Adds (length name.now) (with_device self.old.now name.now (blocks_given self.old.now.shelf.devices name.now make)) self.old self.new) }
+        ensures ok { OnOk result
+            (Adds (length name.now)
+            (with_device self.old.now name.now
+            (blocks_given self.old.now.shelf.devices name.now make)) self.old self.new) }
         ensures err { OnErr result (Adds 0 self.old.now self.old self.new) }
         ensures cause { HasAttachCause self.old.now.shelf.devices name.now make result }
     {

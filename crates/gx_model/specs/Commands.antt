@@ -45,11 +45,14 @@ has_record s file key = is_some (fin.get (file_in s file) key)
 
 -- the record is a member in the link, or an owner of some member
 abbrev pub is_end_of : LinkDef → Link → ℕ → Value → Bool
-is_end_of def link file key = ((def.member == file) && is_some (fin.get link key)) || ((def.owner == file) && list_any (λ pair. is_same pair.1 key) (fin.entries link))
+is_end_of def link file key =
+    ((def.member == file) && is_some (fin.get link key)) ||
+    ((def.owner == file) && list_any (λ pair. is_same pair.1 key) (fin.entries link))
 
 -- the same in any of the links
 abbrev pub is_linked : List LinkDef → List Link → ℕ → Value → Bool
-is_linked (def ∷ defs) (link ∷ links) file key = is_end_of def link file key || is_linked defs links file key
+is_linked (def ∷ defs) (link ∷ links) file key =
+    is_end_of def link file key || is_linked defs links file key
 is_linked _ _ file key = false
 
 abbrev pub has_insert_key : State → ℕ → List Value → Bool
@@ -62,13 +65,23 @@ lacks_of schema s (Some of) = not (has_record s (link_at schema of.link).owner o
 
 -- why a command is refused, where it is; of several reasons the first
 abbrev pub refusal_of : Schema → State → Command → Option Refusal
-refusal_of schema s (command.Insert file values) = first_refusal ((has_insert_key s file values, key_exists) ∷ [])
-refusal_of schema s (command.Update file key changes) = first_refusal ((not (has_record s file key), no_record) ∷ [])
-refusal_of schema s (command.Delete file key) = first_refusal ((not (has_record s file key), no_record) ∷ (is_linked schema.links s.links file key, linked) ∷ [])
-refusal_of schema s (command.Connect link owner member) = first_refusal ((not (has_record s (link_at schema link).owner owner && has_record s (link_at schema link).member member), no_record) ∷ (is_some (fin.get (link_in s link) member), has_owner) ∷ (nat_le most_members (length (pairs_of (link_in s link) owner)), too_many_members) ∷ [])
-refusal_of schema s (command.Disconnect link member) = first_refusal ((not (has_record s (link_at schema link).member member), no_record) ∷ (not (is_some (fin.get (link_in s link) member)), no_owner) ∷ [])
-refusal_of schema s (command.Members link owner order) = first_refusal ((not (has_record s (link_at schema link).owner owner), no_record) ∷ [])
-refusal_of schema s (command.Owner link member) = first_refusal ((not (has_record s (link_at schema link).member member), no_record) ∷ [])
+refusal_of schema s (command.Insert file values) =
+    first_refusal ((has_insert_key s file values, key_exists) ∷ [])
+refusal_of schema s (command.Update file key changes) =
+    first_refusal ((not (has_record s file key), no_record) ∷ [])
+refusal_of schema s (command.Delete file key) =
+    first_refusal ((not (has_record s file key), no_record)
+    ∷ (is_linked schema.links s.links file key, linked) ∷ [])
+refusal_of schema s (command.Connect link owner member) =
+    first_refusal
+    ((not (has_record s (link_at schema link).owner owner && has_record s (link_at schema link).member member), no_record) ∷ (is_some (fin.get (link_in s link) member), has_owner) ∷ (nat_le most_members (length (pairs_of (link_in s link) owner)), too_many_members) ∷ [])
+refusal_of schema s (command.Disconnect link member) =
+    first_refusal ((not (has_record s (link_at schema link).member member), no_record)
+    ∷ (not (is_some (fin.get (link_in s link) member)), no_owner) ∷ [])
+refusal_of schema s (command.Members link owner order) =
+    first_refusal ((not (has_record s (link_at schema link).owner owner), no_record) ∷ [])
+refusal_of schema s (command.Owner link member) =
+    first_refusal ((not (has_record s (link_at schema link).member member), no_record) ∷ [])
 refusal_of schema s (command.Find q) = first_refusal ((lacks_of schema s q.of, no_record) ∷ [])
 refusal_of schema s _ = None
 
@@ -94,10 +107,13 @@ updated f key changes = fin.insert f key (changed (unwrap_or (fin.get f key) [])
 
 abbrev pub state_after : State → Command → State
 state_after s (command.Insert file values) = with_file s file (inserted (file_in s file) values)
-state_after s (command.Update file key changes) = with_file s file (updated (file_in s file) key changes)
+state_after s (command.Update file key changes) =
+    with_file s file (updated (file_in s file) key changes)
 state_after s (command.Delete file key) = with_file s file (fin.remove (file_in s file) key)
-state_after s (command.Connect link owner member) = with_link s link (fin.insert (link_in s link) member owner)
-state_after s (command.Disconnect link member) = with_link s link (fin.remove (link_in s link) member)
+state_after s (command.Connect link owner member) =
+    with_link s link (fin.insert (link_in s link) member owner)
+state_after s (command.Disconnect link member) =
+    with_link s link (fin.remove (link_in s link) member)
 state_after s _ = s
 
 -- the next state: that after the command, or the same where it is refused
@@ -117,17 +133,25 @@ owner_text file f None = codes "none\n"
 owner_text file f (Some owner) = record_text file owner (fin.get f owner)
 
 -- the text lists such records
-pub record IsListText (def : FileDef) (f : File) (test : Row → Bool) (order : OrderBy) (text : List ℕ) : Type 0 where
+pub record IsListText (def : FileDef) (f : File) (test : Row → Bool) (order : OrderBy)
+    (text : List ℕ) : Type 0 where
   pub rows : List Row
   pub listed : IsListed f test order rows
   pub is : text ≡ rows_text def rows
 
 -- the text is the answer of a command on records or links that isn't refused
 abbrev pub IsReply : Schema → State → Command → List ℕ → Type 0
-IsReply schema s (command.Get file key) text = text ≡ record_text (file_at schema file) key (fin.get (file_in s file) key)
-IsReply schema s (command.Members link owner order) text = IsListText (file_at schema (link_at schema link).member) (file_in s (link_at schema link).member) (λ r. is_owner owner (fin.get (link_in s link) r.0)) order text
-IsReply schema s (command.Owner link member) text = text ≡ owner_text (file_at schema (link_at schema link).owner) (file_in s (link_at schema link).owner) (fin.get (link_in s link) member)
-IsReply schema s (command.Find q) text = IsListText (file_at schema q.file) (file_in s q.file) (is_chosen s q) q.order text
+IsReply schema s (command.Get file key) text =
+    text ≡ record_text (file_at schema file) key (fin.get (file_in s file) key)
+IsReply schema s (command.Members link owner order) text =
+    IsListText (file_at schema (link_at schema link).member)
+    (file_in s (link_at schema link).member)
+    (λ r. is_owner owner (fin.get (link_in s link) r.0)) order text
+IsReply schema s (command.Owner link member) text =
+    text ≡ owner_text (file_at schema (link_at schema link).owner)
+    (file_in s (link_at schema link).owner) (fin.get (link_in s link) member)
+IsReply schema s (command.Find q) text =
+    IsListText (file_at schema q.file) (file_in s q.file) (is_chosen s q) q.order text
 IsReply schema s command.Nothing text = text ≡ []
 IsReply schema s _ text = text ≡ codes "ok\n"
 

@@ -40,7 +40,9 @@ turned desc r = if desc then ordering_reverse r else r
 
 -- by the field, ascending or descending; ties by the key, always ascending
 abbrev pub row_cmp : OrderBy → Row → Row → Ordering
-row_cmp o a b = ordering_then (turned o.desc (value_cmp (value_at a o.field) (value_at b o.field))) (value_cmp a.0 b.0)
+row_cmp o a b =
+    ordering_then (turned o.desc (value_cmp (value_at a o.field) (value_at b o.field)))
+    (value_cmp a.0 b.0)
 
 -- each before all later ones
 abbrev pub Ascends : {A : Type 0} → (A → A → Ordering) → List A → Type 0
@@ -48,7 +50,8 @@ Ascends cmp [] = Unit {0}
 Ascends cmp (x ∷ xs) = AllByRecursion (λ y. cmp x y ≡ Less) xs × Ascends cmp xs
 
 -- the file's records that pass the test, each once, in the order
-pub record IsListed (f : File) (test : Row → Bool) (order : OrderBy) (rows : List Row) : Type 0 where
+pub record IsListed (f : File) (test : Row → Bool) (order : OrderBy)
+    (rows : List Row) : Type 0 where
   pub those : IsPermutation (filter test (fin.entries f)) rows
   pub in_order : Ascends (row_cmp order) rows
 

@@ -1,4 +1,5 @@
--- The states that a script is played on: transactions over the abstract database; and how a play ends.
+-- The states that a script is played on: transactions over the abstract database; and how a play
+-- ends.
 use Rattle.std.specs.Prelude.{◌≡◌, ℕ, ◌+◌, ◌-◌, ◌^◌, min, List, [], ◌∷◌, ◌++◌, Bool, true, false, Option, Some, None, is_some, unwrap_or, codes}
 use Rattle.std.specs.Fmt.{decimal}
 use Rattle.gx_schema.specs.declared.schema.Schema.{Schema}
@@ -10,7 +11,8 @@ use Rattle.gx_commands.specs.LineWhys.{word_of}
 use Rattle.gx_model.specs.States.{State}
 use Rattle.gx_model.specs.Commands.{next_state, IsAnswer}
 
--- the last kept state and those before it, that of the open transaction, and how many commits there were
+-- the last kept state and those before it, that of the open transaction, and how many commits there
+-- were
 pub record Playing : Type 0 where
   pub earlier : List State
   pub kept : State
@@ -38,19 +40,26 @@ working_after None s = None
 working_after (Some old) s = Some s
 
 abbrev pub with_working : Playing → State → Playing
-with_working p s = record { earlier = p.earlier; kept = p.kept; working = working_after p.working s; commits = p.commits }
+with_working p s =
+    record
+    { earlier = p.earlier; kept = p.kept; working = working_after p.working s; commits = p.commits }
 
 -- what comes after a command
 abbrev pub next_of : Schema → Playing → Command → Playing
-next_of schema p command.Begin = record { earlier = p.earlier; kept = p.kept; working = Some p.kept; commits = p.commits }
-next_of schema p command.Commit = record { earlier = p.earlier ++ p.kept ∷ []; kept = seen_state p; working = None; commits = next_count p.commits }
-next_of schema p command.Abort = record { earlier = p.earlier; kept = p.kept; working = None; commits = p.commits }
+next_of schema p command.Begin =
+    record { earlier = p.earlier; kept = p.kept; working = Some p.kept; commits = p.commits }
+next_of schema p command.Commit =
+    record
+    { earlier = p.earlier ++ p.kept ∷ []; kept = seen_state p; working = None; commits = next_count p.commits }
+next_of schema p command.Abort =
+    record { earlier = p.earlier; kept = p.kept; working = None; commits = p.commits }
 next_of schema p c = with_working p (next_state schema (seen_state p) c)
 
 -- the text is the answer of a command
 abbrev pub IsAnswered : Schema → Playing → Command → List ℕ → Type 0
 IsAnswered schema p command.Begin text = text ≡ codes "begun\n"
-IsAnswered schema p command.Commit text = text ≡ codes "committed " ++ decimal (next_count p.commits) ++ codes "\n"
+IsAnswered schema p command.Commit text =
+    text ≡ codes "committed " ++ decimal (next_count p.commits) ++ codes "\n"
 IsAnswered schema p command.Abort text = text ≡ codes "dropped\n"
 IsAnswered schema p c text = IsAnswer schema (seen_state p) c text
 
@@ -69,4 +78,5 @@ end_at last true = stopped last why.OpenTransaction
 -- what is said of an end
 abbrev pub end_text : End → List ℕ
 end_text good = []
-end_text (stopped number reason) = codes "stopped at line " ++ decimal number ++ codes ": " ++ word_of reason ++ codes "\n"
+end_text (stopped number reason) =
+    codes "stopped at line " ++ decimal number ++ codes ": " ++ word_of reason ++ codes "\n"

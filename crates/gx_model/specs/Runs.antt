@@ -9,8 +9,10 @@ use Rattle.gx_commands.specs.Lines.{Lines, script_lines}
 use Rattle.gx_script.specs.Reading.{IsReading}
 use Rattle.gx_model.specs.Play.{Playing, End, stopped, end_at, end_text, is_inside, next_of, IsAnswered}
 
--- a good line that may stand where the play is: the command that it means, its answer, and the play after it
-pub record Step (schema : Schema) (p : Playing) (line answer : List ℕ) (next : Playing) : Type 0 where
+-- a good line that may stand where the play is: the command that it means, its answer, and the play
+-- after it
+pub record Step (schema : Schema) (p : Playing) (line answer : List ℕ)
+    (next : Playing) : Type 0 where
   pub command : Command
   pub means : IsLineOf schema line command
   pub allowed : place_reason (is_inside p) command ≡ None
@@ -28,10 +30,11 @@ Runs schema p (line ∷ lines) text final =
 abbrev pub IsBadLine : Schema → Bool → List ℕ → LineWhy → Type 0
 IsBadLine schema inside line why =
     IsReading schema line (Err why)
-    ⊎ ((command : Command) × IsLineOf schema line command × (place_reason inside command ≡ Some why))
+    ⊎ ((command : Command) × IsLineOf schema line command
+    × (place_reason inside command ≡ Some why))
 
--- how a play ends where `ran` lines ran: at the next, which is bad; with the last of them, where there is none; or at one
--- that can't be had
+-- how a play ends where `ran` lines ran: at the next, which is bad; with the last of them, where
+-- there is none; or at one that can't be had
 abbrev pub IsEnd : Schema → Playing → ℕ → Result (Option (List ℕ)) LineWhy → End → Type 0
 IsEnd schema p ran (Ok (Some line)) end =
     (why : LineWhy) × IsBadLine schema (is_inside p) line why × (end ≡ stopped (ran + 1) why)
@@ -40,12 +43,14 @@ IsEnd schema p ran (Err why) end = end ≡ stopped (ran + 1) why
 
 -- the first lines of all, and the next: a line, none, or one that can't be had
 abbrev pub AreFirstLines : Lines → List (List ℕ) → Result (Option (List ℕ)) LineWhy → Type 0
-AreFirstLines all first (Ok (Some line)) = (later : List (List ℕ)) × (all.lines ≡ first ++ line ∷ later)
+AreFirstLines all first (Ok (Some line)) =
+    (later : List (List ℕ)) × (all.lines ≡ first ++ line ∷ later)
 AreFirstLines all first (Ok None) = (all.lines ≡ first) × (all.stop ≡ None)
 AreFirstLines all first (Err why) = (all.lines ≡ first) × (all.stop ≡ Some why)
 
 -- the play of lines from a start: the first of them run, up to a next one that doesn't
-pub record IsPlayFrom (schema : Schema) (start : Playing) (all : Lines) (text : List ℕ) (final : Playing) (end : End) : Type 0 where
+pub record IsPlayFrom (schema : Schema) (start : Playing) (all : Lines) (text : List ℕ)
+    (final : Playing) (end : End) : Type 0 where
   pub ran : List (List ℕ)
   pub next : Result (Option (List ℕ)) LineWhy
   pub first : AreFirstLines all ran next
@@ -61,7 +66,8 @@ pub record IsPlayTextFrom (schema : Schema) (start : Playing) (script text : Lis
   pub is : text ≡ answers ++ end_text end
 
 -- the answers of some first lines of a script from a start, and no more
-pub record AreFirstAnswersFrom (schema : Schema) (start : Playing) (script text : List ℕ) : Type 0 where
+pub record AreFirstAnswersFrom (schema : Schema) (start : Playing)
+    (script text : List ℕ) : Type 0 where
   pub ran : List (List ℕ)
   pub later : List (List ℕ)
   pub parts : (script_lines script).lines ≡ ran ++ later

@@ -34,7 +34,9 @@ abbrev pub link_in : State → ℕ → Link
 link_in s i = slice_index_or s.links i fin.empty
 
 abbrev pub empty_state : Schema → State
-empty_state schema = record { files = replicate (length schema.files) fin.empty; links = replicate (length schema.links) fin.empty }
+empty_state schema =
+    record
+    { files = replicate (length schema.files) fin.empty; links = replicate (length schema.links) fin.empty }
 
 -- the values are one
 abbrev pub is_same : Value → Value → Bool
@@ -59,8 +61,10 @@ IsFileOf file f = AllByRecursion (IsRowOf file) (fin.entries f)
 
 -- both ends of each pair are records, and no owner has too many members
 pub record IsLinkOf (s : State) (def : LinkDef) (link : Link) : Type 0 where
-  pub members : AllByRecursion (λ pair. IsTrue (is_some (fin.get (file_in s def.member) pair.0))) (fin.entries link)
-  pub owners : AllByRecursion (λ pair. IsTrue (is_some (fin.get (file_in s def.owner) pair.1))) (fin.entries link)
+  pub members : AllByRecursion (λ pair. IsTrue (is_some (fin.get (file_in s def.member) pair.0)))
+      (fin.entries link)
+  pub owners : AllByRecursion (λ pair. IsTrue (is_some (fin.get (file_in s def.owner) pair.1)))
+      (fin.entries link)
   pub few : (owner : Value) → length (pairs_of link owner) ≤ most_members
 
 pub record IsValid (schema : Schema) (s : State) : Type 0 where

@@ -19,4 +19,5 @@ abbrev pub row_text : FileDef → Row → List ℕ
 row_text file r = file.name ++ flat_map (λ v. codes " " ++ value_text v) (r.0 ∷ r.1) ++ codes "\n"
 
 abbrev pub rows_text : FileDef → List Row → List ℕ
-rows_text file rows = flat_map (row_text file) rows ++ codes "found " ++ decimal (length rows) ++ codes "\n"
+rows_text file rows =
+    flat_map (row_text file) rows ++ codes "found " ++ decimal (length rows) ++ codes "\n"

@@ -10,15 +10,18 @@ use Rattle.gx_play.specs.declared.ending.DeviceWhy.TheVariants as device_why
 use Rattle.gx_play.specs.declared.ending.Ending.{Ending}
 use Rattle.gx_play.specs.declared.ending.Ending.TheVariants as ending
 
--- why no text is found: damage only where the leaves aren't whole or hold no state, or there was no memory, or a call failed
+-- why no text is found: damage only where the leaves aren't whole or hold no state, or there was no
+-- memory, or a call failed
 abbrev pub IsUnfound : Schema → Built → List LeafMap → Type 0 → Ending → Type 0
-IsUnfound schema built maps whole (ending.Device (device_why.Damaged block)) = whole → (s : State) → ¬ AreInternal schema built maps s
+IsUnfound schema built maps whole (ending.Device (device_why.Damaged block)) = whole → (s : State)
+    → ¬ AreInternal schema built maps s
 IsUnfound schema built maps whole ending.NoMemory = Unit {0}
 IsUnfound schema built maps whole ending.Fault = Unit {0}
 IsUnfound schema built maps whole other = ⊥
 
 -- leaves with these maps are whole and hold a state, and this text tells of it
-pub record IsFoundIn (schema : Schema) (built : Built) (maps : List LeafMap) (whole : Type 0) (text : List ℕ) : Type 0 where
+pub record IsFoundIn (schema : Schema) (built : Built) (maps : List LeafMap) (whole : Type 0)
+    (text : List ℕ) : Type 0 where
   pub is_whole : whole
   pub state : State
   pub internal : AreInternal schema built maps state

@@ -16,8 +16,10 @@ use Rattle.gx_play.specs.Endings.{unopened_ending}
 
 -- why no device of that name is made, with so many blocks
 abbrev pub IsUnmakable : List LeafSpec → List ℕ → ℕ → Content → DeviceWhy → Type 0
-IsUnmakable specs device blocks before device_why.Exists = IsUnmade device blocks specs before unopened.Exists
-IsUnmakable specs device blocks before device_why.Size = IsUnmade device blocks specs before unopened.Size
+IsUnmakable specs device blocks before device_why.Exists =
+    IsUnmade device blocks specs before unopened.Exists
+IsUnmakable specs device blocks before device_why.Size =
+    IsUnmade device blocks specs before unopened.Size
 IsUnmakable specs device blocks before why = ⊥
 
 -- how the request ends where making its device ended so
@@ -25,11 +27,15 @@ abbrev pub making_ending : ℕ → Result (Unit {0}) Unopened → Ending
 making_ending blocks (Ok x) = ending.Made blocks (pages_of blocks)
 making_ending blocks (Err why) = unopened_ending why
 
--- What making a device of so many blocks did, by how the request ends: there was none of that name, and an empty database
--- is on it under these texts; or why not, and then it is as it was.
-abbrev pub IsMaking : List ℕ → List ℕ → List LeafSpec → List ℕ → ℕ → Content → Content → Ending → Type 0
-IsMaking schema equation specs device count old new (ending.Made blocks pages) = (blocks ≡ count) × (pages ≡ pages_of count) × IsSize specs count × (device_at old.now device ≡ None) × OfBlocks device new (IsMadeOn count schema equation specs)
-IsMaking schema equation specs device count old new (ending.Device why) = IsUnmakable specs device count old why × (device_at new.now device ≡ device_at old.now device)
+-- What making a device of so many blocks did, by how the request ends: there was none of that name,
+-- and an empty database is on it under these texts; or why not, and then it is as it was.
+abbrev pub IsMaking : List ℕ → List ℕ → List LeafSpec → List ℕ → ℕ → Content → Content → Ending
+    → Type 0
+IsMaking schema equation specs device count old new (ending.Made blocks pages) =
+    (blocks ≡ count) × (pages ≡ pages_of count) × IsSize specs count
+    × (device_at old.now device ≡ None) × OfBlocks device new (IsMadeOn count schema equation specs)
+IsMaking schema equation specs device count old new (ending.Device why) =
+    IsUnmakable specs device count old why × (device_at new.now device ≡ device_at old.now device)
 IsMaking schema equation specs device count old new ending.Fault = Unit {0}
 IsMaking schema equation specs device count old new ending.NoMemory = Unit {0}
 IsMaking schema equation specs device count old new why = ⊥

@@ -12,9 +12,12 @@ use Rattle.gx_store.specs.Device.{IsSettled}
 
 -- the pages of a device of so many blocks, and those that the leaves take from the start on
 abbrev pub limits_on : List LeafSpec → ℕ → Limits
-limits_on specs blocks = record { pages = pages_of blocks; fixed = 16 + root_pages specs; blocks = blocks }
+limits_on specs blocks =
+    record { pages = pages_of blocks; fixed = 16 + root_pages specs; blocks = blocks }
 
 -- the blocks are settled with maps in which these nodes hold the state
-abbrev pub IsSettledIn : Schema → Built → List ℕ → List ℕ → List LeafSpec → List (List ℕ) → State → Type 0
+abbrev pub IsSettledIn : Schema → Built → List ℕ → List ℕ → List LeafSpec → List (List ℕ) → State
+    → Type 0
 IsSettledIn schema built schema_text equation_text specs blocks s =
-    (maps : List LeafMap) × IsSettled schema_text equation_text specs maps blocks × AreInternal schema built maps s
+    (maps : List LeafMap) × IsSettled schema_text equation_text specs maps blocks
+    × AreInternal schema built maps s

@@ -23,9 +23,9 @@ use gx_types::Built;
 use gx_values::Octets;
 use std::alloc::Global;
 
-/// Examines what the device holds, and closes it. The text that it gives tells of a state that the leaves
-/// hold; damage comes only where they hold none. A device that was whole is settled with what it held, and
-/// any other reads as it did.
+/// Examines what the device holds, and closes it. The text that it gives tells of a state that the
+/// leaves hold; damage comes only where they hold none. A device that was whole is settled with
+/// what it held, and any other reads as it did.
 pub fn examine_store<'a, M: Machine + Drop>(
     alloc: Global,
     schema: Schema,

@@ -1,5 +1,6 @@
-//! What the requests do with leaves: a database is made on a device, a script is played, leaves are examined,
-//! the workload is played. Of the answers only those of a script are said here, and no end of a request.
+//! What the requests do with leaves: a database is made on a device, a script is played, leaves are
+//! examined, the workload is played. Of the answers only those of a script are said here, and no
+//! end of a request.
 #![tactic(auto)]
 
 mod examine;

@@ -15,10 +15,10 @@ use gx_requests::{Stored, unopened_ending};
 use gx_store::{Unopened, make};
 use std::alloc::Global;
 
-/// Makes a device of that name with so many blocks, and an empty database of what is stored on it, and
-/// tells how the request ends. After `Made` there was none of that name; after `Device` it is as it was.
-/// Where there was none and one is there afterwards, it has no magic, or it is opened as an empty
-/// database. One that was there reads as it did, whatever the ending is.
+/// Makes a device of that name with so many blocks, and an empty database of what is stored on it,
+/// and tells how the request ends. After `Made` there was none of that name; after `Device` it is
+/// as it was. Where there was none and one is there afterwards, it has no magic, or it is opened as
+/// an empty database. One that was there reads as it did, whatever the ending is.
 pub fn make_stored<'a, M: Machine + Drop>(
     alloc: Global,
     stored: Stored,

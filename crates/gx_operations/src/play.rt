@@ -26,8 +26,8 @@ use gx_types::Built;
 use gx_values::NoMemory;
 use std::alloc::Global;
 
-/// Hears the script, plays it on the device, and closes it. Where the device held a state it is settled
-/// with the last one that was kept, and the answers are those of the play.
+/// Hears the script, plays it on the device, and closes it. Where the device held a state it is
+/// settled with the last one that was kept, and the answers are those of the play.
 pub fn play_stored<'a, M: Machine + Drop>(
     alloc: Global,
     schema: Schema,
@@ -60,7 +60,8 @@ pub fn play_stored<'a, M: Machine + Drop>(
     (played, close(store))
 }
 
-/// Hears the script and plays it on leaves in memory, from the empty state on. No device is attached.
+/// Hears the script and plays it on leaves in memory, from the empty state on. No device is
+/// attached.
 pub fn play_script<'a, M: Machine + Drop>(
     alloc: Global,
     schema: Schema,

@@ -18,11 +18,11 @@ use gx_values::Octets;
 use gx_working::play_work;
 use std::alloc::Global;
 
-/// Makes a device of that name with so many blocks, plays the workload of so many records on it, and closes
-/// it. After a line of its summary and after `Full` the device, which wasn't there, has so many blocks, and is
-/// settled with the last state that the play kept; after `Device` it is as it was. After want of memory a
-/// new one holds no database, an empty one, or the last state that first lines kept. One that was there
-/// reads as it did, whatever the answer is.
+/// Makes a device of that name with so many blocks, plays the workload of so many records on it,
+/// and closes it. After a line of its summary and after `Full` the device, which wasn't there, has
+/// so many blocks, and is settled with the last state that the play kept; after `Device` it is as
+/// it was. After want of memory a new one holds no database, an empty one, or the last state that
+/// first lines kept. One that was there reads as it did, whatever the answer is.
 pub fn make_and_play<'a, M: Machine + Drop>(
     alloc: Global,
     stored: Stored,

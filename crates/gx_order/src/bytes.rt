@@ -6,8 +6,8 @@ ghost use Rattle.std.specs.Ordering.{nat_cmp, is_lt};
 
 use std::cmp::Ordering;
 
-/// Compares bytes from the first on, a proper prefix before what it begins. The first eight are compared
-/// as one number, where both have so many: most keys differ there.
+/// Compares bytes from the first on, a proper prefix before what it begins. The first eight are
+/// compared as one number, where both have so many: most keys differ there.
 pub fn compare_bytes(a: &[u8], b: &[u8]) -> Ordering
     ensures { result ≡ slice_cmp nat_cmp a.now b.now }
 {
@@ -24,8 +24,8 @@ pub fn is_below(a: &[u8], b: &[u8]) -> bool
     compare_bytes(a, b).is_lt()
 }
 
-// The number that the bytes begin with, in eight bytes and big endian, and the bytes behind it. None
-// where there are fewer than eight bytes.
+// The number that the bytes begin with, in eight bytes and big endian, and the bytes behind it.
+// None where there are fewer than eight bytes.
 fn split_u64(bytes: &[u8]) -> Option<(u64, &[u8])>
     ensures { MatchOption result (length bytes.now < 8) (λ found. (found.0 < 2 ^ 64)
         × (bytes.now ≡ to_be_bytes w64 found.0 ++ found.1.now)) }

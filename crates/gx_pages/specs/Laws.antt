@@ -20,9 +20,13 @@ count_owners pages = length-map-range_with_len (owner_at pages) 0 (length pages)
 
 module _ {D : Type 0} {g : device.Ghosts D} where
   count_told : (j : Journal D g) (tells : Bool)
-      → length (pages_told tells (size_of j) (content_of j) j.working.spilled.items j.working.frames.resident) ≡ size_of j
+      → length
+      (pages_told tells (size_of j)
+      (content_of j) j.working.spilled.items j.working.frames.resident) ≡ size_of j
   count_told j true =
-      length-map-range_with_len (page_of (size_of j) (content_of j).now.blocks j.working.spilled.items j.working.frames.resident) 0 (size_of j)
+      length-map-range_with_len
+      (page_of (size_of j)
+      (content_of j).now.blocks j.working.spilled.items j.working.frames.resident) 0 (size_of j)
   count_told j false = length-replicate (size_of j) []
 
   pub count_pages : (j : Journal D g) → length (working_of j) ≡ size_of j

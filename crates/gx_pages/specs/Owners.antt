@@ -20,23 +20,23 @@ owners_of pages = map (owner_at pages) (range_with_len 0 (length pages))
 abbrev pub sheets_of : List (List ℕ) → Sheets
 sheets_of pages = record { owners = owners_of pages; bytes = pages }
 
--- The page that was found is in the range and has no owner. Where none was found, each page in it has
--- one.
+-- The page that was found is in the range and has no owner. Where none was found, each page in it
+-- has one.
 abbrev pub IsFreeBetween : List ℕ → ℕ → ℕ → Option ℕ → Type 0
 IsFreeBetween table from end found = MatchOption found
     ((page : ℕ) → from ≤ page → page < end → number_of table page ≢ 0)
     (λ page. (from ≤ page) × (page < end) × (number_of table page ≡ 0))
 
--- The page that was found has no owner. Where none was found, each page past the table has one if its
--- number stands on these pages of the table.
+-- The page that was found has no owner. Where none was found, each page past the table has one if
+-- its number stands on these pages of the table.
 abbrev pub IsFoundFree : ℕ → ℕ → Ground → List (List ℕ) → Option ℕ → Type 0
 IsFoundFree from end base pages found = MatchOption found
     ((page : ℕ) → from ≤ page / 2048 → page / 2048 < end
     → IsPast base page → owner_at pages page ≢ 0)
     (λ page. owner_at pages page ≡ 0)
 
--- a page of the table, by its number, on which the table has the owner 65,535, and no other page has
--- an owner
+-- a page of the table, by its number, on which the table has the owner 65,535, and no other page
+-- has an owner
 pub record IsClear (table : ℕ) (bytes : List ℕ) : Type 0 where
   pub own : (page : ℕ) → page / 2048 ≡ table → page < 16 → number_of bytes page ≡ 65535
   pub free : (page : ℕ) → page / 2048 ≡ table → 16 ≤ page → number_of bytes page ≡ 0

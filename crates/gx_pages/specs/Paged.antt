@@ -10,7 +10,8 @@ use Rattle.gx_journal.specs.Journal.{device_of, content_of, size_of, working_of,
 use Rattle.gx_pages.specs.Owners.{owners_of, sheets_of}
 
 -- blocks have this head, and stand for these pages with the owners of their table
-pub record StandsFor (head : List (List ℕ)) (sheets : Sheets) (blocks : List (List ℕ)) : Type 0 where
+pub record StandsFor (head : List (List ℕ)) (sheets : Sheets)
+    (blocks : List (List ℕ)) : Type 0 where
   pub shows : Shows head sheets.bytes blocks
   pub owners : sheets.owners ≡ owners_of sheets.bytes
 
@@ -23,10 +24,13 @@ module _ {D : Type 0} {g : device.Ghosts D} where
 
   -- the blocks are all of the device
   abbrev pub ground_of : Journal D g → Ground
-  ground_of j = record { size = size_of j; tables = 16; blocks = g.size (device_of j); first = 7 + size_of j; head = head_blocks j }
+  ground_of j =
+      record
+      { size = size_of j; tables = 16; blocks = g.size (device_of j); first = 7 + size_of j; head = head_blocks j }
 
   -- what a call keeps of the journal, and how it counts faults
-  pub record KeepsJournal {T E : Type 0} (old new : Journal D g) (result : Result T E) : Type 0 where
+  pub record KeepsJournal {T E : Type 0} (old new : Journal D g)
+      (result : Result T E) : Type 0 where
     pub keeps : Keeps old new
     pub silent : Silent (content_of old) (content_of new)
     pub faults : IsCounted (g.faults (device_of old)) (g.faults (device_of new)) result

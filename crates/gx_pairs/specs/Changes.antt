@@ -19,14 +19,16 @@ refusal_for refused.NoOwner = no_owner
 -- a member comes to an owner where both are records, it has no owner yet, and the owner has room
 abbrev pub connect_refusal : File → File → Link → Value → Value → Option Refusal
 connect_refusal owners members link owner member =
-    first_refusal ((not (is_some (fin.get owners owner) && is_some (fin.get members member)), no_record)
+    first_refusal
+    ((not (is_some (fin.get owners owner) && is_some (fin.get members member)), no_record)
     ∷ (is_some (fin.get link member), has_owner)
     ∷ (nat_le most_members (length (pairs_of link owner)), too_many_members) ∷ [])
 
 -- a member goes where it is a record and has an owner
 abbrev pub disconnect_refusal : File → Link → Value → Option Refusal
 disconnect_refusal members link member =
-    first_refusal ((not (is_some (fin.get members member)), no_record) ∷ (not (is_some (fin.get link member)), no_owner) ∷ [])
+    first_refusal ((not (is_some (fin.get members member)), no_record)
+    ∷ (not (is_some (fin.get link member)), no_owner) ∷ [])
 
 -- the refusal in the place of what is asked for
 abbrev pub refusal_in : {T : Type 0} → Result T Refused → Option Refusal

@@ -25,7 +25,8 @@ is_chosen_of link owner conds r = meets_conds conds r && is_member_of link owner
 
 -- the rows are those records of the file, each once and in some order
 abbrev pub AreMembersOf : File → Link → Value → List Cond → List Row → Type 0
-AreMembersOf members link owner conds rows = IsPermutation (filter (is_chosen_of link owner conds) (fin.entries members)) rows
+AreMembersOf members link owner conds rows =
+    IsPermutation (filter (is_chosen_of link owner conds) (fin.entries members)) rows
 
 -- how many members the owner has
 abbrev pub member_rows : File → Link → Value → List Row

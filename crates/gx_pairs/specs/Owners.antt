@@ -10,5 +10,9 @@ use Rattle.gx_pairs.specs.declared.owners.Owned.TheVariants as owned
 -- there is no such member; or it has no owner; or this is the record of its owner
 abbrev pub IsOwned : File → File → Link → Value → Owned → Type 0
 IsOwned owners members link member owned.NoMember = fin.get members member ≡ None
-IsOwned owners members link member owned.Free = IsTrue (is_some (fin.get members member)) × (fin.get link member ≡ None)
-IsOwned owners members link member (owned.By found) = IsTrue (is_some (fin.get members member)) × (owner : Value) × (values : List Value) × (fin.get link member ≡ Some owner) × (fin.get owners owner ≡ Some values) × (found ≡ rec_of (owner, values))
+IsOwned owners members link member owned.Free =
+    IsTrue (is_some (fin.get members member)) × (fin.get link member ≡ None)
+IsOwned owners members link member (owned.By found) =
+    IsTrue (is_some (fin.get members member)) × (owner : Value) × (values : List Value)
+    × (fin.get link member ≡ Some owner) × (fin.get owners owner ≡ Some values)
+    × (found ≡ rec_of (owner, values))

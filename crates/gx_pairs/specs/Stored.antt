@@ -28,7 +28,8 @@ pub record IsStoredFile (s : StoredFile) (leaves : ℕ) : Type 0 where
   pub storable : IsStorable (file_of s)
 
 -- both files are stored, and so is the link between them, in leaves of its own
-pub record IsStoredLink {L : Type 0} (rule : L → LinkRule) (is_valid : L → Type 0) (s : StoredLink L) (leaves : ℕ) : Type 0 where
+pub record IsStoredLink {L : Type 0} (rule : L → LinkRule) (is_valid : L → Type 0)
+    (s : StoredLink L) (leaves : ℕ) : Type 0 where
   pub owners : IsStoredFile s.owners leaves
   pub members : IsStoredFile s.members leaves
   pub owner_kind : (rule s.linkset).owner ≡ key_kind (file_of s.owners)
@@ -36,23 +37,32 @@ pub record IsStoredLink {L : Type 0} (rule : L → LinkRule) (is_valid : L → T
   pub valid : is_valid s.linkset
   pub below : (n : ℕ) → In n (rule s.linkset).leaves → n < leaves
   pub few : length (rule s.linkset).leaves ≤ leaves
-  pub owners_apart : (n : ℕ) → In n (leaves_of (node_tree s.owners)) → In n (rule s.linkset).leaves → ⊥
-  pub members_apart : (n : ℕ) → In n (leaves_of (node_tree s.members)) → In n (rule s.linkset).leaves → ⊥
+  pub owners_apart : (n : ℕ) → In n (leaves_of (node_tree s.owners)) → In n (rule s.linkset).leaves
+      → ⊥
+  pub members_apart : (n : ℕ) → In n (leaves_of (node_tree s.members))
+      → In n (rule s.linkset).leaves → ⊥
 
 -- the leaves hold the records of both files and the link, and both ends of each pair are records
-pub record AreLinked {L : Type 0} (rule : L → LinkRule) (held : L → Link → List LeafMap → Type 0) (s : StoredLink L) (maps : List LeafMap) (owner_file member_file : File) (pairs : Link) : Type 0 where
+pub record AreLinked {L : Type 0} (rule : L → LinkRule) (held : L → Link → List LeafMap → Type 0)
+    (s : StoredLink L) (maps : List LeafMap) (owner_file member_file : File)
+    (pairs : Link) : Type 0 where
   pub owners : IsInternal (file_of s.owners) (node_tree s.owners) maps owner_file
   pub members : IsInternal (file_of s.members) (node_tree s.members) maps member_file
   pub is_link : IsLink (rule s.linkset).owner (rule s.linkset).member pairs
   pub link : held s.linkset pairs maps
-  pub there : (m o : Value) → fin.get pairs m ≡ Some o → IsTrue (is_some (fin.get member_file m)) × IsTrue (is_some (fin.get owner_file o))
+  pub there : (m o : Value) → fin.get pairs m ≡ Some o
+      → IsTrue (is_some (fin.get member_file m)) × IsTrue (is_some (fin.get owner_file o))
 
 -- they hold some files and a link between them
-abbrev pub HaveLink : {L : Type 0} (rule : L → LinkRule) (held : L → Link → List LeafMap → Type 0) → StoredLink L → List LeafMap → Type 0
-HaveLink rule held s maps = (owners : File) × (members : File) × (link : Link) × AreLinked rule held s maps owners members link
+abbrev pub HaveLink : {L : Type 0} (rule : L → LinkRule) (held : L → Link → List LeafMap → Type 0)
+    → StoredLink L → List LeafMap → Type 0
+HaveLink rule held s maps =
+    (owners : File) × (members : File) × (link : Link)
+    × AreLinked rule held s maps owners members link
 
 -- the leaves hold the link after a change, and all other leaves stay
-pub record IsRelinked {L : Type 0} (rule : L → LinkRule) (held : L → Link → List LeafMap → Type 0) (s : StoredLink L) (old new : List LeafMap) (pairs : Link) : Type 0 where
+pub record IsRelinked {L : Type 0} (rule : L → LinkRule) (held : L → Link → List LeafMap → Type 0)
+    (s : StoredLink L) (old new : List LeafMap) (pairs : Link) : Type 0 where
   pub link : held s.linkset pairs new
   pub others : (n : ℕ) → ¬ In n (rule s.linkset).leaves → map_at new n ≡ map_at old n
 

@@ -22,8 +22,8 @@ use std::alloc::Global;
 
 /// Connects a member to an owner, or answers why it doesn't.
 ///
-/// `Full`: the pages may not be enough for the entries of the owner with its new member, besides all
-/// that there are. After a stop a part of the change may be made.
+/// `Full`: the pages may not be enough for the entries of the owner with its new member, besides
+/// all that there are. After a stop a part of the change may be made.
 pub fn connect_pair<B: Leaves, L: Linkset>(
     alloc: Global,
     stored: &StoredLink<L>,

@@ -71,11 +71,11 @@ pub fn add_members<B: Leaves, L: Linkset>(
     Ok(true)
 }
 
-/// Appends the record with this key to none, where it is that of a member of the owner and meets the
-/// conditions, and answers whether there is a record of the owner. No other record of the members' file
-/// is looked at. It takes at most `(c + 2) * (w + l)` steps, where c is 1 where there is such a record
-/// that meets the conditions and else 0, w the greatest number of leaf entries of a record or of an
-/// owner, and l the number of leaves.
+/// Appends the record with this key to none, where it is that of a member of the owner and meets
+/// the conditions, and answers whether there is a record of the owner. No other record of the
+/// members' file is looked at. It takes at most `(c + 2) * (w + l)` steps, where c is 1 where there
+/// is such a record that meets the conditions and else 0, w the greatest number of leaf entries of
+/// a record or of an owner, and l the number of leaves.
 pub fn add_member_at<B: Leaves, L: Linkset>(
     alloc: Global,
     stored: &StoredLink<L>,
@@ -95,7 +95,8 @@ pub fn add_member_at<B: Leaves, L: Linkset>(
     ensures those { (owners members : FileMap) (link : LinkMap) → B.whole leaves.old →
         AreLinked L.rule L.held stored.now (B.working leaves.old) owners members link →
         IfOk result (λ there. there ≡ true → rows.new.items
-        ≡ filter (is_member_of link owner.now) (filter (meets_conds conds.now) (rows_at members key.now))) }
+        ≡ filter (is_member_of link owner.now)
+        (filter (meets_conds conds.now) (rows_at members key.now))) }
     ensures steps { (owners members : FileMap) (link : LinkMap) (most : ℕ) → B.whole leaves.old →
         AreLinked L.rule L.held stored.now (B.working leaves.old) owners members link →
         HaveAtMost most (node_tree stored.now.owners) owners →

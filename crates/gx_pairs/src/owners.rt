@@ -67,14 +67,16 @@ pub fn has_owner<B: Leaves, L: Linkset>(
     leaves: &mut B,
 ) -> Result<bool, Stop>
     requires valid { L.valid linkset.now }
-    requires below { (n : ℕ) → In n (L.rule linkset.now).leaves → n < length (B.working leaves.old) }
+    requires below { (n : ℕ) → In n (L.rule linkset.now).leaves →
+        n < length (B.working leaves.old) }
     requires member { Fits (L.rule linkset.now).member member.now }
     ensures found { (link : LinkMap) → B.whole leaves.old →
         IsLink (L.rule linkset.now).owner (L.rule linkset.now).member link →
         L.held linkset.now link (B.working leaves.old) →
         IfOk result (λ has. has ≡ is_some (fin.get link member.now)) }
     ensures reads { ReadsMaps B.View
-        (B.whole leaves.old × HasLink (L.rule linkset.now) (L.held linkset.now) (B.working leaves.old))
+        (B.whole leaves.old
+        × HasLink (L.rule linkset.now) (L.held linkset.now) (B.working leaves.old))
         leaves.old leaves.new result }
 {
     Ok(linkset.owner(alloc, leaves, member)?.is_some())

@@ -17,7 +17,8 @@ use Rattle.gx_partition.specs.declared.place.Where.{Where}
 use Rattle.gx_partition.specs.declared.place.Where.TheVariants.{Key, Rest}
 use Rattle.gx_partition.specs.Places.{IsPlace, kind_at}
 
--- the field is one of the form, an int or a text that may stand in a key; the bounds are values of it, and ascend
+-- the field is one of the form, an int or a text that may stand in a key; the bounds are values of
+-- it, and ascend
 pub record IsPartition (form : Form) (at : Where) (bounds : List Value) : Type 0 where
   pub place : IsPlace at form
   pub kind : IsKeyKind (kind_at at form)
@@ -70,12 +71,14 @@ Fits-prop (kind.Text most) (value.Bytes t) = Prim.hlevel
 Fits-prop (kind.Bytes most) (value.Int n) = Prim.hlevel
 Fits-prop (kind.Bytes most) (value.Text t) = Prim.hlevel
 
-pub IsPartition-prop : (form : Form) (at : Where) (bounds : List Value) → IsProp (IsPartition form at bounds)
+pub IsPartition-prop : (form : Form) (at : Where) (bounds : List Value)
+    → IsProp (IsPartition form at bounds)
 IsPartition-prop form at bounds a b = λ i. record {
   place = IsPlace-prop at form a.place b.place i;
   kind = IsKeyKind-prop (kind_at at form) a.kind b.kind i;
   narrow = le_prop a.narrow b.narrow i;
-  fit = AllByRecursion-prop (Fits (kind_at at form)) (Fits-prop (kind_at at form)) bounds a.fit b.fit i;
+  fit = AllByRecursion-prop (Fits (kind_at at form))
+      (Fits-prop (kind_at at form)) bounds a.fit b.fit i;
   ascending = IsStrictlySortedBy-prop value_cmp bounds a.ascending b.ascending i;
   few = le_prop a.few b.few i;
 }

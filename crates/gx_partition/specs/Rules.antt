@@ -28,11 +28,14 @@ partition_part at bounds r = record { child = child_of bounds (value_at at r); r
 
 -- the record of a part, where its value belongs to the part's child
 abbrev pub whole_of : Where → List Value → Part → Option Rec
-whole_of at bounds p = if nat_eq (child_of bounds (value_at at p.rec)) p.child then Some p.rec else None
+whole_of at bounds p =
+    if nat_eq (child_of bounds (value_at at p.rec)) p.child then Some p.rec else None
 
--- where the field is the first of the key, a child all of whose keys stand before the span or behind it
+-- where the field is the first of the key, a child all of whose keys stand before the span or
+-- behind it
 abbrev pub is_outside : Where → List Value → ℕ → Span → Bool
-is_outside (Key zero) bounds child span = ends_before (upper_of bounds child) span.lo || begins_after (lower_of bounds child) span.hi
+is_outside (Key zero) bounds child span =
+    ends_before (upper_of bounds child) span.lo || begins_after (lower_of bounds child) span.hi
 is_outside (Key (suc i)) bounds child span = false
 is_outside (Rest i) bounds child span = false
 

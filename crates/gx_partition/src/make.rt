@@ -8,9 +8,9 @@ use crate::place::Where;
 use gx_values::{Form, NoMemory, Values};
 use std::alloc::Global;
 
-/// The layer of records of this form, where child `i` has the records whose value of the field is at
-/// least bound `i - 1` and below bound `i`. There is one child more than bounds. `NoMemory`: there was
-/// none for the form and the bounds.
+/// The layer of records of this form, where child `i` has the records whose value of the field is
+/// at least bound `i - 1` and below bound `i`. There is one child more than bounds. `NoMemory`:
+/// there was none for the form and the bounds.
 pub fn partition(
     alloc: Global,
     form: &Form,

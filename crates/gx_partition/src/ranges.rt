@@ -67,7 +67,8 @@ pub(crate) fn ends_before(bound: Option<&Value>, lo: &KeyBuf) -> bool
     compare_key(bound, lo.as_slice()).is_le()
 }
 
-/// Whether keys that begin with a value from the bound on all stand behind those that begin with `hi`.
+/// Whether keys that begin with a value from the bound on all stand behind those that begin with
+/// `hi`.
 pub(crate) fn begins_after(bound: Option<&Value>, hi: &KeyBuf) -> bool
     ensures { result ≡ begins_after (option_map (λ bound. bound.now) bound.entry) hi.now }
 {
@@ -155,7 +156,8 @@ fn compare_front(value: &Value, bytes: &[u8]) -> Ordering
 #[inline(never)]
 fn compare_short(number: u64, bytes: &[u8]) -> Ordering
     requires { length bytes.now < 8 }
-    ensures { result ≡ slice_cmp nat_cmp (take (length bytes.now) (to_be_bytes w64 number)) bytes.now }
+    ensures { result ≡ slice_cmp nat_cmp
+        (take (length bytes.now) (to_be_bytes w64 number)) bytes.now }
 {
     number.to_be_bytes()[..bytes.len()].cmp(bytes)
 }

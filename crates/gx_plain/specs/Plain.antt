@@ -54,7 +54,8 @@ pub record IsOf (schema : Schema) (m : Moment) : Type 0 where
   pub working : IfParts schema m.working
 
 -- the line is a step of the play, the text is its answer, and the moment is that after it
-pub record IsLineDone (schema : Schema) (p : Playing) (line text : List ℕ) (m : Moment) : Type 0 where
+pub record IsLineDone (schema : Schema) (p : Playing) (line text : List ℕ)
+    (m : Moment) : Type 0 where
   pub next : Playing
   pub step : Step schema p line text next
   pub at : IsMoment m next
@@ -67,10 +68,13 @@ end_of (play_end.Stopped number why) = stopped number why
 
 -- the answers of the script's play on the empty state and its end, whatever its last states are
 abbrev pub IsPlayedOut : Schema → List ℕ → List ℕ × PlayEnd → Type 0
-IsPlayedOut schema script x = (final : Playing) × IsPlayFrom schema (start_at (empty_state schema)) (script_lines script) x.0 final (end_of x.1)
+IsPlayedOut schema script x =
+    (final : Playing)
+    × IsPlayFrom schema (start_at (empty_state schema)) (script_lines script) x.0 final (end_of x.1)
 
 -- so many first lines of the script ran, and these are left
-pub record IsSoFar (schema : Schema) (script said : List ℕ) (m : Moment) (left : Lines) (number : ℕ) : Type 0 where
+pub record IsSoFar (schema : Schema) (script said : List ℕ) (m : Moment) (left : Lines)
+    (number : ℕ) : Type 0 where
   pub ran : List (List ℕ)
   pub many : length ran ≡ number
   pub lines_are : (script_lines script).lines ≡ ran ++ left.lines

@@ -89,7 +89,8 @@ fn update(
     requires file { file < length state.old.files }
     requires key { IsSized key.now }
     requires changes { AreSizedChanges changes.now }
-    ensures { OnOk result (state.new ≡ state_after state.old (command.Update file key.now changes.now)) }
+    ensures { OnOk result
+        (state.new ≡ state_after state.old (command.Update file key.now changes.now)) }
 {
     let values = match state.file(file).get(key) {
         None => Values(Vec::new(alloc)),

@@ -12,8 +12,8 @@ use gx_schema::FileDef;
 use gx_values::{NoMemory, Octets, Value, meets};
 use std::alloc::Global;
 
-/// The lines of the records of a file that meet the conditions, and are members of the owner where one is given, in an order, and
-/// how many they are.
+/// The lines of the records of a file that meet the conditions, and are members of the owner where
+/// one is given, in an order, and how many they are.
 pub(crate) fn list_text(
     alloc: Global,
     state: &PlainState,
@@ -24,7 +24,9 @@ pub(crate) fn list_text(
     order: OrderBy,
 ) -> Result<Octets, NoMemory>
     requires { IsOfLink state.now of.now }
-    ensures { IfOk result (IsListText def.now file.now (λ r. meets_conds conds.now r && meets_of state.now of.now r.0) order) }
+    ensures { IfOk result
+        (IsListText def.now file.now
+        (λ r. meets_conds conds.now r && meets_of state.now of.now r.0) order) }
 {
     let mut rows = chosen_rows(alloc, state, file.rows(), conds, of)?;
     sort_rows(&mut rows, order)?;
@@ -39,7 +41,9 @@ fn chosen_rows(
     of: &Option<Of>,
 ) -> Result<Vec<Row>, NoMemory>
     requires { IsOfLink state.now of.now }
-    ensures { IfOk result (λ kept. kept.items ≡ filter (λ r. meets_conds conds.now r && meets_of state.now of.now r.0) rows.now) }
+    ensures { IfOk result
+        (λ kept. kept.items
+        ≡ filter (λ r. meets_conds conds.now r && meets_of state.now of.now r.0) rows.now) }
 {
     let mut kept = Vec::new(alloc);
     for row in rows {

@@ -21,16 +21,20 @@ use gx_script::read_command;
 use gx_values::{NoMemory, Octets};
 use std::alloc::Global;
 
-/// The text of a script's play on the empty state of a schema: the answers of its lines, in their order, and then, where the
-/// play ends at a line, the line that says its number and the reason. `NoMemory`: there was no memory.
+/// The text of a script's play on the empty state of a schema: the answers of its lines, in their
+/// order, and then, where the play ends at a line, the line that says its number and the reason.
+/// `NoMemory`: there was no memory.
 ///
-/// It is slow: each transaction copies the state, and each look-up passes the records of its file. It is there to compare other
-/// programs with.
+/// It is slow: each transaction copies the state, and each look-up passes the records of its file.
+/// It is there to compare other programs with.
 pub fn play(alloc: Global, schema: &Schema, script: &[u8]) -> Result<Octets, NoMemory>
     requires { IsWellFormed schema.now }
-    ensures played { IfOk result (IsPlayTextFrom schema.now (start_at (empty_state schema.now)) script.now) }
+    ensures played { IfOk result
+        (IsPlayTextFrom schema.now (start_at (empty_state schema.now)) script.now) }
     // There is one such text.
-    ensures only { (text : List ℕ) → IsPlayTextFrom schema.now (start_at (empty_state schema.now)) script.now text → IfOk result (λ given. given ≡ text) }
+    ensures only { (text : List ℕ) →
+        IsPlayTextFrom schema.now (start_at (empty_state schema.now)) script.now text →
+        IfOk result (λ given. given ≡ text) }
 {
     let (said, end) = play_lines(alloc, schema, script)?;
     with_end(alloc, said, end)
@@ -55,7 +59,8 @@ fn with_end(alloc: Global, said: Octets, end: PlayEnd) -> Result<Octets, NoMemor
     Ok(Octets(said))
 }
 
-// Where a play is: the last kept state, that of the open transaction, and how many commits there were.
+// Where a play is: the last kept state, that of the open transaction, and how many commits there
+// were.
 #[derive(Drop)]
 struct Moment {
     kept: PlainState,
@@ -119,8 +124,10 @@ fn play_line(
 ) -> Result<Octets, NoCommand>
     requires well_formed { IsWellFormed schema.now }
     requires of_schema { IsOf schema.now moment.old }
-    ensures done { (p : Playing) → IsMoment moment.old p → IfOk result (λ text. IsLineDone schema.now p line.now text moment.new) }
-    ensures bad { (why : LineWhy) → result ≡ Err (Bad why) → IsBadLine schema.now (is_some moment.old.working) line.now why }
+    ensures done { (p : Playing) → IsMoment moment.old p →
+        IfOk result (λ text. IsLineDone schema.now p line.now text moment.new) }
+    ensures bad { (why : LineWhy) → result ≡ Err (Bad why) →
+        IsBadLine schema.now (is_some moment.old.working) line.now why }
     ensures of_schema { OnOk result (IsOf schema.now moment.new) }
 {
     let command = placed_command(alloc, schema, moment.working.is_some(), line)?;
@@ -141,7 +148,8 @@ fn placed_command(
     ensures means { IfOk result (IsLineOf schema.now line.now) }
     ensures placed { IfOk result (λ command. place_reason inside command ≡ None) }
     ensures of_schema { IfOk result (IsOfSchema schema.now) }
-    ensures bad { (why : LineWhy) → result ≡ Err (Bad why) → IsBadLine schema.now inside line.now why }
+    ensures bad { (why : LineWhy) → result ≡ Err (Bad why) →
+        IsBadLine schema.now inside line.now why }
 {
     let command = read_command(alloc, schema, line)?;
     match allowed(inside, &command) {
@@ -160,8 +168,10 @@ fn step(
     requires well_formed { IsWellFormed schema.now }
     requires of_schema { IsOf schema.now moment.old }
     requires command { IsOfSchema schema.now command.now }
-    ensures answered { (p : Playing) → IsMoment moment.old p → IfOk result (IsAnswered schema.now p command.now) }
-    ensures at { (p : Playing) → IsMoment moment.old p → OnOk result (IsMoment moment.new (next_of schema.now p command.now)) }
+    ensures answered { (p : Playing) → IsMoment moment.old p →
+        IfOk result (IsAnswered schema.now p command.now) }
+    ensures at { (p : Playing) → IsMoment moment.old p →
+        OnOk result (IsMoment moment.new (next_of schema.now p command.now)) }
     ensures of_schema { OnOk result (IsOf schema.now moment.new) }
 {
     match command {
@@ -194,8 +204,11 @@ fn pass_on(
     requires well_formed { IsWellFormed schema.now }
     requires of_schema { IsOf schema.now moment.old }
     requires command { IsOfSchema schema.now command.now }
-    ensures answered { (p : Playing) → IsMoment moment.old p → IfOk result (IsAnswer schema.now (seen_state p) command.now) }
-    ensures at { (p : Playing) → IsMoment moment.old p → OnOk result (IsMoment moment.new (with_working p (next_state schema.now (seen_state p) command.now))) }
+    ensures answered { (p : Playing) → IsMoment moment.old p →
+        IfOk result (IsAnswer schema.now (seen_state p) command.now) }
+    ensures at { (p : Playing) → IsMoment moment.old p →
+        OnOk result
+        (IsMoment moment.new (with_working p (next_state schema.now (seen_state p) command.now))) }
     ensures of_schema { OnOk result (IsOf schema.now moment.new) }
 {
     match &mut moment.working {

@@ -27,7 +27,8 @@ const TOO_MANY_MEMBERS: &[u8] = b"refused: too many members\n";
 
 const NO_OWNER: &[u8] = b"refused: no owner\n";
 
-/// The line that says why a command of the schema is refused, where it is: of several reasons the first.
+/// The line that says why a command of the schema is refused, where it is: of several reasons the
+/// first.
 pub(crate) fn refusal(
     schema: &Schema,
     state: &PlainState,
@@ -72,7 +73,8 @@ fn refused_delete(
     key: &Value,
 ) -> Option<&'static [u8]>
     requires { file < length state.now.files }
-    ensures { option_map (λ line. line.now) result ≡ refusal_line schema.now state.now (command.Delete file key.now) }
+    ensures { option_map (λ line. line.now) result
+        ≡ refusal_line schema.now state.now (command.Delete file key.now) }
 {
     if !has_record(state, file, key) {
         return Some(NO_RECORD);
@@ -92,7 +94,8 @@ fn refused_disconnect(
     requires well_formed { IsWellFormed schema.now }
     requires parts { HasParts schema.now state.now }
     requires link { link < length schema.now.links }
-    ensures { option_map (λ line. line.now) result ≡ refusal_line schema.now state.now (command.Disconnect link member.now) }
+    ensures { option_map (λ line. line.now) result
+        ≡ refusal_line schema.now state.now (command.Disconnect link member.now) }
 {
     if !has_record(state, member_number(schema, link), member) {
         return Some(NO_RECORD);
@@ -110,7 +113,8 @@ fn refused_connect(
     requires well_formed { IsWellFormed schema.now }
     requires parts { HasParts schema.now state.now }
     requires link { link < length schema.now.links }
-    ensures { option_map (λ line. line.now) result ≡ refusal_line schema.now state.now (command.Connect link owner.now member.now) }
+    ensures { option_map (λ line. line.now) result
+        ≡ refusal_line schema.now state.now (command.Connect link owner.now member.now) }
 {
     let are_there = has_record(state, owner_number(schema, link), owner)
         && has_record(state, member_number(schema, link), member);

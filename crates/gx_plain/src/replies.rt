@@ -78,7 +78,9 @@ fn found_line(
 ) -> Result<Octets, NoMemory>
     requires parts { HasParts schema.now state.now }
     requires file { file < length schema.now.files }
-    ensures { IfOk result (λ text. text ≡ record_text (file_at schema.now file) key.now (fin.get (file_in state.now file) key.now)) }
+    ensures { IfOk result
+        (λ text. text
+        ≡ record_text (file_at schema.now file) key.now (fin.get (file_in state.now file) key.now)) }
 {
     match state.file(file).get(key) {
         None => Octets::from_slice(alloc, b"none\n"),
@@ -97,7 +99,8 @@ fn members_text(
     requires well_formed { IsWellFormed schema.now }
     requires parts { HasParts schema.now state.now }
     requires link { link < length schema.now.links }
-    ensures { IsSized owner.now → IfOk result (IsReply schema.now state.now (command.Members link owner.now order)) }
+    ensures { IsSized owner.now →
+        IfOk result (IsReply schema.now state.now (command.Members link owner.now order)) }
 {
     let file = member_number(schema, link);
     let of = Some(Of {

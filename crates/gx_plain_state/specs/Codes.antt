@@ -23,7 +23,9 @@ whole_parts (value.Text text) = refl
 whole_parts (value.Bytes bytes) = refl
 
 abbrev pub coded_value : Coded Value
-coded_value = code_by (ℤ ⊎ (List ℕ ⊎ List ℕ)) (coded⊎ coded_ℤ (coded⊎ (coded_list coded_ℕ) (coded_list coded_ℕ))) parts whole whole_parts
+coded_value =
+    code_by (ℤ ⊎ (List ℕ ⊎ List ℕ))
+    (coded⊎ coded_ℤ (coded⊎ (coded_list coded_ℕ) (coded_list coded_ℕ))) parts whole whole_parts
 
 abbrev pub coded_file : Coded File
 coded_file = code coded_value (coded_list coded_value)
@@ -32,4 +34,6 @@ abbrev pub coded_link : Coded Link
 coded_link = code coded_value coded_value
 
 abbrev pub coded_state : Coded State
-coded_state = code_by (List File × List Link) (coded× (coded_list coded_file) (coded_list coded_link)) (λ s. (s.files, s.links)) (λ p. record { files = p.0; links = p.1 }) (λ _. refl)
+coded_state =
+    code_by (List File × List Link) (coded× (coded_list coded_file) (coded_list coded_link))
+    (λ s. (s.files, s.links)) (λ p. record { files = p.0; links = p.1 }) (λ _. refl)

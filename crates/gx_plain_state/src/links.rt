@@ -137,7 +137,8 @@ pub fn is_same(a: &Value, b: &Value) -> bool
 }
 
 fn find_owner<'a>(pairs: &'a [Pair], member: &Value) -> Option<&'a Value>
-    ensures value { option_map (λ owner. owner.now) result ≡ fin.find value_cmp member.now pairs.now }
+    ensures value { option_map (λ owner. owner.now) result
+        ≡ fin.find value_cmp member.now pairs.now }
     ensures sized { IfSome result (λ owner. IsSized owner.now) }
 {
     let mut rest = pairs;
@@ -179,7 +180,8 @@ fn put_pair(pairs: &mut Vec<Pair>, pair: Pair) -> Result<(), NoMemory>
 }
 
 fn remove_pair(pairs: &mut Vec<Pair>, member: &Value)
-    ensures { pairs.new.items ≡ filter (λ p. not (eq_by_cmp value_cmp member.now p.0)) pairs.old.items }
+    ensures { pairs.new.items
+        ≡ filter (λ p. not (eq_by_cmp value_cmp member.now p.0)) pairs.old.items }
 {
     pairs.retain(|pair| !compare(member, &pair.member).is_eq());
 }

@@ -76,7 +76,8 @@ impl PlainState {
     /// Gives a record's key its values.
     pub fn insert(&mut self, file: u16, row: Row) -> Result<(), NoMemory>
         requires { file < length self.old.files }
-        ensures { OnOk result (self.new ≡ with_file self.old file (fin.insert (file_in self.old file) row.0 row.1)) }
+        ensures { OnOk result
+            (self.new ≡ with_file self.old file (fin.insert (file_in self.old file) row.0 row.1)) }
     {
         self.files[usize::from(file)].insert(row)
     }
@@ -92,7 +93,8 @@ impl PlainState {
     /// Gives a member its owner.
     pub fn connect(&mut self, link: u16, pair: Pair) -> Result<(), NoMemory>
         requires { link < length self.old.links }
-        ensures { OnOk result (self.new ≡ with_link self.old link (fin.insert (link_in self.old link) pair.0 pair.1)) }
+        ensures { OnOk result
+            (self.new ≡ with_link self.old link (fin.insert (link_in self.old link) pair.0 pair.1)) }
     {
         self.links[usize::from(link)].insert(pair)
     }
@@ -100,7 +102,8 @@ impl PlainState {
     /// Takes a member's owner away, if it has one.
     pub fn disconnect(&mut self, link: u16, member: &Value)
         requires { link < length self.old.links }
-        ensures { self.new ≡ with_link self.old link (fin.remove (link_in self.old link) member.now) }
+        ensures { self.new
+            ≡ with_link self.old link (fin.remove (link_in self.old link) member.now) }
     {
         self.links[usize::from(link)].remove(member);
     }

@@ -83,7 +83,9 @@ Applies q indexed (KeyRange number) = HasRank q indexed 4 number
 Applies q indexed (IndexRange number) = HasRank q indexed 5 number
 Applies q indexed Scan = Unit {0}
 
--- each plan that applies has no lower rank, and where it has the same, its condition isn't an earlier one
+-- each plan that applies has no lower rank, and where it has the same, its condition isn't an
+-- earlier one
 pub record IsLeast (q : Find) (indexed : List Bool) (plan : Plan) : Type 0 where
   pub rank : (other : Plan) → Applies q indexed other → plan_rank plan ≤ plan_rank other
-  pub number : (other : Plan) → Applies q indexed other → plan_rank other ≡ plan_rank plan → number_of plan ≤ number_of other
+  pub number : (other : Plan) → Applies q indexed other → plan_rank other ≡ plan_rank plan
+      → number_of plan ≤ number_of other

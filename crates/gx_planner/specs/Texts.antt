@@ -21,13 +21,18 @@ link_name schema None = []
 link_name schema (Some of) = (link_at schema of.link).name
 
 abbrev pub way_text : Schema → Find → Plan → List ℕ
-way_text schema q (Key number) = codes "key " ++ field_name (file_at schema q.file) (slice_get q.conds number)
+way_text schema q (Key number) =
+    codes "key " ++ field_name (file_at schema q.file) (slice_get q.conds number)
 way_text schema q Link = codes "link " ++ link_name schema q.of
-way_text schema q (Index number) = codes "index " ++ field_name (file_at schema q.file) (slice_get q.conds number)
-way_text schema q (KeyRange number) = codes "key range " ++ field_name (file_at schema q.file) (slice_get q.conds number)
-way_text schema q (IndexRange number) = codes "index range " ++ field_name (file_at schema q.file) (slice_get q.conds number)
+way_text schema q (Index number) =
+    codes "index " ++ field_name (file_at schema q.file) (slice_get q.conds number)
+way_text schema q (KeyRange number) =
+    codes "key range " ++ field_name (file_at schema q.file) (slice_get q.conds number)
+way_text schema q (IndexRange number) =
+    codes "index range " ++ field_name (file_at schema q.file) (slice_get q.conds number)
 way_text schema q Scan = codes "scan"
 
 -- what is said of the plan of a `find` in the line of this number
 abbrev pub plan_text : Schema → ℕ → Find → Plan → List ℕ
-plan_text schema line q plan = codes "line " ++ decimal line ++ codes ": " ++ way_text schema q plan ++ codes "\n"
+plan_text schema line q plan =
+    codes "line " ++ decimal line ++ codes ": " ++ way_text schema q plan ++ codes "\n"

@@ -32,24 +32,30 @@ device_line device_why.Missing = codes "device: missing\n"
 device_line device_why.Exists = codes "device: exists\n"
 device_line device_why.Size = codes "device: size\n"
 device_line device_why.NoDatabase = codes "device: no database\n"
-device_line (device_why.OtherEquation place) = codes "device: other equation at " ++ decimal place ++ codes "\n"
+device_line (device_why.OtherEquation place) =
+    codes "device: other equation at " ++ decimal place ++ codes "\n"
 device_line (device_why.Damaged block) = codes "device: damaged " ++ decimal block ++ codes "\n"
 
 -- a device of so many blocks was made, which has so many pages
 abbrev pub made_line : ℕ → ℕ → List ℕ
-made_line blocks pages = codes "made: " ++ decimal blocks ++ codes " blocks, " ++ decimal pages ++ codes " pages\n"
+made_line blocks pages =
+    codes "made: " ++ decimal blocks ++ codes " blocks, " ++ decimal pages ++ codes " pages\n"
 
 -- the line that is said of an ending; after a failed call nothing is said
 abbrev pub line_of : Ending → List ℕ
 line_of ending.Words = codes "refused: words\n"
 line_of (ending.Missing name) = codes "refused: missing " ++ name.now ++ codes "\n"
 line_of (ending.TooLong name) = codes "refused: too long " ++ name.now ++ codes "\n"
-line_of (ending.Schema line why) = codes "refused: schema line " ++ decimal line ++ codes ": " ++ why_word why ++ codes "\n"
-line_of (ending.Equation line why) = codes "refused: equation line " ++ decimal line ++ codes ": " ++ why_word why ++ codes "\n"
-line_of (ending.Type line why) = codes "refused: type line " ++ decimal line ++ codes ": " ++ type_words why ++ codes "\n"
+line_of (ending.Schema line why) =
+    codes "refused: schema line " ++ decimal line ++ codes ": " ++ why_word why ++ codes "\n"
+line_of (ending.Equation line why) =
+    codes "refused: equation line " ++ decimal line ++ codes ": " ++ why_word why ++ codes "\n"
+line_of (ending.Type line why) =
+    codes "refused: type line " ++ decimal line ++ codes ": " ++ type_words why ++ codes "\n"
 line_of ending.TextsTooLong = codes "refused: texts too long\n"
 line_of (ending.Accepted summary) = accepted_line summary
-line_of (ending.Line number why) = codes "stopped at line " ++ decimal number ++ codes ": " ++ line_word why ++ codes "\n"
+line_of (ending.Line number why) =
+    codes "stopped at line " ++ decimal number ++ codes ": " ++ line_word why ++ codes "\n"
 line_of ending.Full = full_line
 line_of (ending.Device why) = device_line why
 line_of (ending.Made blocks pages) = made_line blocks pages

@@ -24,15 +24,21 @@ SaysText P old new = (text : List ℕ) × P text × (new.now.said ≡ old.now.sa
 
 -- a front of such a text was said
 abbrev pub SaysFront : (List ℕ → Type 0) → Content → Content → Type 0
-SaysFront P old new = (text : List ℕ) × P text × ((count : ℕ) × (new.now.said ≡ old.now.said ++ take count text))
+SaysFront P old new =
+    (text : List ℕ) × P text × ((count : ℕ) × (new.now.said ≡ old.now.said ++ take count text))
 
 -- such a text was said, and the state that goes with it is held
 abbrev pub SaysKeeping : (List ℕ → State → Type 0) → (State → Type 0) → Content → Content → Type 0
-SaysKeeping P Holds old new = (text : List ℕ) × (kept : State) × P text kept × (new.now.said ≡ old.now.said ++ text) × Holds kept
+SaysKeeping P Holds old new =
+    (text : List ℕ) × (kept : State) × P text kept × (new.now.said ≡ old.now.said ++ text)
+    × Holds kept
 
 -- a front of such a text was said, and the state that goes with it is held
-abbrev pub SaysFrontKeeping : (List ℕ → State → Type 0) → (State → Type 0) → Content → Content → Type 0
-SaysFrontKeeping P Holds old new = (text : List ℕ) × (kept : State) × P text kept × ((count : ℕ) × (new.now.said ≡ old.now.said ++ take count text)) × Holds kept
+abbrev pub SaysFrontKeeping : (List ℕ → State → Type 0) → (State → Type 0) → Content → Content
+    → Type 0
+SaysFrontKeeping P Holds old new =
+    (text : List ℕ) × (kept : State) × P text kept
+    × ((count : ℕ) × (new.now.said ≡ old.now.said ++ take count text)) × Holds kept
 
 -- ---- of a schema, a start state and a script
 
@@ -44,8 +50,10 @@ IsPlay schema start script = IsPlayFrom schema (start_at start) (script_lines sc
 abbrev pub AreFirst : Schema → State → List ℕ → List ℕ → Type 0
 AreFirst schema start script = AreFirstAnswersFrom schema (start_at start) script
 
--- the answers of the script's play from a state up to this end, then the line of the end, and the last kept state
-pub record IsPlayText (schema : Schema) (start : State) (script : List ℕ) (end : End) (text : List ℕ) (kept : State) : Type 0 where
+-- the answers of the script's play from a state up to this end, then the line of the end, and the
+-- last kept state
+pub record IsPlayText (schema : Schema) (start : State) (script : List ℕ) (end : End)
+    (text : List ℕ) (kept : State) : Type 0 where
   pub answers : List ℕ
   pub final : Playing
   pub play : IsPlay schema start script answers final end
@@ -54,10 +62,13 @@ pub record IsPlayText (schema : Schema) (start : State) (script : List ℕ) (end
 
 -- the same, where the play ends at a line
 abbrev pub IsStoppedText : Schema → State → List ℕ → List ℕ → State → Type 0
-IsStoppedText schema start script text kept = (number : ℕ) × (why : LineWhy) × IsPlayText schema start script (stopped number why) text kept
+IsStoppedText schema start script text kept =
+    (number : ℕ) × (why : LineWhy) × IsPlayText schema start script (stopped number why) text kept
 
--- the answers of the script's first lines, then the line that there was no memory, and the state that these lines kept
-pub record IsMemoryText (schema : Schema) (start : State) (script text : List ℕ) (kept : State) : Type 0 where
+-- the answers of the script's first lines, then the line that there was no memory, and the state
+-- that these lines kept
+pub record IsMemoryText (schema : Schema) (start : State) (script text : List ℕ)
+    (kept : State) : Type 0 where
   pub answers : List ℕ
   pub first : AreFirst schema start script answers
   pub text_is : text ≡ answers ++ memory_line
@@ -65,9 +76,10 @@ pub record IsMemoryText (schema : Schema) (start : State) (script text : List �
 
 -- ---- a full device
 
--- The first of these lines has a command, which may stand there. It may want room, and the pages may be too few for so
--- many entries and those of the state behind it.
-pub record IsShortWith (schema : Schema) (built : Built) (limit : Option Limits) (p : Playing) (entries : ℕ) (lines : List (List ℕ)) : Type 0 where
+-- The first of these lines has a command, which may stand there. It may want room, and the pages
+-- may be too few for so many entries and those of the state behind it.
+pub record IsShortWith (schema : Schema) (built : Built) (limit : Option Limits) (p : Playing)
+    (entries : ℕ) (lines : List (List ℕ)) : Type 0 where
   pub line : List ℕ
   pub later : List (List ℕ)
   pub lines_are : lines ≡ line ∷ later
@@ -75,29 +87,37 @@ pub record IsShortWith (schema : Schema) (built : Built) (limit : Option Limits)
   pub means : IsLineOf schema line command
   pub placed : place_reason (is_inside p) command ≡ None
   pub wants : MayWantRoom schema p command
-  pub short : IsCrowdedBy limit (entries + state_entries built (seen_state (next_of schema p command)))
+  pub short : IsCrowdedBy limit
+      (entries + state_entries built (seen_state (next_of schema p command)))
 
 -- the same of the entries of the state before it
 abbrev pub IsShort : Schema → Built → Option Limits → Playing → List (List ℕ) → Type 0
-IsShort schema built limit p lines = IsShortWith schema built limit p (state_entries built (seen_state p)) lines
+IsShort schema built limit p lines =
+    IsShortWith schema built limit p (state_entries built (seen_state p)) lines
 
--- the same of the entries of the leaves, which stand for that state; there is one for each owner, and no other
-pub record IsShortAt (schema : Schema) (built : Built) (limit : Option Limits) (p : Playing) (lines : List (List ℕ)) : Type 0 where
+-- the same of the entries of the leaves, which stand for that state; there is one for each owner,
+-- and no other
+pub record IsShortAt (schema : Schema) (built : Built) (limit : Option Limits) (p : Playing)
+    (lines : List (List ℕ)) : Type 0 where
   pub maps : List LeafMap
   pub many : length maps ≡ length built.owners
   pub before : AreInternal schema built maps (seen_state p)
   pub short : IsShortWith schema built limit p (entry_count maps) lines
 
--- The script's first lines run from a state, with these answers, and the pages may be too few for the command of the next one.
-pub record MayBeFullAt (schema : Schema) (built : Built) (limit : Option Limits) (start : State) (script answers : List ℕ) (final : Playing) : Type 0 where
+-- The script's first lines run from a state, with these answers, and the pages may be too few for
+-- the command of the next one.
+pub record MayBeFullAt (schema : Schema) (built : Built) (limit : Option Limits) (start : State)
+    (script answers : List ℕ) (final : Playing) : Type 0 where
   pub ran : List (List ℕ)
   pub later : List (List ℕ)
   pub parts : (script_lines script).lines ≡ ran ++ later
   pub runs : Runs schema (start_at start) ran answers final
   pub short : IsShortAt schema built limit final later
 
--- such a moment of the play, over nodes that the definitions mean: by the entries of the states alone
-pub record MayBeFull (schema : Schema) (ds : List DefinitionTree) (limit : Option Limits) (start : State) (script answers : List ℕ) (final : Playing) : Type 0 where
+-- such a moment of the play, over nodes that the definitions mean: by the entries of the states
+-- alone
+pub record MayBeFull (schema : Schema) (ds : List DefinitionTree) (limit : Option Limits)
+    (start : State) (script answers : List ℕ) (final : Playing) : Type 0 where
   pub built : Built
   pub trees : IsBuiltOf schema ds built
   pub ran : List (List ℕ)
@@ -107,7 +127,8 @@ pub record MayBeFull (schema : Schema) (ds : List DefinitionTree) (limit : Optio
   pub short : IsShort schema built limit final later
 
 -- those answers, then the line of a full device, and the state that these lines kept
-pub record IsFullText (schema : Schema) (ds : List DefinitionTree) (limit : Option Limits) (start : State) (script text : List ℕ) (kept : State) : Type 0 where
+pub record IsFullText (schema : Schema) (ds : List DefinitionTree) (limit : Option Limits)
+    (start : State) (script text : List ℕ) (kept : State) : Type 0 where
   pub answers : List ℕ
   pub final : Playing
   pub full : MayBeFull schema ds limit start script answers final
@@ -115,7 +136,8 @@ pub record IsFullText (schema : Schema) (ds : List DefinitionTree) (limit : Opti
   pub kept_is : kept ≡ final.kept
 
 -- one of these, of a play that doesn't end well
-abbrev pub IsUnfinishedText : Schema → List DefinitionTree → Option Limits → State → List ℕ → List ℕ → State → Type 0
+abbrev pub IsUnfinishedText : Schema → List DefinitionTree → Option Limits → State → List ℕ → List ℕ
+    → State → Type 0
 IsUnfinishedText schema ds limit start script text kept =
     IsStoppedText schema start script text kept
     ⊎ IsMemoryText schema start script text kept

@@ -34,14 +34,17 @@ use Rattle.gx_play.specs.declared.play.Answers.TheVariants as answers
 use Rattle.gx_play.specs.Say.{OnlySays}
 
 -- a command was carried out and its answer said, and the engine stands for what comes after it
-pub record IsCommandPlayed {S : Type 0} (g : Ghosts S) (p : Playing) (command : Command) (old new : Engine S) : Type 0 where
+pub record IsCommandPlayed {S : Type 0} (g : Ghosts S) (p : Playing) (command : Command)
+    (old new : Engine S) : Type 0 where
   pub answer : List ℕ
   pub answered : IsAnswered (schema_of old) p command answer
   pub at : IsAt g (next_of (schema_of old) p command) new
-  pub said : IsTrue g.tells → (g.content (leaves_of new)).now.said ≡ (g.content (leaves_of old)).now.said ++ answer
+  pub said : IsTrue g.tells
+      → (g.content (leaves_of new)).now.said ≡ (g.content (leaves_of old)).now.said ++ answer
 
 -- the same of the command that a line means, which may stand there
-pub record IsLinePlayed {S : Type 0} (g : Ghosts S) (p : Playing) (line : List ℕ) (old new : Engine S) : Type 0 where
+pub record IsLinePlayed {S : Type 0} (g : Ghosts S) (p : Playing) (line : List ℕ)
+    (old new : Engine S) : Type 0 where
   pub command : Command
   pub means : IsLineOf (schema_of old) line command
   pub placed : place_reason (is_inside p) command ≡ None
@@ -49,28 +52,38 @@ pub record IsLinePlayed {S : Type 0} (g : Ghosts S) (p : Playing) (line : List �
 
 -- nothing was said of a command, and unless it is a commit what was last committed stays
 abbrev pub IsCommandUnsaid : {S : Type 0} → Ghosts S → Command → Engine S → Engine S → Type 0
-IsCommandUnsaid g command old new = ((g.content (leaves_of new)).now.said ≡ (g.content (leaves_of old)).now.said) × (is_commit command ≡ false → Keeps g (leaves_of old) (leaves_of new))
+IsCommandUnsaid g command old new =
+    ((g.content (leaves_of new)).now.said ≡ (g.content (leaves_of old)).now.said)
+    × (is_commit command ≡ false → Keeps g (leaves_of old) (leaves_of new))
 
 -- a command was carried out, and a front of its answer was said
 abbrev pub IsAnswerCut : {S : Type 0} → Ghosts S → Playing → Command → Engine S → Engine S → Type 0
 IsAnswerCut g p command old new =
     IsAt g (next_of (schema_of old) p command) new
-    × ((answer : List ℕ) × IsAnswered (schema_of old) p command answer × ((count : ℕ) × ((g.content (leaves_of new)).now.said ≡ (g.content (leaves_of old)).now.said ++ take count answer)))
+    × ((answer : List ℕ) × IsAnswered (schema_of old) p command answer
+    × ((count : ℕ) × ((g.content (leaves_of new)).now.said
+    ≡ (g.content (leaves_of old)).now.said ++ take count answer)))
 
--- A command was given up: nothing was said, or a front of its answer behind which it was carried out.
+-- A command was given up: nothing was said, or a front of its answer behind which it was carried
+-- out.
 abbrev pub IsCommandCut : {S : Type 0} → Ghosts S → Playing → Command → Engine S → Engine S → Type 0
-IsCommandCut g p command old new = IsCommandUnsaid g command old new ⊎ IsAnswerCut g p command old new
+IsCommandCut g p command old new =
+    IsCommandUnsaid g command old new ⊎ IsAnswerCut g p command old new
 
--- the same of the command that a line means, which may stand there; where none was read, nothing happened
+-- the same of the command that a line means, which may stand there; where none was read, nothing
+-- happened
 abbrev pub IsLineCut : {S : Type 0} → Ghosts S → Playing → List ℕ → Engine S → Engine S → Type 0
-IsLineCut g p line old new = (new ≡ old) ⊎ ((command : Command) × IsLineOf (schema_of old) line command × (place_reason (is_inside p) command ≡ None) × IsCommandCut g p command old new)
+IsLineCut g p line old new =
+    (new ≡ old) ⊎ ((command : Command) × IsLineOf (schema_of old) line command
+    × (place_reason (is_inside p) command ≡ None) × IsCommandCut g p command old new)
 
 -- the line of this number is bad
 abbrev pub IsBadAt : Schema → Bool → ℕ → List ℕ → ℕ → LineWhy → Type 0
 IsBadAt schema inside number line n why = (n ≡ number) × IsBadLine schema inside line why
 
--- Why a line may be given up where the leaves stood for a moment of the play: a call below failed, there was no memory,
--- or the pages were too few, which leaves without a limit never say. `IsPlayedPart` says for which line they were.
+-- Why a line may be given up where the leaves stood for a moment of the play: a call below failed,
+-- there was no memory, or the pages were too few, which leaves without a limit never say.
+-- `IsPlayedPart` says for which line they were.
 abbrev pub HasPlayCause : Option Limits → ℕ → ℕ → Stop → Type 0
 HasPlayCause limit before now stop.NoMemory = Unit {0}
 HasPlayCause limit before now stop.Fault = Rose before now
@@ -88,19 +101,22 @@ abbrev pub is_play_fault : {T : Type 0} → Result T PlayEnd → Bool
 is_play_fault (Err (play_end.Stop why)) = is_outside why
 is_play_fault _ = false
 
--- What the play of lines keeps of an engine. What was said before stays, in front, and where the answers are kept
--- nothing is said.
-pub record KeepsPlayed {S : Type 0} (g : Ghosts S) (to : Answers) (old new : Engine S) : Type 0 where
+-- What the play of lines keeps of an engine. What was said before stays, in front, and where the
+-- answers are kept nothing is said.
+pub record KeepsPlayed {S : Type 0} (g : Ghosts S) (to : Answers)
+    (old new : Engine S) : Type 0 where
   pub schema : schema_of new ≡ schema_of old
   pub built : built_of new ≡ built_of old
   pub ready : IsReady g new
   pub limit : g.limit (leaves_of new) ≡ g.limit (leaves_of old)
   pub head : g.head (leaves_of new) ≡ g.head (leaves_of old)
   pub rest : OnlySays (g.content (leaves_of old)) (g.content (leaves_of new))
-  pub begins : IsTrue g.tells → IsPrefix (g.content (leaves_of old)).now.said (g.content (leaves_of new)).now.said
+  pub begins : IsTrue g.tells
+      → IsPrefix (g.content (leaves_of old)).now.said (g.content (leaves_of new)).now.said
   pub silent : to ≡ answers.Kept → Silent (g.content (leaves_of old)) (g.content (leaves_of new))
 
--- how failures are counted: the count never falls, it rises where a call below failed, and else it stays
+-- how failures are counted: the count never falls, it rises where a call below failed, and else it
+-- stays
 pub record CountsFailed (before now : ℕ) (failed : Bool) : Type 0 where
   pub later : before ≤ now
   pub rose : failed ≡ true → Rose before now
@@ -110,18 +126,26 @@ pub record CountsFailed (before now : ℕ) (failed : Bool) : Type 0 where
 
 -- the pages may be too few for the command of a line, which may stand there
 abbrev pub IsShortLine : {S : Type 0} → Ghosts S → Engine S → Playing → List ℕ → Type 0
-IsShortLine g e p line = (command : Command) × IsLineOf (schema_of e) line command × (place_reason (is_inside p) command ≡ None) × IsShortFor g e p command
+IsShortLine g e p line =
+    (command : Command) × IsLineOf (schema_of e) line command
+    × (place_reason (is_inside p) command ≡ None) × IsShortFor g e p command
 
--- A command was given up: unless a call below failed, nothing was said of it, and what was last committed stays.
-pub record IsCommandGivenUp {S : Type 0} (g : Ghosts S) (p : Playing) (command : Command) (old new : Engine S) (why : Stop) : Type 0 where
-  pub unsaid : why ≢ stop.Fault → (g.content (leaves_of new)).now.said ≡ (g.content (leaves_of old)).now.said
+-- A command was given up: unless a call below failed, nothing was said of it, and what was last
+-- committed stays.
+pub record IsCommandGivenUp {S : Type 0} (g : Ghosts S) (p : Playing) (command : Command)
+    (old new : Engine S) (why : Stop) : Type 0 where
+  pub unsaid : why ≢ stop.Fault
+      → (g.content (leaves_of new)).now.said ≡ (g.content (leaves_of old)).now.said
   pub cut : IsCommandCut g p command old new
   pub kept : why ≢ stop.Fault → Keeps g (leaves_of old) (leaves_of new)
   pub short : why ≡ stop.Full → IsShortFor g old p command
 
--- A line was given up: unless a call below failed, nothing of it was said, and what was last committed stays.
-pub record IsGivenUp {S : Type 0} (g : Ghosts S) (p : Playing) (line : List ℕ) (old new : Engine S) (why : Stop) : Type 0 where
-  pub unsaid : why ≢ stop.Fault → (g.content (leaves_of new)).now.said ≡ (g.content (leaves_of old)).now.said
+-- A line was given up: unless a call below failed, nothing of it was said, and what was last
+-- committed stays.
+pub record IsGivenUp {S : Type 0} (g : Ghosts S) (p : Playing) (line : List ℕ) (old new : Engine S)
+    (why : Stop) : Type 0 where
+  pub unsaid : why ≢ stop.Fault
+      → (g.content (leaves_of new)).now.said ≡ (g.content (leaves_of old)).now.said
   pub cut : IsLineCut g p line old new
   pub kept : why ≢ stop.Fault → Keeps g (leaves_of old) (leaves_of new)
   pub short : why ≡ stop.Full → IsShortLine g old p line
@@ -130,10 +154,13 @@ pub record IsGivenUp {S : Type 0} (g : Ghosts S) (p : Playing) (line : List ℕ)
 
 -- the kept leaves are whole, and hold this state
 abbrev pub KeepsState : {S : Type 0} → Ghosts S → Schema → Built → S → State → Type 0
-KeepsState g schema built leaves s = AreInternal schema built (g.kept leaves) s × g.kept_whole leaves
+KeepsState g schema built leaves s =
+    AreInternal schema built (g.kept leaves) s × g.kept_whole leaves
 
--- the lines were played from a moment on, up to this end, their answers were said, and the engine stands there
-pub record IsPlayedUp {S : Type 0} (g : Ghosts S) (p : Playing) (lines : Lines) (old new : Engine S) (end : End) : Type 0 where
+-- the lines were played from a moment on, up to this end, their answers were said, and the engine
+-- stands there
+pub record IsPlayedUp {S : Type 0} (g : Ghosts S) (p : Playing) (lines : Lines) (old new : Engine S)
+    (end : End) : Type 0 where
   pub text : List ℕ
   pub final : Playing
   pub played : IsPlayFrom (schema_of old) p lines text final end
@@ -142,32 +169,47 @@ pub record IsPlayedUp {S : Type 0} (g : Ghosts S) (p : Playing) (lines : Lines) 
 
 -- the first of these lines is a commit
 abbrev pub IsCommitLine : Schema → List (List ℕ) → Type 0
-IsCommitLine schema lines = (line : List ℕ) × (later : List (List ℕ)) × (lines ≡ line ∷ later) × IsLineOf schema line command.Commit
+IsCommitLine schema lines =
+    (line : List ℕ) × (later : List (List ℕ)) × (lines ≡ line ∷ later)
+    × IsLineOf schema line command.Commit
 
--- The first lines ran from a moment on, and a front of their answers was said. Unless a call below failed, all of them
--- was, and the last kept state is theirs. After a failed call the engine stands behind them; or all of their answers was
--- said, and the last kept state is theirs unless the next line is a commit.
-pub record IsPlayedPart {S : Type 0} (g : Ghosts S) (p : Playing) (lines : Lines) (old new : Engine S) (why : Stop) : Type 0 where
+-- The first lines ran from a moment on, and a front of their answers was said. Unless a call below
+-- failed, all of them was, and the last kept state is theirs. After a failed call the engine stands
+-- behind them; or all of their answers was said, and the last kept state is theirs unless the next
+-- line is a commit.
+pub record IsPlayedPart {S : Type 0} (g : Ghosts S) (p : Playing) (lines : Lines)
+    (old new : Engine S) (why : Stop) : Type 0 where
   pub ran : List (List ℕ)
   pub later : List (List ℕ)
   pub parts : lines.lines ≡ ran ++ later
   pub text : List ℕ
   pub final : Playing
   pub runs : Runs (schema_of old) p ran text final
-  pub front : (n : ℕ) × ((g.content (leaves_of new)).now.said ≡ (g.content (leaves_of old)).now.said ++ take n text)
-  pub whole : why ≢ stop.Fault → (g.content (leaves_of new)).now.said ≡ (g.content (leaves_of old)).now.said ++ text
-  pub kept : why ≢ stop.Fault → KeepsState g (schema_of old) (built_of old) (leaves_of new) final.kept
-  pub failed : why ≡ stop.Fault → IsAt g final new ⊎ (((g.content (leaves_of new)).now.said ≡ (g.content (leaves_of old)).now.said ++ text) × (KeepsState g (schema_of old) (built_of old) (leaves_of new) final.kept ⊎ IsCommitLine (schema_of old) later))
-  pub short : why ≡ stop.Full → IsShortAt (schema_of old) (built_of old) (g.limit (leaves_of old)) final later
+  pub front : (n : ℕ) × ((g.content (leaves_of new)).now.said
+      ≡ (g.content (leaves_of old)).now.said ++ take n text)
+  pub whole : why ≢ stop.Fault
+      → (g.content (leaves_of new)).now.said ≡ (g.content (leaves_of old)).now.said ++ text
+  pub kept : why ≢ stop.Fault
+      → KeepsState g (schema_of old) (built_of old) (leaves_of new) final.kept
+  pub failed : why ≡ stop.Fault
+      → IsAt g final new
+      ⊎ (((g.content (leaves_of new)).now.said ≡ (g.content (leaves_of old)).now.said ++ text)
+      × (KeepsState g (schema_of old) (built_of old) (leaves_of new) final.kept
+      ⊎ IsCommitLine (schema_of old) later))
+  pub short : why ≡ stop.Full
+      → IsShortAt (schema_of old) (built_of old) (g.limit (leaves_of old)) final later
 
 -- the same for the end that a play answers
-abbrev pub IsPlayedTo : {S : Type 0} → Ghosts S → Playing → Lines → Engine S → Engine S → Result (Unit {0}) PlayEnd → Type 0
+abbrev pub IsPlayedTo : {S : Type 0} → Ghosts S → Playing → Lines → Engine S → Engine S
+    → Result (Unit {0}) PlayEnd → Type 0
 IsPlayedTo g p lines old new (Ok x) = IsPlayedUp g p lines old new good
-IsPlayedTo g p lines old new (Err (play_end.Line number why)) = IsPlayedUp g p lines old new (stopped number why)
+IsPlayedTo g p lines old new (Err (play_end.Line number why)) =
+    IsPlayedUp g p lines old new (stopped number why)
 IsPlayedTo g p lines old new (Err (play_end.Stop why)) = IsPlayedPart g p lines old new why
 
 -- Where the play of all lines stands when so many ran, and these are left.
-pub record IsSoFar {S : Type 0} (g : Ghosts S) (start : Playing) (all left : Lines) (number : ℕ) (old new : Engine S) : Type 0 where
+pub record IsSoFar {S : Type 0} (g : Ghosts S) (start : Playing) (all left : Lines) (number : ℕ)
+    (old new : Engine S) : Type 0 where
   pub now : Playing
   pub answers : List ℕ
   pub at : IsAt g now new
@@ -186,15 +228,17 @@ IsLineEnd lines number (play_end.Stop stop) = ⊥
 -- ---- a script over leaves that hold a state
 
 -- the leaves are whole, hold this state, and nothing of it is still to be committed
-pub record IsHolding {S : Type 0} (g : Ghosts S) (schema : Schema) (built : Built) (s : State) (leaves : S) : Type 0 where
+pub record IsHolding {S : Type 0} (g : Ghosts S) (schema : Schema) (built : Built) (s : State)
+    (leaves : S) : Type 0 where
   pub working_is : AreInternal schema built (g.working leaves) s
   pub kept_same : g.kept leaves ≡ g.working leaves
   pub whole_is : g.whole leaves
   pub kept_whole_is : g.kept_whole leaves
 
--- The script was played from a state up to this end. What was said before grew by its answers, and its last kept state is
--- held.
-pub record IsPlayedOut (schema : Schema) (start : State) (Holds : State → Type 0) (script before now : List ℕ) (end : End) : Type 0 where
+-- The script was played from a state up to this end. What was said before grew by its answers, and
+-- its last kept state is held.
+pub record IsPlayedOut (schema : Schema) (start : State) (Holds : State → Type 0)
+    (script before now : List ℕ) (end : End) : Type 0 where
   pub answers : List ℕ
   pub final : Playing
   pub play : IsPlay schema start script answers final end
@@ -202,23 +246,26 @@ pub record IsPlayedOut (schema : Schema) (start : State) (Holds : State → Type
   pub holds : Holds final.kept
 
 -- the same of its first lines
-pub record IsPlayedFirst (schema : Schema) (start : State) (Holds : State → Type 0) (script before now : List ℕ) : Type 0 where
+pub record IsPlayedFirst (schema : Schema) (start : State) (Holds : State → Type 0)
+    (script before now : List ℕ) : Type 0 where
   pub answers : List ℕ
   pub first : AreFirst schema start script answers
   pub said : now ≡ before ++ answers
   pub holds : Holds first.final.kept
 
 -- the same, where the pages may be too few for the command of the next line
-pub record IsPlayedFull (schema : Schema) (built : Built) (limit : Option Limits) (start : State) (Holds : State → Type 0) (script before now : List ℕ) : Type 0 where
+pub record IsPlayedFull (schema : Schema) (built : Built) (limit : Option Limits) (start : State)
+    (Holds : State → Type 0) (script before now : List ℕ) : Type 0 where
   pub answers : List ℕ
   pub final : Playing
   pub full : MayBeFullAt schema built limit start script answers final
   pub said : now ≡ before ++ answers
   pub holds : Holds final.kept
 
--- A front of the answers of its first lines was said. The last state that these lines kept is held; or all of their answers
--- was said, and the next line is a commit.
-pub record IsPlayedFront (schema : Schema) (start : State) (Holds : State → Type 0) (script before now : List ℕ) : Type 0 where
+-- A front of the answers of its first lines was said. The last state that these lines kept is held;
+-- or all of their answers was said, and the next line is a commit.
+pub record IsPlayedFront (schema : Schema) (start : State) (Holds : State → Type 0)
+    (script before now : List ℕ) : Type 0 where
   pub answers : List ℕ
   pub first : AreFirst schema start script answers
   pub count : ℕ
@@ -226,12 +273,18 @@ pub record IsPlayedFront (schema : Schema) (start : State) (Holds : State → Ty
   pub holds : Holds first.final.kept ⊎ ((now ≡ before ++ answers) × IsCommitLine schema first.later)
 
 -- how the play of a script ended, before the line of the end is said
-abbrev pub IsPlayedAs : Schema → Built → Option Limits → State → (State → Type 0) → List ℕ → List ℕ → List ℕ → Result (Unit {0}) Ending → Type 0
-IsPlayedAs schema built limit start Holds script before now (Ok x) = IsPlayedOut schema start Holds script before now good
-IsPlayedAs schema built limit start Holds script before now (Err (ending.Line number why)) = IsPlayedOut schema start Holds script before now (stopped number why)
-IsPlayedAs schema built limit start Holds script before now (Err ending.NoMemory) = IsPlayedFirst schema start Holds script before now
-IsPlayedAs schema built limit start Holds script before now (Err ending.Full) = IsPlayedFull schema built limit start Holds script before now
-IsPlayedAs schema built limit start Holds script before now (Err ending.Fault) = IsPlayedFront schema start Holds script before now
+abbrev pub IsPlayedAs : Schema → Built → Option Limits → State → (State → Type 0) → List ℕ → List ℕ
+    → List ℕ → Result (Unit {0}) Ending → Type 0
+IsPlayedAs schema built limit start Holds script before now (Ok x) =
+    IsPlayedOut schema start Holds script before now good
+IsPlayedAs schema built limit start Holds script before now (Err (ending.Line number why)) =
+    IsPlayedOut schema start Holds script before now (stopped number why)
+IsPlayedAs schema built limit start Holds script before now (Err ending.NoMemory) =
+    IsPlayedFirst schema start Holds script before now
+IsPlayedAs schema built limit start Holds script before now (Err ending.Full) =
+    IsPlayedFull schema built limit start Holds script before now
+IsPlayedAs schema built limit start Holds script before now (Err ending.Fault) =
+    IsPlayedFront schema start Holds script before now
 IsPlayedAs schema built limit start Holds script before now (Err _) = ⊥
 
 -- what an end of the play means for the request

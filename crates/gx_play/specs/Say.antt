@@ -16,7 +16,8 @@ pub record SameDevices (old new : Content) : Type 0 where
   pub shelf : new.now.shelf ≡ old.now.shelf
 
 -- all of the piece, or after a failure a front of it
-pub record SaysAll {T : Type 0} (tells : Bool) (old new : Content) (before now : ℕ) (piece : List ℕ) (result : Result T Failed) : Type 0 where
+pub record SaysAll {T : Type 0} (tells : Bool) (old new : Content) (before now : ℕ) (piece : List ℕ)
+    (result : Result T Failed) : Type 0 where
   pub all : IsTrue tells → OnOk result (new.now.said ≡ old.now.said ++ piece)
   pub front : IsTrue tells → (count : ℕ) × (new.now.said ≡ old.now.said ++ take count piece)
   pub rest : OnlySays old new
@@ -25,4 +26,6 @@ pub record SaysAll {T : Type 0} (tells : Bool) (old new : Content) (before now :
 
 -- a front of one of the two texts was said
 abbrev pub IsCut : List ℕ → List ℕ → Content → Content → Type 0
-IsCut one other old new = (count : ℕ) × ((new.now.said ≡ old.now.said ++ take count one) ⊎ (new.now.said ≡ old.now.said ++ take count other))
+IsCut one other old new =
+    (count : ℕ) × ((new.now.said ≡ old.now.said ++ take count one)
+    ⊎ (new.now.said ≡ old.now.said ++ take count other))

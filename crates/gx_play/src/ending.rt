@@ -50,7 +50,8 @@ pub enum Ending<'a> {
     Schema(u32, Why),
     /// The equation goes wrong in this line, counted from 1.
     Equation(u32, Why),
-    /// The equation isn't typed under the schema: the line of its first place that fails, counted from 1.
+    /// The equation isn't typed under the schema: the line of its first place that fails, counted
+    /// from 1.
     Type(u32, TypeWhy),
     /// The canonical texts of the schema and the equation are too long together.
     TextsTooLong,
@@ -107,16 +108,23 @@ impl From<PlayEnd> for Ending<'_> {
 }
 
 /// Says the line of an ending, and answers its status. After a failed call nothing is said. Where
-/// there is no memory for the line, `stopped: memory` is said in its place, and where the line can't
-/// be said, the status is `Outside`.
+/// there is no memory for the line, `stopped: memory` is said in its place, and where the line
+/// can't be said, the status is `Outside`.
 pub fn end<M: Machine>(alloc: Global, ending: Ending<'_>, machine: &mut M) -> Status
-    ensures status { result ≢ Status.Outside → result ≢ Status.Memory → result ≡ status_of ending.entry }
-    ensures said { IsTrue M.tells → result ≢ Status.Outside → result ≢ Status.Memory → (M.content machine.new).now.said ≡ (M.content machine.old).now.said ++ line_of ending.entry }
-    ensures memory { IsTrue M.tells → result ≡ Status.Memory → (M.content machine.new).now.said ≡ (M.content machine.old).now.said ++ memory_line }
-    ensures cut { IsTrue M.tells → result ≡ Status.Outside → IsCut (line_of ending.entry) memory_line (M.content machine.old) (M.content machine.new) }
-    ensures outside { result ≡ Status.Outside → (ending.entry ≡ Ending.Fault) ⊎ Rose (M.faults machine.old) (M.faults machine.new) }
+    ensures status { result ≢ Status.Outside → result ≢ Status.Memory →
+        result ≡ status_of ending.entry }
+    ensures said { IsTrue M.tells → result ≢ Status.Outside → result ≢ Status.Memory →
+        (M.content machine.new).now.said
+        ≡ (M.content machine.old).now.said ++ line_of ending.entry }
+    ensures memory { IsTrue M.tells → result ≡ Status.Memory →
+        (M.content machine.new).now.said ≡ (M.content machine.old).now.said ++ memory_line }
+    ensures cut { IsTrue M.tells → result ≡ Status.Outside →
+        IsCut (line_of ending.entry) memory_line (M.content machine.old) (M.content machine.new) }
+    ensures outside { result ≡ Status.Outside →
+        (ending.entry ≡ Ending.Fault) ⊎ Rose (M.faults machine.old) (M.faults machine.new) }
     ensures fault { ending.entry ≡ Ending.Fault → result ≡ Status.Outside }
-    ensures silent { IsTrue M.tells → ending.entry ≡ Ending.Fault → (M.content machine.new).now.said ≡ (M.content machine.old).now.said }
+    ensures silent { IsTrue M.tells → ending.entry ≡ Ending.Fault →
+        (M.content machine.new).now.said ≡ (M.content machine.old).now.said }
     ensures rest { OnlySays (M.content machine.old) (M.content machine.new) }
     ensures devices { SameDevices (M.content machine.old) (M.content machine.new) }
     ensures counted { result ≢ Status.Outside → M.faults machine.new ≡ M.faults machine.old }
@@ -131,11 +139,16 @@ pub fn end<M: Machine>(alloc: Global, ending: Ending<'_>, machine: &mut M) -> St
 // Says a line whole, and answers the status that goes with it, or `Outside` where it can't be said.
 fn say_line<M: Machine>(machine: &mut M, line: &[u8], status: Status) -> Status
     ensures status { result ≢ Status.Outside → result ≡ status }
-    ensures said { IsTrue M.tells → result ≢ Status.Outside → (M.content machine.new).now.said ≡ (M.content machine.old).now.said ++ line.now }
-    ensures cut { IsTrue M.tells → (count : ℕ) × ((M.content machine.new).now.said ≡ (M.content machine.old).now.said ++ take count line.now) }
-    ensures outside { result ≡ Status.Outside → (status ≡ Status.Outside) ⊎ Rose (M.faults machine.old) (M.faults machine.new) }
+    ensures said { IsTrue M.tells → result ≢ Status.Outside →
+        (M.content machine.new).now.said ≡ (M.content machine.old).now.said ++ line.now }
+    ensures cut { IsTrue M.tells →
+        (count : ℕ) × ((M.content machine.new).now.said
+        ≡ (M.content machine.old).now.said ++ take count line.now) }
+    ensures outside { result ≡ Status.Outside →
+        (status ≡ Status.Outside) ⊎ Rose (M.faults machine.old) (M.faults machine.new) }
     ensures same { status ≡ Status.Outside → result ≡ Status.Outside }
-    ensures none { IsTrue M.tells → line.now ≡ [] → (M.content machine.new).now.said ≡ (M.content machine.old).now.said }
+    ensures none { IsTrue M.tells → line.now ≡ [] →
+        (M.content machine.new).now.said ≡ (M.content machine.old).now.said }
     ensures rest { OnlySays (M.content machine.old) (M.content machine.new) }
     ensures devices { SameDevices (M.content machine.old) (M.content machine.new) }
     ensures counted { result ≢ Status.Outside → M.faults machine.new ≡ M.faults machine.old }
@@ -245,7 +258,8 @@ fn named_line(alloc: Global, front: &[u8], name: &str) -> Result<Vec<u8>, NoMemo
 }
 
 fn numbered_line(alloc: Global, front: &[u8], number: u32, why: &str) -> Result<Vec<u8>, NoMemory>
-    ensures { IfOk result (λ line. line.items ≡ front.now ++ decimal number ++ codes ": " ++ why.now ++ codes "\n") }
+    ensures { IfOk result (λ line. line.items ≡ front.now ++ decimal number ++ codes ": " ++ why.now
+        ++ codes "\n") }
 {
     let digits = number.to_string(alloc)?;
     let mut line = front.to_vec(alloc)?;

@@ -21,11 +21,11 @@ use std::alloc::Global;
 /// Hears the script and plays it over leaves, which are handed back. On leaves that hold a state,
 /// of a device that tells its content, exactly the answers of the play from that state were said,
 /// up to the line that ends it, and the last kept state is in the kept leaves; after a stop the
-/// answers of the first lines, and their last kept state. After `Fault` a front of the answers of the
-/// first lines, and their last kept state; or all of their answers, where the next line is a commit.
-/// `Full` comes only where the pages may be too few for the command of the next line, which changes
-/// records or links and isn't refused, or is a `reorganize`, and damage isn't found. On any leaves
-/// of such a device what was said before stays, in front.
+/// answers of the first lines, and their last kept state. After `Fault` a front of the answers of
+/// the first lines, and their last kept state; or all of their answers, where the next line is a
+/// commit. `Full` comes only where the pages may be too few for the command of the next line, which
+/// changes records or links and isn't refused, or is a `reorganize`, and damage isn't found. On any
+/// leaves of such a device what was said before stays, in front.
 pub fn play_over<'a, B: Leaves + Drop>(
     alloc: Global,
     schema: Schema,

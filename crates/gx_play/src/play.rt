@@ -64,7 +64,8 @@ fn play_line<B: Leaves + Drop>(
         (with_answers engine.new out.new)) }
     ensures bad { (n : ℕ) (why : LineWhy) → result ≡ Err (PlayEnd.Line n why) →
         IsBadAt (schema_of engine.old) (is_open engine.old) number line.now n why }
-    ensures given_up { IsTrue (are_told B.tells answers) → (p : Playing) → IsAt B.View p engine.old →
+    ensures given_up { IsTrue (are_told B.tells answers) → (p : Playing) →
+        IsAt B.View p engine.old →
         (stop : Stop) → result ≡ Err (PlayEnd.Stop stop) →
         IsGivenUp (beside B.View answers) p line.now (with_answers engine.old out.old)
         (with_answers engine.new out.new) stop }
@@ -116,7 +117,8 @@ fn carry_out<B: Leaves + Drop>(
     ensures answered { (p : Playing) → IsAt B.View p engine.old → OnOk result
         (IsCommandPlayed (beside B.View answers) p command (with_answers engine.old out.old)
         (with_answers engine.new out.new)) }
-    ensures given_up { IsTrue (are_told B.tells answers) → (p : Playing) → IsAt B.View p engine.old →
+    ensures given_up { IsTrue (are_told B.tells answers) → (p : Playing) →
+        IsAt B.View p engine.old →
         (stop : Stop) → result ≡ Err stop →
         IsCommandGivenUp (beside B.View answers) p command (with_answers engine.old out.old)
         (with_answers engine.new out.new) stop }
@@ -177,8 +179,8 @@ fn step<B: Leaves + Drop>(
 /// After that the engine stands behind the lines whose answers were said; or what they committed
 /// last stays, unless the next line is a `commit`, of which nothing was said. Of a stop, `Fault`
 /// comes only where the count of faults rose, `Full` only where the pages may be too few for the
-/// command of the next line, which changes records or links, isn't refused and is no `delete`, or is a
-/// `reorganize`, and `Damaged` never where the leaves hold a state.
+/// command of the next line, which changes records or links, isn't refused and is no `delete`, or
+/// is a `reorganize`, and `Damaged` never where the leaves hold a state.
 pub fn play_script<B: Leaves + Drop>(
     alloc: Global,
     script: &[u8],

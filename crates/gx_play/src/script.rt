@@ -10,10 +10,12 @@ use gx_commands::LONGEST_SCRIPT;
 use gx_ports::Leaves;
 use std::alloc::Global;
 
-/// Hears the script to its end, or past the most bytes that a script may have. The leaves stay. `Fault`
-/// comes only where a call below failed.
+/// Hears the script to its end, or past the most bytes that a script may have. The leaves stay.
+/// `Fault` comes only where a call below failed.
 pub fn hear_script<'a, B: Leaves>(alloc: Global, leaves: &mut B) -> Result<Vec<u8>, Ending<'a>>
-    ensures heard { IsTrue B.tells → IfOk result (λ script. IsHeard (B.content leaves.old).script (B.content leaves.new).script script.items) }
+    ensures heard { IsTrue B.tells →
+        IfOk result
+        (λ script. IsHeard (B.content leaves.old).script (B.content leaves.new).script script.items) }
     ensures short { IfOk result (λ script. length script.items < 2 ^ 32) }
     ensures unheard { IfErr result (IsOutside (B.faults leaves.old) (B.faults leaves.new)) }
     ensures counted { is_fault result ≡ false → B.faults leaves.new ≡ B.faults leaves.old }

@@ -1,4 +1,5 @@
--- What each call on a file gives, of every kind of file alike: `IsFile` says which sheets hold which map at the place.
+-- What each call on a file gives, of every kind of file alike: `IsFile` says which sheets hold
+-- which map at the place.
 use Rattle.std.specs.Prelude.{◌≡◌, ℕ, List, ◌++◌, Result, IsTrue, OnOk, IsErrOf}
 use Rattle.std.specs.FinMap.{empty, insert, remove}
 use Rattle.gx_device.specs.declared.device.Failed.{Failed}
@@ -15,8 +16,10 @@ use Rattle.gx_ports.specs.Sheets.{Sheets}
 
 module _ {S : Type 0} (g : Ghosts S) (IsFile : Sheets → LeafMap → Type 0) where
   -- an empty file is made, where the roots are free and the owner has no page
-  pub record MakesFile (place : Place) (old new : S) (result : Result (Unit {0}) Failed) : Type 0 where
-    pub made : IsTrue g.tells → IsVacant place (g.working old) → OnOk result (IsFile (g.working new) empty)
+  pub record MakesFile (place : Place) (old new : S)
+      (result : Result (Unit {0}) Failed) : Type 0 where
+    pub made : IsTrue g.tells → IsVacant place (g.working old)
+        → OnOk result (IsFile (g.working new) empty)
     pub others : IsTrue g.tells → IsVacant place (g.working old)
         → OnOk result (OthersStay (g.ground old) place.owner (g.working old) (g.working new))
     pub roots : IsTrue g.tells → IsVacant place (g.working old)
@@ -25,8 +28,10 @@ module _ {S : Type 0} (g : Ghosts S) (IsFile : Sheets → LeafMap → Type 0) wh
     pub faults : CountsPageFaults g old new result
 
   -- a body is set at a key
-  pub record PutsInFile (place : Place) (key body : List ℕ) (old new : S) (result : Result (Unit {0}) Stop) : Type 0 where
-    pub ok : (map : LeafMap) → Holds g IsFile old map → OnOk result (IsFile (g.working new) (insert map key body))
+  pub record PutsInFile (place : Place) (key body : List ℕ) (old new : S)
+      (result : Result (Unit {0}) Stop) : Type 0 where
+    pub ok : (map : LeafMap) → Holds g IsFile old map
+        → OnOk result (IsFile (g.working new) (insert map key body))
     pub others : SparesOthers g IsFile place.owner old new result
     pub full : IsFull g IsFile place old new result
     pub keeps : KeepsPages g old new
@@ -34,8 +39,10 @@ module _ {S : Type 0} (g : Ghosts S) (IsFile : Sheets → LeafMap → Type 0) wh
     pub frugal : ¬ IsErrOf result NoMemory
 
   -- the entry at a key is taken away, if there is one
-  pub record RemovesFromFile (place : Place) (key : List ℕ) (old new : S) (result : Result (Unit {0}) Stop) : Type 0 where
-    pub ok : (map : LeafMap) → Holds g IsFile old map → OnOk result (IsFile (g.working new) (remove map key))
+  pub record RemovesFromFile (place : Place) (key : List ℕ) (old new : S)
+      (result : Result (Unit {0}) Stop) : Type 0 where
+    pub ok : (map : LeafMap) → Holds g IsFile old map
+        → OnOk result (IsFile (g.working new) (remove map key))
     pub others : SparesOthers g IsFile place.owner old new result
     pub keeps : KeepsPages g old new
     pub ends : EndsFile g (IsWhole g IsFile old) old new result
@@ -43,7 +50,8 @@ module _ {S : Type 0} (g : Ghosts S) (IsFile : Sheets → LeafMap → Type 0) wh
     pub frugal : ¬ IsErrOf result NoMemory
 
   -- the entries inside a span are appended to a list, in the order of their keys
-  pub record SelectsInFile (span : Span) (old_out new_out : List Entry) (old new : S) (result : Result (Unit {0}) Stop) : Type 0 where
+  pub record SelectsInFile (span : Span) (old_out new_out : List Entry) (old new : S)
+      (result : Result (Unit {0}) Stop) : Type 0 where
     pub ok : (map : LeafMap) → Holds g IsFile old map
         → OnOk result (new_out ≡ old_out ++ selected span.lo span.hi map)
     pub extends : Extends old_out new_out

@@ -11,7 +11,8 @@ pub record IsCounted {T : Type 0} (before now : ℕ) (result : Result T Failed) 
   pub counted : OnOk result (now ≡ before)
 
 -- `hear`, of the bytes that then stand in the slice
-pub record IsHearing (tells : Bool) (old new : Content) (before now : ℕ) (into : List ℕ) (result : Result ℕ Failed) : Type 0 where
+pub record IsHearing (tells : Bool) (old new : Content) (before now : ℕ) (into : List ℕ)
+    (result : Result ℕ Failed) : Type 0 where
   pub bound : IfOk result (λ n. n ≤ length into)
   pub heard : IsTrue tells → IfOk result (λ n. Hears n into old new)
   pub not_heard : OnErr result (new.script ≡ old.script)
@@ -21,7 +22,8 @@ pub record IsHearing (tells : Bool) (old new : Content) (before now : ℕ) (into
   pub counted : OnOk result (now ≡ before)
 
 -- `say`, of a piece; to take no byte of a piece that has some is a fault
-pub record IsSaying (tells : Bool) (old new : Content) (before now : ℕ) (from : List ℕ) (result : Result ℕ Failed) : Type 0 where
+pub record IsSaying (tells : Bool) (old new : Content) (before now : ℕ) (from : List ℕ)
+    (result : Result ℕ Failed) : Type 0 where
   pub bound : IfOk result (λ n. n ≤ length from)
   pub said : IsTrue tells → IfOk result (λ n. Says n from old new)
   pub not_said : OnErr result (new.now.said ≡ old.now.said)

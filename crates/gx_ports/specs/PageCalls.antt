@@ -38,7 +38,9 @@ abbrev pub CountsPageFaults : {S T : Type 0} → Ghosts S → S → S → Result
 CountsPageFaults g old new result = IsCounted (g.faults old) (g.faults new) result
 
 abbrev pub PagesHear : {S : Type 0} → Ghosts S → S → S → List ℕ → Result ℕ Failed → Type 0
-PagesHear g old new into result = IsHearing g.tells (g.content old) (g.content new) (g.faults old) (g.faults new) into result
+PagesHear g old new into result =
+    IsHearing g.tells (g.content old) (g.content new) (g.faults old) (g.faults new) into result
 
 abbrev pub PagesSay : {S : Type 0} → Ghosts S → S → S → List ℕ → Result ℕ Failed → Type 0
-PagesSay g old new from result = IsSaying g.tells (g.content old) (g.content new) (g.faults old) (g.faults new) from result
+PagesSay g old new from result =
+    IsSaying g.tells (g.content old) (g.content new) (g.faults old) (g.faults new) from result

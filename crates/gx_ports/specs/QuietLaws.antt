@@ -10,10 +10,15 @@ pub quiet_weaker : (a b : List (List ℕ) → Type 0) → ((blocks : List (List 
 quiet_weaker a b weaker start now quiet = record {
   since = quiet.since;
   past = quiet.past;
-  each = All-weaker (EachImage (IsQuiet a start.now now.now.said)) (EachImage (IsQuiet b start.now now.now.said)) (λ m leaves image is. turn image (leaves image is)) quiet.since quiet.each;
+  each = All-weaker (EachImage (IsQuiet a start.now now.now.said))
+      (EachImage (IsQuiet b start.now now.now.said))
+      (λ m leaves image is. turn image (leaves image is)) quiet.since quiet.each;
   last = λ image is. turn image (quiet.last image is);
   begun = quiet.begun;
 }
   where
-    turn : (image : Image) → IsQuiet a start.now now.now.said image → IsQuiet b start.now now.now.said image
-    turn image q = record { is = weaker image.blocks q.is; begins = q.begins; goes_on = q.goes_on; shelf = q.shelf }
+    turn : (image : Image) → IsQuiet a start.now now.now.said image
+        → IsQuiet b start.now now.now.said image
+    turn image q =
+        record
+        { is = weaker image.blocks q.is; begins = q.begins; goes_on = q.goes_on; shelf = q.shelf }

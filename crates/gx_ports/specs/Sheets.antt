@@ -43,7 +43,8 @@ pub record IsPast (ground : Ground) (page : ℕ) : Type 0 where
 pub record IsOwnedAnew (page owner : ℕ) (ground : Ground) (old new : Sheets) : Type 0 where
   pub owners : new.owners ≡ slice_set old.owners page owner
   -- the table has changed with them
-  pub bytes : (other : ℕ) → ground.tables ≤ other → slice_get new.bytes other ≡ slice_get old.bytes other
+  pub bytes : (other : ℕ) → ground.tables ≤ other
+      → slice_get new.bytes other ≡ slice_get old.bytes other
 
 -- a free page past the table has been given to the owner
 pub record IsClaimed (page owner : ℕ) (ground : Ground) (old new : Sheets) : Type 0 where
@@ -53,7 +54,8 @@ pub record IsClaimed (page owner : ℕ) (ground : Ground) (old new : Sheets) : T
 
 -- these are the owners that stand on one page of the table
 abbrev pub AreOwnersOn : List ℕ → ℕ → List ℕ → Type 0
-AreOwnersOn owners table part = (i : ℕ) → i < OWNERS → OWNERS * table + i < length owners → slice_get part i ≡ slice_get owners (OWNERS * table + i)
+AreOwnersOn owners table part = (i : ℕ) → i < OWNERS → OWNERS * table + i < length owners
+    → slice_get part i ≡ slice_get owners (OWNERS * table + i)
 
 -- no page past the table is free
 abbrev pub HasNone : Ground → Sheets → Type 0

@@ -11,8 +11,8 @@ pub trait PageView {
     /// What the device below holds, where that is told.
     ghost content: { Self → Content };
 
-    /// How often a call of the device below failed. It stays in each call that doesn't answer `Fault` or
-    /// `Failed`, but for a `say` that takes no byte.
+    /// How often a call of the device below failed. It stays in each call that doesn't answer
+    /// `Fault` or `Failed`, but for a `say` that takes no byte.
     ghost faults: { Self → ℕ };
 
     /// The pages as they are.
@@ -33,7 +33,7 @@ pub trait PageView {
     /// Blocks of a device below have this head, and stand for these pages.
     ghost stands: { List (List ℕ) → Sheets → List (List ℕ) → Type 0 };
 
-    /// A crash at any moment since that content leaves what stands for the kept pages, with this head. Every
-    /// call but `commit` keeps that, whatever it answers.
+    /// A crash at any moment since that content leaves what stands for the kept pages, with this
+    /// head. Every call but `commit` keeps that, whatever it answers.
     ghost calm: { Self → Content → Type 0 };
 }

@@ -31,8 +31,8 @@ pub struct Place {
 
 /// Pages with their working and their kept bytes and owners, over a device.
 ///
-/// Pages are numbered from 0. The first ones are the table of the owners. Where the device tells nothing,
-/// contracts say of the pages only what `commit` and `abort` make of them.
+/// Pages are numbered from 0. The first ones are the table of the owners. Where the device tells
+/// nothing, contracts say of the pages only what `commit` and `abort` make of them.
 pub trait Pages: PageView {
     /// The number of pages.
     fn pages(&self) -> u32
@@ -42,13 +42,16 @@ pub trait Pages: PageView {
     fn tables(&self) -> u32
         ensures { result ≡ (Self.ground self.now).tables };
 
-    /// Gives a free page past the table to an owner, and answers its number. `Full`: no page past the table
-    /// is free. `Fault`: the count of faults rose; after it the pages are to be opened again.
+    /// Gives a free page past the table to an owner, and answers its number. `Full`: no page past
+    /// the table is free. `Fault`: the count of faults rose; after it the pages are to be opened
+    /// again.
     fn claim(&mut self, owner: u16) -> Result<u32, Stop>
         requires least { 1 ≤ owner }
         requires most { owner ≤ MAX_OWNER }
         ensures claimed { IsTrue Self.tells → IfOk result
-            (λ page. IsClaimed page owner (Self.ground self.old) (Self.working self.old) (Self.working self.new)) }
+            (λ page.
+            IsClaimed page owner (Self.ground self.old) (Self.working self.old)
+            (Self.working self.new)) }
         ensures below { IfOk result (λ page. IsPast (Self.ground self.old) page) }
         ensures full { IsTrue Self.tells → IsErrOf result Stop.Full →
             HasNone (Self.ground self.old) (Self.working self.old) }
@@ -59,14 +62,17 @@ pub trait Pages: PageView {
             result }
         ensures frugal { ¬ IsErrOf result Stop.NoMemory };
 
-    /// Gives a free page past the table to an owner. After `Failed` the pages are to be opened again.
+    /// Gives a free page past the table to an owner. After `Failed` the pages are to be opened
+    /// again.
     fn claim_at(&mut self, page: u32, owner: u16) -> Result<(), Failed>
         requires page { IsPast (Self.ground self.old) page }
         requires least { 1 ≤ owner }
         requires most { owner ≤ MAX_OWNER }
-        ensures claimed { IsTrue Self.tells → slice_get (Self.working self.old).owners page ≡ Some 0 →
+        ensures claimed { IsTrue Self.tells →
+            slice_get (Self.working self.old).owners page ≡ Some 0 →
             OnOk result
-            (IsClaimed page owner (Self.ground self.old) (Self.working self.old) (Self.working self.new)) }
+            (IsClaimed page owner (Self.ground self.old) (Self.working self.old)
+            (Self.working self.new)) }
         ensures keeps { KeepsPages Self.PageView self.old self.new }
         ensures faults { CountsPageFaults Self.PageView self.old self.new result };
 
@@ -74,7 +80,8 @@ pub trait Pages: PageView {
     fn free(&mut self, page: u32) -> Result<(), Failed>
         requires page { IsPast (Self.ground self.old) page }
         ensures freed { IsTrue Self.tells → OnOk result
-            (IsOwnedAnew page 0 (Self.ground self.old) (Self.working self.old) (Self.working self.new)) }
+            (IsOwnedAnew page 0 (Self.ground self.old) (Self.working self.old)
+            (Self.working self.new)) }
         ensures keeps { KeepsPages Self.PageView self.old self.new }
         ensures faults { CountsPageFaults Self.PageView self.old self.new result };
 
@@ -118,7 +125,9 @@ pub trait Pages: PageView {
         requires bytes { length from.now ≡ PAGE_LEN }
         ensures written { IsTrue Self.tells → OnOk result
             (Self.working self.new
-            ≡ record (Self.working self.old) { bytes = slice_set (Self.working self.old).bytes page from.now }) }
+            ≡ record
+            (Self.working self.old)
+            { bytes = slice_set (Self.working self.old).bytes page from.now }) }
         ensures keeps { KeepsPages Self.PageView self.old self.new }
         ensures faults { CountsPageFaults Self.PageView self.old self.new result };
 

@@ -5,8 +5,8 @@ ghost use Rattle.gx_ports.specs.LeafMaps.{LeafMap, Limits};
 ghost use Rattle.gx_ports.specs.Heads.{Head};
 ghost use Rattle.gx_ports.specs.Sheets.{Stored};
 
-/// What contracts see of leaves. It has no code: it stands apart from `Leaves`, so that a clause can name
-/// all of it at once.
+/// What contracts see of leaves. It has no code: it stands apart from `Leaves`, so that a clause
+/// can name all of it at once.
 pub trait View {
     /// Whether the leaves of this type tell what the device below holds.
     ghost tells: { Bool };
@@ -14,8 +14,8 @@ pub trait View {
     /// What the device below holds, where that is told.
     ghost content: { Self → Content };
 
-    /// How often a call of the device below failed. It stays in each call that doesn't answer `Fault` or
-    /// `Failed`, but for a `say` that takes no byte.
+    /// How often a call of the device below failed. It stays in each call that doesn't answer
+    /// `Fault` or `Failed`, but for a `say` that takes no byte.
     ghost faults: { Self → ℕ };
 
     /// The maps as they are.
@@ -31,8 +31,8 @@ pub trait View {
     /// that it gave. It stays at 2 ^ 64 - 1 once it is there.
     ghost work: { Self → ℕ };
 
-    /// The pages that limit the entries, and the blocks of the device on which they lie, where there is
-    /// such a limit.
+    /// The pages that limit the entries, and the blocks of the device on which they lie, where
+    /// there is such a limit.
     ghost limit: { Self → Option Limits };
 
     /// What is stored on pages: those of the last commit, where leaves lie on pages.
@@ -65,7 +65,7 @@ pub trait View {
     /// The stored form of each leaf is whole in these blocks.
     ghost laid: { Head → List (List ℕ) → Type 0 };
 
-    /// A crash at any moment since that content leaves what stands for the kept maps, with this head. Every
-    /// call but `commit` keeps that, whatever it answers.
+    /// A crash at any moment since that content leaves what stands for the kept maps, with this
+    /// head. Every call but `commit` keeps that, whatever it answers.
     ghost calm: { Self → Content → Type 0 };
 }

@@ -100,7 +100,8 @@ fn push_leaf(alloc: Global, out: &mut Vec<u8>, kind: LeafKind) -> Result<(), NoM
 }
 
 fn push_encode(out: &mut Vec<u8>, name: &Name, code: Code) -> Result<(), NoMemory>
-    ensures { OnOk result (out.new.items ≡ out.old.items ++ head_text (heads.Encode name.now code)) }
+    ensures { OnOk result (out.new.items ≡ out.old.items
+        ++ head_text (heads.Encode name.now code)) }
 {
     push_text(out, b"encode(")?;
     push_text(out, name.as_slice())?;
@@ -123,7 +124,8 @@ fn push_partition(
     name: &Name,
     bounds: &Values,
 ) -> Result<(), NoMemory>
-    ensures { OnOk result (out.new.items ≡ out.old.items ++ head_text (heads.Partition name.now bounds.now)) }
+    ensures { OnOk result (out.new.items ≡ out.old.items
+        ++ head_text (heads.Partition name.now bounds.now)) }
 {
     push_text(out, b"partition(")?;
     push_text(out, name.as_slice())?;
@@ -148,7 +150,8 @@ fn push_index(out: &mut Vec<u8>, name: &Name) -> Result<(), NoMemory>
 
 // The head of a term, and what stands before the term's first child.
 fn push_head(alloc: Global, out: &mut Vec<u8>, term: &Term) -> Result<(), NoMemory>
-    ensures { OnOk result (out.new.items ≡ out.old.items ++ head_text (head_of (tree_of term.now))) }
+    ensures { OnOk result (out.new.items ≡ out.old.items
+        ++ head_text (head_of (tree_of term.now))) }
 {
     match term {
         Term::Leaf(kind) => push_leaf(alloc, out, *kind),
@@ -166,7 +169,8 @@ fn push_head(alloc: Global, out: &mut Vec<u8>, term: &Term) -> Result<(), NoMemo
 
 #[cycle(printing)]
 fn push_kids(alloc: Global, out: &mut Vec<u8>, kids: &[Term]) -> Result<(), NoMemory>
-    ensures { OnOk result (out.new.items ≡ out.old.items ++ list_text (kids_from (trees_of kids.now))) }
+    ensures { OnOk result (out.new.items ≡ out.old.items
+        ++ list_text (kids_from (trees_of kids.now))) }
 {
     match kids {
         [first, others @ ..] => {
@@ -211,7 +215,8 @@ fn push_two_kids(
     first: &Term,
     second: &Term,
 ) -> Result<(), NoMemory>
-    ensures { OnOk result (out.new.items ≡ out.old.items ++ list_text (kids_from (tree_of first.now ∷ tree_of second.now ∷ []))) }
+    ensures { OnOk result (out.new.items ≡ out.old.items
+        ++ list_text (kids_from (tree_of first.now ∷ tree_of second.now ∷ []))) }
 {
     push_term(alloc, out, first)?;
     push_text(out, b", ")?;
@@ -245,7 +250,8 @@ fn push_definition(
     out: &mut Vec<u8>,
     definition: &Definition,
 ) -> Result<(), NoMemory>
-    ensures { OnOk result (out.new.items ≡ out.old.items ++ definition_text (definition_of definition.now)) }
+    ensures { OnOk result (out.new.items ≡ out.old.items
+        ++ definition_text (definition_of definition.now)) }
 {
     push_text(out, definition.name.as_slice())?;
     push_text(out, b" = ")?;
@@ -263,12 +269,15 @@ fn text_of(alloc: Global, definitions: &Definitions) -> Result<Octets, NoMemory>
     Ok(Octets(out))
 }
 
-/// The canonical text of an equation: one definition a line, with the blanks that are needed and one behind each comma and
-/// on both sides of each `=`. The equation's lines aren't looked at. The error comes where there was no memory for the text.
+/// The canonical text of an equation: one definition a line, with the blanks that are needed and
+/// one behind each comma and on both sides of each `=`. The equation's lines aren't looked at. The
+/// error comes where there was no memory for the text.
 pub fn print_equation(alloc: Global, equation: &Equation) -> Result<Octets, NoMemory>
-    ensures text { IfOk result (λ text. text ≡ equation_text (definitions_of equation.now.definitions)) }
+    ensures text { IfOk result
+        (λ text. text ≡ equation_text (definitions_of equation.now.definitions)) }
     // Where some text means the definitions, this one means them too.
-    ensures again { IfOk result (λ text. AreWritten (definitions_of equation.now.definitions) → (lines : List ℕ) × Means text (definitions_of equation.now.definitions, lines)) }
+    ensures again { IfOk result (λ text. AreWritten (definitions_of equation.now.definitions) →
+        (lines : List ℕ) × Means text (definitions_of equation.now.definitions, lines)) }
 {
     text_of(alloc, &equation.definitions)
 }

@@ -55,11 +55,13 @@ pub record IsChecked (c : Checked) : Type 0 where
 
 -- the checker accepts these two texts
 abbrev pub AreChecked : List ℕ → List ℕ → Checked → Type 0
-AreChecked schema_text equation_text c = AreAccepted schema_text equation_text c.schema (definitions_of c.equation.definitions) c.typing
+AreChecked schema_text equation_text c =
+    AreAccepted schema_text equation_text c.schema (definitions_of c.equation.definitions) c.typing
 
 -- the same of the texts of a request
 abbrev pub IsAcceptedAs : List (List ℕ) → Texts → Action → Checked → Type 0
-IsAcceptedAs words texts a c = IsAccepted words texts a c.schema (definitions_of c.equation.definitions) c.typing
+IsAcceptedAs words texts a c =
+    IsAccepted words texts a c.schema (definitions_of c.equation.definitions) c.typing
 
 -- the nodes that a script is played over, and their schema
 abbrev pub IsBuiltFor : Checked → Schema × Built → Type 0
@@ -70,7 +72,8 @@ abbrev pub CanPlay : Schema × Built → Type 0
 CanPlay x = AreFor x.0 x.1 (length x.1.specs) × IsWellFormed x.0
 
 -- the words ask for this of texts that mean the schema, and these are the nodes of the equation
-pub record IsPrepared (words : List (List ℕ)) (texts : Texts) (a : Action) (x : Schema × Built) : Type 0 where
+pub record IsPrepared (words : List (List ℕ)) (texts : Texts) (a : Action)
+    (x : Schema × Built) : Type 0 where
   pub definitions : List DefinitionTree
   pub typing : Typing
   pub accepted : IsAccepted words texts a x.0 definitions typing
@@ -88,7 +91,8 @@ pub record IsStoredOf (c : Checked) (x : Stored) : Type 0 where
   pub equation_text_is : x.equation_text ≡ equation_text (definitions_of c.equation.definitions)
 
 -- the same of a request that is accepted
-pub record IsStoredFor (words : List (List ℕ)) (texts : Texts) (a : Action) (x : Stored) : Type 0 where
+pub record IsStoredFor (words : List (List ℕ)) (texts : Texts) (a : Action)
+    (x : Stored) : Type 0 where
   pub definitions : List DefinitionTree
   pub typing : Typing
   pub accepted : IsAccepted words texts a x.schema definitions typing
@@ -98,7 +102,8 @@ pub record IsStoredFor (words : List (List ℕ)) (texts : Texts) (a : Action) (x
   pub schema_text_is : x.schema_text ≡ schema_text x.schema
   pub equation_text_is : x.equation_text ≡ equation_text definitions
 
--- a script can be played on it, its texts fit a device, it has a leaf, and there are files of the kind of each of its leaves
+-- a script can be played on it, its texts fit a device, it has a leaf, and there are files of the
+-- kind of each of its leaves
 pub record IsStored (x : Stored) : Type 0 where
   pub can_play : CanPlay (x.schema, x.built)
   pub short : length x.schema_text + length x.equation_text ≤ text_limit

@@ -45,7 +45,8 @@ IsSchemaOf (working device blocks records) texts name text = text ≡ schema_lin
 IsSchemaOf a texts name text = IsText texts name text
 
 -- the words ask for this of two texts, which are there
-pub record IsAsked (words : List (List ℕ)) (texts : Texts) (a : Action) (schema equation : List ℕ) : Type 0 where
+pub record IsAsked (words : List (List ℕ)) (texts : Texts) (a : Action)
+    (schema equation : List ℕ) : Type 0 where
   pub schema_name : List ℕ
   pub equation_name : List ℕ
   pub words_are : words ≡ request_words a schema_name equation_name
@@ -69,18 +70,21 @@ pub record IsNamed (words : List (List ℕ)) (texts : Texts) (name : List ℕ) :
 
 -- ---- of the two texts alone
 
--- what reading an equation gives: its definitions and the lines of their places, or the line of the first fault and its reason
+-- what reading an equation gives: its definitions and the lines of their places, or the line of the
+-- first fault and its reason
 abbrev pub equation_of : List ℕ → Result (List DefinitionTree × List ℕ) Unread
 equation_of text = with_line text (map_ok (with_lines text) (equation_at text))
 
 -- the two texts mean a schema and definitions
-pub record AreRead (schema_text equation_text : List ℕ) (schema : Schema) (ds : List DefinitionTree) (lines : List ℕ) : Type 0 where
+pub record AreRead (schema_text equation_text : List ℕ) (schema : Schema) (ds : List DefinitionTree)
+    (lines : List ℕ) : Type 0 where
   pub schema_means : IsSchemaText schema_text schema
   pub equation_means : Means equation_text (ds, lines)
 
--- the checker accepts two texts: they mean a schema and definitions that are typed under it, with these leaves, and the
--- canonical texts of both aren't too long
-pub record AreAccepted (schema_text equation_text : List ℕ) (schema : Schema) (ds : List DefinitionTree) (typing : Typing) : Type 0 where
+-- the checker accepts two texts: they mean a schema and definitions that are typed under it, with
+-- these leaves, and the canonical texts of both aren't too long
+pub record AreAccepted (schema_text equation_text : List ℕ) (schema : Schema)
+    (ds : List DefinitionTree) (typing : Typing) : Type 0 where
   pub lines : List ℕ
   pub read : AreRead schema_text equation_text schema ds lines
   pub typed : IsTyped schema ds
@@ -89,10 +93,19 @@ pub record AreAccepted (schema_text equation_text : List ℕ) (schema : Schema) 
 
 -- why it accepts them not, by the first reason
 abbrev pub AreUnaccepted : List ℕ → List ℕ → Ending → Type 0
-AreUnaccepted schema_text equation_text (ending.Schema line why) = schema_of schema_text ≡ Err (unread.Bad line why)
-AreUnaccepted schema_text equation_text (ending.Equation line why) = (schema : Schema) × IsSchemaText schema_text schema × (equation_of equation_text ≡ Err (unread.Bad line why))
-AreUnaccepted schema_text equation_text (ending.Type line why) = (schema : Schema) × (ds : List DefinitionTree) × (lines : List ℕ) × AreRead schema_text equation_text schema ds lines × (typing_of schema ds lines ≡ Err (line, why))
-AreUnaccepted schema_text equation_text ending.TextsTooLong = (schema : Schema) × (ds : List DefinitionTree) × (lines : List ℕ) × AreRead schema_text equation_text schema ds lines × IsTyped schema ds × (text_limit < text_length schema ds)
+AreUnaccepted schema_text equation_text (ending.Schema line why) =
+    schema_of schema_text ≡ Err (unread.Bad line why)
+AreUnaccepted schema_text equation_text (ending.Equation line why) =
+    (schema : Schema) × IsSchemaText schema_text schema
+    × (equation_of equation_text ≡ Err (unread.Bad line why))
+AreUnaccepted schema_text equation_text (ending.Type line why) =
+    (schema : Schema) × (ds : List DefinitionTree) × (lines : List ℕ)
+    × AreRead schema_text equation_text schema ds lines
+    × (typing_of schema ds lines ≡ Err (line, why))
+AreUnaccepted schema_text equation_text ending.TextsTooLong =
+    (schema : Schema) × (ds : List DefinitionTree) × (lines : List ℕ)
+    × AreRead schema_text equation_text schema ds lines × IsTyped schema ds
+    × (text_limit < text_length schema ds)
 AreUnaccepted schema_text equation_text why = ⊥
 
 -- the same, or there was no memory
@@ -103,30 +116,43 @@ AreUnchecked schema_text equation_text why = AreUnaccepted schema_text equation_
 -- ---- the request
 
 -- a request whose texts are accepted
-abbrev pub IsAccepted : List (List ℕ) → Texts → Action → Schema → List DefinitionTree → Typing → Type 0
-IsAccepted words texts a schema ds typing = (s : List ℕ) × (e : List ℕ) × IsAsked words texts a s e × AreAccepted s e schema ds typing
+abbrev pub IsAccepted : List (List ℕ) → Texts → Action → Schema → List DefinitionTree → Typing
+    → Type 0
+IsAccepted words texts a schema ds typing =
+    (s : List ℕ) × (e : List ℕ) × IsAsked words texts a s e × AreAccepted s e schema ds typing
 
 -- no device is attached where the words name one
 abbrev pub IsFree : List (List ℕ) → Content → Type 0
-IsFree words c = (a : Action) (schema equation : List ℕ) → IsOnDevice a → words ≡ request_words a schema equation → c.now.shelf.name ≡ None
+IsFree words c = (a : Action) (schema equation : List ℕ) → IsOnDevice a
+    → words ≡ request_words a schema equation → c.now.shelf.name ≡ None
 
 -- what the checker says of accepted texts
 abbrev pub IsSummary : List (List ℕ) → Texts → Summary → Type 0
-IsSummary words texts summary = (schema : Schema) × (ds : List DefinitionTree) × (typing : Typing) × IsAccepted words texts checking schema ds typing × (summary ≡ summary_of typing.specs)
+IsSummary words texts summary =
+    (schema : Schema) × (ds : List DefinitionTree) × (typing : Typing)
+    × IsAccepted words texts checking schema ds typing × (summary ≡ summary_of typing.specs)
 
--- why a request is refused: the first reason in the order of words, texts, schema, equation, types and lengths
+-- why a request is refused: the first reason in the order of words, texts, schema, equation, types
+-- and lengths
 abbrev pub IsRefused : List (List ℕ) → Texts → Ending → Type 0
-IsRefused words texts ending.Words = (a : Action) (schema equation : List ℕ) → IsCounted a → words ≢ request_words a schema equation
-IsRefused words texts (ending.Missing name) = IsNamed words texts name.now × (get texts name.now ≡ None)
-IsRefused words texts (ending.TooLong name) = IsNamed words texts name.now × IsTooLong texts name.now
-IsRefused words texts why = (a : Action) × (s : List ℕ) × (e : List ℕ) × IsAsked words texts a s e × AreUnaccepted s e why
+IsRefused words texts ending.Words = (a : Action) (schema equation : List ℕ) → IsCounted a
+    → words ≢ request_words a schema equation
+IsRefused words texts (ending.Missing name) =
+    IsNamed words texts name.now × (get texts name.now ≡ None)
+IsRefused words texts (ending.TooLong name) =
+    IsNamed words texts name.now × IsTooLong texts name.now
+IsRefused words texts why =
+    (a : Action) × (s : List ℕ) × (e : List ℕ) × IsAsked words texts a s e × AreUnaccepted s e why
 
--- why nothing is to be done: the request is refused, or its texts can't be had for the machine or for want of memory
+-- why nothing is to be done: the request is refused, or its texts can't be had for the machine or
+-- for want of memory
 abbrev pub IsUnprepared : List (List ℕ) → Texts → ℕ → ℕ → Ending → Type 0
 IsUnprepared words texts before now why = IsRefused words texts why ⊎ IsOutside before now why
 
 -- why the text of that name wasn't fetched
 abbrev pub IsUnfetched : Bool → Texts → ℕ → ℕ → List ℕ → Ending → Type 0
-IsUnfetched tells texts before now name (ending.Missing missing) = (missing.now ≡ name) × (IsTrue tells → get texts name ≡ None)
-IsUnfetched tells texts before now name (ending.TooLong long) = (long.now ≡ name) × (IsTrue tells → IsTooLong texts name)
+IsUnfetched tells texts before now name (ending.Missing missing) =
+    (missing.now ≡ name) × (IsTrue tells → get texts name ≡ None)
+IsUnfetched tells texts before now name (ending.TooLong long) =
+    (long.now ≡ name) × (IsTrue tells → IsTooLong texts name)
 IsUnfetched tells texts before now name ending = IsOutside before now ending

@@ -8,9 +8,9 @@ use Rattle.gx_requests.specs.declared.words.Request.TheVariants as request
 abbrev pub texts_of : {Z : Type 0} → List (String Z) → List (List ℕ)
 texts_of = map (λ word. string_bytes word)
 
--- what is asked of two texts: to be checked, or that the script is played or explained under them; on a device that is made,
--- whose blocks a word counts, or that is there and is played on or inspected; or that so many records of the workload are
--- played on a device that is made
+-- what is asked of two texts: to be checked, or that the script is played or explained under them;
+-- on a device that is made, whose blocks a word counts, or that is there and is played on or
+-- inspected; or that so many records of the workload are played on a device that is made
 pub data Action : Type 0 where
   checking : Action
   trying : Action
@@ -44,8 +44,9 @@ more_words (running device) = device ∷ []
 more_words (inspecting device) = device ∷ []
 more_words (working device blocks records) = device ∷ blocks ∷ records ∷ []
 
--- `check SCHEMA EQUATION`, `try SCHEMA EQUATION`, `explain SCHEMA EQUATION`, `make SCHEMA EQUATION DEVICE BLOCKS`,
--- `run SCHEMA EQUATION DEVICE`, `inspect SCHEMA EQUATION DEVICE` or `work EQUATION DEVICE BLOCKS RECORDS`
+-- `check SCHEMA EQUATION`, `try SCHEMA EQUATION`, `explain SCHEMA EQUATION`, `make SCHEMA EQUATION
+-- DEVICE BLOCKS`, `run SCHEMA EQUATION DEVICE`, `inspect SCHEMA EQUATION DEVICE` or `work EQUATION
+-- DEVICE BLOCKS RECORDS`
 abbrev pub request_words : Action → List ℕ → List ℕ → List (List ℕ)
 request_words a schema equation = word_of a ∷ with_schema a schema (equation ∷ more_words a)
 
@@ -73,7 +74,8 @@ IsCounted explaining = Unit {0}
 IsCounted (making device blocks) = (n : ℕ) × IsCount blocks n
 IsCounted (running device) = Unit {0}
 IsCounted (inspecting device) = Unit {0}
-IsCounted (working device blocks records) = ((n : ℕ) × IsCount blocks n) × ((n : ℕ) × IsRecordCount records n)
+IsCounted (working device blocks records) =
+    ((n : ℕ) × IsCount blocks n) × ((n : ℕ) × IsRecordCount records n)
 
 -- the two words are no numbers of blocks and of records
 abbrev pub AreNoCounts : List ℕ → List ℕ → Type 0
@@ -96,12 +98,18 @@ IsCountedOfOne a = ⊥
 
 -- the words are this request
 abbrev pub IsRequest : List (List ℕ) → Request → Type 0
-IsRequest words (request.Check schema equation) = words ≡ request_words checking schema.now equation.now
+IsRequest words (request.Check schema equation) =
+    words ≡ request_words checking schema.now equation.now
 IsRequest words (request.Try schema equation) = words ≡ request_words trying schema.now equation.now
-IsRequest words (request.Explain schema equation) = words ≡ request_words explaining schema.now equation.now
-IsRequest words (request.Make schema equation device blocks) = (digits : List ℕ) × IsCount digits blocks × (words ≡ request_words (making device.now digits) schema.now equation.now)
-IsRequest words (request.Run schema equation device) = words ≡ request_words (running device.now) schema.now equation.now
-IsRequest words (request.Inspect schema equation device) = words ≡ request_words (inspecting device.now) schema.now equation.now
+IsRequest words (request.Explain schema equation) =
+    words ≡ request_words explaining schema.now equation.now
+IsRequest words (request.Make schema equation device blocks) =
+    (digits : List ℕ) × IsCount digits blocks
+    × (words ≡ request_words (making device.now digits) schema.now equation.now)
+IsRequest words (request.Run schema equation device) =
+    words ≡ request_words (running device.now) schema.now equation.now
+IsRequest words (request.Inspect schema equation device) =
+    words ≡ request_words (inspecting device.now) schema.now equation.now
 IsRequest words (request.Work equation device blocks records) =
     (digits : List ℕ) × (number : List ℕ) × IsCount digits blocks × IsRecordCount number records
     × (words ≡ request_words (working device.now digits number) [] equation.now)

@@ -1,4 +1,5 @@
-//! What a request asks: its words, its texts as they are read and checked, and what is built of them.
+//! What a request asks: its words, its texts as they are read and checked, and what is built of
+//! them.
 #![tactic(auto)]
 
 mod nodes;

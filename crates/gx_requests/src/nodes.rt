@@ -15,9 +15,9 @@ use gx_types::{Built, build};
 use gx_values::NoMemory;
 use std::alloc::Global;
 
-/// The schema and the nodes of the texts of these names. A refusal is the first reason in the order of
-/// the texts, the schema, the equation, its types, and the length of the canonical texts. `Fault`
-/// comes only where a call of the machine failed.
+/// The schema and the nodes of the texts of these names. A refusal is the first reason in the order
+/// of the texts, the schema, the equation, its types, and the length of the canonical texts.
+/// `Fault` comes only where a call of the machine failed.
 pub fn prepare_nodes<'a, M: Machine>(
     alloc: Global,
     schema: &'a str,
@@ -31,7 +31,8 @@ pub fn prepare_nodes<'a, M: Machine>(
     ensures unprepared { IsTrue M.tells → (a : Action) → IsCountedOfTwo a → IfErr result
         (IsUnprepared (request_words a schema.now equation.now)
         (M.content machine.old).aside.texts (M.faults machine.old) (M.faults machine.new)) }
-    ensures fault { IsErrOf result Ending.Fault → Rose (M.faults machine.old) (M.faults machine.new) }
+    ensures fault { IsErrOf result Ending.Fault →
+        Rose (M.faults machine.old) (M.faults machine.new) }
     ensures counted { is_fault result ≡ false → M.faults machine.new ≡ M.faults machine.old }
     ensures later { M.faults machine.old ≤ M.faults machine.new }
     ensures content { SameContent (M.content machine.old) (M.content machine.new) }

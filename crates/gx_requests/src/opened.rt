@@ -34,9 +34,9 @@ pub struct Stored {
     pub equation_text: Octets,
 }
 
-/// What the texts of these names give for a device. A refusal is the first reason in the order of the
-/// texts, the schema, the equation, its types, and the length of the canonical texts; it comes before
-/// anything of the device. `Fault` comes only where a call of the machine failed.
+/// What the texts of these names give for a device. A refusal is the first reason in the order of
+/// the texts, the schema, the equation, its types, and the length of the canonical texts; it comes
+/// before anything of the device. `Fault` comes only where a call of the machine failed.
 pub fn prepare_stored<'a, M: Machine>(
     alloc: Global,
     schema: &'a str,
@@ -50,7 +50,8 @@ pub fn prepare_stored<'a, M: Machine>(
     ensures unprepared { IsTrue M.tells → (a : Action) → IsCountedOfTwo a → IfErr result
         (IsUnprepared (request_words a schema.now equation.now)
         (M.content machine.old).aside.texts (M.faults machine.old) (M.faults machine.new)) }
-    ensures fault { IsErrOf result Ending.Fault → Rose (M.faults machine.old) (M.faults machine.new) }
+    ensures fault { IsErrOf result Ending.Fault →
+        Rose (M.faults machine.old) (M.faults machine.new) }
     ensures counted { is_fault result ≡ false → M.faults machine.new ≡ M.faults machine.old }
     ensures later { M.faults machine.old ≤ M.faults machine.new }
     ensures content { SameContent (M.content machine.old) (M.content machine.new) }
@@ -59,9 +60,9 @@ pub fn prepare_stored<'a, M: Machine>(
     Ok(build_stored(alloc, checked)?)
 }
 
-/// What the equation of this name gives for a device under a schema that is there already. A refusal is
-/// the first reason in the order of the text, the equation, its types, and the length of the canonical
-/// texts. `Fault` comes only where a call of the machine failed.
+/// What the equation of this name gives for a device under a schema that is there already. A
+/// refusal is the first reason in the order of the text, the equation, its types, and the length of
+/// the canonical texts. `Fault` comes only where a call of the machine failed.
 pub fn prepare_under<'a, M: Machine>(
     alloc: Global,
     schema: Schema,
@@ -79,7 +80,8 @@ pub fn prepare_under<'a, M: Machine>(
     ensures unprepared { IsTrue M.tells → (a : Action) → IsCountedOfOne a → IfErr result
         (IsUnprepared (request_words a [] equation.now)
         (M.content machine.old).aside.texts (M.faults machine.old) (M.faults machine.new)) }
-    ensures fault { IsErrOf result Ending.Fault → Rose (M.faults machine.old) (M.faults machine.new) }
+    ensures fault { IsErrOf result Ending.Fault →
+        Rose (M.faults machine.old) (M.faults machine.new) }
     ensures counted { is_fault result ≡ false → M.faults machine.new ≡ M.faults machine.old }
     ensures later { M.faults machine.old ≤ M.faults machine.new }
     ensures content { SameContent (M.content machine.old) (M.content machine.new) }

@@ -53,7 +53,8 @@ pub fn read_texts<'a, M: Machine>(
     ensures unaccepted { IsTrue M.tells → (a : Action) → IsCountedOfTwo a → IfErr result
         (IsUnprepared (request_words a schema.now equation.now)
         (M.content machine.old).aside.texts (M.faults machine.old) (M.faults machine.new)) }
-    ensures fault { IsErrOf result Ending.Fault → Rose (M.faults machine.old) (M.faults machine.new) }
+    ensures fault { IsErrOf result Ending.Fault →
+        Rose (M.faults machine.old) (M.faults machine.new) }
     ensures counted { is_fault result ≡ false → M.faults machine.new ≡ M.faults machine.old }
     ensures later { M.faults machine.old ≤ M.faults machine.new }
     ensures content { SameContent (M.content machine.old) (M.content machine.new) }
@@ -63,8 +64,8 @@ pub fn read_texts<'a, M: Machine>(
     check_texts(alloc, &schema_text, &equation_text)
 }
 
-/// What the text of this name gives under a schema that is there already. A refusal is the first reason
-/// in the order of the text, the equation, its types, and the length of the canonical texts.
+/// What the text of this name gives under a schema that is there already. A refusal is the first
+/// reason in the order of the text, the equation, its types, and the length of the canonical texts.
 pub fn read_equation_text<'a, M: Machine>(
     alloc: Global,
     schema: Schema,
@@ -82,7 +83,8 @@ pub fn read_equation_text<'a, M: Machine>(
     ensures unaccepted { IsTrue M.tells → (a : Action) → IsCountedOfOne a → IfErr result
         (IsUnprepared (request_words a [] equation.now)
         (M.content machine.old).aside.texts (M.faults machine.old) (M.faults machine.new)) }
-    ensures fault { IsErrOf result Ending.Fault → Rose (M.faults machine.old) (M.faults machine.new) }
+    ensures fault { IsErrOf result Ending.Fault →
+        Rose (M.faults machine.old) (M.faults machine.new) }
     ensures counted { is_fault result ≡ false → M.faults machine.new ≡ M.faults machine.old }
     ensures later { M.faults machine.old ≤ M.faults machine.new }
     ensures content { SameContent (M.content machine.old) (M.content machine.new) }
@@ -162,9 +164,13 @@ fn typing_from<'a>(
     equation: &Equation,
 ) -> Result<Typing, Ending<'a>>
     requires { IsSchema schema.now }
-    ensures typed { IfOk result (λ _. IsTyped schema.now (definitions_of equation.now.definitions)) }
-    ensures leaves { IfOk result (λ typing. typing ≡ typing_with (leaves schema.now (definitions_of equation.now.definitions))) }
-    ensures untyped { IfErr result (IsUntyped schema.now (definitions_of equation.now.definitions) equation.now.lines) }
+    ensures typed { IfOk result
+        (λ _. IsTyped schema.now (definitions_of equation.now.definitions)) }
+    ensures leaves { IfOk result
+        (λ typing. typing
+        ≡ typing_with (leaves schema.now (definitions_of equation.now.definitions))) }
+    ensures untyped { IfErr result
+        (IsUntyped schema.now (definitions_of equation.now.definitions) equation.now.lines) }
 {
     match typed(alloc, schema, equation) {
         Ok(typing) => Ok(typing),
@@ -176,7 +182,8 @@ fn typing_from<'a>(
 // How many bytes the canonical texts of the schema and of the equation have.
 fn canonical_length(alloc: Global, schema: &Schema, equation: &Equation) -> Result<usize, NoMemory>
     requires { IsSchema schema.now }
-    ensures { IfOk result (λ length. length ≡ text_length schema.now (definitions_of equation.now.definitions)) }
+    ensures { IfOk result
+        (λ length. length ≡ text_length schema.now (definitions_of equation.now.definitions)) }
 {
     let schema_text = print_schema(alloc, schema)?;
     let equation_text = print_equation(alloc, equation)?;

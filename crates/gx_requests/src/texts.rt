@@ -19,10 +19,14 @@ pub fn fetch_text<'a, M: Machine>(
     name: &'a str,
     machine: &mut M,
 ) -> Result<Vec<u8>, Ending<'a>>
-    ensures text { IsTrue M.tells → IfOk result (λ text. IsText (M.content machine.old).aside.texts name.now text.items) }
+    ensures text { IsTrue M.tells →
+        IfOk result (λ text. IsText (M.content machine.old).aside.texts name.now text.items) }
     ensures short { IfOk result (λ text. length text.items ≤ text_limit) }
-    ensures unfetched { IfErr result (IsUnfetched M.tells (M.content machine.old).aside.texts (M.faults machine.old) (M.faults machine.new) name.now) }
-    ensures fault { IsErrOf result Ending.Fault → Rose (M.faults machine.old) (M.faults machine.new) }
+    ensures unfetched { IfErr result
+        (IsUnfetched M.tells (M.content machine.old).aside.texts (M.faults machine.old)
+        (M.faults machine.new) name.now) }
+    ensures fault { IsErrOf result Ending.Fault →
+        Rose (M.faults machine.old) (M.faults machine.new) }
     ensures counted { is_fault result ≡ false → M.faults machine.new ≡ M.faults machine.old }
     ensures later { M.faults machine.old ≤ M.faults machine.new }
     ensures content { SameContent (M.content machine.old) (M.content machine.new) }

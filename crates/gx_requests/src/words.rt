@@ -41,8 +41,8 @@ pub enum Request<'a> {
         equation: &'a str,
         device: &'a str,
     },
-    /// To make a device of that name with so many blocks, and to play the workload of so many records
-    /// on it.
+    /// To make a device of that name with so many blocks, and to play the workload of so many
+    /// records on it.
     Work {
         equation: &'a str,
         device: &'a str,
@@ -59,8 +59,8 @@ const MOST_RECORDS: u32 = 10_000;
 
 /// The request that the words mean: `check SCHEMA EQUATION`, `try SCHEMA EQUATION`,
 /// `explain SCHEMA EQUATION`, `make SCHEMA EQUATION DEVICE BLOCKS`, `run SCHEMA EQUATION DEVICE`,
-/// `inspect SCHEMA EQUATION DEVICE` or `work EQUATION DEVICE BLOCKS RECORDS`; nothing where they are
-/// others.
+/// `inspect SCHEMA EQUATION DEVICE` or `work EQUATION DEVICE BLOCKS RECORDS`; nothing where they
+/// are others.
 pub fn read_words(words: &[String]) -> Option<Request<'_>>
     ensures some { IfSome result (IsRequest (texts_of words.now)) }
     ensures none { IsNone result → (a : Action) (schema equation : List ℕ) → IsCounted a →

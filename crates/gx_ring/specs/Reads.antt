@@ -12,9 +12,13 @@ abbrev pub IsFoundAt : List Rec → Value → Option Rec → Type 0
 IsFoundAt R v None = (r : Rec) → In r R → r.key ≢ v ∷ []
 IsFoundAt R v (Some r) = In r R × (r.key ≡ v ∷ [])
 
--- What was found: a record of the form, or none. Where the leaves are whole and hold a set of records, it is the one at the key. The
--- steps are then at most one for each leaf and one for each leaf entry of the record.
-pub record IsRecordAt {M : Type 0} (rule : M → Rule) (t : Tree M) (whole : Type 0) (maps : List LeafMap) (v : Value) (steps_before steps : ℕ) (found : Option Rec) : Type 0 where
+-- What was found: a record of the form, or none. Where the leaves are whole and hold a set of
+-- records, it is the one at the key. The steps are then at most one for each leaf and one for each
+-- leaf entry of the record.
+pub record IsRecordAt {M : Type 0} (rule : M → Rule) (t : Tree M) (whole : Type 0)
+    (maps : List LeafMap) (v : Value) (steps_before steps : ℕ) (found : Option Rec) : Type 0 where
   pub fit : IfThere found (IsOf (tree_form rule t))
-  pub that : whole → (R : List Rec) → IsSet (tree_form rule t) R → IsInternal rule t R maps → IsFoundAt R v found
-  pub few_steps : whole → HasSet rule t maps → steps ≤ steps_before + (length (leaves_of t) + length (entries_if rule t found))
+  pub that : whole → (R : List Rec) → IsSet (tree_form rule t) R → IsInternal rule t R maps
+      → IsFoundAt R v found
+  pub few_steps : whole → HasSet rule t maps
+      → steps ≤ steps_before + (length (leaves_of t) + length (entries_if rule t found))

@@ -27,4 +27,5 @@ FitsBehind kind found.Unknown = Unit {0}
 -- a member of the kind is behind, or none; of a record of a chain it is the one that the record has
 pub record IsBehind (kind : Kind) (r : Rec) (behind : Behind) : Type 0 where
   pub fits : FitsBehind kind behind
-  pub told : (owner member : Value) (next : Option Value) → IfThere next (Fits kind) → r ≡ chain_rec owner member next → behind ≡ behind_of next
+  pub told : (owner member : Value) (next : Option Value) → IfThere next (Fits kind)
+      → r ≡ chain_rec owner member next → behind ≡ behind_of next

@@ -24,10 +24,15 @@ first (x ∷ xs) = Some x
 abbrev pub head_rec : Value → Value → Rec
 head_rec owner member = record { key = owner ∷ []; fields = member ∷ [] }
 
--- the record of a member: 0, the next member's key and the owner, or 1 and the owner's key where it is the last
+-- the record of a member: 0, the next member's key and the owner, or 1 and the owner's key where it
+-- is the last
 abbrev pub chain_rec : Value → Value → Option Value → Rec
-chain_rec owner member None = record { key = member ∷ []; fields = value.Int (pos 1) ∷ value.Bytes (bytes_of owner) ∷ owner ∷ [] }
-chain_rec owner member (Some next) = record { key = member ∷ []; fields = value.Int (pos 0) ∷ value.Bytes (bytes_of next) ∷ owner ∷ [] }
+chain_rec owner member None =
+    record
+    { key = member ∷ []; fields = value.Int (pos 1) ∷ value.Bytes (bytes_of owner) ∷ owner ∷ [] }
+chain_rec owner member (Some next) =
+    record
+    { key = member ∷ []; fields = value.Int (pos 0) ∷ value.Bytes (bytes_of next) ∷ owner ∷ [] }
 
 -- an owner that may have no member
 abbrev pub head_if : Value → Option Value → Option Rec
@@ -57,11 +62,16 @@ pub record IsRing {M : Type 0} (rule : M → Rule) (heads nexts : Tree M) : Type
   pub head_keys : kinds_of (tree_form rule heads).keys ≡ owner_kind rule heads ∷ []
   pub head_fields : kinds_of (tree_form rule heads).fields ≡ member_kind rule nexts ∷ []
   pub chain_keys : kinds_of (tree_form rule nexts).keys ≡ member_kind rule nexts ∷ []
-  pub chain_fields : kinds_of (tree_form rule nexts).fields ≡ kind.Int ∷ next_kind (owner_kind rule heads) (member_kind rule nexts) ∷ owner_kind rule heads ∷ []
-  pub nodes : AreValid rule (two_forms (tree_form rule heads) (tree_form rule nexts)) (two_nodes heads nexts)
+  pub chain_fields : kinds_of (tree_form rule nexts).fields
+      ≡ kind.Int ∷ next_kind (owner_kind rule heads) (member_kind rule nexts)
+      ∷ owner_kind rule heads ∷ []
+  pub nodes : AreValid rule (two_forms (tree_form rule heads) (tree_form rule nexts))
+      (two_nodes heads nexts)
 
 abbrev pub ring_rule : {M : Type 0} (rule : M → Rule) → Tree M → Tree M → LinkRule
-ring_rule rule heads nexts = link_rule rule (two_nodes heads nexts) ring_rows (owner_kind rule heads) (member_kind rule nexts) suc true
+ring_rule rule heads nexts =
+    link_rule rule (two_nodes heads nexts) ring_rows (owner_kind rule heads)
+    (member_kind rule nexts) suc true
 
 abbrev pub key_value : Rec → Value
 key_value r = get_or r.key 0 no_value

@@ -12,8 +12,11 @@ leading heads nexts None = heads
 leading heads nexts (Some before) = nexts
 
 abbrev pub lead_change : Value → Value → Option Value → Option Value → Change
-lead_change owner member None next = record { old = head_if owner next; new = Some (head_rec owner member) }
-lead_change owner member (Some before) next = record { old = Some (chain_rec owner before next); new = Some (chain_rec owner before (Some member)) }
+lead_change owner member None next =
+    record { old = head_if owner next; new = Some (head_rec owner member) }
+lead_change owner member (Some before) next =
+    record
+    { old = Some (chain_rec owner before next); new = Some (chain_rec owner before (Some member)) }
 
 abbrev pub own_change : Value → Value → Option Value → Change
 own_change owner member next = coming (chain_rec owner member next)

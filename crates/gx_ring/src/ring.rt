@@ -145,7 +145,8 @@ impl<'a, M: Mapping> Ring<'a, M> {
     ) -> Result<(), Stop>
         requires valid { IsRing M.rule (tree_of self.now.heads.now) (tree_of self.now.chain.now) }
         requires below { (n : ℕ) →
-            In n (ring_rule M.rule (tree_of self.now.heads.now) (tree_of self.now.chain.now)).leaves →
+            In n (ring_rule M.rule (tree_of self.now.heads.now)
+            (tree_of self.now.chain.now)).leaves →
             n < length (B.working leaves.old) }
         requires owner { Fits (owner_kind M.rule (tree_of self.now.heads.now)) owner.now }
         requires member { Fits (member_kind M.rule (tree_of self.now.chain.now)) member.now }

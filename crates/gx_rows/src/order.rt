@@ -27,8 +27,8 @@ pub fn sort_rows(rows: &mut Vec<Row>, order: OrderBy) -> Result<(), AllocError>
     Ok(())
 }
 
-/// How two rows stand in an order: by its field, ascending or descending, and where that ties by the
-/// key, always ascending.
+/// How two rows stand in an order: by its field, ascending or descending, and where that ties by
+/// the key, always ascending.
 pub fn compare_rows(order: OrderBy, a: &Row, b: &Row) -> Ordering
     ensures { result ≡ row_cmp order a.now b.now }
 {

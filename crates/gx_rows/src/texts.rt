@@ -60,8 +60,8 @@ fn push_record(
     text.extend_from_slice(b"\n")
 }
 
-// How many bytes the line of a record has, or some more, where no text has a quote inside. So the line is
-// seldom moved while it grows.
+// How many bytes the line of a record has, or some more, where no text has a quote inside. So the
+// line is seldom moved while it grows.
 fn record_room(file: &FileDef, key: &Value, values: &[Value]) -> usize {
     let mut room = file.name.as_slice().len() + 1;
     room = room.saturating_add(value_room(key));

@@ -17,7 +17,9 @@ use Rattle.gx_schema.specs.Rules.{IsFile, IsLink}
 
 -- a number token that is the size
 abbrev pub SizeText : ℕ → List ℕ → List ℕ → Type 0
-SizeText n bytes rest = (text : List ℕ) × (natural_up_to 200 (number_value text) ≡ Some n) × the (Number text) bytes rest
+SizeText n bytes rest =
+    (text : List ℕ) × (natural_up_to 200 (number_value text) ≡ Some n)
+    × the (Number text) bytes rest
 
 -- "int" | "text" NUMBER
 abbrev pub KindText : Kind → List ℕ → List ℕ → Type 0
@@ -36,15 +38,20 @@ FieldsText (f ∷ g ∷ fs) = FieldText f ⨾ the Comma ⨾ FieldsText (g ∷ fs
 
 -- "file" NAME "(" field {"," field} ")"
 abbrev pub FileText : FileDef → List ℕ → List ℕ → Type 0
-FileText f = the (Word (codes "file")) ⨾ the (Word f.name) ⨾ the Open ⨾ FieldsText f.fields ⨾ the Close
+FileText f =
+    the (Word (codes "file")) ⨾ the (Word f.name) ⨾ the Open ⨾ FieldsText f.fields ⨾ the Close
 
 -- the name of the file of this number
 abbrev pub FileName : List FileDef → ℕ → List ℕ → List ℕ → Type 0
-FileName files number bytes rest = (name : List ℕ) × (file_position files name ≡ Some number) × the (Word name) bytes rest
+FileName files number bytes rest =
+    (name : List ℕ) × (file_position files name ≡ Some number) × the (Word name) bytes rest
 
 -- "link" NAME "(" NAME "," NAME ")"
 abbrev pub LinkText : List FileDef → LinkDef → List ℕ → List ℕ → Type 0
-LinkText files l = the (Word (codes "link")) ⨾ the (Word l.name) ⨾ the Open ⨾ FileName files l.owner ⨾ the Comma ⨾ FileName files l.member ⨾ the Close
+LinkText files l =
+    the (Word (codes "link")) ⨾ the
+    (Word l.name) ⨾ the Open ⨾ FileName files l.owner ⨾ the Comma ⨾ FileName files l.member ⨾ the
+    Close
 
 abbrev pub ItemText : Schema → Item → List ℕ → List ℕ → Type 0
 ItemText before (items.File f) = FileText f

@@ -10,8 +10,10 @@ no_schema = record { files = []; links = [] }
 
 -- the schema with one more file or link
 abbrev pub with_item : Schema → Item → Schema
-with_item schema (items.File file) = record { files = schema.files ++ file ∷ []; links = schema.links }
-with_item schema (items.Link link) = record { files = schema.files; links = schema.links ++ link ∷ [] }
+with_item schema (items.File file) =
+    record { files = schema.files ++ file ∷ []; links = schema.links }
+with_item schema (items.Link link) =
+    record { files = schema.files; links = schema.links ++ link ∷ [] }
 
 -- likewise with several
 abbrev pub with_items : Schema → List Item → Schema

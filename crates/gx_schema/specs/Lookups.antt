@@ -7,7 +7,8 @@ use Rattle.gx_schema.specs.declared.schema.FileDef.{FileDef}
 use Rattle.gx_schema.specs.declared.schema.LinkDef.{LinkDef}
 use Rattle.gx_schema.specs.declared.schema.Schema.{Schema}
 
--- what stands in the place of a file, a link or a field that isn't there; none of them is in any schema
+-- what stands in the place of a file, a link or a field that isn't there; none of them is in any
+-- schema
 abbrev pub no_file : FileDef
 no_file = record { name = []; fields = [] }
 

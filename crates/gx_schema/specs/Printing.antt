@@ -42,7 +42,9 @@ name_at (f ∷ fs) (suc number) = name_at fs number
 
 -- `link NAME (OWNER, MEMBER)` and an LF
 abbrev pub link_text : List FileDef → LinkDef → List ℕ
-link_text files l = codes "link " ++ l.name ++ codes " (" ++ name_at files l.owner ++ codes ", " ++ name_at files l.member ++ codes ")\n"
+link_text files l =
+    codes "link " ++ l.name ++ codes " (" ++ name_at files l.owner ++ codes ", "
+    ++ name_at files l.member ++ codes ")\n"
 
 abbrev pub links_text : List FileDef → List LinkDef → List ℕ
 links_text files [] = []

@@ -25,7 +25,8 @@ use Rattle.gx_schema.specs.Names.{starts_with_letter, has_field, has_file, has_l
 abbrev pub size_from : Bool → Option ℕ → Result Kind Why
 size_from first None = Err why.Number
 size_from first (Some zero) = Err why.Number
-size_from first (Some (suc n)) = if first && nat_lt 100 (suc n) then Err why.KeyField else Ok (kinds.Text (suc n))
+size_from first (Some (suc n)) =
+    if first && nat_lt 100 (suc n) then Err why.KeyField else Ok (kinds.Text (suc n))
 
 abbrev pub a_size : Bool → Lexeme → Result Kind Why
 a_size first = number_if (λ text. size_from first (natural_up_to 200 (number_value text)))
@@ -45,7 +46,8 @@ a_field_name before = word_if (λ word.
 -- the name of a new file or link
 abbrev pub a_new_name : Schema → Lexeme → Result (List ℕ) Why
 a_new_name schema = word_if (λ word.
-    if not (starts_with_letter word) || (has_file schema.files word || has_link schema.links word) then Err why.NameUse else Ok word)
+    if not (starts_with_letter word) || (has_file schema.files word || has_link schema.links word)
+    then Err why.NameUse else Ok word)
 
 abbrev pub number_from : Option ℕ → Result ℕ Why
 number_from None = Err why.NameUse
@@ -63,8 +65,10 @@ pub data Start : Type 0 where
 
 abbrev pub a_start : Schema → Lexeme → Result Start Why
 a_start schema (Word text) =
-    if pointwise nat_eq text (codes "file") then (if nat_le 32 (length schema.files) then Err why.Count else Ok Starts_file)
-    else (if pointwise nat_eq text (codes "link") then (if nat_le 32 (length schema.links) then Err why.Count else Ok Starts_link)
+    if pointwise nat_eq text (codes "file")
+    then (if nat_le 32 (length schema.files) then Err why.Count else Ok Starts_file)
+    else (if pointwise nat_eq text (codes "link")
+    then (if nat_le 32 (length schema.links) then Err why.Count else Ok Starts_link)
     else Err why.Unexpected)
 a_start schema End = if length schema.files == 0 then Err why.End else Ok Ends
 a_start schema other = unexpected other
@@ -94,7 +98,8 @@ fields_at zero before bytes = want (λ _. Err why.Count) bytes
 fields_at (suc room) before bytes = do
   field ← field_at before bytes
   more ← want comma_or_close field.1
-  if more.0 then fields_at room (before ++ field.0 ∷ []) more.1 else Ok (before ++ field.0 ∷ [], more.1)
+  if more.0 then fields_at room (before ++ field.0 ∷ []) more.1
+      else Ok (before ++ field.0 ∷ [], more.1)
 
 -- the file behind the word `file`
 unfoldable pub file_at : Schema → List ℕ → Result (FileDef × List ℕ) Fault

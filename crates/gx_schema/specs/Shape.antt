@@ -5,7 +5,8 @@ use Rattle.gx_tokens.specs.Lexemes.{Word, Open, Close, Comma, End}
 
 -- "int" | "text" NUMBER
 abbrev pub KindShape : List ℕ → List ℕ → Type 0
-KindShape bytes rest = the (Word (codes "int")) bytes rest ⊎ (the (Word (codes "text")) ⨾ ANumber) bytes rest
+KindShape bytes rest =
+    the (Word (codes "int")) bytes rest ⊎ (the (Word (codes "text")) ⨾ ANumber) bytes rest
 
 -- NAME "int" | NAME "text" NUMBER
 abbrev pub FieldShape : List ℕ → List ℕ → Type 0
@@ -29,7 +30,9 @@ LinkShape = AWord ⨾ the Open ⨾ AWord ⨾ the Comma ⨾ AWord ⨾ the Close
 
 -- "file" NAME "(" field {"," field} ")" | "link" NAME "(" NAME "," NAME ")"
 abbrev pub ItemShape : List ℕ → List ℕ → Type 0
-ItemShape bytes rest = (the (Word (codes "file")) ⨾ FileShape) bytes rest ⊎ (the (Word (codes "link")) ⨾ LinkShape) bytes rest
+ItemShape bytes rest =
+    (the (Word (codes "file")) ⨾ FileShape) bytes rest
+    ⊎ (the (Word (codes "link")) ⨾ LinkShape) bytes rest
 
 -- item {item}, with so many more, up to the end
 abbrev pub ItemsShape : ℕ → List ℕ → List ℕ → Type 0

@@ -15,7 +15,8 @@ pub record HasEnds (schema : Schema) (link : LinkDef) : Type 0 where
   pub owner : link.owner < length schema.files
   pub member : link.member < length schema.files
 
--- each file has a key, each link has its two files, and files, links and fields have numbers of 16 bits
+-- each file has a key, each link has its two files, and files, links and fields have numbers of 16
+-- bits
 pub record IsWellFormed (schema : Schema) : Type 0 where
   pub few_files : length schema.files < 2 ^ 16
   pub few_links : length schema.links < 2 ^ 16

@@ -1,4 +1,5 @@
-//! Schemas: reading a schema's text, with the line and the reason of its first fault, and printing a schema.
+//! Schemas: reading a schema's text, with the line and the reason of its first fault, and printing
+//! a schema.
 #![tactic(auto)]
 
 mod field;

@@ -128,8 +128,9 @@ fn print(alloc: Global, schema: &Schema) -> Result<Octets, NoMemory>
     Ok(Octets(out))
 }
 
-/// The canonical text of a schema that some text means: its files in their order and then its links in theirs, each in a
-/// line of its own that an LF ends, in the forms `file emp (eno int, name text 24)` and `link works (dept, emp)`.
+/// The canonical text of a schema that some text means: its files in their order and then its links
+/// in theirs, each in a line of its own that an LF ends, in the forms `file emp (eno int, name text
+/// 24)` and `link works (dept, emp)`.
 pub fn print_schema(alloc: Global, schema: &Schema) -> Result<Octets, NoMemory>
     requires { IsSchema schema.now }
     ensures exact { IfOk result (λ text. text ≡ schema_text schema.now) }

@@ -23,8 +23,9 @@ fn read(alloc: Global, bytes: &[u8]) -> Result<Schema, Unread>
     }
 }
 
-/// The schema that a text means. `Bad` has the line of the text's first fault, counted from 1, and the reason: exactly
-/// where the text means no schema. `NoMemory`: there was no memory for the schema.
+/// The schema that a text means. `Bad` has the line of the text's first fault, counted from 1, and
+/// the reason: exactly where the text means no schema. `NoMemory`: there was no memory for the
+/// schema.
 pub fn read_schema(alloc: Global, bytes: &[u8]) -> Result<Schema, Unread>
     requires { length bytes.now < 4294967295 }
 
@@ -32,14 +33,17 @@ pub fn read_schema(alloc: Global, bytes: &[u8]) -> Result<Schema, Unread>
     ensures found { IfOk result (λ schema. IsSchemaText bytes.now schema) }
     ensures one { (s t : Schema) → IsSchemaText bytes.now s → IsSchemaText bytes.now t → s ≡ t }
 
-    // It keeps every rule of names, sizes and counts, and so is what the readers of scripts and the engine need.
+    // It keeps every rule of names, sizes and counts, and so is what the readers of scripts and the
+    // engine need.
     ensures valid { IfOk result (λ schema. IsSchema schema) }
     ensures well_formed { IfOk result IsWellFormed }
 
     // A text that means a schema is read, where there is memory for it.
-    ensures only { (schema : Schema) → IsSchemaText bytes.now schema → IsUnlessNoMemory result (Ok schema) }
+    ensures only { (schema : Schema) → IsSchemaText bytes.now schema →
+        IsUnlessNoMemory result (Ok schema) }
 
-    // No text of the grammar goes on with the token of a fault behind those before it, which some text begins with.
+    // No text of the grammar goes on with the token of a fault behind those before it, which some
+    // text begins with.
     ensures fault { IfErr result (λ error. IsBad bytes.now error) }
 
     // Which fault is the first, and its line.

@@ -14,10 +14,12 @@ use Rattle.gx_script.specs.Shape.{IsShaped}
 abbrev pub IsFront : List Word → Type 0
 IsFront before = (behind : List Word) × AllByRecursion IsWord behind × IsShaped (before ++ behind)
 
--- no words that mean a command go on behind these with the first of those that are left; where none is left, these mean none
+-- no words that mean a command go on behind these with the first of those that are left; where none
+-- is left, these mean none
 abbrev pub NoLineGoesOn : Schema → List Word → List Word → Type 0
 NoLineGoesOn schema before [] = (c : Command) → Means schema before c → ⊥
-NoLineGoesOn schema before (w ∷ ws) = (behind : List Word) (c : Command) → Means schema (before ++ w ∷ behind) c → ⊥
+NoLineGoesOn schema before (w ∷ ws) = (behind : List Word) (c : Command)
+    → Means schema (before ++ w ∷ behind) c → ⊥
 
 -- the words go wrong at the first of those that are left behind some line's front, or at their end
 pub record IsFirstBad (schema : Schema) (words : List Word) : Type 0 where
@@ -27,9 +29,11 @@ pub record IsFirstBad (schema : Schema) (words : List Word) : Type 0 where
   pub front : IsFront before
   pub none : NoLineGoesOn schema before here
 
--- what an error says of a line: two reasons speak of the whole line, and the others of its first bad word
+-- what an error says of a line: two reasons speak of the whole line, and the others of its first
+-- bad word
 abbrev pub IsBad : Schema → List ℕ → NoCommand → Type 0
 IsBad schema line no_command.NoMemory = Unit {0}
 IsBad schema line (no_command.Bad why.Character) = Unit {0}
 IsBad schema line (no_command.Bad why.Quote) = Unit {0}
-IsBad schema line (no_command.Bad reason) = (words : List Word) × AreWords line words × IsFirstBad schema words
+IsBad schema line (no_command.Bad reason) =
+    (words : List Word) × AreWords line words × IsFirstBad schema words

@@ -18,9 +18,11 @@ use Rattle.gx_commands.specs.Commands.{IsOfSchema}
 use Rattle.gx_commands.specs.Words.{Word, Bare, Quoted, is_character, is_comment, AreWords}
 use Rattle.gx_script.specs.Names.{op_text, file_number, link_number, field_number}
 
--- A phrase is a relation between the words that are left before it and those behind it: the one, and then the other
+-- A phrase is a relation between the words that are left before it and those behind it: the one,
+-- and then the other
 infixr 10 ◌⨾◌
-abbrev pub ◌⨾◌ : (List Word → List Word → Type 0) → (List Word → List Word → Type 0) → List Word → List Word → Type 0
+abbrev pub ◌⨾◌ : (List Word → List Word → Type 0) → (List Word → List Word → Type 0) → List Word
+    → List Word → Type 0
 (a ⨾ b) words rest = (mid : List Word) × a words mid × b mid rest
 
 -- no word
@@ -35,17 +37,22 @@ the text words rest = words ≡ Bare text ∷ rest
 
 -- the name of the file, the link or the field of this number
 abbrev pub FileName : Schema → ℕ → List Word → List Word → Type 0
-FileName schema file words rest = (name : List ℕ) × the name words rest × (file_number schema.files name ≡ Some file)
+FileName schema file words rest =
+    (name : List ℕ) × the name words rest × (file_number schema.files name ≡ Some file)
 
 abbrev pub LinkName : Schema → ℕ → List Word → List Word → Type 0
-LinkName schema link words rest = (name : List ℕ) × the name words rest × (link_number schema.links name ≡ Some link)
+LinkName schema link words rest =
+    (name : List ℕ) × the name words rest × (link_number schema.links name ≡ Some link)
 
 -- the name of the link of this number, which no file has
 abbrev pub NoFileName : Schema → ℕ → List Word → List Word → Type 0
-NoFileName schema link words rest = (name : List ℕ) × the name words rest × (file_number schema.files name ≡ None) × (link_number schema.links name ≡ Some link)
+NoFileName schema link words rest =
+    (name : List ℕ) × the name words rest × (file_number schema.files name ≡ None)
+    × (link_number schema.links name ≡ Some link)
 
 abbrev pub FieldName : FileDef → ℕ → List Word → List Word → Type 0
-FieldName file field words rest = (name : List ℕ) × the name words rest × (field_number file.fields name ≡ Some field)
+FieldName file field words rest =
+    (name : List ℕ) × the name words rest × (field_number file.fields name ≡ Some field)
 
 -- an int is some spelling of the number; a text stands in quotes, with each quote in it twice
 abbrev pub IsLiteral : Value → Word → Type 0
@@ -108,21 +115,35 @@ abbrev pub CommandWords : Schema → Command → List Word → List Word → Typ
 CommandWords schema command.Begin = the (codes "begin")
 CommandWords schema command.Commit = the (codes "commit")
 CommandWords schema command.Abort = the (codes "abort")
-CommandWords schema (command.Insert file values) = the (codes "insert") ⨾ FileName schema file ⨾ Literals values
+CommandWords schema (command.Insert file values) =
+    the (codes "insert") ⨾ FileName schema file ⨾ Literals values
 CommandWords schema (command.Get file key) = the (codes "get") ⨾ FileName schema file ⨾ Literal key
-CommandWords schema (command.Update file key changes) = the (codes "update") ⨾ FileName schema file ⨾ Literal key ⨾ ChangesWords (file_at schema file) changes
-CommandWords schema (command.Delete file key) = the (codes "delete") ⨾ FileName schema file ⨾ Literal key
-CommandWords schema (command.Connect link owner member) = the (codes "connect") ⨾ LinkName schema link ⨾ Literal owner ⨾ Literal member
-CommandWords schema (command.Disconnect link member) = the (codes "disconnect") ⨾ LinkName schema link ⨾ Literal member
-CommandWords schema (command.Members link owner order) = the (codes "members") ⨾ LinkName schema link ⨾ Literal owner ⨾ OrderWords (file_at schema (link_at schema link).member) order
-CommandWords schema (command.Owner link member) = the (codes "owner") ⨾ LinkName schema link ⨾ Literal member
-CommandWords schema (command.Find q) = the (codes "find") ⨾ FileName schema q.file ⨾ WhereWords (file_at schema q.file) q.conds ⨾ OfWords schema q.of ⨾ OrderWords (file_at schema q.file) q.order
+CommandWords schema (command.Update file key changes) =
+    the (codes "update") ⨾ FileName schema file ⨾ Literal key ⨾ ChangesWords
+    (file_at schema file) changes
+CommandWords schema (command.Delete file key) =
+    the (codes "delete") ⨾ FileName schema file ⨾ Literal key
+CommandWords schema (command.Connect link owner member) =
+    the (codes "connect") ⨾ LinkName schema link ⨾ Literal owner ⨾ Literal member
+CommandWords schema (command.Disconnect link member) =
+    the (codes "disconnect") ⨾ LinkName schema link ⨾ Literal member
+CommandWords schema (command.Members link owner order) =
+    the (codes "members") ⨾ LinkName schema link ⨾ Literal owner ⨾ OrderWords
+    (file_at schema (link_at schema link).member) order
+CommandWords schema (command.Owner link member) =
+    the (codes "owner") ⨾ LinkName schema link ⨾ Literal member
+CommandWords schema (command.Find q) =
+    the (codes "find") ⨾ FileName schema q.file ⨾ WhereWords
+    (file_at schema q.file) q.conds ⨾ OfWords schema q.of ⨾ OrderWords
+    (file_at schema q.file) q.order
 CommandWords schema (command.ReorganizeFile file) = the (codes "reorganize") ⨾ FileName schema file
-CommandWords schema (command.ReorganizeLink link) = the (codes "reorganize") ⨾ NoFileName schema link
+CommandWords schema (command.ReorganizeLink link) =
+    the (codes "reorganize") ⨾ NoFileName schema link
 CommandWords schema command.Nothing = NoWord
 
--- the words, all of them, mean the command, which keeps the rules: values fit their fields, `update` names neither the key nor
--- a field twice, and the link of `of` has the file's records as members
+-- the words, all of them, mean the command, which keeps the rules: values fit their fields,
+-- `update` names neither the key nor a field twice, and the link of `of` has the file's records as
+-- members
 pub record Means (schema : Schema) (line : List Word) (c : Command) : Type 0 where
   pub words : CommandWords schema c line []
   pub rules : IsOfSchema schema c
@@ -131,4 +152,5 @@ pub record Means (schema : Schema) (line : List Word) (c : Command) : Type 0 whe
 abbrev pub IsLineOf : Schema → List ℕ → Command → Type 0
 IsLineOf schema line c =
     (IsTrue (is_comment line) × (c ≡ command.Nothing))
-    ⊎ ((is_comment line ≡ false) × IsTrue (list_all is_character line) × ((words : List Word) × AreWords line words × Means schema words c))
+    ⊎ ((is_comment line ≡ false) × IsTrue (list_all is_character line)
+    × ((words : List Word) × AreWords line words × Means schema words c))

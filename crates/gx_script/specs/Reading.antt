@@ -40,9 +40,10 @@ abbrev pub met : {A : Type 0} → Result A LineWhy → List Word → Result (A �
 met (Ok x) rest = Ok (x, rest)
 met (Err reason) rest = Err reason
 
--- One word: what it means at its place, or the reason why it may not stand there, is for `meaning` to say. Where it is
--- missing, the reason is `Word`.
-abbrev pub want : {A : Type 0} → (Word → Result A LineWhy) → List Word → Result (A × List Word) LineWhy
+-- One word: what it means at its place, or the reason why it may not stand there, is for `meaning`
+-- to say. Where it is missing, the reason is `Word`.
+abbrev pub want : {A : Type 0} → (Word → Result A LineWhy) → List Word
+    → Result (A × List Word) LineWhy
 want meaning words = do
   x ← taken words
   met (meaning x.0) x.1
@@ -98,7 +99,8 @@ structure_from None None = Err why.File
 
 abbrev pub a_structure : Schema → Word → Result Command LineWhy
 a_structure schema (Quoted text) = Err why.File
-a_structure schema (Bare name) = structure_from (file_number schema.files name) (link_number schema.links name)
+a_structure schema (Bare name) =
+    structure_from (file_number schema.files name) (link_number schema.links name)
 
 abbrev pub int_from : Option ℤ → Result Value LineWhy
 int_from None = Err why.Value
@@ -107,7 +109,9 @@ int_from (Some n) = Ok (value.Int n)
 -- a number for an int, a quoted text that is short enough for a text
 abbrev pub a_value : Kind → Word → Result Value LineWhy
 a_value kind.Int (Bare text) = int_from (signed_number text)
-a_value (kind.Text most) (Quoted text) = if nat_le (length (unquoted false text)) most then Ok (value.Text (unquoted false text)) else Err why.Value
+a_value (kind.Text most) (Quoted text) =
+    if nat_le (length (unquoted false text)) most then Ok (value.Text (unquoted false text))
+    else Err why.Value
 a_value _ _ = Err why.Value
 
 -- ---- parts of commands
@@ -134,7 +138,8 @@ member_at schema words = do
   Ok (link.0, member.0, member.1)
 
 -- a value for each field, behind those before
-unfoldable pub values_at : List Field → List Value → List Word → Result (List Value × List Word) LineWhy
+unfoldable pub values_at : List Field → List Value → List Word
+    → Result (List Value × List Word) LineWhy
 values_at [] before words = Ok (before, words)
 values_at (field ∷ fields) before words = do
   x ← want (a_value field.kind) words
@@ -148,7 +153,8 @@ change_at file before words = do
   Ok (record { field = field.0; value = x.0 }, x.1)
 
 -- FIELD VALUE {FIELD VALUE} up to the end, behind the changes before; not more of them than `room`
-unfoldable pub changes_at : ℕ → FileDef → List Change → List Word → Result (List Change × List Word) LineWhy
+unfoldable pub changes_at : ℕ → FileDef → List Change → List Word
+    → Result (List Change × List Word) LineWhy
 changes_at zero file before words = Err why.Word
 changes_at (suc room) file before words = do
   x ← change_at file before words
@@ -163,18 +169,22 @@ cond_at file words = do
   Ok (record { field = field.0; op = op.0; bound = x.0 }, x.1)
 
 -- the conditions so far, or those with more of them where `and` stands
-abbrev pub more_conds : (List Cond → List Word → Result (List Cond × List Word) LineWhy) → List Cond → List Word → Option (List Word) → Result (List Cond × List Word) LineWhy
+abbrev pub more_conds : (List Cond → List Word → Result (List Cond × List Word) LineWhy) → List Cond
+    → List Word → Option (List Word) → Result (List Cond × List Word) LineWhy
 more_conds reader conds words None = Ok (conds, words)
 more_conds reader conds words (Some rest) = reader conds rest
 
 -- COND {and COND}, behind the conditions before; not more of them than `room`
-unfoldable pub conds_at : ℕ → FileDef → List Cond → List Word → Result (List Cond × List Word) LineWhy
+unfoldable pub conds_at : ℕ → FileDef → List Cond → List Word
+    → Result (List Cond × List Word) LineWhy
 conds_at zero file before words = Err why.Word
 conds_at (suc room) file before words = do
   x ← cond_at file words
-  more_conds (λ conds rest. conds_at room file conds rest) (before ++ x.0 ∷ []) x.1 (behind (codes "and") x.1)
+  more_conds (λ conds rest. conds_at room file conds rest) (before ++ x.0 ∷ []) x.1
+      (behind (codes "and") x.1)
 
-abbrev pub where_from : FileDef → List Word → Option (List Word) → Result (List Cond × List Word) LineWhy
+abbrev pub where_from : FileDef → List Word → Option (List Word)
+    → Result (List Cond × List Word) LineWhy
 where_from file words None = Ok ([], words)
 where_from file words (Some rest) = conds_at (length rest) file [] rest
 
@@ -189,7 +199,8 @@ owner_of_at schema file words = do
   owner ← want (a_value (key_kind (file_at schema (link_at schema link.0).owner))) link.1
   Ok (record { link = link.0; owner = owner.0 }, owner.1)
 
-abbrev pub of_from : Schema → ℕ → List Word → Option (List Word) → Result (Option Of × List Word) LineWhy
+abbrev pub of_from : Schema → ℕ → List Word → Option (List Word)
+    → Result (Option Of × List Word) LineWhy
 of_from schema file words None = Ok (None, words)
 of_from schema file words (Some rest) = do
   of ← owner_of_at schema file rest
@@ -207,7 +218,8 @@ desc_from field words (Some rest) = (record { field = field; desc = true }, rest
 unfoldable pub desc_at : ℕ → List Word → OrderBy × List Word
 desc_at field words = desc_from field words (behind (codes "desc") words)
 
-abbrev pub order_from : FileDef → List Word → Option (List Word) → Result (OrderBy × List Word) LineWhy
+abbrev pub order_from : FileDef → List Word → Option (List Word)
+    → Result (OrderBy × List Word) LineWhy
 order_from file words None = Ok (record { field = 0; desc = false }, words)
 order_from file words (Some rest) = do
   field ← want (a_field file) rest
@@ -306,17 +318,22 @@ Gives view (Err e) read = Fails e read
 
 -- ---- whole lines
 
--- What a line gives, where its words give this: nothing for a comment, else `Character` where a byte isn't one, else `Quote`
--- where the line isn't words with blanks between them, else what its words give.
+-- What a line gives, where its words give this: nothing for a comment, else `Character` where a
+-- byte isn't one, else `Quote` where the line isn't words with blanks between them, else what its
+-- words give.
 abbrev pub IsReading : Schema → List ℕ → Result Command LineWhy → Type 0
 IsReading schema line given =
     (IsTrue (is_comment line) × (given ≡ Ok command.Nothing))
-    ⊎ ((is_comment line ≡ false) × (list_all is_character line ≡ false) × (given ≡ Err why.Character))
-    ⊎ ((is_comment line ≡ false) × IsTrue (list_all is_character line) × ((words : List Word) → AreWords line words → ⊥) × (given ≡ Err why.Quote))
-    ⊎ ((is_comment line ≡ false) × IsTrue (list_all is_character line) × ((words : List Word) × AreWords line words × (given ≡ reading schema words)))
+    ⊎ ((is_comment line ≡ false) × (list_all is_character line ≡ false)
+    × (given ≡ Err why.Character))
+    ⊎ ((is_comment line ≡ false) × IsTrue (list_all is_character line)
+    × ((words : List Word) → AreWords line words → ⊥) × (given ≡ Err why.Quote))
+    ⊎ ((is_comment line ≡ false) × IsTrue (list_all is_character line)
+    × ((words : List Word) × AreWords line words × (given ≡ reading schema words)))
 
 -- the call answered this, or there was no memory
-abbrev pub AnswersUnlessNoMemory : Result Command NoCommand → (Result Command LineWhy → Type 0) → Type 0
+abbrev pub AnswersUnlessNoMemory : Result Command NoCommand → (Result Command LineWhy → Type 0)
+    → Type 0
 AnswersUnlessNoMemory (Ok c) P = P (Ok c)
 AnswersUnlessNoMemory (Err (no_command.Bad reason)) P = P (Err reason)
 AnswersUnlessNoMemory (Err no_command.NoMemory) P = Unit {0}

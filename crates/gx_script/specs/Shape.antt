@@ -1,4 +1,5 @@
--- The bare grammar of lines: which words may stand where, whatever files, links and fields there are, and whatever fits them.
+-- The bare grammar of lines: which words may stand where, whatever files, links and fields there
+-- are, and whatever fits them.
 use Rattle.std.specs.Prelude.{◌≡◌, ℕ, zero, suc, true, ◌⊎◌, List, [], ◌∷◌, codes}
 use Rattle.gx_tokens.specs.Numbers.{is_number}
 use Rattle.gx_values.specs.declared.values.Op.{Op}

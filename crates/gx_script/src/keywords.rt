@@ -1,4 +1,5 @@
-// The words of the grammar: those that begin a command, operators, and those between the parts of a command.
+// The words of the grammar: those that begin a command, operators, and those between the parts of a
+// command.
 ghost use Rattle.std.specs.Prelude.{◌≡◌, option_map};
 ghost use Rattle.gx_tokens.specs.Reading.{map_ok};
 ghost use Rattle.gx_commands.specs.Cutting.{words_in};

@@ -121,10 +121,12 @@ pub fn field_kind(file: &FileDef, field: u16) -> Kind
     file.fields.0[usize::from(field)].kind
 }
 
-/// The number of the file that the first word names, and what follows it. `File` where it names none.
+/// The number of the file that the first word names, and what follows it. `File` where it names
+/// none.
 pub fn read_file<'a>(schema: &Schema, line: &'a [u8]) -> Result<(u16, &'a [u8]), LineWhy>
     requires { IsWellFormed schema.now }
-    ensures exact { map_ok (λ x. (x.0, words_in x.1.now)) result ≡ want (a_file schema.now) (words_in line.now) }
+    ensures exact { map_ok (λ x. (x.0, words_in x.1.now)) result
+        ≡ want (a_file schema.now) (words_in line.now) }
     ensures within { IfOk result (λ x. x.0 < length schema.now.files) }
 {
     match take_word(line)? {
@@ -136,10 +138,12 @@ pub fn read_file<'a>(schema: &Schema, line: &'a [u8]) -> Result<(u16, &'a [u8]),
     }
 }
 
-/// The number of the link that the first word names, and what follows it. `Link` where it names none.
+/// The number of the link that the first word names, and what follows it. `Link` where it names
+/// none.
 pub fn read_link<'a>(schema: &Schema, line: &'a [u8]) -> Result<(u16, &'a [u8]), LineWhy>
     requires { IsWellFormed schema.now }
-    ensures exact { map_ok (λ x. (x.0, words_in x.1.now)) result ≡ want (a_link schema.now) (words_in line.now) }
+    ensures exact { map_ok (λ x. (x.0, words_in x.1.now)) result
+        ≡ want (a_link schema.now) (words_in line.now) }
     ensures within { IfOk result (λ x. x.0 < length schema.now.links) }
 {
     match take_word(line)? {
@@ -151,15 +155,16 @@ pub fn read_link<'a>(schema: &Schema, line: &'a [u8]) -> Result<(u16, &'a [u8]),
     }
 }
 
-/// The number of the link that the first word names, and what follows it. `Link` where it names none, or one whose members
-/// are of another file.
+/// The number of the link that the first word names, and what follows it. `Link` where it names
+/// none, or one whose members are of another file.
 pub fn read_link_to<'a>(
     schema: &Schema,
     file: u16,
     line: &'a [u8],
 ) -> Result<(u16, &'a [u8]), LineWhy>
     requires { IsWellFormed schema.now }
-    ensures exact { map_ok (λ x. (x.0, words_in x.1.now)) result ≡ want (a_link_to schema.now file) (words_in line.now) }
+    ensures exact { map_ok (λ x. (x.0, words_in x.1.now)) result
+        ≡ want (a_link_to schema.now file) (words_in line.now) }
     ensures within { IfOk result (λ x. x.0 < length schema.now.links) }
 {
     let (link, rest) = read_link(schema, line)?;
@@ -170,10 +175,12 @@ pub fn read_link_to<'a>(
     }
 }
 
-/// The number of the field that the first word names, and what follows it. `Field` where it names none.
+/// The number of the field that the first word names, and what follows it. `Field` where it names
+/// none.
 pub fn read_field<'a>(file: &FileDef, line: &'a [u8]) -> Result<(u16, &'a [u8]), LineWhy>
     requires { HasFields file.now }
-    ensures exact { map_ok (λ x. (x.0, words_in x.1.now)) result ≡ want (a_field file.now) (words_in line.now) }
+    ensures exact { map_ok (λ x. (x.0, words_in x.1.now)) result
+        ≡ want (a_field file.now) (words_in line.now) }
     ensures within { IfOk result (λ x. x.0 < length file.now.fields) }
 {
     match take_word(line)? {
@@ -192,15 +199,16 @@ fn is_changed(changes: &[Change], field: u16) -> bool
     changes.iter().any(|change| change.field == field)
 }
 
-/// The number of the field that the first word names, and what follows it. `Field` where it names none, the key, or one
-/// that is changed before.
+/// The number of the field that the first word names, and what follows it. `Field` where it names
+/// none, the key, or one that is changed before.
 pub fn read_new_field<'a>(
     file: &FileDef,
     before: &[Change],
     line: &'a [u8],
 ) -> Result<(u16, &'a [u8]), LineWhy>
     requires { HasFields file.now }
-    ensures exact { map_ok (λ x. (x.0, words_in x.1.now)) result ≡ want (a_new_field file.now before.now) (words_in line.now) }
+    ensures exact { map_ok (λ x. (x.0, words_in x.1.now)) result
+        ≡ want (a_new_field file.now before.now) (words_in line.now) }
     ensures within { IfOk result (λ x. x.0 < length file.now.fields) }
 {
     let (field, rest) = read_field(file, line)?;
@@ -210,11 +218,12 @@ pub fn read_new_field<'a>(
     Ok((field, rest))
 }
 
-/// The command that reorganizes the file, or else the link, that the first word names, and what follows it. `File` where it
-/// names neither.
+/// The command that reorganizes the file, or else the link, that the first word names, and what
+/// follows it. `File` where it names neither.
 pub fn read_structure<'a>(schema: &Schema, line: &'a [u8]) -> Result<(Command, &'a [u8]), LineWhy>
     requires { IsWellFormed schema.now }
-    ensures { map_ok (λ x. (x.0, words_in x.1.now)) result ≡ want (a_structure schema.now) (words_in line.now) }
+    ensures { map_ok (λ x. (x.0, words_in x.1.now)) result
+        ≡ want (a_structure schema.now) (words_in line.now) }
 {
     match take_word(line)? {
         (LineWord::Bare(name), rest) => match file_number(schema, name) {

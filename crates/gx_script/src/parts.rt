@@ -24,7 +24,8 @@ pub fn read_record<'a>(
     line: &'a [u8],
 ) -> Result<(u16, Value, &'a [u8]), NoCommand>
     requires { IsWellFormed schema.now }
-    ensures exact { Gives (λ x. (x.0, x.1, words_in x.2.now)) result (record_at schema.now (words_in line.now)) }
+    ensures exact { Gives (λ x. (x.0, x.1, words_in x.2.now)) result
+        (record_at schema.now (words_in line.now)) }
     ensures within { IfOk result (λ x. x.0 < length schema.now.files) }
 {
     let (file, rest) = read_file(schema, line)?;
@@ -41,7 +42,8 @@ pub fn read_owner<'a>(
     line: &'a [u8],
 ) -> Result<(u16, Value, &'a [u8]), NoCommand>
     requires { IsWellFormed schema.now }
-    ensures exact { Gives (λ x. (x.0, x.1, words_in x.2.now)) result (owner_at schema.now (words_in line.now)) }
+    ensures exact { Gives (λ x. (x.0, x.1, words_in x.2.now)) result
+        (owner_at schema.now (words_in line.now)) }
     ensures within { IfOk result (λ x. x.0 < length schema.now.links) }
 {
     let (link, rest) = read_link(schema, line)?;
@@ -58,7 +60,8 @@ pub fn read_member<'a>(
     line: &'a [u8],
 ) -> Result<(u16, Value, &'a [u8]), NoCommand>
     requires { IsWellFormed schema.now }
-    ensures { Gives (λ x. (x.0, x.1, words_in x.2.now)) result (member_at schema.now (words_in line.now)) }
+    ensures { Gives (λ x. (x.0, x.1, words_in x.2.now)) result
+        (member_at schema.now (words_in line.now)) }
 {
     let (link, rest) = read_link(schema, line)?;
     let kind = field_kind(member_file(schema, link), 0);
@@ -75,7 +78,8 @@ fn read_change<'a>(
     line: &'a [u8],
 ) -> Result<(Change, &'a [u8]), NoCommand>
     requires { HasFields file.now }
-    ensures { Gives (λ x. (x.0, words_in x.1.now)) result (change_at file.now before.now (words_in line.now)) }
+    ensures { Gives (λ x. (x.0, words_in x.1.now)) result
+        (change_at file.now before.now (words_in line.now)) }
 {
     let (field, rest) = read_new_field(file, before, line)?;
     let (value, rest) = read_value(alloc, field_kind(file, field), rest)?;
@@ -89,7 +93,8 @@ pub fn read_changes<'a>(
     line: &'a [u8],
 ) -> Result<(Changes, &'a [u8]), NoCommand>
     requires { HasFields file.now }
-    ensures { Gives (λ x. (x.0, words_in x.1.now)) result (changes_at (length (words_in line.now)) file.now [] (words_in line.now)) }
+    ensures { Gives (λ x. (x.0, words_in x.1.now)) result
+        (changes_at (length (words_in line.now)) file.now [] (words_in line.now)) }
 {
     let mut changes = Vec::new(alloc);
     let mut rest = line;
@@ -126,7 +131,8 @@ fn read_conds<'a>(
     line: &'a [u8],
 ) -> Result<(Conds, &'a [u8]), NoCommand>
     requires { HasFields file.now }
-    ensures { Gives (λ x. (x.0, words_in x.1.now)) result (conds_at (length (words_in line.now)) file.now [] (words_in line.now)) }
+    ensures { Gives (λ x. (x.0, words_in x.1.now)) result
+        (conds_at (length (words_in line.now)) file.now [] (words_in line.now)) }
 {
     let mut conds = Vec::new(alloc);
     let mut rest = line;
@@ -165,7 +171,8 @@ fn read_owner_of<'a>(
     line: &'a [u8],
 ) -> Result<(Of, &'a [u8]), NoCommand>
     requires { IsWellFormed schema.now }
-    ensures { Gives (λ x. (x.0, words_in x.1.now)) result (owner_of_at schema.now file (words_in line.now)) }
+    ensures { Gives (λ x. (x.0, words_in x.1.now)) result
+        (owner_of_at schema.now file (words_in line.now)) }
 {
     let (link, rest) = read_link_to(schema, file, line)?;
     let kind = field_kind(owner_file(schema, link), 0);
@@ -182,7 +189,8 @@ pub fn read_of<'a>(
     line: &'a [u8],
 ) -> Result<(Option<Of>, &'a [u8]), NoCommand>
     requires { IsWellFormed schema.now }
-    ensures { Gives (λ x. (x.0, words_in x.1.now)) result (of_at schema.now file (words_in line.now)) }
+    ensures { Gives (λ x. (x.0, words_in x.1.now)) result
+        (of_at schema.now file (words_in line.now)) }
 {
     match after_keyword(line, b"of") {
         None => Ok((None, line)),

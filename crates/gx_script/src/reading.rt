@@ -28,7 +28,8 @@ fn read_insert<'a>(
     line: &'a [u8],
 ) -> Result<(Command, &'a [u8]), NoCommand>
     requires { IsWellFormed schema.now }
-    ensures { Gives (λ x. (x.0, words_in x.1.now)) result (insert_at schema.now (words_in line.now)) }
+    ensures { Gives (λ x. (x.0, words_in x.1.now)) result
+        (insert_at schema.now (words_in line.now)) }
 {
     let (file, rest) = read_file(schema, line)?;
     let (values, rest) = read_values(alloc, &file_def(schema, file).fields.0, rest)?;
@@ -42,7 +43,8 @@ fn read_update<'a>(
     line: &'a [u8],
 ) -> Result<(Command, &'a [u8]), NoCommand>
     requires { IsWellFormed schema.now }
-    ensures { Gives (λ x. (x.0, words_in x.1.now)) result (update_at schema.now (words_in line.now)) }
+    ensures { Gives (λ x. (x.0, words_in x.1.now)) result
+        (update_at schema.now (words_in line.now)) }
 {
     let (file, key, rest) = read_record(alloc, schema, line)?;
     let (changes, rest) = read_changes(alloc, file_def(schema, file), rest)?;
@@ -56,7 +58,8 @@ fn read_connect<'a>(
     line: &'a [u8],
 ) -> Result<(Command, &'a [u8]), NoCommand>
     requires { IsWellFormed schema.now }
-    ensures { Gives (λ x. (x.0, words_in x.1.now)) result (connect_at schema.now (words_in line.now)) }
+    ensures { Gives (λ x. (x.0, words_in x.1.now)) result
+        (connect_at schema.now (words_in line.now)) }
 {
     let (link, owner, rest) = read_owner(alloc, schema, line)?;
     let kind = field_kind(member_file(schema, link), 0);
@@ -71,7 +74,8 @@ fn read_members<'a>(
     line: &'a [u8],
 ) -> Result<(Command, &'a [u8]), NoCommand>
     requires { IsWellFormed schema.now }
-    ensures { Gives (λ x. (x.0, words_in x.1.now)) result (members_at schema.now (words_in line.now)) }
+    ensures { Gives (λ x. (x.0, words_in x.1.now)) result
+        (members_at schema.now (words_in line.now)) }
 {
     let (link, owner, rest) = read_owner(alloc, schema, line)?;
     let (order, rest) = read_order(member_file(schema, link), rest)?;
@@ -109,7 +113,8 @@ fn read_arguments<'a>(
     line: &'a [u8],
 ) -> Result<(Command, &'a [u8]), NoCommand>
     requires { IsWellFormed schema.now }
-    ensures { Gives (λ x. (x.0, words_in x.1.now)) result (arguments_at schema.now verb (words_in line.now)) }
+    ensures { Gives (λ x. (x.0, words_in x.1.now)) result
+        (arguments_at schema.now verb (words_in line.now)) }
 {
     match verb {
         Verb::Begin => Ok((Command::Begin, line)),
@@ -174,26 +179,31 @@ fn read_line(alloc: Global, schema: &Schema, line: &[u8]) -> Result<Command, NoC
     read_words(alloc, schema, line)
 }
 
-/// The command that a line means. The line is without its LF and without the CR that is dropped before it, and its length isn't
-/// looked at.
+/// The command that a line means. The line is without its LF and without the CR that is dropped
+/// before it, and its length isn't looked at.
 ///
-/// A line without words, or whose first word begins with `#`, is `Nothing`. Else the answer is `Bad` with the first reason:
-/// `Character` and then `Quote` over the whole line, then the first of its words that fails, from left to right. A missing word
-/// and a word too many are `Word`. `NoMemory`: only where there was no memory for what the command holds.
+/// A line without words, or whose first word begins with `#`, is `Nothing`. Else the answer is
+/// `Bad` with the first reason: `Character` and then `Quote` over the whole line, then the first of
+/// its words that fails, from left to right. A missing word and a word too many are `Word`.
+/// `NoMemory`: only where there was no memory for what the command holds.
 pub fn read_command(alloc: Global, schema: &Schema, line: &[u8]) -> Result<Command, NoCommand>
     requires { IsWellFormed schema.now }
     // What is read is in the grammar, and keeps the rules.
     ensures found { IfOk result (λ c. IsLineOf schema.now line.now c) }
     // What is in the grammar and keeps the rules is read.
-    ensures only { (c : Command) → IsLineOf schema.now line.now c → AnswersUnlessNoMemory result (λ given. given ≡ Ok c) }
-    // The words before the first bad one begin some line of the bare grammar, and no line goes on with it.
+    ensures only { (c : Command) → IsLineOf schema.now line.now c →
+        AnswersUnlessNoMemory result (λ given. given ≡ Ok c) }
+    // The words before the first bad one begin some line of the bare grammar, and no line goes on
+    // with it.
     ensures fault { IfErr result (λ error. IsBad schema.now line.now error) }
     // A line is read as a command exactly where it means that command by the grammar.
-    ensures means { (c : Command) → IsReading schema.now line.now (Ok c) ↔ IsLineOf schema.now line.now c }
+    ensures means { (c : Command) → IsReading schema.now line.now (Ok c) ↔
+        IsLineOf schema.now line.now c }
     // A line that means no command has this first reason.
     ensures exact { AnswersUnlessNoMemory result (IsReading schema.now line.now) }
     // A line means one command at most, or has one first reason.
-    ensures one { (given other : Result Command LineWhy) → IsReading schema.now line.now given → IsReading schema.now line.now other → given ≡ other }
+    ensures one { (given other : Result Command LineWhy) → IsReading schema.now line.now given →
+        IsReading schema.now line.now other → given ≡ other }
     ensures of_schema { IfOk result (λ c. IsOfSchema schema.now c) }
     // It has at most as many conditions as the line has bytes.
     ensures few { IfOk result (λ c. length (conds_of c) ≤ length line.now) }

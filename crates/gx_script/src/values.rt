@@ -31,7 +31,8 @@ fn value_of(alloc: Global, kind: Kind, word: LineWord) -> Result<Value, NoComman
 
 /// The value of this kind that the first word is, and what follows it. `Value` where it is none.
 pub fn read_value(alloc: Global, kind: Kind, line: &[u8]) -> Result<(Value, &[u8]), NoCommand>
-    ensures { Gives (λ x. (x.0, words_in x.1.now)) result (want (a_value kind) (words_in line.now)) }
+    ensures { Gives (λ x. (x.0, words_in x.1.now)) result
+        (want (a_value kind) (words_in line.now)) }
 {
     let (word, rest) = take_word(line)?;
     let value = value_of(alloc, kind, word)?;
@@ -44,7 +45,8 @@ pub fn read_values<'a>(
     fields: &[Field],
     line: &'a [u8],
 ) -> Result<(Values, &'a [u8]), NoCommand>
-    ensures { Gives (λ x. (x.0, words_in x.1.now)) result (values_at fields.now [] (words_in line.now)) }
+    ensures { Gives (λ x. (x.0, words_in x.1.now)) result
+        (values_at fields.now [] (words_in line.now)) }
 {
     let mut values = Vec::new(alloc);
     let mut rest = line;

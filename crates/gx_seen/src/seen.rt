@@ -51,7 +51,8 @@ pub fn seek_unseen<P: Pages>(pages: &mut P, owner: u16, seen: &[bool]) -> Result
     Ok(())
 }
 
-// Of so many pages from `first` on, the first of the owner that wasn't seen. These are their owners.
+// Of so many pages from `first` on, the first of the owner that wasn't seen. These are their
+// owners.
 fn unseen_page(owners: &[u16], first: u32, count: u32, owner: u16, seen: &[bool]) -> Option<u32>
     requires count { count ≤ length owners.now }
     requires seen { first + count ≤ length seen.now }

@@ -37,7 +37,8 @@ pub fn split_entry(bytes: &[u8]) -> Option<((&[u8], &[u8]), &[u8])>
 
 // The lengths of a key and of a body, and the bytes behind them.
 fn split_lengths(bytes: &[u8]) -> Option<(usize, usize, &[u8])>
-    ensures { MatchOption result (length bytes.now < 4) (λ found. (found.0 < 2 ^ 16) × (found.1 < 2 ^ 16)
+    ensures { MatchOption result (length bytes.now < 4)
+        (λ found. (found.0 < 2 ^ 16) × (found.1 < 2 ^ 16)
         × (bytes.now ≡ to_be_bytes w16 found.0 ++ (to_be_bytes w16 found.1 ++ found.2.now))) }
 {
     let (key_len, rest) = split_u16(bytes)?;
@@ -57,7 +58,8 @@ pub(crate) fn entry_len(key: &[u8], body: &[u8]) -> usize
 pub(crate) fn write_entry(bytes: &mut [u8], at: usize, key: &[u8], body: &[u8])
     requires fit { IsFit (record { key = key.now; body = body.now }) }
     requires room { at + entry_len (record { key = key.now; body = body.now }) ≤ length bytes.old }
-    ensures { bytes.new ≡ overwritten bytes.old at (entry_bytes (record { key = key.now; body = body.now })) }
+    ensures { bytes.new
+        ≡ overwritten bytes.old at (entry_bytes (record { key = key.now; body = body.now })) }
 {
     overwrite(bytes, at, &(key.len() as u16).to_be_bytes());
     overwrite(bytes, at + LENGTH_LEN, &(body.len() as u16).to_be_bytes());

@@ -60,7 +60,8 @@ impl<'a> Iterator for Entries<'a> {
 /// The place of the entry with the key. None where no entry has it.
 pub(crate) fn place_of(entries: Entries<'_>, key: &[u8]) -> Option<u16>
     requires { length entries < 2 ^ 16 }
-    ensures found { IfSome result (λ i. (i < length entries.entry) × HoldsAt (λ entry. entry.key ≡ key.now) entries.entry i) }
+    ensures found { IfSome result (λ i. (i < length entries.entry)
+        × HoldsAt (λ entry. entry.key ≡ key.now) entries.entry i) }
     ensures missing { IfNone result (All (λ entry. entry.key ≢ key.now) entries.entry) }
 {
     let mut place = 0;

@@ -1,4 +1,5 @@
-//! Entry pages: a page is a list of entries, each a key and a body, and the number of the next page.
+//! Entry pages: a page is a list of entries, each a key and a body, and the number of the next
+//! page.
 #![tactic(auto)]
 
 mod format;

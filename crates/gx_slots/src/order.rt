@@ -53,11 +53,14 @@ fn do_ascend(bytes: &[u8], count: u16) -> bool
 pub fn rank(page: &[u8], key: &[u8]) -> u16
     requires { IsEntryPage page.now }
     ensures place { result ≤ length (entries_of page.now) }
-    ensures before { All (λ entry. slice_cmp nat_cmp entry.key key.now ≡ Less) (take result (entries_of page.now)) }
+    ensures before { All (λ entry. slice_cmp nat_cmp entry.key key.now ≡ Less)
+        (take result (entries_of page.now)) }
     ensures stops { result < length (entries_of page.now) →
         HoldsAt (λ entry. IsTrue (is_le (slice_cmp nat_cmp key.now entry.key)))
         (entries_of page.now) result }
-    ensures behind { AreAscending (entries_of page.now) → All (λ entry. IsTrue (is_le (slice_cmp nat_cmp key.now entry.key))) (drop result (entries_of page.now)) }
+    ensures behind { AreAscending (entries_of page.now) →
+        All (λ entry. IsTrue (is_le (slice_cmp nat_cmp key.now entry.key)))
+        (drop result (entries_of page.now)) }
 {
     let mut place = 0;
     for (found, _) in entries(page) {

@@ -62,7 +62,8 @@ pub fn entries(page: &[u8]) -> Entries<'_>
 /// The place of the entry with the key, counted from 0. None exactly where no entry has the key.
 pub fn find(page: &[u8], key: &[u8]) -> Option<u16>
     requires { IsEntryPage page.now }
-    ensures found { IfSome result (λ i. (i < length (entries_of page.now)) × HoldsAt (λ entry. entry.key ≡ key.now) (entries_of page.now) i) }
+    ensures found { IfSome result (λ i. (i < length (entries_of page.now))
+        × HoldsAt (λ entry. entry.key ≡ key.now) (entries_of page.now) i) }
     ensures missing { IfNone result (All (λ entry. entry.key ≢ key.now) (entries_of page.now)) }
 {
     place_of(entries(page), key)
@@ -77,18 +78,22 @@ pub fn entry(page: &[u8], i: u16) -> (&[u8], &[u8])
     entries(page).nth(usize::from(i)).unwrap()
 }
 
-/// Puts an entry at place `i`, which is at most the count. The key isn't on the page and has at most
-/// 400 bytes, and the key and the body have at most 1,000 together. False exactly where the entry
-/// doesn't fit, and then nothing changes. A page with at most three entries always has room.
+/// Puts an entry at place `i`, which is at most the count. The key isn't on the page and has at
+/// most 400 bytes, and the key and the body have at most 1,000 together. False exactly where the
+/// entry doesn't fit, and then nothing changes. A page with at most three entries always has room.
 pub fn add(page: &mut [u8], i: u16, key: &[u8], body: &[u8]) -> bool
     requires page { IsEntryPage page.old }
     requires place { i ≤ length (entries_of page.old) }
     requires other { All (λ entry. entry.key ≢ key.now) (entries_of page.old) }
     requires fit { IsFit (record { key = key.now; body = body.now }) }
     ensures page { IsEntryPage page.new }
-    ensures room { IsTrue result ↔ (used_by (insert (entries_of page.old) i (record { key = key.now; body = body.now })) ≤ 4096) }
+    ensures room { IsTrue result ↔
+        (used_by (insert (entries_of page.old) i (record { key = key.now; body = body.now }))
+        ≤ 4096) }
     ensures few { length (entries_of page.old) ≤ 3 → IsTrue result }
-    ensures added { OnTrue result (entries_of page.new ≡ insert (entries_of page.old) i (record { key = key.now; body = body.now })) }
+    ensures added { OnTrue result
+        (entries_of page.new
+        ≡ insert (entries_of page.old) i (record { key = key.now; body = body.now })) }
     ensures full { OnFalse result (page.new ≡ page.old) }
     ensures next { next_of page.new ≡ next_of page.old }
 {

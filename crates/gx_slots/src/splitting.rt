@@ -11,8 +11,8 @@ use gx_bytes::{HEADER_LEN, NONE, PAGE_LEN, overwrite, set_record_count, write_he
 /// Half of the bytes that entries may take.
 const HALF: usize = (PAGE_LEN - HEADER_LEN) / 2;
 
-/// Moves the entries from place `i` on, which is at most the count, to `right`, which has 4,096 bytes,
-/// of any values, and gets no next page.
+/// Moves the entries from place `i` on, which is at most the count, to `right`, which has 4,096
+/// bytes, of any values, and gets no next page.
 pub fn split(page: &mut [u8], i: u16, right: &mut [u8])
     requires page { IsEntryPage page.old }
     requires place { i ≤ length (entries_of page.old) }

@@ -49,7 +49,8 @@ fn is_new(seen: &mut [bool], bytes: &[u8], place: u16, key: &[u8]) -> bool
     requires len { length seen.old ≡ 4096 }
     requires held { HoldsCount place bytes.now }
     requires seen { HasSeen seen.old (entries_in place bytes.now) }
-    ensures other { IsTrue result ↔ All (λ entry. entry.key ≢ key.now) (entries_in place bytes.now) }
+    ensures other { IsTrue result ↔
+        All (λ entry. entry.key ≢ key.now) (entries_in place bytes.now) }
     ensures kept { HasSeen seen.new (entries_in place bytes.now) }
     ensures added { IsTrue result → slice_index_or seen.new (hash_of key.now) false ≡ true }
 {

@@ -10,7 +10,8 @@ use Rattle.gx_split.specs.Groups.{chosen}
 -- the same key, and the fields of the group
 abbrev pub segment_form : List Bool → Form → ℕ → Form
 segment_form mask form zero = record { keys = form.keys; fields = chosen mask form.fields }
-segment_form mask form (suc child) = record { keys = form.keys; fields = chosen (map not mask) form.fields }
+segment_form mask form (suc child) =
+    record { keys = form.keys; fields = chosen (map not mask) form.fields }
 
 -- what stands in the place of a field or a value that isn't there
 abbrev pub no_field : Field

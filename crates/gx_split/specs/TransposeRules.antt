@@ -45,7 +45,9 @@ first_value (v ∷ vs) = v
 -- the values of the parts, which stand in the children from i on
 abbrev pub column_values : ℕ → List Part → Option (List Value)
 column_values i [] = Some []
-column_values i (p ∷ ps) = if nat_eq p.child i then option_map (λ vs. first_value p.rec.fields ∷ vs) (column_values (suc i) ps) else None
+column_values i (p ∷ ps) =
+    if nat_eq p.child i then option_map (λ vs. first_value p.rec.fields
+    ∷ vs) (column_values (suc i) ps) else None
 
 -- the part has one value, which can be copied
 pub record IsAlone (p : Part) : Type 0 where

@@ -38,7 +38,8 @@ fn column_part(alloc: Global, key: &Values, child: u16, value: &Value) -> Result
     Ok(Part { child, rec })
 }
 
-/// The values of the parts, which have one each. `None`: they don't stand in the children from 0 on.
+/// The values of the parts, which have one each. `None`: they don't stand in the children from 0
+/// on.
 /// `NoMemory`: there was none for the values.
 pub(crate) fn column_values(alloc: Global, parts: &[Part]) -> Result<Option<Values>, NoMemory>
     requires { (p : ThePart) → In p parts.now → IsAlone p }

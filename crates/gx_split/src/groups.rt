@@ -21,7 +21,8 @@ pub(crate) fn chosen_fields(alloc: Global, mask: &Mask, fields: &Fields) -> Resu
 }
 
 fn push_field(made: &mut Vec<Field>, is_chosen: bool, field: &Field) -> Result<(), NoMemory>
-    ensures { IfOk result (λ _. made.new.items ≡ made.old.items ++ (if is_chosen then field.now ∷ [] else [])) }
+    ensures { IfOk result (λ _. made.new.items ≡ made.old.items
+        ++ (if is_chosen then field.now ∷ [] else [])) }
 {
     if is_chosen {
         made.push(field.copy())?;
@@ -49,7 +50,8 @@ fn push_value(
     value: &Value,
 ) -> Result<(), NoMemory>
     requires { IsSized value.now }
-    ensures { IfOk result (λ _. made.new.items ≡ made.old.items ++ (if is_chosen then value.now ∷ [] else [])) }
+    ensures { IfOk result (λ _. made.new.items ≡ made.old.items
+        ++ (if is_chosen then value.now ∷ [] else [])) }
 {
     if is_chosen {
         made.push(value.copy(alloc)?)?;

@@ -1,5 +1,5 @@
-//! The transformations `segment` and `transpose`: the data fields of a record in two groups, or each
-//! alone.
+//! The transformations `segment` and `transpose`: the data fields of a record in two groups, or
+//! each alone.
 #![tactic(auto)]
 
 mod columns;

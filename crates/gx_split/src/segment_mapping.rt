@@ -97,8 +97,10 @@ impl Segment {
 
     // The values of the record with these parts.
     fn values(&self, alloc: Global, parts: &[Part]) -> Result<Option<Values>, NoMemory>
-        requires { (p : ThePart) → In p parts.now → IsOf (segment_form (mask_of self.now) (form_of self.now) p.child) p.rec }
-        ensures { IfOk result (λ found. found ≡ segment_values (mask_of self.now) (form_of self.now) parts.now) }
+        requires { (p : ThePart) → In p parts.now →
+            IsOf (segment_form (mask_of self.now) (form_of self.now) p.child) p.rec }
+        ensures { IfOk result
+            (λ found. found ≡ segment_values (mask_of self.now) (form_of self.now) parts.now) }
     {
         match parts {
             [first] => self.short_values(alloc, first),
@@ -109,8 +111,10 @@ impl Segment {
 
     // Those of one part alone.
     fn short_values(&self, alloc: Global, first: &Part) -> Result<Option<Values>, NoMemory>
-        requires { IsOf (segment_form (mask_of self.now) (form_of self.now) first.now.child) first.now.rec }
-        ensures { IfOk result (λ found. found ≡ segment_values (mask_of self.now) (form_of self.now) (first.now ∷ [])) }
+        requires { IsOf (segment_form (mask_of self.now) (form_of self.now) first.now.child)
+            first.now.rec }
+        ensures { IfOk result
+            (λ found. found ≡ segment_values (mask_of self.now) (form_of self.now) (first.now ∷ [])) }
     {
         if first.child != 0 {
             return Ok(None);
@@ -132,9 +136,13 @@ impl Segment {
         first: &Part,
         others: &Part,
     ) -> Result<Option<Values>, NoMemory>
-        requires first { IsOf (segment_form (mask_of self.now) (form_of self.now) first.now.child) first.now.rec }
-        requires others { IsOf (segment_form (mask_of self.now) (form_of self.now) others.now.child) others.now.rec }
-        ensures { IfOk result (λ found. found ≡ segment_values (mask_of self.now) (form_of self.now) (first.now ∷ others.now ∷ [])) }
+        requires first { IsOf (segment_form (mask_of self.now) (form_of self.now) first.now.child)
+            first.now.rec }
+        requires others { IsOf (segment_form (mask_of self.now) (form_of self.now) others.now.child)
+            others.now.rec }
+        ensures { IfOk result
+            (λ found. found ≡ segment_values (mask_of self.now) (form_of self.now) (first.now
+            ∷ others.now ∷ [])) }
     {
         if first.child != 0 || others.child != 1 {
             return Ok(None);

@@ -17,18 +17,21 @@ use Rattle.gx_gather.specs.Gather.{rec_cmp, gather_cmp, AreMade, IsUnmade}
 -- ---- trees
 
 -- the leaves hold these records, which stand in the order of their keys
-pub record AreHeld {M : Type 0} (rule : M → Rule) (t : Tree M) (whole : Type 0) (maps : List LeafMap) (found : List Rec) : Type 0 where
+pub record AreHeld {M : Type 0} (rule : M → Rule) (t : Tree M) (whole : Type 0)
+    (maps : List LeafMap) (found : List Rec) : Type 0 where
   pub fit : (r : Rec) → In r found → IsOf (tree_form rule t) r
   pub in_order : whole → IsStrictlySortedBy rec_cmp found
   pub held : whole → IsInternal rule t found maps
 
-abbrev pub IsHeld : {M : Type 0} (rule : M → Rule) → Tree M → Type 0 → List LeafMap → Option (List Rec) → Type 0
+abbrev pub IsHeld : {M : Type 0} (rule : M → Rule) → Tree M → Type 0 → List LeafMap
+    → Option (List Rec) → Type 0
 IsHeld rule t whole maps None = whole → ¬ HasSet rule t maps
 IsHeld rule t whole maps (Some found) = AreHeld rule t whole maps found
 
 -- ---- one leaf
 
-pub record AreLeafHeld (form : Form) (whole : Type 0) (m : LeafMap) (found : List Rec) : Type 0 where
+pub record AreLeafHeld (form : Form) (whole : Type 0) (m : LeafMap)
+    (found : List Rec) : Type 0 where
   pub fit : (r : Rec) → In r found → IsOf form r
   pub in_order : whole → IsStrictlySortedBy rec_cmp found
   pub held : whole → IsLeafMap m found
@@ -41,7 +44,8 @@ IsLeafHeld form whole m (Some found) = AreLeafHeld form whole m found
 
 -- each count that was noted at the number of a leaf is that of the leaf's entries
 abbrev pub AreCounts : List LeafMap → List (Option ℕ) → Type 0
-AreCounts maps counts = (leaf count : ℕ) → slice_get counts leaf ≡ Some (Some count) → count ≡ len (map_at maps leaf)
+AreCounts maps counts = (leaf count : ℕ) → slice_get counts leaf ≡ Some (Some count)
+    → count ≡ len (map_at maps leaf)
 
 -- ---- the parts of one layer
 
@@ -50,7 +54,9 @@ abbrev pub other_parts : Rule → Rec → List Part
 other_parts rule r = filter (λ part. not (rule.holds_rest part.child)) (rule.parts r)
 
 abbrev pub is_same_part : Part → Part → Bool
-is_same_part p q = nat_eq p.child q.child && (eq_by_cmp values_cmp p.rec.key q.rec.key && eq_by_cmp values_cmp p.rec.fields q.rec.fields)
+is_same_part p q =
+    nat_eq p.child q.child &&
+    (eq_by_cmp values_cmp p.rec.key q.rec.key && eq_by_cmp values_cmp p.rec.fields q.rec.fields)
 
 -- these are all parts of these records
 pub record AreMadeWith (rule : Rule) (main others : List Part) (found : List Rec) : Type 0 where
@@ -68,4 +74,6 @@ pub record AreMadeWithout (rule : Rule) (main others : List Part) : Type 0 where
 
 abbrev pub AreJoined : Rule → List Part → List Part → Option (List Rec) → Type 0
 AreJoined rule main others (Some found) = AreMadeWith rule main others found
-AreJoined rule main others None = IsUnmade rule (length rule.form.keys) (IsStrictlySortedBy part_cmp main) main ⊎ AreMadeWithout rule main others
+AreJoined rule main others None =
+    IsUnmade rule (length rule.form.keys) (IsStrictlySortedBy part_cmp main) main
+    ⊎ AreMadeWithout rule main others

@@ -1,4 +1,5 @@
-// Entries of leaves: those that come from a record, and the changes from those of one to those of another.
+// Entries of leaves: those that come from a record, and the changes from those of one to those of
+// another.
 ghost use Rattle.std.specs.Prelude.{◌≡◌, ◌<◌, ◌≤◌, ◌+◌, length, Option, Some, None, true, false, IsTrue, IfOk, OnOk, IsErrOf, ◌↔◌};
 ghost use Rattle.gx_ports.specs.LeafMaps.{entry_count, IsCrowdedBy};
 ghost use Rattle.gx_ports.specs.Calls.{Keeps, Ends};
@@ -60,7 +61,8 @@ pub fn body_entry(
     Ok(LeafEntry { leaf, key, body })
 }
 
-// The bytes of a record's key. Those of one value are written in place: to return a `KeyBuf` copies it.
+// The bytes of a record's key. Those of one value are written in place: to return a `KeyBuf` copies
+// it.
 fn entry_key(alloc: Global, form: &Form, key: &Values) -> Result<Octets, NoMemory>
     requires form { IsLeafForm form.now }
     requires of_form { AreFit form.now.keys key.now }
@@ -113,8 +115,8 @@ fn is_same_place(a: &LeafEntry, b: &LeafEntry) -> bool
     a.leaf == b.leaf && a.key.as_slice() == b.key.as_slice()
 }
 
-// The number of the entry at the place of another one. Two lists of one tree mostly have it at the same
-// number, so that is looked at first.
+// The number of the entry at the place of another one. Two lists of one tree mostly have it at the
+// same number, so that is looked at first.
 fn place_of(entries: &[LeafEntry], entry: &LeafEntry, guess: usize) -> Option<usize>
     ensures { IsPlace entries.now entry.now result }
 {

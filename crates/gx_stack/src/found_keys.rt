@@ -20,12 +20,12 @@ use gx_values::{Name, Span};
 use std::alloc::{AllocError, Global};
 
 impl<M: Mapping> Node<M> {
-    /// Appends the keys of the records whose field's key bytes are inside the span, each once and in any
-    /// order. The field is indexed, so that no other records are read.
+    /// Appends the keys of the records whose field's key bytes are inside the span, each once and
+    /// in any order. The field is indexed, so that no other records are read.
     ///
-    /// `Damaged`: some leaf's stored form isn't whole, or the leaves hold no set of records, which is said
-    /// of block 0. `Fault`: the count of faults rose; with any other answer it stays. `NoMemory`: there was
-    /// none. After a refusal `out` may have more at its end.
+    /// `Damaged`: some leaf's stored form isn't whole, or the leaves hold no set of records, which
+    /// is said of block 0. `Fault`: the count of faults rose; with any other answer it stays.
+    /// `NoMemory`: there was none. After a refusal `out` may have more at its end.
     pub fn keys_where<B: Leaves>(
         &self,
         alloc: Global,

@@ -9,8 +9,8 @@ use gx_mapping::Mapping;
 use gx_values::Name;
 
 impl<M: Mapping> Node<M> {
-    /// Whether the records are indexed by this data field: the mapping has an index by it, or some child
-    /// carries it and each child that carries it is indexed by it.
+    /// Whether the records are indexed by this data field: the mapping has an index by it, or some
+    /// child carries it and each child that carries it is indexed by it.
     pub fn indexed(&self, field: &Name) -> bool
         requires { IsValid M.rule (tree_of self.now) }
         ensures { result ≡ is_indexed M.rule (tree_of self.now) field.now }

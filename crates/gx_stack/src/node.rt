@@ -51,15 +51,16 @@ pub struct LayerNode<M: Mapping> {
 }
 
 impl<M: Mapping> Node<M> {
-    /// What the leaves hold for a set of records is said in two ways that are one: child by child, and as
-    /// the union of the leaf entries that come from the records. It does nothing.
+    /// What the leaves hold for a set of records is said in two ways that are one: child by child,
+    /// and as the union of the leaf entries that come from the records. It does nothing.
     pub fn internal_is_union(&self)
         requires { IsValid M.rule (tree_of self.now) }
         ensures { (R : List Record) (maps : List LeafMap) →
             IsInternal M.rule (tree_of self.now) R maps ↔ IsUnion M.rule (tree_of self.now) R maps }
     {}
 
-    /// What the leaves hold tells the records: they hold one set of records at most. It does nothing.
+    /// What the leaves hold tells the records: they hold one set of records at most. It does
+    /// nothing.
     pub fn internal_tells_records(&self)
         requires { IsValid M.rule (tree_of self.now) }
         ensures { (R S : List Record) (maps : List LeafMap) (r : Record) →
@@ -188,12 +189,13 @@ impl<M: Mapping> Node<M> {
         Ok(entries)
     }
 
-    /// Changes one record: `old` is what the node holds at the key, and `new` what it is to hold there. The
-    /// entries that both have are left alone.
+    /// Changes one record: `old` is what the node holds at the key, and `new` what it is to hold
+    /// there. The entries that both have are left alone.
     ///
-    /// `Full`: there is a `new`, and the pages may not be enough for its entries besides all that there
-    /// are. `Damaged`: some leaf's stored form isn't whole. `Fault`: the count of faults rose; with any
-    /// other answer it stays. `NoMemory`: there was none. After a refusal a part of the change may be made.
+    /// `Full`: there is a `new`, and the pages may not be enough for its entries besides all that
+    /// there are. `Damaged`: some leaf's stored form isn't whole. `Fault`: the count of faults
+    /// rose; with any other answer it stays. `NoMemory`: there was none. After a refusal a part of
+    /// the change may be made.
     pub fn replace<B: Leaves>(
         &self,
         alloc: Global,
@@ -213,7 +215,8 @@ impl<M: Mapping> Node<M> {
             IsInternal M.rule (tree_of self.now) R (B.working leaves.old) → OnOk result
             (IsInternal M.rule (tree_of self.now) (changed R old new) (B.working leaves.new)) }
 
-        ensures replaces { Replaces B.View M.rule (tree_of self.now) new leaves.old leaves.new result }
+        ensures replaces { Replaces B.View M.rule
+            (tree_of self.now) new leaves.old leaves.new result }
     {
         let gone = self.entries_if(alloc, old)?;
         self.replace_entries(alloc, leaves, &gone, new)
@@ -221,9 +224,10 @@ impl<M: Mapping> Node<M> {
 
     /// The same, where `gone` has the leaf entries of what the node holds at the key.
     ///
-    /// `Full`: there is a `new`, and the pages may not be enough for its entries besides all that there
-    /// are. `Damaged`: some leaf's stored form isn't whole. `Fault`: the count of faults rose; with any
-    /// other answer it stays. `NoMemory`: there was none. After a refusal a part of the change may be made.
+    /// `Full`: there is a `new`, and the pages may not be enough for its entries besides all that
+    /// there are. `Damaged`: some leaf's stored form isn't whole. `Fault`: the count of faults
+    /// rose; with any other answer it stays. `NoMemory`: there was none. After a refusal a part of
+    /// the change may be made.
     pub fn replace_entries<B: Leaves>(
         &self,
         alloc: Global,
@@ -244,7 +248,8 @@ impl<M: Mapping> Node<M> {
             IsInternal M.rule (tree_of self.now) R (B.working leaves.old) → OnOk result
             (IsInternal M.rule (tree_of self.now) (changed R old new) (B.working leaves.new)) }
 
-        ensures replaces { Replaces B.View M.rule (tree_of self.now) new leaves.old leaves.new result }
+        ensures replaces { Replaces B.View M.rule
+            (tree_of self.now) new leaves.old leaves.new result }
     {
         let come = self.entries_if(alloc, new)?;
         remove_others(alloc, leaves, gone, &come)?;
@@ -253,9 +258,9 @@ impl<M: Mapping> Node<M> {
 
     /// Appends the records whose key is inside the span, in ascending order of their keys.
     ///
-    /// `Damaged`: some leaf's stored form isn't whole, or the leaves hold no set of records, which is said
-    /// of block 0. `Fault`: the count of faults rose; with any other answer it stays. `NoMemory`: there was
-    /// none. After a refusal `out` may have more at its end.
+    /// `Damaged`: some leaf's stored form isn't whole, or the leaves hold no set of records, which
+    /// is said of block 0. `Fault`: the count of faults rose; with any other answer it stays.
+    /// `NoMemory`: there was none. After a refusal `out` may have more at its end.
     pub fn select<B: Leaves>(
         &self,
         alloc: Global,
@@ -305,8 +310,8 @@ impl<M: Mapping> Node<M> {
     }
 }
 
-// Replaces each record from this place on, all of one child, by the one that has it as its only data
-// part.
+// Replaces each record from this place on, all of one child, by the one that has it as its only
+// data part.
 fn gather_from<M: Mapping>(
     alloc: Global,
     mapping: &M,

@@ -1,4 +1,5 @@
--- The leaves that stand for a state: for each file a node, which holds the file's records, and for each link nodes, which hold the link.
+-- The leaves that stand for a state: for each file a node, which holds the file's records, and for
+-- each link nodes, which hold the link.
 use Rattle.std.specs.Prelude.{[], ◌≡◌, ℕ, ◌+◌, ◌<◌, ◌≤◌, List, ◌∷◌, length}
 use Rattle.std.specs.List.{sum_by}
 use Rattle.gx_schema.specs.declared.schema.Schema.{Schema}
@@ -23,9 +24,11 @@ use Rattle.gx_scan.specs.Files.{records_of, IsStorable}
 use Rattle.gx_scan.specs.Where.{AreNamed}
 
 -- the leaves hold the records of each file and each link of a valid state
-pub record AreInternal (schema : Schema) (built : Built) (maps : List LeafMap) (s : State) : Type 0 where
+pub record AreInternal (schema : Schema) (built : Built) (maps : List LeafMap)
+    (s : State) : Type 0 where
   pub valid : IsValid schema s
-  pub files : (i : ℕ) → i < length schema.files → IsHeld any_rule (tree_at built.files i) (records_of (file_in s i)) maps
+  pub files : (i : ℕ) → i < length schema.files
+      → IsHeld any_rule (tree_at built.files i) (records_of (file_in s i)) maps
   pub links : (i : ℕ) → i < length schema.links → IsHeldAt built.links i (link_in s i) maps
 
 -- the leaves stand for some state
@@ -39,7 +42,8 @@ pub record AreStorable (schema : Schema) : Type 0 where
   pub links : (i : ℕ) → i < length schema.links → IsStorableLink schema.files (link_at schema i)
   pub few_links : length schema.links ≤ 32
 
--- there are nodes for each file and each link of the schema over so many leaves, and the owner of each leaf is that of its nodes
+-- there are nodes for each file and each link of the schema over so many leaves, and the owner of
+-- each leaf is that of its nodes
 pub record AreFor (schema : Schema) (built : Built) (leaves : ℕ) : Type 0 where
   pub storable : AreStorable schema
   pub nodes : AreNodes schema built.files leaves
@@ -53,17 +57,20 @@ pub record AreFor (schema : Schema) (built : Built) (leaves : ℕ) : Type 0 wher
 abbrev pub entries_from : List (Node AnyMapping) → List File → ℕ
 entries_from [] fs = 0
 entries_from (n ∷ ns) [] = 0
-entries_from (n ∷ ns) (f ∷ fs) = entry_total any_rule (tree_of n) (records_of f) + entries_from ns fs
+entries_from (n ∷ ns) (f ∷ fs) =
+    entry_total any_rule (tree_of n) (records_of f) + entries_from ns fs
 
 -- how many come from one owner of a link, with its members
 abbrev pub owner_count : LinkTree → Link → Value → ℕ
-owner_count x link o = length (owner_entries any_rule (link_kids x) (rows_of (linkset_of x)) o (members_of link o))
+owner_count x link o =
+    length (owner_entries any_rule (link_kids x) (rows_of (linkset_of x)) o (members_of link o))
 
 -- how many come from links
 abbrev pub link_entries_from : List LinkTree → List Link → ℕ
 link_entries_from [] ls = 0
 link_entries_from (x ∷ xs) [] = 0
-link_entries_from (x ∷ xs) (l ∷ ls) = sum_by (owner_count x l) (owners_of l) + link_entries_from xs ls
+link_entries_from (x ∷ xs) (l ∷ ls) =
+    sum_by (owner_count x l) (owners_of l) + link_entries_from xs ls
 
 -- how many leaf entries a state has
 abbrev pub state_entries : Built → State → ℕ

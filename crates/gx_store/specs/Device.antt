@@ -24,11 +24,14 @@ pub record IsSize (specs : List LeafSpec) (blocks : ℕ) : Type 0 where
 
 -- how many pages and blocks there are, and of which database
 abbrev pub ground_on : List (List ℕ) → Ground
-ground_on blocks = record { size = pages_of (length blocks); tables = 16; blocks = length blocks; first = 7 + pages_of (length blocks); head = head_of blocks }
+ground_on blocks =
+    record
+    { size = pages_of (length blocks); tables = 16; blocks = length blocks; first = 7 + pages_of (length blocks); head = head_of blocks }
 
 -- the bytes of the text blocks of a head are the lengths of these two texts, the texts, and zeros
 abbrev pub AreTexts : List ℕ → List ℕ → List (List ℕ) → Type 0
-AreTexts schema equation head = (q : ℕ) → q < 16384 → text_at head q ≡ slice_index_or (text_area schema equation) q 0
+AreTexts schema equation head = (q : ℕ) → q < 16384
+    → text_at head q ≡ slice_index_or (text_area schema equation) q 0
 
 abbrev pub HasTexts : List ℕ → List ℕ → List (List ℕ) → Type 0
 HasTexts schema equation blocks = AreTexts schema equation (head_of blocks)
@@ -40,13 +43,15 @@ pub record IsHeadOf (schema equation : List ℕ) (specs : List LeafSpec) (head :
   pub leaves : head.leaves ≡ specs
 
 -- the table of owners is whole, and so is each leaf of these kinds; these are their maps
-pub record AreMaps (base : Ground) (specs : List LeafSpec) (maps : List LeafMap) (sheets : Sheets) : Type 0 where
+pub record AreMaps (base : Ground) (specs : List LeafSpec) (maps : List LeafMap)
+    (sheets : Sheets) : Type 0 where
   pub laid : AreLaid base (places_of base specs) sheets
   pub maps_are : maps_of base (places_of base specs) sheets ≡ maps
 
--- The blocks have the magic and these two texts, and these pages, which the blocks stand for, hold these maps in leaves of
--- these kinds.
-pub record IsDatabase (schema equation : List ℕ) (specs : List LeafSpec) (maps : List LeafMap) (blocks pages : List (List ℕ)) : Type 0 where
+-- The blocks have the magic and these two texts, and these pages, which the blocks stand for, hold
+-- these maps in leaves of these kinds.
+pub record IsDatabase (schema equation : List ℕ) (specs : List LeafSpec) (maps : List LeafMap)
+    (blocks pages : List (List ℕ)) : Type 0 where
   pub size : IsSize specs (length blocks)
   pub magic : HasMagic (get_or blocks 0 [])
   pub texts : HasTexts schema equation blocks
@@ -57,16 +62,19 @@ abbrev pub home_pages : List (List ℕ) → List (List ℕ)
 home_pages blocks = take (pages_of (length blocks)) (drop (7 + pages_of (length blocks)) blocks)
 
 -- The device holds these maps, and its gate is closed.
-pub record IsSettled (schema equation : List ℕ) (specs : List LeafSpec) (maps : List LeafMap) (blocks : List (List ℕ)) : Type 0 where
+pub record IsSettled (schema equation : List ℕ) (specs : List LeafSpec) (maps : List LeafMap)
+    (blocks : List (List ℕ)) : Type 0 where
   pub gate : is_open (get_or blocks 1 []) ≡ false
   pub database : IsDatabase schema equation specs maps blocks (home_pages blocks)
 
--- It is opened with these maps: those of the pages in their homes where the gate is closed, and where it is open
--- those of the slots that the bitmap names.
+-- It is opened with these maps: those of the pages in their homes where the gate is closed, and
+-- where it is open those of the slots that the bitmap names.
 abbrev pub Reopens : List ℕ → List ℕ → List LeafSpec → List LeafMap → List (List ℕ) → Type 0
-Reopens schema equation specs maps blocks = IsDatabase schema equation specs maps blocks (replayed_pages blocks)
+Reopens schema equation specs maps blocks =
+    IsDatabase schema equation specs maps blocks (replayed_pages blocks)
 
--- the same pages and the same head are read from these blocks: what opens one of them opens the other
+-- the same pages and the same head are read from these blocks: what opens one of them opens the
+-- other
 pub record ReadAlike (old new : List (List ℕ)) : Type 0 where
   pub count : length new ≡ length old
   pub head : head_of new ≡ head_of old
@@ -74,10 +82,12 @@ pub record ReadAlike (old new : List (List ℕ)) : Type 0 where
 
 -- Where the blocks have the magic, they are opened with an empty database.
 abbrev pub IsNoneOrEmpty : List ℕ → List ℕ → List LeafSpec → List (List ℕ) → Type 0
-IsNoneOrEmpty schema equation specs blocks = HasMagic (get_or blocks 0 []) → Reopens schema equation specs (replicate (length specs) empty) blocks
+IsNoneOrEmpty schema equation specs blocks = HasMagic (get_or blocks 0 [])
+    → Reopens schema equation specs (replicate (length specs) empty) blocks
 
 -- An empty database was made on a device of so many blocks.
-pub record IsMadeOn (size : ℕ) (schema equation : List ℕ) (specs : List LeafSpec) (blocks : List (List ℕ)) : Type 0 where
+pub record IsMadeOn (size : ℕ) (schema equation : List ℕ) (specs : List LeafSpec)
+    (blocks : List (List ℕ)) : Type 0 where
   pub count : length blocks ≡ size
   pub settled : IsSettled schema equation specs (replicate (length specs) empty) blocks
   pub reopens : Reopens schema equation specs (replicate (length specs) empty) blocks

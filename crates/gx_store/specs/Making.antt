@@ -19,7 +19,8 @@ use Rattle.gx_store.specs.declared.unopened.Unopened.TheVariants as unopened
 
 -- Why no device of that name is made, with so many blocks.
 abbrev pub IsUnmade : List ℕ → ℕ → List LeafSpec → Content → Unopened → Type 0
-IsUnmade name count specs before unopened.Exists = IsSize specs count × IsSome (device_at before.now name)
+IsUnmade name count specs before unopened.Exists =
+    IsSize specs count × IsSome (device_at before.now name)
 IsUnmade name count specs before unopened.Size = ¬ IsSize specs count
 IsUnmade name count specs before unopened.Fault = Unit {0}
 IsUnmade name count specs before unopened.NoMemory = Unit {0}
@@ -60,6 +61,8 @@ module _ {M : Type 0} {g : device.Ghosts M} where
 
   -- the blocks hold what these pages hold, under the texts of the head
   abbrev pub Publishes : Journal M g → List (List ℕ) → List (List ℕ) → Type 0
-  Publishes j pages blocks = (schema equation : List ℕ) (specs : List LeafSpec) (maps : List LeafMap)
-      → drop 1 (head_blocks j) ≡ text_blocks schema equation → IsRoomFor (ground_of j) specs → AreMaps (ground_of j) specs maps (sheets_of pages)
+  Publishes j pages blocks =
+      (schema equation : List ℕ) (specs : List LeafSpec) (maps : List LeafMap)
+      → drop 1 (head_blocks j) ≡ text_blocks schema equation → IsRoomFor (ground_of j) specs
+      → AreMaps (ground_of j) specs maps (sheets_of pages)
       → IsSettled schema equation specs maps blocks

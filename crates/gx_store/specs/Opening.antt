@@ -11,7 +11,8 @@ use Rattle.gx_store.specs.declared.unopened.Unopened.{Unopened}
 use Rattle.gx_store.specs.declared.unopened.Unopened.TheVariants as unopened
 
 -- the blocks have the magic and these texts, and there is room
-pub record AreOpened (schema equation : List ℕ) (specs : List LeafSpec) (blocks : List (List ℕ)) : Type 0 where
+pub record AreOpened (schema equation : List ℕ) (specs : List LeafSpec)
+    (blocks : List (List ℕ)) : Type 0 where
   pub size : IsSize specs (length blocks)
   pub magic : HasMagic (get_or blocks 0 [])
   pub texts : HasTexts schema equation blocks
@@ -21,20 +22,24 @@ pub record HaveDatabase (specs : List LeafSpec) (blocks : List (List ℕ)) : Typ
   pub size : IsSize specs (length blocks)
   pub magic : HasMagic (get_or blocks 0 [])
 
--- Why such blocks aren't opened. The place is the first one at which the bytes of the text blocks are others.
+-- Why such blocks aren't opened. The place is the first one at which the bytes of the text blocks
+-- are others.
 abbrev pub AreUnopened : List ℕ → List ℕ → List LeafSpec → List (List ℕ) → Unopened → Type 0
 AreUnopened schema equation specs blocks unopened.Size = ¬ IsSize specs (length blocks)
-AreUnopened schema equation specs blocks unopened.NoDatabase = IsSize specs (length blocks) × ¬ HasMagic (get_or blocks 0 [])
+AreUnopened schema equation specs blocks unopened.NoDatabase =
+    IsSize specs (length blocks) × ¬ HasMagic (get_or blocks 0 [])
 AreUnopened schema equation specs blocks (unopened.OtherTexts place) =
     IsSize specs (length blocks) × HasMagic (get_or blocks 0 [])
-    × DifferFirst (text_at (head_of blocks)) (λ q. slice_index_or (text_area schema equation) q 0) (Some place)
+    × DifferFirst (text_at (head_of blocks)) (λ q. slice_index_or (text_area schema equation) q 0)
+    (Some place)
 AreUnopened schema equation specs blocks unopened.Fault = Unit {0}
 AreUnopened schema equation specs blocks unopened.NoMemory = Unit {0}
 AreUnopened schema equation specs blocks why = ⊥
 
 -- Why a journal with this head isn't opened.
 abbrev pub AreUnread : List ℕ → List ℕ → List (List ℕ) → Unopened → Type 0
-AreUnread schema equation head (unopened.OtherTexts place) = DifferFirst (text_at head) (λ q. slice_index_or (text_area schema equation) q 0) (Some place)
+AreUnread schema equation head (unopened.OtherTexts place) =
+    DifferFirst (text_at head) (λ q. slice_index_or (text_area schema equation) q 0) (Some place)
 AreUnread schema equation head unopened.Fault = Unit {0}
 AreUnread schema equation head unopened.NoMemory = Unit {0}
 AreUnread schema equation head why = ⊥
@@ -44,13 +49,15 @@ abbrev pub IsUnopened : List ℕ → List ℕ → List ℕ → List LeafSpec →
 IsUnopened name schema equation specs before unopened.Missing = device_at before.now name ≡ None
 IsUnopened name schema equation specs before unopened.Fault = Unit {0}
 IsUnopened name schema equation specs before unopened.NoMemory = Unit {0}
-IsUnopened name schema equation specs before why = OfBlocks name before (λ blocks. AreUnopened schema equation specs blocks why)
+IsUnopened name schema equation specs before why =
+    OfBlocks name before (λ blocks. AreUnopened schema equation specs blocks why)
 
--- no block was written but those that recovery writes: where the gate was open, the gate and the homes of the pages that the
--- bitmap names
+-- no block was written but those that recovery writes: where the gate was open, the gate and the
+-- homes of the pages that the bitmap names
 pub record IsRecoveryOf (old new : List (List ℕ)) : Type 0 where
   pub count : length new ≡ length old
-  pub others : (n : ℕ) → ¬ IsOfRecovery (pages_of (length old)) old n → get_or new n [] ≡ get_or old n []
+  pub others : (n : ℕ) → ¬ IsOfRecovery (pages_of (length old)) old n
+      → get_or new n [] ≡ get_or old n []
 
 -- whether no block of the device was written before it was refused
 abbrev pub is_untouched : Unopened → Bool

@@ -26,7 +26,8 @@ pub record Attaches (name : List ℕ) (old new : Content) : Type 0 where
 
 -- a device of that name that was there reads as it did
 abbrev pub KeepsDevice : List ℕ → Content → Content → Type 0
-KeepsDevice name old new = (blocks : List (List ℕ)) → device_at old.now name ≡ Some blocks → device_at new.now name ≡ Some blocks
+KeepsDevice name old new = (blocks : List (List ℕ)) → device_at old.now name ≡ Some blocks
+    → device_at new.now name ≡ Some blocks
 
 -- the device of that name has these blocks, and P holds of them
 abbrev pub OfBlocks : List ℕ → Content → (List (List ℕ) → Type 0) → Type 0
@@ -48,7 +49,8 @@ module _ {M : Type 0} {g : device.Ghosts M} {v : page_view.Ghosts (Paged M g)} w
     pub whole : IsWhole s
     pub was_whole : WasWhole s
 
-  -- No commit of the leaves has failed, and what they hold is what they held at the last one, whether whole or not.
+  -- No commit of the leaves has failed, and what they hold is what they held at the last one,
+  -- whether whole or not.
   pub record IsJustOpened (s : PagedLeaves (Paged M g) v) : Type 0 where
     pub steady : v.steady (pages_of s)
     pub kept_is : kept_of s ≡ working_of s

@@ -26,13 +26,14 @@ use gx_ports::{LeafSpec, Stop};
 use std::alloc::Global;
 
 /// Makes a device of that name with so many blocks, and an empty database on it under these two
-/// canonical texts. The specs are those of the texts. The magic is written last. After Ok the device
-/// is attached.
+/// canonical texts. The specs are those of the texts. The magic is written last. After Ok the
+/// device is attached.
 ///
 /// Otherwise, in this order: `Size` of the number, `Exists`; then no device is made or changed.
 /// `Fault`: the count of faults rose; with every other answer it stays. `NoMemory`: there was none.
-/// After these two there may be a device that wasn't there before: it has so many blocks, and it has
-/// no magic, or is opened as an empty database. A device that was there before reads as it did, whatever the answer is.
+/// After these two there may be a device that wasn't there before: it has so many blocks, and it
+/// has no magic, or is opened as an empty database. A device that was there before reads as it did,
+/// whatever the answer is.
 pub fn make<M: Machine + Drop>(
     alloc: Global,
     machine: M,

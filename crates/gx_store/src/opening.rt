@@ -30,8 +30,8 @@ use std::alloc::Global;
 /// `OtherTexts`. After the first three no block was written. `Fault`: the count of faults rose;
 /// with every other answer it stays. `NoMemory`: there was none. With every answer but `Fault` the
 /// device still reads as it did, so that what opened it opens it again, and no block was written of
-/// one that has another size or no magic; whatever it answers, no block was written but by recovery,
-/// and no device was made.
+/// one that has another size or no magic; whatever it answers, no block was written but by
+/// recovery, and no device was made.
 pub fn open<M: Machine + Drop>(
     alloc: Global,
     machine: M,

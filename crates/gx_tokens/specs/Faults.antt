@@ -44,7 +44,8 @@ BreaksRule Means Rule before here = Rule × ((token : Lexeme) × (rest : List �
     × FirstToken here token rest × NoTextGoesOn Means before token)
 
 -- Why the text goes wrong at what is left behind these tokens: no token stands there; or no text of
--- the bare grammar goes on with the token, or ends there; or each that does breaks one of the rules.
+-- the bare grammar goes on with the token, or ends there; or each that does breaks one of the
+-- rules.
 abbrev pub IsCause : {A : Type 0} → (List ℕ → A → Type 0) → (List ℕ → Type 0) → (Why → Type 0) → Why
     → List Lexeme → List ℕ → Type 0
 IsCause Means Shaped Rule why.Token before here = (token : Lexeme) (rest : List ℕ)

@@ -55,7 +55,8 @@ is_printable b = nat_le 32 b && nat_le b 126
 abbrev pub after_blanks : Bool → List ℕ → List ℕ
 after_blanks in_comment [] = []
 after_blanks true (b ∷ bs) = after_blanks (not (b == 10)) bs
-after_blanks false (b ∷ bs) = if b == 35 then after_blanks true bs else (if is_blank b then after_blanks false bs else b ∷ bs)
+after_blanks false (b ∷ bs) =
+    if b == 35 then after_blanks true bs else (if is_blank b then after_blanks false bs else b ∷ bs)
 
 -- a word or a number that stands right before would go on
 abbrev pub continues_run : List ℕ → Bool
@@ -66,7 +67,8 @@ continues_run (b ∷ bs) = is_word_byte b || b == 45
 abbrev pub split_word : List ℕ → Option (List ℕ × List ℕ)
 split_word bytes =
     let len = prefix_len is_word_byte bytes in
-    if nat_lt 16 len || continues_run (drop len bytes) then None else Some (take len bytes, drop len bytes)
+    if nat_lt 16 len || continues_run (drop len bytes) then None
+    else Some (take len bytes, drop len bytes)
 
 abbrev pub sign_len : List ℕ → ℕ
 sign_len [] = 0
@@ -77,7 +79,8 @@ abbrev pub split_digits : ℕ → List ℕ → Option (List ℕ × List ℕ)
 split_digits sign bytes =
     let digits = prefix_len is_digit (drop sign bytes) in
     let len = sign + digits in
-    if digits == 0 || continues_run (drop len bytes) then None else Some (take len bytes, drop len bytes)
+    if digits == 0 || continues_run (drop len bytes) then None
+    else Some (take len bytes, drop len bytes)
 
 -- the number at the front, and what follows it
 abbrev pub split_number : List ℕ → Option (List ℕ × List ℕ)
@@ -86,28 +89,35 @@ split_number bytes = split_digits (sign_len bytes) bytes
 -- what follows the first quote, where all bytes before it are printable
 abbrev pub after_quote : List ℕ → Option (List ℕ)
 after_quote [] = None
-after_quote (b ∷ bs) = if b == 34 then Some bs else (if is_printable b then after_quote bs else None)
+after_quote (b ∷ bs) =
+    if b == 34 then Some bs else (if is_printable b then after_quote bs else None)
 
 -- what follows the second quote of a pair, where the first one stands right before
 abbrev pub after_second : List ℕ → Option (List ℕ)
 after_second [] = None
 after_second (b ∷ bs) = if b == 34 then Some bs else None
 
--- what follows the quote that ends a quoted text; the flag says that a quote with no second one has just come
+-- what follows the quote that ends a quoted text; the flag says that a quote with no second one has
+-- just come
 abbrev pub after_quoted : Bool → List ℕ → Option (List ℕ)
 after_quoted true [] = Some []
 after_quoted false [] = None
 after_quoted true (b ∷ bs) = if b == 34 then after_quoted false bs else Some (b ∷ bs)
-after_quoted false (b ∷ bs) = if b == 34 then after_quoted true bs else (if is_printable b then after_quoted false bs else None)
+after_quoted false (b ∷ bs) =
+    if b == 34 then after_quoted true bs
+    else (if is_printable b then after_quoted false bs else None)
 
 -- the quoted text at the front, whose first quote stands before it, and what follows its last quote
 abbrev pub split_quoted : List ℕ → Option (List ℕ × List ℕ)
-split_quoted bytes = option_map (λ rest. (take (length bytes - length rest - 1) bytes, rest)) (after_quoted false bytes)
+split_quoted bytes =
+    option_map (λ rest. (take (length bytes - length rest - 1) bytes, rest))
+    (after_quoted false bytes)
 
 -- ---- the first token
 
 -- the token that a text is at the front, or the fault that there is none
-abbrev pub token_or : (List ℕ → Lexeme) → ℕ → Option (List ℕ × List ℕ) → Result (Lexeme × List ℕ) Fault
+abbrev pub token_or : (List ℕ → Lexeme) → ℕ → Option (List ℕ × List ℕ)
+    → Result (Lexeme × List ℕ) Fault
 token_or kind left None = Err (record { left = left; why = why.Token })
 token_or kind left (Some x) = Ok (kind x.0, x.1)
 

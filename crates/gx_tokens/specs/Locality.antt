@@ -1,4 +1,5 @@
--- What is read depends on the tokens that are read, and a fault on those up to it; and the tokens before a fault could go on.
+-- What is read depends on the tokens that are read, and a fault on those up to it; and the tokens
+-- before a fault could go on.
 use Rattle.std.specs.Prelude.{◌≡◌, ℕ, List, ◌∷◌, ◌⊎◌, Result, Ok, Err}
 use Rattle.std.specs.List.{AllByRecursion}
 use Rattle.gx_tokens.specs.declared.fault.Fault.{Fault}
@@ -15,13 +16,18 @@ IsProper other = IsToken other
 
 -- for some value there is a text of the shape, before any rest that a blank begins
 abbrev pub IsInhabited : {A : Type 0} → (A → List ℕ → List ℕ → Type 0) → Type 0
-IsInhabited {A} shape = (x : A) × ((tail : List ℕ) → (text : List ℕ) × shape x (32 ∷ text) (32 ∷ tail))
+IsInhabited {A} shape =
+    (x : A) × ((tail : List ℕ) → (text : List ℕ) × shape x (32 ∷ text) (32 ∷ tail))
 
 -- likewise one that begins with these tokens
 abbrev pub IsFront : {A : Type 0} → (A → List ℕ → List ℕ → Type 0) → List Lexeme → Type 0
-IsFront {A} shape before = (x : A) × ((tail : List ℕ) → (text : List ℕ) × (mid : List ℕ) × Lexes (32 ∷ text) before mid × shape x (32 ∷ text) (32 ∷ tail))
+IsFront {A} shape before =
+    (x : A) × ((tail : List ℕ)
+    → (text : List ℕ) × (mid : List ℕ) × Lexes (32 ∷ text) before mid
+    × shape x (32 ∷ text) (32 ∷ tail))
 
--- the reason is one of those at this token: `End` at the end alone, `Unexpected` elsewhere, `Token` at none
+-- the reason is one of those at this token: `End` at the end alone, `Unexpected` elsewhere, `Token`
+-- at none
 abbrev pub IsReasonAt : Lexeme → Why → Type 0
 IsReasonAt token why.Token = ⊥
 IsReasonAt token why.Unexpected = token ≡ End → ⊥
@@ -38,7 +44,8 @@ HasReason token (Ok x) = Unit {0}
 HasReason token (Err reason) = IsReasonAt token reason
 
 -- a fault at a token, which every text has that has the same tokens up to that one
-pub record FaultAtToken {C : Type 0} (reader : List ℕ → Result C Fault) (bytes : List ℕ) (f : Fault) (before : List Lexeme) : Type 0 where
+pub record FaultAtToken {C : Type 0} (reader : List ℕ → Result C Fault) (bytes : List ℕ) (f : Fault)
+    (before : List Lexeme) : Type 0 where
   pub here : List ℕ
   pub token : Lexeme
   pub rest : List ℕ
@@ -46,7 +53,8 @@ pub record FaultAtToken {C : Type 0} (reader : List ℕ → Result C Fault) (byt
   pub first : FirstToken here token rest
   pub reason : IsReasonAt token f.why
   pub is : f ≡ fault_at here f.why
-  pub others : (other there after : List ℕ) → Lexes other before there → FirstToken there token after → reader other ≡ Err (fault_at there f.why)
+  pub others : (other there after : List ℕ) → Lexes other before there
+      → FirstToken there token after → reader other ≡ Err (fault_at there f.why)
 
 -- a fault where no token stands
 pub record FaultAtNone (bytes : List ℕ) (f : Fault) (before : List Lexeme) : Type 0 where
@@ -55,23 +63,29 @@ pub record FaultAtNone (bytes : List ℕ) (f : Fault) (before : List Lexeme) : T
   pub none : next_token here ≡ Err f
 
 -- a fault behind these tokens
-abbrev pub FaultBehind : {C : Type 0} → (List ℕ → Result C Fault) → List ℕ → Fault → List Lexeme → Type 0
+abbrev pub FaultBehind : {C : Type 0} → (List ℕ → Result C Fault) → List ℕ → Fault → List Lexeme
+    → Type 0
 FaultBehind reader bytes f before = FaultAtToken reader bytes f before ⊎ FaultAtNone bytes f before
 
--- a value from these tokens, which every text gives that begins with them, and which then has its shape
-pub record Takes {A : Type 0} (reader : List ℕ → Result (A × List ℕ) Fault) (shape : A → List ℕ → List ℕ → Type 0) (bytes : List ℕ) (y : A × List ℕ) : Type 0 where
+-- a value from these tokens, which every text gives that begins with them, and which then has its
+-- shape
+pub record Takes {A : Type 0} (reader : List ℕ → Result (A × List ℕ) Fault)
+    (shape : A → List ℕ → List ℕ → Type 0) (bytes : List ℕ) (y : A × List ℕ) : Type 0 where
   pub taken : List Lexeme
   pub proper : AllByRecursion IsProper taken
   pub lexed : Lexes bytes taken y.1
   pub others : (other rest : List ℕ) → Lexes other taken rest → reader other ≡ Ok (y.0, rest)
   pub shaped : (other rest : List ℕ) → Lexes other taken rest → shape y.0 other rest
 
--- what a reader gives depends on tokens so: on those that it takes, and where it fails on those up to the fault, of which those
--- before the fault begin some text of the shape
-abbrev pub Outcome : {A : Type 0} → (List ℕ → Result (A × List ℕ) Fault) → (A → List ℕ → List ℕ → Type 0) → List ℕ → Result (A × List ℕ) Fault → Type 0
+-- what a reader gives depends on tokens so: on those that it takes, and where it fails on those up
+-- to the fault, of which those before the fault begin some text of the shape
+abbrev pub Outcome : {A : Type 0} → (List ℕ → Result (A × List ℕ) Fault)
+    → (A → List ℕ → List ℕ → Type 0) → List ℕ → Result (A × List ℕ) Fault → Type 0
 Outcome reader shape bytes (Ok y) = Takes reader shape bytes y
-Outcome reader shape bytes (Err f) = (before : List Lexeme) × FaultBehind reader bytes f before × IsFront shape before
+Outcome reader shape bytes (Err f) =
+    (before : List Lexeme) × FaultBehind reader bytes f before × IsFront shape before
 
 -- this holds on every text
-abbrev pub IsLocal : {A : Type 0} → (List ℕ → Result (A × List ℕ) Fault) → (A → List ℕ → List ℕ → Type 0) → Type 0
+abbrev pub IsLocal : {A : Type 0} → (List ℕ → Result (A × List ℕ) Fault)
+    → (A → List ℕ → List ℕ → Type 0) → Type 0
 IsLocal reader shape = (bytes : List ℕ) → Outcome reader shape bytes (reader bytes)

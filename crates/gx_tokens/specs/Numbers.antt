@@ -10,7 +10,8 @@ digits_value digits = fold (λ value digit. value * 10 + (digit - 48)) 0 digits
 -- the number that digits are, behind a `-` or not
 unfoldable pub number_value : List ℕ → ℤ
 number_value [] = pos 0
-number_value (b ∷ bs) = if b == 45 then neg_ℤ (pos (digits_value bs)) else pos (digits_value (b ∷ bs))
+number_value (b ∷ bs) =
+    if b == 45 then neg_ℤ (pos (digits_value bs)) else pos (digits_value (b ∷ bs))
 
 -- the number, if it is one from 0 to `most`
 abbrev pub natural_up_to : ℕ → ℤ → Option ℕ

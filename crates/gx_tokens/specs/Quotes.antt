@@ -10,7 +10,8 @@ doubled (b ∷ bs) = if b == 34 then 34 ∷ 34 ∷ doubled bs else b ∷ doubled
 abbrev pub quoted_text : List ℕ → List ℕ
 quoted_text text = 34 ∷ doubled text ++ 34 ∷ []
 
--- the text with the second quote of each pair left out; the flag says that the first of a pair has just come
+-- the text with the second quote of each pair left out; the flag says that the first of a pair has
+-- just come
 abbrev pub unquoted : Bool → List ℕ → List ℕ
 unquoted second [] = []
 unquoted true (b ∷ bs) = unquoted false bs

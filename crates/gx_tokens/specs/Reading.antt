@@ -38,7 +38,8 @@ abbrev pub met : {A : Type 0} → List ℕ → Result A Why → List ℕ → Res
 met bytes (Ok x) rest = Ok (x, rest)
 met bytes (Err reason) rest = Err (fault_at bytes reason)
 
--- One token. What it means at its place, or the first reason why it may not stand there, is for `meaning` to say.
+-- One token. What it means at its place, or the first reason why it may not stand there, is for
+-- `meaning` to say.
 abbrev pub want : {A : Type 0} → (Lexeme → Result A Why) → List ℕ → Result (A × List ℕ) Fault
 want meaning bytes = do
   x ← next_token bytes

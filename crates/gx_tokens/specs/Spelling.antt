@@ -39,7 +39,8 @@ abbrev pub IsQuoted : Bool → List ℕ → Type 0
 IsQuoted false [] = Unit {0}
 IsQuoted true [] = ⊥
 IsQuoted true (b ∷ bs) = (b ≡ 34) × IsQuoted false bs
-IsQuoted false (b ∷ bs) = ((b ≡ 34) × IsQuoted true bs) ⊎ ((b ≡ 34 → ⊥) × IsTrue (is_printable b) × IsQuoted false bs)
+IsQuoted false (b ∷ bs) =
+    ((b ≡ 34) × IsQuoted true bs) ⊎ ((b ≡ 34 → ⊥) × IsTrue (is_printable b) × IsQuoted false bs)
 
 -- the token is spelled as its kind is
 abbrev pub IsToken : Lexeme → Type 0
@@ -68,12 +69,14 @@ MayFollow Comma rest = Unit {0}
 MayFollow Equals rest = Unit {0}
 MayFollow End rest = rest ≡ []
 
--- blanks and comments before a rest. A comment ends with a line, or with the text: the flag says that one has begun
+-- blanks and comments before a rest. A comment ends with a line, or with the text: the flag says
+-- that one has begun
 abbrev pub AreBlanks : List ℕ → Bool → List ℕ → Type 0
 AreBlanks rest false [] = Unit {0}
 AreBlanks rest true [] = rest ≡ []
 AreBlanks rest true (b ∷ bs) = AreBlanks rest (not (b == 10)) bs
-AreBlanks rest false (b ∷ bs) = ((b ≡ 35) × AreBlanks rest true bs) ⊎ (IsTrue (is_blank b) × AreBlanks rest false bs)
+AreBlanks rest false (b ∷ bs) =
+    ((b ≡ 35) × AreBlanks rest true bs) ⊎ (IsTrue (is_blank b) × AreBlanks rest false bs)
 
 -- at the front of the text stands the token, and then the rest
 pub record Begins (text : List ℕ) (token : Lexeme) (rest : List ℕ) : Type 0 where

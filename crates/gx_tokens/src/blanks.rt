@@ -8,7 +8,8 @@ fn is_blank(byte: u8) -> bool
     matches!(byte, b' ' | b'\t' | b'\r' | b'\n')
 }
 
-/// What follows the blanks and comments at the front. A comment runs from `#` to the end of its line, or of the text.
+/// What follows the blanks and comments at the front. A comment runs from `#` to the end of its
+/// line, or of the text.
 pub fn after_blanks(bytes: &[u8]) -> &[u8]
     ensures { result.now ≡ after_blanks false bytes.now }
 {

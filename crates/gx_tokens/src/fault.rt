@@ -8,7 +8,8 @@ use crate::blanks::after_blanks;
 use crate::why::{Unread, Why};
 use std::alloc::{AllocError, AllocFailed};
 
-/// The first fault of a text: how many bytes are left where its token begins, with the token, and what is wrong with it.
+/// The first fault of a text: how many bytes are left where its token begins, with the token, and
+/// what is wrong with it.
 #[derive(Clone, Copy, Debug, PartialEq, Eq)]
 pub struct Fault {
     pub left: usize,
@@ -58,8 +59,9 @@ pub fn fault_at(bytes: &[u8], why: Why) -> Fault
     }
 }
 
-/// The line, counted from 1, of the byte with which `left` bytes of the text are left. An LF belongs to the line that it
-/// ends. Where `left` is 0 it is the line of the last byte, and 1 for the empty text.
+/// The line, counted from 1, of the byte with which `left` bytes of the text are left. An LF
+/// belongs to the line that it ends. Where `left` is 0 it is the line of the last byte, and 1 for
+/// the empty text.
 pub fn line_of(bytes: &[u8], left: usize) -> u32
     requires { length bytes.now < 4294967295 }
     ensures { result ≡ line_of bytes.now left }

@@ -1,5 +1,5 @@
-//! The tokens of schemas and equations, and reading one of them after another: which token is the first fault of a
-//! text, why, and in which line it stands.
+//! The tokens of schemas and equations, and reading one of them after another: which token is the
+//! first fault of a text, why, and in which line it stands.
 #![tactic(auto)]
 
 mod blanks;

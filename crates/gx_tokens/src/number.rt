@@ -19,7 +19,8 @@ fn saturated(digits: &[u8]) -> u64
     value
 }
 
-/// The number that a number token is, with any number of digits, from 0 to `most`. None: exactly where it is another one.
+/// The number that a number token is, with any number of digits, from 0 to `most`. None: exactly
+/// where it is another one.
 #[tactic(auto, unfolding(crate::specs::Numbers::number_value))]
 pub fn natural_number(text: &[u8], most: u16) -> Option<u16>
     ensures { result ≡ natural_up_to most (number_value text.now) }
@@ -71,8 +72,8 @@ fn signed_value(text: &[u8]) -> Option<i64>
     }
 }
 
-/// The number that a text is: digits, any number of them, behind a `-` or not. None: exactly where the text is no number,
-/// or is one that 64 bits with a sign don't hold.
+/// The number that a text is: digits, any number of them, behind a `-` or not. None: exactly where
+/// the text is no number, or is one that 64 bits with a sign don't hold.
 pub fn signed_number(text: &[u8]) -> Option<i64>
     ensures { result ≡ signed_number text.now }
 {

@@ -9,7 +9,8 @@ use std::alloc::{AllocError, Global};
 /// The text that is meant by the bytes between two quotes, in which each quote stands twice.
 pub fn quoted_value(alloc: Global, text: &[u8]) -> Result<Vec<u8>, AllocError>
     // Written between quotes it is these bytes.
-    ensures meant { IfOk result (λ value. IsQuoted false text.now → doubled value.items ≡ text.now) }
+    ensures meant { IfOk result (λ value. IsQuoted false text.now →
+        doubled value.items ≡ text.now) }
     ensures value { IfOk result (λ value. value.items ≡ unquoted false text.now) }
 {
     match memchr(b'"', text) {
@@ -35,7 +36,8 @@ fn paired_value(alloc: Global, text: &[u8]) -> Result<Vec<u8>, AllocError>
     Ok(value)
 }
 
-/// Appends the text between quotes, each quote in it twice. After an error a part of that may stand.
+/// Appends the text between quotes, each quote in it twice. After an error a part of that may
+/// stand.
 pub fn push_quoted(out: &mut Vec<u8>, text: &[u8]) -> Result<(), AllocError>
     ensures { OnOk result (out.new.items ≡ out.old.items ++ quoted_text text.now) }
 {

@@ -8,8 +8,8 @@ use crate::fault::{Fault, fault_at};
 use crate::token::{Token, next_token};
 use crate::why::Why;
 
-/// The fault that this token, the first of the bytes, is none of those that may stand there: `End` at the end of the
-/// text, else `Unexpected`.
+/// The fault that this token, the first of the bytes, is none of those that may stand there: `End`
+/// at the end of the text, else `Unexpected`.
 pub fn unexpected(bytes: &[u8], token: Token) -> Fault
     ensures { result ≡ fault_at bytes.now (unexpected_why (lexeme_of token.entry)) }
 {
@@ -81,7 +81,8 @@ pub fn read_equals(bytes: &[u8]) -> Result<&[u8], Fault>
     }
 }
 
-/// Whether a list goes on behind one of its items, which a `,` says and a `)` denies, and what follows that token.
+/// Whether a list goes on behind one of its items, which a `,` says and a `)` denies, and what
+/// follows that token.
 pub fn read_comma_or_close(bytes: &[u8]) -> Result<(bool, &[u8]), Fault>
     ensures { map_ok (λ x. (x.0, x.1.now)) result ≡ want comma_or_close bytes.now }
 {

@@ -49,7 +49,8 @@ fn digits_len(bytes: &[u8]) -> usize
     bytes.len()
 }
 
-// Whether each byte is printable. The loop has no other end, so it is compiled to a few instructions for many bytes.
+// Whether each byte is printable. The loop has no other end, so it is compiled to a few
+// instructions for many bytes.
 fn are_printable(bytes: &[u8]) -> bool
     ensures { result ≡ list_all is_printable bytes.now }
 {
@@ -77,8 +78,8 @@ fn after_quote(bytes: &[u8]) -> Option<&[u8]>
     }
 }
 
-// What follows the second quote of a pair, where the first one stands right before; none where there
-// is no second.
+// What follows the second quote of a pair, where the first one stands right before; none where
+// there is no second.
 fn after_second(bytes: &[u8]) -> Option<&[u8]>
     ensures value { option_map (λ r. r.now) result ≡ after_second bytes.now }
     ensures shorter { IfSome result (λ r. length r.now < length bytes.now) }
@@ -89,7 +90,8 @@ fn after_second(bytes: &[u8]) -> Option<&[u8]>
     }
 }
 
-// What follows the quote that ends a quoted text; none where it isn't ended, or holds a byte that isn't printable.
+// What follows the quote that ends a quoted text; none where it isn't ended, or holds a byte that
+// isn't printable.
 fn after_quoted(bytes: &[u8]) -> Option<&[u8]>
     ensures value { option_map (λ r. r.now) result ≡ after_quoted false bytes.now }
     ensures shorter { IfSome result (λ r. length r.now < length bytes.now) }
@@ -114,7 +116,8 @@ fn continues_run(rest: &[u8]) -> bool
     }
 }
 
-/// The word at the front, and what follows it. None where the run of its bytes is longer than a word, or goes on as no word does.
+/// The word at the front, and what follows it. None where the run of its bytes is longer than a
+/// word, or goes on as no word does.
 pub fn split_word(bytes: &[u8]) -> Option<(&[u8], &[u8])>
     ensures { option_map (λ x. (x.0.now, x.1.now)) result ≡ split_word bytes.now }
 {
@@ -126,7 +129,8 @@ pub fn split_word(bytes: &[u8]) -> Option<(&[u8], &[u8])>
     Some((text, rest))
 }
 
-/// The number at the front, and what follows it. None where there are no digits, or the run goes on as no number does.
+/// The number at the front, and what follows it. None where there are no digits, or the run goes on
+/// as no number does.
 pub fn split_number(bytes: &[u8]) -> Option<(&[u8], &[u8])>
     ensures { option_map (λ x. (x.0.now, x.1.now)) result ≡ split_number bytes.now }
 {
@@ -142,8 +146,9 @@ pub fn split_number(bytes: &[u8]) -> Option<(&[u8], &[u8])>
     Some((text, rest))
 }
 
-/// The text up to the quote that ends it, and what follows that quote, where a quote stands right before these bytes.
-/// Within the text a quote is written twice. None: exactly where no quote ends it, or a byte in it isn't one from 0x20 to 0x7E.
+/// The text up to the quote that ends it, and what follows that quote, where a quote stands right
+/// before these bytes. Within the text a quote is written twice. None: exactly where no quote ends
+/// it, or a byte in it isn't one from 0x20 to 0x7E.
 pub fn split_quoted(bytes: &[u8]) -> Option<(&[u8], &[u8])>
     ensures { option_map (λ x. (x.0.now, x.1.now)) result ≡ split_quoted bytes.now }
 {

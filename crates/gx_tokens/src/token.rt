@@ -55,12 +55,13 @@ fn token_at(bytes: &[u8]) -> Result<(Token<'_>, &[u8]), Fault>
     }
 }
 
-/// The first token of the text, behind blanks and comments, and what follows it. The fault is `Token`: exactly where a
-/// malformed token stands there, or a byte that begins none.
+/// The first token of the text, behind blanks and comments, and what follows it. The fault is
+/// `Token`: exactly where a malformed token stands there, or a byte that begins none.
 pub fn next_token(bytes: &[u8]) -> Result<(Token<'_>, &[u8]), Fault>
     ensures found { IfOk result (λ x. FirstToken bytes.now (lexeme_of x.0) x.1.now) }
     // What is the first token is found.
-    ensures only { (token : Lexeme) (rest : List ℕ) → FirstToken bytes.now token rest → map_ok {Y = Lexeme × List ℕ} (λ x. (lexeme_of x.0, x.1.now)) result ≡ Ok (token, rest) }
+    ensures only { (token : Lexeme) (rest : List ℕ) → FirstToken bytes.now token rest →
+        map_ok {Y = Lexeme × List ℕ} (λ x. (lexeme_of x.0, x.1.now)) result ≡ Ok (token, rest) }
     ensures exact { map_ok (λ x. (lexeme_of x.0, x.1.now)) result ≡ next_token bytes.now }
 {
     token_at(bytes)

@@ -2,8 +2,8 @@
 ghost use Rattle.std.specs.Prelude.{◌≡◌};
 ghost use Rattle.gx_tokens.specs.Whys.{word_of};
 
-/// Why a text isn't read: the reason that holds of its first token, from left to right, of which one holds. At one
-/// token the first reason of this list is said.
+/// Why a text isn't read: the reason that holds of its first token, from left to right, of which
+/// one holds. At one token the first reason of this list is said.
 #[derive(Clone, Copy, Debug, PartialEq, Eq)]
 pub enum Why {
     /// The token is malformed, or the byte begins none.

@@ -33,22 +33,34 @@ pub record IsToMake (words : List (List ℕ)) (texts : Texts) (blocks : ℕ) : T
 
 -- the line of what was made
 abbrev pub IsMadeText : List (List ℕ) → Content → List ℕ → Type 0
-IsMadeText words before text = (blocks : ℕ) × IsToMake words before.aside.texts blocks × (text ≡ made_line blocks (pages_of blocks))
+IsMadeText words before text =
+    (blocks : ℕ) × IsToMake words before.aside.texts blocks
+    × (text ≡ made_line blocks (pages_of blocks))
 
 -- ---- a device that isn't what was asked for
 
--- a device that is there, with the size, the magic and the texts that are asked for, and holds no state
+-- a device that is there, with the size, the magic and the texts that are asked for, and holds no
+-- state
 pub record IsDamagedOn (device : List ℕ) (t : Task) (before : Content) : Type 0 where
   pub had : IsOpenedOn t device before
   pub stateless : (limit : Option Limits) (s : State) → ¬ IsHeldOn t device before limit s
 
--- Why a script isn't played on the device of that name, or why it isn't inspected. Each comes only where those before it don't.
+-- Why a script isn't played on the device of that name, or why it isn't inspected. Each comes only
+-- where those before it don't.
 abbrev pub IsWrongOn : List ℕ → Task → Content → DeviceWhy → Type 0
-IsWrongOn device t before device_why.Missing = IsUnopened device (schema_text t.schema) (equation_text t.definitions) t.typing.specs before unopened.Missing
+IsWrongOn device t before device_why.Missing =
+    IsUnopened device (schema_text t.schema)
+    (equation_text t.definitions) t.typing.specs before unopened.Missing
 IsWrongOn device t before device_why.Exists = ⊥
-IsWrongOn device t before device_why.Size = IsUnopened device (schema_text t.schema) (equation_text t.definitions) t.typing.specs before unopened.Size
-IsWrongOn device t before device_why.NoDatabase = IsUnopened device (schema_text t.schema) (equation_text t.definitions) t.typing.specs before unopened.NoDatabase
-IsWrongOn device t before (device_why.OtherEquation place) = IsUnopened device (schema_text t.schema) (equation_text t.definitions) t.typing.specs before (unopened.OtherTexts place)
+IsWrongOn device t before device_why.Size =
+    IsUnopened device (schema_text t.schema)
+    (equation_text t.definitions) t.typing.specs before unopened.Size
+IsWrongOn device t before device_why.NoDatabase =
+    IsUnopened device (schema_text t.schema)
+    (equation_text t.definitions) t.typing.specs before unopened.NoDatabase
+IsWrongOn device t before (device_why.OtherEquation place) =
+    IsUnopened device (schema_text t.schema) (equation_text t.definitions) t.typing.specs before
+    (unopened.OtherTexts place)
 IsWrongOn device t before (device_why.Damaged block) = IsDamagedOn device t before
 
 -- the same of a script that is to be played on a device
@@ -60,7 +72,8 @@ pub record IsWrongToRun (words : List (List ℕ)) (before : Content) (why : Devi
   pub wrong : IsWrongOn device task before why
 
 -- the same of a request to make one
-abbrev pub IsWrongToMake : {words : List (List ℕ)} {texts : Texts} {blocks : ℕ} → IsToMake words texts blocks → Content → DeviceWhy → Type 0
+abbrev pub IsWrongToMake : {words : List (List ℕ)} {texts : Texts} {blocks : ℕ}
+    → IsToMake words texts blocks → Content → DeviceWhy → Type 0
 IsWrongToMake {blocks = blocks} r before why = IsUnmakable r.typing.specs r.device blocks before why
 
 -- the device of the request is wrong in this way
@@ -71,11 +84,15 @@ IsWrong words before why =
 
 -- its line
 abbrev pub IsDeviceText : List (List ℕ) → Content → List ℕ → Type 0
-IsDeviceText words before text = (why : DeviceWhy) × IsWrong words before why × (text ≡ device_line why)
+IsDeviceText words before text =
+    (why : DeviceWhy) × IsWrong words before why × (text ≡ device_line why)
 
--- The line was said, and nothing else; that of damage behind what was said of the script until it was found.
+-- The line was said, and nothing else; that of damage behind what was said of the script until it
+-- was found.
 abbrev pub SaysWrong : DeviceWhy → Content → Content → Type 0
-SaysWrong (device_why.Damaged block) old new = (front : List ℕ) × (new.now.said ≡ old.now.said ++ (front ++ device_line (device_why.Damaged block)))
+SaysWrong (device_why.Damaged block) old new =
+    (front : List ℕ) × (new.now.said ≡ old.now.said
+    ++ (front ++ device_line (device_why.Damaged block)))
 SaysWrong why old new = new.now.said ≡ old.now.said ++ device_line why
 
 -- ---- when each status is due

@@ -20,7 +20,8 @@ pub record IsToExplain (words : List (List ℕ)) (texts : Texts) : Type 0 where
 -- what was said of such a request, by the status
 abbrev pub Explains : List (List ℕ) → Content → Content → Status → Type 0
 Explains words old new s =
-    (r : IsToExplain words old.aside.texts) × IsScriptExplained r.schema (indexed_fields r.schema r.definitions) old new s
+    (r : IsToExplain words old.aside.texts)
+    × IsScriptExplained r.schema (indexed_fields r.schema r.definitions) old new s
 
 -- there is such a request, and explaining its script ends so
 abbrev pub IsExplainable : List (List ℕ) → Content → End → Type 0

@@ -6,7 +6,10 @@ use Rattle.gx_play.specs.declared.status.Status.{Status}
 use Rattle.gx_play.specs.declared.status.Status.TheVariants as status
 use Rattle.gx_play.specs.Endings.{IsEnded}
 
--- The text was said whole, or after a failure a front of it; or the line of the ending in its place.
+-- The text was said whole, or after a failure a front of it; or the line of the ending in its
+-- place.
 abbrev pub IsTold : Result (List ℕ) Ending → Content → Content → Status → Type 0
-IsTold (Ok text) old new s = ((s ≡ status.Done) × (new.now.said ≡ old.now.said ++ text)) ⊎ ((s ≡ status.Outside) × ((count : ℕ) × (new.now.said ≡ old.now.said ++ take count text)))
+IsTold (Ok text) old new s =
+    ((s ≡ status.Done) × (new.now.said ≡ old.now.said ++ text))
+    ⊎ ((s ≡ status.Outside) × ((count : ℕ) × (new.now.said ≡ old.now.said ++ take count text)))
 IsTold (Err why) old new s = IsEnded why old new s

@@ -14,12 +14,16 @@ use Rattle.gx_play.specs.Played.{AreFirst}
 
 -- the pages that are enough for a command between these two states
 abbrev pub need : Limits → Built → State → State → ℕ
-need l built before behind = l.fixed + 2 * (state_entries built before + state_entries built behind) + 2
+need l built before behind =
+    l.fixed + 2 * (state_entries built before + state_entries built behind) + 2
 
 -- at each command of the script's play from a state on that may want room they are enough
 abbrev pub AreEnough : Schema → Built → Limits → State → List ℕ → Type 0
 AreEnough schema built l start script =
-    (answers : List ℕ) (first : AreFirst schema start script answers) (line : List ℕ) (later : List (List ℕ)) (command : Command)
-    → first.later ≡ line ∷ later → IsLineOf schema line command → place_reason (is_inside first.final) command ≡ None
+    (answers : List ℕ) (first : AreFirst schema start script answers) (line : List ℕ)
+    (later : List (List ℕ)) (command : Command)
+    → first.later ≡ line ∷ later → IsLineOf schema line command
+    → place_reason (is_inside first.final) command ≡ None
     → MayWantRoom schema first.final command
-    → need l built (seen_state first.final) (seen_state (next_of schema first.final command)) ≤ l.pages
+    → need l built (seen_state first.final) (seen_state (next_of schema first.final command))
+    ≤ l.pages

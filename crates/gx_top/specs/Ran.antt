@@ -12,22 +12,28 @@ use Rattle.gx_play.specs.Say.{SameDevices}
 use Rattle.gx_requests.specs.Words.{running, request_words}
 use Rattle.gx_top.specs.Devices.{IsWrong}
 
--- What is left of the device of that name, which is wrong in this way: all of it; of one with other texts, which reads as before,
--- all but the blocks that recovery writes. Of a damaged one nothing is said.
+-- What is left of the device of that name, which is wrong in this way: all of it; of one with other
+-- texts, which reads as before, all but the blocks that recovery writes. Of a damaged one nothing
+-- is said.
 abbrev pub StaysWrong : DeviceWhy → List ℕ → Content → Content → Type 0
 StaysWrong (device_why.OtherEquation place) device old new =
-    (blocks : List (List ℕ)) → device_at old.now device ≡ Some blocks → OfBlocks device new (λ after. IsRecoveryOf blocks after × ReadAlike blocks after)
+    (blocks : List (List ℕ)) → device_at old.now device ≡ Some blocks
+    → OfBlocks device new (λ after. IsRecoveryOf blocks after × ReadAlike blocks after)
 StaysWrong (device_why.Damaged block) device old new = Unit {0}
 StaysWrong why device old new = device_at new.now device ≡ device_at old.now device
 
--- All devices stay where the request is refused, one that is wrong stays as it was unless a call of the machine failed, none is
--- made, and those of other names stay.
-pub record LeavesRun (words : List (List ℕ)) (device : List ℕ) (old new : Content) (s : Status) : Type 0 where
+-- All devices stay where the request is refused, one that is wrong stays as it was unless a call of
+-- the machine failed, none is made, and those of other names stay.
+pub record LeavesRun (words : List (List ℕ)) (device : List ℕ) (old new : Content)
+    (s : Status) : Type 0 where
   pub refused : s ≡ status.Refused → SameDevices old new
-  pub wrong : s ≢ status.Outside → (why : DeviceWhy) → IsWrong words old why → StaysWrong why device old new
+  pub wrong : s ≢ status.Outside → (why : DeviceWhy) → IsWrong words old why
+      → StaysWrong why device old new
   pub missing : device_at old.now device ≡ None → device_at new.now device ≡ None
   pub others : (other : List ℕ) → other ≢ device → device_at new.now other ≡ device_at old.now other
 
 -- the same where the words ask for it
 abbrev pub LeavesRunBy : List (List ℕ) → Content → Content → Status → Type 0
-LeavesRunBy words old new s = (device schema equation : List ℕ) → words ≡ request_words (running device) schema equation → old.now.shelf.name ≡ None → LeavesRun words device old new s
+LeavesRunBy words old new s = (device schema equation : List ℕ)
+    → words ≡ request_words (running device) schema equation → old.now.shelf.name ≡ None
+    → LeavesRun words device old new s

@@ -43,25 +43,30 @@ pub record IsTask (words : List (List ℕ)) (texts : Texts) (t : Task) : Type 0 
 -- ---- the state that a device holds
 
 -- the maps are the internal form of the state: nodes that the definitions mean hold it in them
-pub record IsInternalOf (schema : Schema) (ds : List DefinitionTree) (maps : List LeafMap) (s : State) : Type 0 where
+pub record IsInternalOf (schema : Schema) (ds : List DefinitionTree) (maps : List LeafMap)
+    (s : State) : Type 0 where
   pub built : Built
   pub trees : IsBuiltOf schema ds built
   pub is : AreInternal schema built maps s
 
 -- the blocks of the device of that name reopen to the internal form of the state
-pub record IsHeldOn (t : Task) (device : List ℕ) (before : Content) (limit : Option Limits) (s : State) : Type 0 where
+pub record IsHeldOn (t : Task) (device : List ℕ) (before : Content) (limit : Option Limits)
+    (s : State) : Type 0 where
   pub blocks : List (List ℕ)
   pub there : device_at before.now device ≡ Some blocks
   pub limit_is : limit ≡ Some (limits_on t.typing.specs (length blocks))
   pub maps : List LeafMap
-  pub reopens : Reopens (schema_text t.schema) (equation_text t.definitions) t.typing.specs maps blocks
+  pub reopens : Reopens (schema_text t.schema)
+      (equation_text t.definitions) t.typing.specs maps blocks
   pub internal : IsInternalOf t.schema t.definitions maps s
 
 -- ---- the device on which it is played
 
 -- the device of that name has the size, the magic and the texts that are asked for
 abbrev pub IsOpenedOn : Task → List ℕ → Content → Type 0
-IsOpenedOn t device before = OfBlocks device before (AreOpened (schema_text t.schema) (equation_text t.definitions) t.typing.specs)
+IsOpenedOn t device before =
+    OfBlocks device before
+    (AreOpened (schema_text t.schema) (equation_text t.definitions) t.typing.specs)
 
 -- where the script is to be played on a device, it is such a one
 abbrev pub HasDeviceBy : Action → Task → Content → Type 0
@@ -78,7 +83,8 @@ HasDevice t before = HasDeviceBy t.action t before
 
 -- ---- where the play begins
 
--- over leaves in memory, without a limit, with the empty state; on a device with a state that it holds
+-- over leaves in memory, without a limit, with the empty state; on a device with a state that it
+-- holds
 abbrev pub IsStart : Action → Task → Content → Option Limits → State → Type 0
 IsStart checking t before limit s = ⊥
 IsStart trying t before limit s = (limit ≡ None) × (s ≡ empty_state t.schema)
@@ -93,11 +99,13 @@ IsFrom t before limit s = IsStart t.action t before limit s
 
 -- the states from which it is played are the same
 abbrev pub StartsAlike : Task → Content → Content → Type 0
-StartsAlike t old new = (limit : Option Limits) (s : State) → IsFrom t old limit s ↔ IsFrom t new limit s
+StartsAlike t old new = (limit : Option Limits) (s : State) → IsFrom t old limit s
+    ↔ IsFrom t new limit s
 
 -- no block of the device on which it is to be played was written but those that recovery writes
 abbrev pub IsOnlyRecovered : Task → Content → Content → Type 0
-IsOnlyRecovered t old new = (device : List ℕ) → t.action ≡ running device → (blocks : List (List ℕ)) → device_at old.now device ≡ Some blocks → OfBlocks device new (IsRecoveryOf blocks)
+IsOnlyRecovered t old new = (device : List ℕ) → t.action ≡ running device → (blocks : List (List ℕ))
+    → device_at old.now device ≡ Some blocks → OfBlocks device new (IsRecoveryOf blocks)
 
 -- ---- what is left of it
 
@@ -106,7 +114,8 @@ pub record IsSettledOn (t : Task) (device : List ℕ) (after : Content) (s : Sta
   pub blocks : List (List ℕ)
   pub there : device_at after.now device ≡ Some blocks
   pub maps : List LeafMap
-  pub settled : IsSettled (schema_text t.schema) (equation_text t.definitions) t.typing.specs maps blocks
+  pub settled : IsSettled (schema_text t.schema)
+      (equation_text t.definitions) t.typing.specs maps blocks
   pub internal : IsInternalOf t.schema t.definitions maps s
 
 -- nothing of leaves in memory; on a device the state

@@ -10,8 +10,8 @@ use gx_play::{Ending, Status, end, say_all};
 use gx_values::Octets;
 use std::alloc::Global;
 
-/// Says the line of the end of a play, where it has one, and answers the status. After a failed call
-/// nothing is said.
+/// Says the line of the end of a play, where it has one, and answers the status. After a failed
+/// call nothing is said.
 pub fn finish<M: Machine>(alloc: Global, played: Result<(), Ending<'_>>, machine: &mut M) -> Status
     ensures finished { IsTrue M.tells →
         IsFinished played.entry (M.content machine.old) (M.content machine.new) result }
@@ -28,7 +28,8 @@ pub fn finish<M: Machine>(alloc: Global, played: Result<(), Ending<'_>>, machine
     }
 }
 
-/// Says a text that was found whole, or the line of the ending in its place, and answers the status.
+/// Says a text that was found whole, or the line of the ending in its place, and answers the
+/// status.
 pub fn tell<M: Machine>(alloc: Global, found: Result<Octets, Ending<'_>>, machine: &mut M) -> Status
     ensures told { IsTrue M.tells →
         IsTold found.entry (M.content machine.old) (M.content machine.new) result }

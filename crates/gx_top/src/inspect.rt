@@ -16,12 +16,12 @@ use gx_requests::{Stored, prepare_stored, unopened_ending};
 use gx_store::open;
 use std::alloc::Global;
 
-/// Recovers the device of that name, examines whole what it holds under the texts of these names, and
-/// says of each leaf, file and link what was found; or says the reason where the request is refused or
-/// the device is another than was asked for. It says `sound` last, and then the device is settled with
-/// the state that it held. A device that holds no valid state is damaged. No script is heard, no device
-/// is made, and devices of other names stay. Of a device that isn't sound what is stored stays, and with
-/// any status but `Outside` one that is wrong is as `run` leaves it.
+/// Recovers the device of that name, examines whole what it holds under the texts of these names,
+/// and says of each leaf, file and link what was found; or says the reason where the request is
+/// refused or the device is another than was asked for. It says `sound` last, and then the device
+/// is settled with the state that it held. A device that holds no valid state is damaged. No script
+/// is heard, no device is made, and devices of other names stay. Of a device that isn't sound what
+/// is stored stays, and with any status but `Outside` one that is wrong is as `run` leaves it.
 pub fn inspect<M: Machine + Drop>(
     alloc: Global,
     schema: &str,
@@ -30,7 +30,8 @@ pub fn inspect<M: Machine + Drop>(
     machine: M,
 ) -> (Status, M)
     ensures said { CanAttach M.tells (M.content machine) →
-        IsOutcome (request_words (inspecting device.now) schema.now equation.now) (M.content machine)
+        IsOutcome (request_words (inspecting device.now) schema.now equation.now)
+        (M.content machine)
         (M.content result.1) result.0 }
     ensures due { CanAttach M.tells (M.content machine) →
         IsAsDue (request_words (inspecting device.now) schema.now equation.now) (M.content machine)

@@ -25,8 +25,8 @@ pub fn one_reason(words: &[String])
         → line_of why ≡ line_of other }
 {}
 
-/// All requests that play one script under one schema from one state, each to its end or to the line
-/// that ends it, say one text. It does nothing.
+/// All requests that play one script under one schema from one state, each to its end or to the
+/// line that ends it, say one text. It does nothing.
 pub fn one_text(words: &[String])
     ensures { (others : List (List ℕ)) (before other : Content) (start : State)
         (text more : List ℕ)
@@ -36,8 +36,8 @@ pub fn one_text(words: &[String])
         → text ≡ more }
 {}
 
-/// Under two texts, with the leaves that the equation means, the blocks of a device hold one list of maps
-/// at most. It does nothing.
+/// Under two texts, with the leaves that the equation means, the blocks of a device hold one list
+/// of maps at most. It does nothing.
 pub fn one_list_of_maps(schema: &[u8], equation: &[u8])
     ensures { (specs : List Spec) (maps other : List LeafMap) (blocks : List (List ℕ))
         → Reopens schema.now equation.now specs maps blocks
@@ -45,8 +45,8 @@ pub fn one_list_of_maps(schema: &[u8], equation: &[u8])
         → maps ≡ other }
 {}
 
-/// Where the pages are enough at each command of a script's play, for the entries of the state before it
-/// and of that behind it, the device is never full. It does nothing.
+/// Where the pages are enough at each command of a script's play, for the entries of the state
+/// before it and of that behind it, the device is never full. It does nothing.
 pub fn enough_pages(script: &[u8])
     ensures { (schema : TheSchema) (ds : List DefinitionTree) (built : Built) (limits : Limits)
         (start : State) (answers : List ℕ) (final : Playing)

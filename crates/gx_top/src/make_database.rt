@@ -13,10 +13,10 @@ use gx_requests::prepare_stored;
 use std::alloc::Global;
 
 /// Makes a device of that name with so many blocks, and an empty database on it under the texts of
-/// these names, and says what was made; or says the reason where the request is refused, or where the
-/// size or the name can't be had. Then no device is made or changed. After `Memory` and `Outside` there
-/// may be a new device: it has no magic, or it is opened as the empty database. Whatever the status is, a
-/// device that was there reads as it did.
+/// these names, and says what was made; or says the reason where the request is refused, or where
+/// the size or the name can't be had. Then no device is made or changed. After `Memory` and
+/// `Outside` there may be a new device: it has no magic, or it is opened as the empty database.
+/// Whatever the status is, a device that was there reads as it did.
 pub fn make_database<M: Machine + Drop>(
     alloc: Global,
     schema: &str,
@@ -25,13 +25,16 @@ pub fn make_database<M: Machine + Drop>(
     blocks: u32,
     machine: M,
 ) -> (Status, M)
-    ensures said { CanAttach M.tells (M.content machine) → (digits : List ℕ) → IsCount digits blocks →
+    ensures said { CanAttach M.tells (M.content machine) → (digits : List ℕ) →
+        IsCount digits blocks →
         IsOutcome (request_words (making device.now digits) schema.now equation.now)
         (M.content machine) (M.content result.1) result.0 }
-    ensures due { CanAttach M.tells (M.content machine) → (digits : List ℕ) → IsCount digits blocks →
+    ensures due { CanAttach M.tells (M.content machine) → (digits : List ℕ) →
+        IsCount digits blocks →
         IsAsDue (request_words (making device.now digits) schema.now equation.now)
         (M.content machine) result.0 }
-    ensures left { CanAttach M.tells (M.content machine) → (digits : List ℕ) → IsCount digits blocks →
+    ensures left { CanAttach M.tells (M.content machine) → (digits : List ℕ) →
+        IsCount digits blocks →
         LeavesMade (request_words (making device.now digits) schema.now equation.now) device.now
         (M.content machine) (M.content result.1) result.0 }
     ensures outside { result.0 ≡ Status.Outside → Rose (M.faults machine) (M.faults result.1) }

@@ -19,12 +19,12 @@ use std::alloc::Global;
 /// Recovers the device of that name, hears the script, and plays it there under the texts of these
 /// names, from the state that the device holds; or says the reason where the request is refused or
 /// the device is another than was asked for. Where the device held a state, it is settled after
-/// `Done`, `Script` and `Full`, and after `Memory` where the answer of a line was said, with the last
-/// state that was kept; after `Memory` with no answer so, or it holds what it held. After `Outside` it is
-/// settled so for the lines of whose answers anything was said, unless the next line is a commit; or no
-/// line was answered. With any status but `Outside` a device that is wrong stays as it was, but that
-/// recovery may have settled one of other texts. No line is answered on one that is wrong. None is made, devices of other names stay, and after
-/// `Refused` all.
+/// `Done`, `Script` and `Full`, and after `Memory` where the answer of a line was said, with the
+/// last state that was kept; after `Memory` with no answer so, or it holds what it held. After
+/// `Outside` it is settled so for the lines of whose answers anything was said, unless the next
+/// line is a commit; or no line was answered. With any status but `Outside` a device that is wrong
+/// stays as it was, but that recovery may have settled one of other texts. No line is answered on
+/// one that is wrong. None is made, devices of other names stay, and after `Refused` all.
 pub fn run_script<M: Machine + Drop>(
     alloc: Global,
     schema: &str,

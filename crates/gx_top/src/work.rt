@@ -20,12 +20,12 @@ use gx_requests::{Stored, prepare_under};
 use gx_work::schema;
 use std::alloc::Global;
 
-/// Makes a device of that name with so many blocks, and plays the workload of so many records on it under
-/// the equation of this name; it says what was found then. Or it says the reason where the request is
-/// refused, where the size or the name can't be had, and where the device is too small. After `Memory` a
-/// new device holds what first lines of the workload kept, an empty database, or none. Whatever the status
-/// is, a device of its name that was there reads as it did, and those of other names stay. No script is
-/// heard.
+/// Makes a device of that name with so many blocks, and plays the workload of so many records on it
+/// under the equation of this name; it says what was found then. Or it says the reason where the
+/// request is refused, where the size or the name can't be had, and where the device is too small.
+/// After `Memory` a new device holds what first lines of the workload kept, an empty database, or
+/// none. Whatever the status is, a device of its name that was there reads as it did, and those of
+/// other names stay. No script is heard.
 pub fn work<M: Machine + Drop>(
     alloc: Global,
     equation: &str,
@@ -75,7 +75,8 @@ fn prepare_work<'a, M: Machine>(
     ensures unprepared { IsTrue M.tells → (a : Action) → IsCountedOfOne a → IfErr result
         (IsUnprepared (request_words a [] equation.now)
         (M.content machine.old).aside.texts (M.faults machine.old) (M.faults machine.new)) }
-    ensures fault { IsErrOf result Ending.Fault → Rose (M.faults machine.old) (M.faults machine.new) }
+    ensures fault { IsErrOf result Ending.Fault →
+        Rose (M.faults machine.old) (M.faults machine.new) }
     ensures counted { is_fault result ≡ false → M.faults machine.new ≡ M.faults machine.old }
     ensures later { M.faults machine.old ≤ M.faults machine.new }
     ensures content { SameContent (M.content machine.old) (M.content machine.new) }

@@ -80,31 +80,38 @@ abbrev pub IsLeafOf : ℕ → Form → Head → Trees → ℕ → Form → Type 
 IsLeafOf n form (heads.Leaf kind) none m f = (m ≡ n) × (f ≡ form)
 IsLeafOf n form top kids m f = ⊥
 
--- the node is what the term means for the records of the form; its leaves have the numbers from n on, in the order of the text
+-- the node is what the term means for the records of the form; its leaves have the numbers from n
+-- on, in the order of the text
 abbrev mutual
   pub IsTreeOf : ℕ → Form → Tree → NodeTree AnyMapping → Type 0
   IsTreeOf n form (node top kids) (leaf m f) = IsLeafOf n form top kids m f
-  IsTreeOf n form (node top kids) (layer m ks) = IsMappingOf top form m × AreTreesOf n (kid_form top form) 0 kids ks
+  IsTreeOf n form (node top kids) (layer m ks) =
+      IsMappingOf top form m × AreTreesOf n (kid_form top form) 0 kids ks
 
   -- the first of the children has the number i
   pub AreTreesOf : ℕ → (ℕ → Form) → ℕ → Trees → NodeKids AnyMapping → Type 0
   AreTreesOf n forms i none no_kids = Unit {0}
   AreTreesOf n forms i none (node_kid u us) = ⊥
   AreTreesOf n forms i (kid t ts) no_kids = ⊥
-  AreTreesOf n forms i (kid t ts) (node_kid u us) = IsTreeOf n (forms i) t u × AreTreesOf (n + leaf_count t) forms (suc i) ts us
+  AreTreesOf n forms i (kid t ts) (node_kid u us) =
+      IsTreeOf n (forms i) t u × AreTreesOf (n + leaf_count t) forms (suc i) ts us
 
 abbrev pub IsTreeOfSide : ℕ → Form → SideTree → NodeTree AnyMapping → Type 0
 IsTreeOfSide n form (file_side t) u = IsTreeOf n form t u
 IsTreeOfSide n form (link_side linkset ts) u = ⊥
 
 -- the nodes are what the first definitions mean, each for the records of its file
-abbrev pub AreTreesOfFiles : ℕ → List FileDef → List DefinitionTree → List (Node AnyMapping) → Type 0
+abbrev pub AreTreesOfFiles : ℕ → List FileDef → List DefinitionTree → List (Node AnyMapping)
+    → Type 0
 AreTreesOfFiles n [] ds [] = Unit {0}
-AreTreesOfFiles n (file ∷ files) (d ∷ ds) (x ∷ xs) = IsTreeOfSide n (file_form file) d.side (tree_of x) × AreTreesOfFiles (n + side_leaf_count d.side) files ds xs
+AreTreesOfFiles n (file ∷ files) (d ∷ ds) (x ∷ xs) =
+    IsTreeOfSide n (file_form file) d.side (tree_of x)
+    × AreTreesOfFiles (n + side_leaf_count d.side) files ds xs
 AreTreesOfFiles n files ds xs = ⊥
 
 -- the nodes are what the side of a link means, whose files have keys of the kinds o and m
-pub record IsLinkTreeOf (n : ℕ) (o m : Kind) (linkset : Linkset) (ts : List Tree) (x : LinkTree) : Type 0 where
+pub record IsLinkTreeOf (n : ℕ) (o m : Kind) (linkset : Linkset) (ts : List Tree)
+    (x : LinkTree) : Type 0 where
   pub head : linkset_of x ≡ linkset
   pub trees : AreTreesOf n (link_form linkset o m) 0 (kids_from ts) (link_kids x)
 
@@ -113,7 +120,8 @@ IsLinkTreeOfSide n o m (file_side t) x = ⊥
 IsLinkTreeOfSide n o m (link_side linkset ts) x = IsLinkTreeOf n o m linkset ts x
 
 -- the nodes are what the definitions mean, each for the pairs of its link between two of the files
-abbrev pub AreTreesOfLinks : List FileDef → ℕ → List LinkDef → List DefinitionTree → List LinkTree → Type 0
+abbrev pub AreTreesOfLinks : List FileDef → ℕ → List LinkDef → List DefinitionTree → List LinkTree
+    → Type 0
 AreTreesOfLinks files n [] [] [] = Unit {0}
 AreTreesOfLinks files n (link ∷ links) (d ∷ ds) (x ∷ xs) =
     IsLinkTreeOfSide n (owner_kind files link) (member_kind files link) d.side x
@@ -148,9 +156,11 @@ IsReadySide n form (link_side linkset ts) = ⊥
 abbrev pub AreReadyFiles : ℕ → List FileDef → List DefinitionTree → Type 0
 AreReadyFiles n [] ds = Unit {0}
 AreReadyFiles n (file ∷ files) [] = ⊥
-AreReadyFiles n (file ∷ files) (d ∷ ds) = IsReadySide n (file_form file) d.side × AreReadyFiles (n + side_leaf_count d.side) files ds
+AreReadyFiles n (file ∷ files) (d ∷ ds) =
+    IsReadySide n (file_form file) d.side × AreReadyFiles (n + side_leaf_count d.side) files ds
 
--- the side of a link whose files have keys of the kinds o and m; a program counts the bytes of its fields exactly
+-- the side of a link whose files have keys of the kinds o and m; a program counts the bytes of its
+-- fields exactly
 pub record IsReadyLink (n : ℕ) (o m : Kind) (linkset : Linkset) (ts : List Tree) : Type 0 where
   pub terms : AreReady n (link_form linkset o m) 0 (kids_from ts)
   pub narrow_owner : width_of o ≤ 101

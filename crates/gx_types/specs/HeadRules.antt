@@ -33,7 +33,9 @@ numbers_in fs names = numbers_from 0 (named_in fs names)
 
 -- keys before data
 abbrev pub place_in : Form → List ℕ → Where
-place_in form name = if is_field form.keys name then Key (first_in form.keys name) else Rest (first_in form.fields name)
+place_in form name =
+    if is_field form.keys name then Key (first_in form.keys name)
+    else Rest (first_in form.fields name)
 
 -- ---- the rules of the layers
 

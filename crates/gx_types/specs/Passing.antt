@@ -8,7 +8,8 @@ use Rattle.gx_types.specs.declared.any.Passing.TheVariants.{Whole, Wrapped, Apar
 
 -- each record goes to one child, changed so
 abbrev pub PassesOne : Rule → (Rec → Rec) → Type 0
-PassesOne rule changed = (r : Rec) → (c : ℕ) × (rule.parts r ≡ record { child = c; rec = changed r } ∷ [])
+PassesOne rule changed = (r : Rec)
+    → (c : ℕ) × (rule.parts r ≡ record { child = c; rec = changed r } ∷ [])
 
 -- each record goes to one child, as it is
 pub record PassesWhole (rule : Rule) : Type 0 where

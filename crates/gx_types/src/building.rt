@@ -29,7 +29,8 @@ pub fn build(
     requires schema { IsSchema schema.now }
     requires written { AreWritten (definitions_of equation.now.definitions) }
     requires typed { IsTyped schema.now (definitions_of equation.now.definitions) }
-    requires leaves { typing ≡ typing_with (leaves schema.now (definitions_of equation.now.definitions)) }
+    requires leaves { typing ≡ typing_with
+        (leaves schema.now (definitions_of equation.now.definitions)) }
     // The leaves are those of the typing.
     ensures leaves { IfOk result
         (λ built. typing ≡ record { specs = built.specs; owners = built.owners }) }

@@ -147,7 +147,8 @@ fn index_of(alloc: Global, form: &Form, name: &Name) -> Result<AnyMapping, NoMem
     }
 }
 
-/// The mapping of the head of a term, for the records of the form. `NoMemory`: there was none for it.
+/// The mapping of the head of a term, for the records of the form. `NoMemory`: there was none for
+/// it.
 pub(crate) fn mapping_of(alloc: Global, form: &Form, term: &Term) -> Result<AnyMapping, NoMemory>
     requires ready { (next : ℕ) × IsReady next form.now (tree_of term.now) }
     requires layer { IsLayer (head_of (tree_of term.now)) }

@@ -50,7 +50,8 @@ fn next_leaf(alloc: Global, form: &Form, next: &mut u32) -> Result<Node<AnyMappi
 // The child of a term with the number, from 0.
 fn child(term: &Term, number: usize) -> &Term
     requires { number < count (kids_of (tree_of term.now)) }
-    ensures { tree_of result.now ≡ slice_index_or (list_of (kids_of (tree_of term.now))) number (tree_of term.now) }
+    ensures { tree_of result.now
+        ≡ slice_index_or (list_of (kids_of (tree_of term.now))) number (tree_of term.now) }
 {
     match term {
         Term::Actual(kid) | Term::Encode(_, _, kid) | Term::Divide(_, kid) => kid,
@@ -70,9 +71,13 @@ fn kid_nodes(
     term: &Term,
     next: &mut u32,
 ) -> Result<Vec<Node<AnyMapping>>, NoMemory>
-    requires ready { AreReady next.old (any_rule mapping.now).kid_form 0 (kids_of (tree_of term.now)) }
+    requires ready { AreReady next.old (any_rule mapping.now).kid_form 0
+        (kids_of (tree_of term.now)) }
     requires each { count (kids_of (tree_of term.now)) ≡ (any_rule mapping.now).kids }
-    ensures trees { IfOk result (λ nodes. AreTreesOf next.old (any_rule mapping.now).kid_form 0 (kids_of (tree_of term.now)) (node_kids (map node_tree nodes.items))) }
+    ensures trees { IfOk result
+        (λ nodes.
+        AreTreesOf next.old (any_rule mapping.now).kid_form 0 (kids_of (tree_of term.now))
+        (node_kids (map node_tree nodes.items))) }
     ensures next { OnOk result (next.new ≡ next.old + leaf_counts (kids_of (tree_of term.now))) }
 {
     let mut nodes = Vec::with_capacity(alloc, usize::from(mapping.kids()))?;
@@ -83,8 +88,8 @@ fn kid_nodes(
     Ok(nodes)
 }
 
-/// The node of a term for the records of the form. Its leaves have the numbers from `next` on, which then is the number behind
-/// them. `NoMemory`: there was none for it.
+/// The node of a term for the records of the form. Its leaves have the numbers from `next` on,
+/// which then is the number behind them. `NoMemory`: there was none for it.
 #[cycle(nodes)]
 pub fn node_of(
     alloc: Global,
@@ -93,7 +98,8 @@ pub fn node_of(
     next: &mut u32,
 ) -> Result<Node<AnyMapping>, NoMemory>
     requires { IsReady next.old form.now (tree_of term.now) }
-    ensures tree { IfOk result (λ node. IsTreeOf next.old form.now (tree_of term.now) (node_tree node)) }
+    ensures tree { IfOk result
+        (λ node. IsTreeOf next.old form.now (tree_of term.now) (node_tree node)) }
     ensures next { OnOk result (next.new ≡ next.old + leaf_count (tree_of term.now)) }
 {
     match term {
@@ -114,7 +120,8 @@ fn node_of_file(
     next: &mut u32,
 ) -> Result<Node<AnyMapping>, NoMemory>
     requires { IsReadySide next.old (file_form file.now) (side_of side.now) }
-    ensures tree { IfOk result (λ node. IsTreeOfSide next.old (file_form file.now) (side_of side.now) (node_tree node)) }
+    ensures tree { IfOk result
+        (λ node. IsTreeOfSide next.old (file_form file.now) (side_of side.now) (node_tree node)) }
     ensures next { OnOk result (next.new ≡ next.old + side_leaf_count (side_of side.now)) }
 {
     match side {

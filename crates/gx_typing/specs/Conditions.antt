@@ -30,10 +30,12 @@ is_coded codes.Pack kinds.Int = true
 is_coded codes.Rle (kinds.Text most) = true
 is_coded code other = false
 
--- the value may bound a field of the kind: every int one of ints, and a text one of texts that it fits
+-- the value may bound a field of the kind: every int one of ints, and a text one of texts that it
+-- fits
 abbrev pub is_bound : Kind → Value → Bool
 is_bound kinds.Int (values.Int n) = true
-is_bound (kinds.Text most) (values.Text text) = nat_le (length text) most && list_all is_printable text
+is_bound (kinds.Text most) (values.Text text) =
+    nat_le (length text) most && list_all is_printable text
 is_bound kind other = false
 
 -- each bound is smaller than the next
@@ -49,7 +51,8 @@ is_data form name = not (is_some (kind_in form.keys name)) && is_some (kind_in f
 -- each is the name of a data field, and stands once
 abbrev pub are_data : Form → List (List ℕ) → Bool
 are_data form [] = true
-are_data form (name ∷ names) = if is_data form name && not (has_name names name) then are_data form names else false
+are_data form (name ∷ names) =
+    if is_data form name && not (has_name names name) then are_data form names else false
 
 -- a field has a name other than these
 abbrev pub leaves_some : List Field → List (List ℕ) → Bool

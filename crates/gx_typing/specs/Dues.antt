@@ -24,7 +24,9 @@ abbrev pub member_kind : List FileDef → LinkDef → Kind
 member_kind files link = key_kind (slice_index_or files link.member no_file)
 
 abbrev pub link_due : List FileDef → LinkDef → Due
-link_due files link = record { name = link.name; stored = stored.Link (owner_kind files link) (member_kind files link) }
+link_due files link =
+    record
+    { name = link.name; stored = stored.Link (owner_kind files link) (member_kind files link) }
 
 -- the files, and then the links
 abbrev pub dues : Schema → List Due

@@ -8,4 +8,5 @@ use Rattle.gx_forms.specs.Fields.{first_kind}
 
 -- a leaf of the kind with the form
 abbrev pub leaf_spec : LeafKind → Form → LeafSpec
-leaf_spec kind form = record { kind = kind; first = first_kind form.keys; key_width = widths form.keys }
+leaf_spec kind form =
+    record { kind = kind; first = first_kind form.keys; key_width = widths form.keys }

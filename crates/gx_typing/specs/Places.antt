@@ -55,33 +55,41 @@ asked before (a_head top form kids) = do
   met ← row top form kids
   leaf_test before top
 
--- going through places with their lines, behind so many leaves: the first that fails has this line and this reason
+-- going through places with their lines, behind so many leaves: the first that fails has this line
+-- and this reason
 abbrev pub IsFirstFault : ℕ → List Place → List ℕ → ℕ → TypeWhy → Type 0
 IsFirstFault before [] lines line reason = ⊥
-IsFirstFault before (p ∷ ps) lines line reason = ((asked before p ≡ Err reason) × (here lines ≡ line)) ⊎ ((asked before p ≡ Ok tt) × IsFirstFault (before + leaves_of_place p) ps (behind lines) line reason)
+IsFirstFault before (p ∷ ps) lines line reason =
+    ((asked before p ≡ Err reason) × (here lines ≡ line))
+    ⊎ ((asked before p ≡ Ok tt) × IsFirstFault (before
+    + leaves_of_place p) ps (behind lines) line reason)
 
 -- ---- the places of a text; none is listed behind one that fails whatever follows
 
 -- a head stands before its children
 abbrev mutual
   pub places_of_term : Form → Tree → List Place
-  places_of_term form (node top kids) = a_head top form (count kids) ∷ places_of_terms (kid_form top form) 0 kids
+  places_of_term form (node top kids) =
+      a_head top form (count kids) ∷ places_of_terms (kid_form top form) 0 kids
 
   pub places_of_terms : (ℕ → Form) → ℕ → Trees → List Place
   places_of_terms forms i none = []
-  places_of_terms forms i (kid t ts) = places_of_term (forms i) t ++ places_of_terms forms (suc i) ts
+  places_of_terms forms i (kid t ts) =
+      places_of_term (forms i) t ++ places_of_terms forms (suc i) ts
 
 abbrev pub places_of_side : Stored → SideTree → List Place
 places_of_side (stored.File form) (file_side t) = places_of_term form t
 places_of_side (stored.File form) (link_side linkset ts) = other_side ∷ []
 places_of_side (stored.Link o m) (file_side t) = other_side ∷ []
-places_of_side (stored.Link o m) (link_side linkset ts) = link_head ∷ places_of_terms (link_form linkset o m) 0 (kids_from ts)
+places_of_side (stored.Link o m) (link_side linkset ts) =
+    link_head ∷ places_of_terms (link_form linkset o m) 0 (kids_from ts)
 
 abbrev pub places_of_all : List Due → List DefinitionTree → List Place
 places_of_all [] [] = []
 places_of_all (due ∷ dues) [] = an_end ∷ []
 places_of_all [] (d ∷ ds) = a_name_more ∷ []
-places_of_all (due ∷ dues) (d ∷ ds) = a_name due.name d.name ∷ places_of_side due.stored d.side ++ places_of_all dues ds
+places_of_all (due ∷ dues) (d ∷ ds) =
+    a_name due.name d.name ∷ places_of_side due.stored d.side ++ places_of_all dues ds
 
 abbrev pub places : Schema → List DefinitionTree → List Place
 places schema ds = places_of_all (dues schema) ds

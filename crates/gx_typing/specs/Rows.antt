@@ -1,4 +1,5 @@
--- What each head asks of the form that it gets and of its number of children, in the order of the reasons.
+-- What each head asks of the form that it gets and of its number of children, in the order of the
+-- reasons.
 use Rattle.std.specs.Prelude.{ℕ, suc, ◌+◌, Bool, false, ◌&&◌, List, [], ◌∷◌, length, Option, Some, None, Result, Ok, Err, nat_lt, nat_le, ◌==◌, if◌then◌else◌}
 use Rattle.std.specs.List.{list_all}
 use Rattle.gx_values.specs.Keys.{widths}
@@ -29,7 +30,8 @@ abbrev pub kind_from : Option Kind → Result Kind TypeWhy
 kind_from None = Err why.FieldName
 kind_from (Some kind) = Ok kind
 
--- where a key field of the name has a kind and where a data field has one: the data field's, where no key field has the name
+-- where a key field of the name has a kind and where a data field has one: the data field's, where
+-- no key field has the name
 abbrev pub data_from : Option Kind → Option Kind → Result Kind TypeWhy
 data_from None field = kind_from field
 data_from (Some key) field = Err why.FieldName
@@ -73,7 +75,8 @@ segment_row names form = do
   tested why.Groups (leaves_some form.fields names)
 
 abbrev pub transpose_row : Form → ℕ → Result (Unit {0}) TypeWhy
-transpose_row form kids = tested why.Children (nat_lt 0 (length form.fields) && kids == length form.fields)
+transpose_row form kids =
+    tested why.Children (nat_lt 0 (length form.fields) && kids == length form.fields)
 
 abbrev pub partition_row : List ℕ → List Value → Form → ℕ → Result (Unit {0}) TypeWhy
 partition_row name bounds form kids = do

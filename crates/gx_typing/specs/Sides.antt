@@ -10,14 +10,17 @@ use Rattle.gx_typing.specs.declared.typing.Typing.{Typing}
 use Rattle.gx_forms.specs.Forms.{link_form}
 use Rattle.gx_typing.specs.Typing.{Mistake, here, behind, typed_at, kids_typed}
 
--- Where a file has the side of a link, or a link that of a file, the line is that of the side's first head.
+-- Where a file has the side of a link, or a link that of a file, the line is that of the side's
+-- first head.
 abbrev pub file_typed : ℕ → Form → SideTree → List ℕ → Typing → Result (List ℕ × Typing) Mistake
 file_typed owner form (file_side t) lines typing = typed_at owner form t lines typing
 file_typed owner form (link_side linkset ts) lines typing = Err (here lines, why.Linkset)
 
-abbrev pub link_typed : ℕ → Kind → Kind → SideTree → List ℕ → Typing → Result (List ℕ × Typing) Mistake
+abbrev pub link_typed : ℕ → Kind → Kind → SideTree → List ℕ → Typing
+    → Result (List ℕ × Typing) Mistake
 link_typed owner o m (file_side t) lines typing = Err (here lines, why.Linkset)
-link_typed owner o m (link_side linkset ts) lines typing = kids_typed owner (link_form linkset o m) 0 (kids_from ts) (behind lines) typing
+link_typed owner o m (link_side linkset ts) lines typing =
+    kids_typed owner (link_form linkset o m) 0 (kids_from ts) (behind lines) typing
 
 abbrev pub side_typed : ℕ → Stored → SideTree → List ℕ → Typing → Result (List ℕ × Typing) Mistake
 side_typed owner (stored.File form) side lines typing = file_typed owner form side lines typing

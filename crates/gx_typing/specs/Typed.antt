@@ -41,7 +41,9 @@ IsField form name kind = (kind_in form.keys name ≡ Some kind) ⊎ IsDataField 
 -- names of data fields, each once
 abbrev pub AreDataFields : Form → List (List ℕ) → Type 0
 AreDataFields form [] = Unit {0}
-AreDataFields form (name ∷ names) = ((kind : Kind) × IsDataField form name kind) × (has_name names name ≡ false) × AreDataFields form names
+AreDataFields form (name ∷ names) =
+    ((kind : Kind) × IsDataField form name kind) × (has_name names name ≡ false)
+    × AreDataFields form names
 
 -- `pack` for an int, `rle` for a text
 abbrev pub IsCodeFor : Code → Kind → Type 0
@@ -52,7 +54,8 @@ IsCodeFor code other = ⊥
 -- every int fits an int; a text fits a text that is long enough for it
 abbrev pub IsBoundFor : Kind → Value → Type 0
 IsBoundFor kinds.Int (values.Int n) = Unit {0}
-IsBoundFor (kinds.Text most) (values.Text text) = (length text ≤ most) × IsTrue (list_all is_printable text)
+IsBoundFor (kinds.Text most) (values.Text text) =
+    (length text ≤ most) × IsTrue (list_all is_printable text)
 IsBoundFor kind other = ⊥
 
 abbrev pub AscendStrictly : List Value → Type 0
@@ -92,7 +95,8 @@ pub record IsTransposed (form : Form) (kids : ℕ) : Type 0 where
   pub some : 0 < length form.fields
   pub each : kids ≡ length form.fields
 
-pub record IsPartitioned (name : List ℕ) (bounds : List Value) (form : Form) (kids : ℕ) : Type 0 where
+pub record IsPartitioned (name : List ℕ) (bounds : List Value) (form : Form)
+    (kids : ℕ) : Type 0 where
   pub kind : Kind
   pub field : IsField form name kind
   pub key_kind : IsKeyKind kind
@@ -120,7 +124,8 @@ IsMet (heads.Index name) form kids = IsIndexed name form
 -- the head's condition is met, and each child is typed at the form that the head gives it
 abbrev mutual
   pub IsTypedTerm : Form → Tree → Type 0
-  IsTypedTerm form (node top kids) = IsMet top form (count kids) × AreTypedTerms (kid_form top form) 0 kids
+  IsTypedTerm form (node top kids) =
+      IsMet top form (count kids) × AreTypedTerms (kid_form top form) 0 kids
 
   -- the first of the children has this number
   pub AreTypedTerms : (ℕ → Form) → ℕ → Trees → Type 0
@@ -138,11 +143,13 @@ leaf_here owner other form = []
 
 abbrev mutual
   pub leaves_of : ℕ → Form → Tree → List Leaf
-  leaves_of owner form (node top kids) = leaf_here owner top form ++ leaves_of_kids owner (kid_form top form) 0 kids
+  leaves_of owner form (node top kids) =
+      leaf_here owner top form ++ leaves_of_kids owner (kid_form top form) 0 kids
 
   pub leaves_of_kids : ℕ → (ℕ → Form) → ℕ → Trees → List Leaf
   leaves_of_kids owner forms i none = []
-  leaves_of_kids owner forms i (kid t ts) = leaves_of owner (forms i) t ++ leaves_of_kids owner forms (suc i) ts
+  leaves_of_kids owner forms i (kid t ts) =
+      leaves_of owner (forms i) t ++ leaves_of_kids owner forms (suc i) ts
 
 -- ---- definitions
 
@@ -151,25 +158,29 @@ abbrev pub IsTypedSide : Stored → SideTree → Type 0
 IsTypedSide (stored.File form) (file_side t) = IsTypedTerm form t
 IsTypedSide (stored.File form) (link_side linkset ts) = ⊥
 IsTypedSide (stored.Link o m) (file_side t) = ⊥
-IsTypedSide (stored.Link o m) (link_side linkset ts) = AreTypedTerms (link_form linkset o m) 0 (kids_from ts)
+IsTypedSide (stored.Link o m) (link_side linkset ts) =
+    AreTypedTerms (link_form linkset o m) 0 (kids_from ts)
 
 abbrev pub leaves_of_side : ℕ → Stored → SideTree → List Leaf
 leaves_of_side owner (stored.File form) (file_side t) = leaves_of owner form t
 leaves_of_side owner (stored.File form) (link_side linkset ts) = []
 leaves_of_side owner (stored.Link o m) (file_side t) = []
-leaves_of_side owner (stored.Link o m) (link_side linkset ts) = leaves_of_kids owner (link_form linkset o m) 0 (kids_from ts)
+leaves_of_side owner (stored.Link o m) (link_side linkset ts) =
+    leaves_of_kids owner (link_form linkset o m) 0 (kids_from ts)
 
 -- one definition for each that is due, in their order
 abbrev pub AreTyped : List Due → List DefinitionTree → Type 0
 AreTyped [] [] = Unit {0}
 AreTyped (due ∷ dues) [] = ⊥
 AreTyped [] (d ∷ ds) = ⊥
-AreTyped (due ∷ dues) (d ∷ ds) = (due.name ≡ d.name) × IsTypedSide due.stored d.side × AreTyped dues ds
+AreTyped (due ∷ dues) (d ∷ ds) =
+    (due.name ≡ d.name) × IsTypedSide due.stored d.side × AreTyped dues ds
 
 abbrev pub leaves_of_all : ℕ → List Due → List DefinitionTree → List Leaf
 leaves_of_all owner [] ds = []
 leaves_of_all owner (due ∷ dues) [] = []
-leaves_of_all owner (due ∷ dues) (d ∷ ds) = leaves_of_side owner due.stored d.side ++ leaves_of_all (suc owner) dues ds
+leaves_of_all owner (due ∷ dues) (d ∷ ds) =
+    leaves_of_side owner due.stored d.side ++ leaves_of_all (suc owner) dues ds
 
 -- the leaves of an equation, from left to right
 abbrev pub leaves : Schema → List DefinitionTree → List Leaf

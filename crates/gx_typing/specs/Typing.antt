@@ -18,7 +18,8 @@ use Rattle.gx_typing.specs.Leaves.{leaf_spec}
 abbrev pub Mistake : Type 0
 Mistake = ℕ × TypeWhy
 
--- Typing is given the lines of the places that are left, of which the first is that of the place due, and gives the lines behind.
+-- Typing is given the lines of the places that are left, of which the first is that of the place
+-- due, and gives the lines behind.
 abbrev pub here : List ℕ → ℕ
 here [] = 0
 here (line ∷ lines) = line
@@ -41,7 +42,10 @@ term_row form (node top kids) = row top form (count kids)
 
 -- the leaves before and one more of the definition, of which there may be 255
 abbrev pub with_leaf : ℕ → LeafSpec → Typing → Result Typing TypeWhy
-with_leaf owner spec typing = if nat_lt (length typing.specs) 255 then Ok (record { specs = typing.specs ++ spec ∷ []; owners = typing.owners ++ owner ∷ [] }) else Err why.Leaves
+with_leaf owner spec typing =
+    if nat_lt (length typing.specs) 255
+    then Ok (record { specs = typing.specs ++ spec ∷ []; owners = typing.owners ++ owner ∷ [] })
+    else Err why.Leaves
 
 -- the leaves before and the one that the head is, if it is one
 abbrev pub with_head : ℕ → Head → Form → Typing → Result Typing TypeWhy

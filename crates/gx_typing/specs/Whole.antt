@@ -11,13 +11,16 @@ use Rattle.gx_typing.specs.Rows.{◌>>=◌, tested}
 use Rattle.gx_typing.specs.Sides.{side_typed}
 use Rattle.gx_typing.specs.Typing.{Mistake, here, behind, at}
 
-abbrev pub definition_typed : ℕ → Due → DefinitionTree → List ℕ → Typing → Result (List ℕ × Typing) Mistake
+abbrev pub definition_typed : ℕ → Due → DefinitionTree → List ℕ → Typing
+    → Result (List ℕ × Typing) Mistake
 definition_typed owner due d lines typing = do
   named ← at lines (tested why.Definition (pointwise nat_eq due.name d.name))
   side_typed owner due.stored d.side (behind lines) typing
 
--- The definitions, of which the first has this number. Behind the last place stands the text's last line.
-abbrev pub definitions_typed : ℕ → List Due → List DefinitionTree → List ℕ → Typing → Result Typing Mistake
+-- The definitions, of which the first has this number. Behind the last place stands the text's last
+-- line.
+abbrev pub definitions_typed : ℕ → List Due → List DefinitionTree → List ℕ → Typing
+    → Result Typing Mistake
 definitions_typed owner [] [] lines typing = Ok typing
 definitions_typed owner (due ∷ dues) [] lines typing = Err (here lines, why.Definition)
 definitions_typed owner [] (d ∷ ds) lines typing = Err (here lines, why.Definition)
@@ -28,6 +31,7 @@ definitions_typed owner (due ∷ dues) (d ∷ ds) lines typing = do
 abbrev pub no_leaves : Typing
 no_leaves = record { specs = []; owners = [] }
 
--- the leaves of an equation whose places have these lines, or the line of the first place that fails and its first reason
+-- the leaves of an equation whose places have these lines, or the line of the first place that
+-- fails and its first reason
 abbrev pub typing_of : Schema → List DefinitionTree → List ℕ → Result Typing Mistake
 typing_of schema ds lines = definitions_typed 0 (dues schema) ds lines no_leaves

@@ -9,8 +9,8 @@ use gx_schema::{FileDef, LinkDef, Schema};
 use gx_values::{Field, Form, Kind, Name};
 use std::alloc::{AllocError, Global};
 
-/// What is defined: a file with the form of its records, or a link with the kinds of the keys of its owner file and of its
-/// member file.
+/// What is defined: a file with the form of its records, or a link with the kinds of the keys of
+/// its owner file and of its member file.
 #[derive(Drop)]
 pub enum Stored {
     File(Form),

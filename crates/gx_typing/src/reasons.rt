@@ -5,15 +5,17 @@ ghost use Rattle.gx_typing.specs.Reasons.{words_of};
 use gx_values::NoMemory;
 use std::alloc::{AllocError, AllocFailed};
 
-/// Why an equation isn't typed: the reason that holds of its first place that fails, in the order of the text. At one place the first
-/// reason of this list is said.
+/// Why an equation isn't typed: the reason that holds of its first place that fails, in the order
+/// of the text. At one place the first reason of this list is said.
 #[derive(Clone, Copy, Debug, PartialEq, Eq)]
 pub enum TypeWhy {
-    /// The name isn't that of the file or of the link that is due, or none is due; or a definition is missing at the end.
+    /// The name isn't that of the file or of the link that is due, or none is due; or a definition
+    /// is missing at the end.
     Definition,
     /// A file has a head of links, or a link has none.
     Linkset,
-    /// A name is that of no field of the form, is that of a key field where a data field is needed, or stands twice in a `segment`.
+    /// A name is that of no field of the form, is that of a key field where a data field is needed,
+    /// or stands twice in a `segment`.
     FieldName,
     /// The field or a bound has another kind than is needed, or a bound doesn't fit the field.
     FieldKind,
@@ -60,7 +62,8 @@ impl TypeWhy {
 /// Why there are no leaves of an equation.
 #[derive(Clone, Copy, Debug, PartialEq, Eq)]
 pub enum Untyped {
-    /// The equation isn't typed under the schema: the line of its first place that fails, counted from 1, and the reason.
+    /// The equation isn't typed under the schema: the line of its first place that fails, counted
+    /// from 1, and the reason.
     Mistyped(u32, TypeWhy),
     /// There was no memory for what the equation gives.
     NoMemory,

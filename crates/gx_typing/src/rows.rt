@@ -92,7 +92,8 @@ fn is_printable_text(text: &[u8]) -> bool
     text.iter().all(|byte| matches!(*byte, 0x20..=0x7E))
 }
 
-// Whether the value may bound a field of the kind: an int one of ints, and a text one of texts that it fits.
+// Whether the value may bound a field of the kind: an int one of ints, and a text one of texts that
+// it fits.
 fn is_bound(kind: Kind, bound: &Value) -> bool
     ensures { result ≡ is_bound kind bound.now }
 {
@@ -180,7 +181,8 @@ pub fn segment_row(form: &Form, names: &Names) -> Result<(), TypeWhy>
     tested(TypeWhy::Groups, leaves_some(&form.fields.0, &names.0))
 }
 
-/// What `transpose` asks of its form and of how many children it has: a child for each data field, of which there is one.
+/// What `transpose` asks of its form and of how many children it has: a child for each data field,
+/// of which there is one.
 pub fn transpose_row(form: &Form, kids: usize) -> Result<(), TypeWhy>
     ensures same { OnOk result (kids ≡ length form.now.fields) }
     ensures exact { result ≡ transpose_row form.now kids }
@@ -189,8 +191,8 @@ pub fn transpose_row(form: &Form, kids: usize) -> Result<(), TypeWhy>
     tested(TypeWhy::Children, fields > 0 && kids == fields)
 }
 
-/// What `partition` asks of its form and of how many children it has: a field with bounds that fit it and ascend, and a child
-/// more than bounds.
+/// What `partition` asks of its form and of how many children it has: a field with bounds that fit
+/// it and ascend, and a child more than bounds.
 pub fn partition_row(form: &Form, name: &Name, bounds: &Values, kids: usize) -> Result<(), TypeWhy>
     ensures { result ≡ partition_row name.now bounds.now form.now kids }
 {

@@ -12,7 +12,8 @@ use gx_forms::{array_form, inverted_forms, ring_forms};
 use gx_values::Kind;
 use std::alloc::Global;
 
-// A side where that of a link is due, by the kinds of the keys of its owner file and of its member file.
+// A side where that of a link is due, by the kinds of the keys of its owner file and of its member
+// file.
 fn link_typed<'a>(
     alloc: Global,
     number: u16,
@@ -21,7 +22,8 @@ fn link_typed<'a>(
     lines: &'a [u32],
     typing: &mut Typing,
 ) -> Result<&'a [u32], Untyped>
-    ensures { Answers (λ r. (r.now, typing.new)) result (link_typed number kinds.0 kinds.1 (side_of side.now) lines.now typing.old) }
+    ensures { Answers (λ r. (r.now, typing.new)) result
+        (link_typed number kinds.0 kinds.1 (side_of side.now) lines.now typing.old) }
 {
     let (owner, member) = kinds;
     match side {
@@ -41,9 +43,9 @@ fn link_typed<'a>(
     }
 }
 
-/// The side of the definition with the number, for what is due: its leaves stand behind those before it, and the result is the
-/// lines that are left. `Mistyped` and `NoMemory` come as for a term; `Linkset` comes first where a file has the side of a
-/// link, or a link has none.
+/// The side of the definition with the number, for what is due: its leaves stand behind those
+/// before it, and the result is the lines that are left. `Mistyped` and `NoMemory` come as for a
+/// term; `Linkset` comes first where a file has the side of a link, or a link has none.
 pub fn side_typed<'a>(
     alloc: Global,
     number: u16,
@@ -52,7 +54,8 @@ pub fn side_typed<'a>(
     lines: &'a [u32],
     typing: &mut Typing,
 ) -> Result<&'a [u32], Untyped>
-    ensures { Answers (λ r. (r.now, typing.new)) result (side_typed number stored.now (side_of side.now) lines.now typing.old) }
+    ensures { Answers (λ r. (r.now, typing.new)) result
+        (side_typed number stored.now (side_of side.now) lines.now typing.old) }
 {
     match stored {
         Stored::File(form) => match side {

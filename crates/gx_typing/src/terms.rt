@@ -71,7 +71,8 @@ fn leaf_typed<'a>(
     typing: &mut Typing,
 ) -> Result<&'a [u32], Untyped>
     requires { leaf_row form.now ≡ Ok tt }
-    ensures { Answers (λ r. (r.now, typing.new)) result (typed_at owner form.now (node (heads.Leaf kind) none) lines.now typing.old) }
+    ensures { Answers (λ r. (r.now, typing.new)) result
+        (typed_at owner form.now (node (heads.Leaf kind) none) lines.now typing.old) }
 {
     let spec = LeafSpec {
         kind,
@@ -91,7 +92,8 @@ fn same_typed<'a>(
     lines: &'a [u32],
     typing: &mut Typing,
 ) -> Result<&'a [u32], Untyped>
-    ensures { Answers (λ r. (r.now, typing.new)) result (kids_typed owner (λ _. form.now) 0 (kids_from (trees_of kids.now)) lines.now typing.old) }
+    ensures { Answers (λ r. (r.now, typing.new)) result
+        (kids_typed owner (λ _. form.now) 0 (kids_from (trees_of kids.now)) lines.now typing.old) }
 {
     let mut left = lines;
     for kid in kids {
@@ -110,7 +112,9 @@ fn each_typed<'a>(
     typing: &mut Typing,
 ) -> Result<&'a [u32], Untyped>
     requires { length kids.now ≡ length form.now.fields }
-    ensures { Answers (λ r. (r.now, typing.new)) result (kids_typed owner (one_field form.now) 0 (kids_from (trees_of kids.now)) lines.now typing.old) }
+    ensures { Answers (λ r. (r.now, typing.new)) result
+        (kids_typed owner (one_field form.now) 0
+        (kids_from (trees_of kids.now)) lines.now typing.old) }
 {
     let mut left = lines;
     for (i, kid) in kids.iter().enumerate() {
@@ -131,15 +135,20 @@ pub fn both_typed<'a>(
     lines: &'a [u32],
     typing: &mut Typing,
 ) -> Result<&'a [u32], Untyped>
-    ensures { (due : ℕ → FormOf) → narrow forms.now.0 ≡ narrow (due 0) → narrow forms.now.1 ≡ narrow (due 1) → Answers (λ r. (r.now, typing.new)) result (kids_typed owner due 0 (kid (tree_of first.now) (kid (tree_of second.now) none)) lines.now typing.old) }
+    ensures { (due : ℕ → FormOf) → narrow forms.now.0 ≡ narrow (due 0) →
+        narrow forms.now.1 ≡ narrow (due 1) →
+        Answers (λ r. (r.now, typing.new)) result
+        (kids_typed owner due 0
+        (kid (tree_of first.now) (kid (tree_of second.now) none)) lines.now typing.old) }
 {
     let left = term_typed(alloc, owner, &forms.0, first, lines, typing)?;
     term_typed(alloc, owner, &forms.1, second, left, typing)
 }
 
-/// A term of a definition at a form: its leaves stand behind those before it, and the result is the lines that are left.
-/// `Mistyped` comes with the first of its places that fails, and `NoMemory` where there was none for a form or a leaf. After
-/// an error the leaves are those of the places before, or fewer owners by one.
+/// A term of a definition at a form: its leaves stand behind those before it, and the result is the
+/// lines that are left. `Mistyped` comes with the first of its places that fails, and `NoMemory`
+/// where there was none for a form or a leaf. After an error the leaves are those of the places
+/// before, or fewer owners by one.
 #[cycle(typing)]
 pub fn term_typed<'a>(
     alloc: Global,
@@ -149,7 +158,8 @@ pub fn term_typed<'a>(
     lines: &'a [u32],
     typing: &mut Typing,
 ) -> Result<&'a [u32], Untyped>
-    ensures { Answers (λ r. (r.now, typing.new)) result (typed_at owner form.now (tree_of term.now) lines.now typing.old) }
+    ensures { Answers (λ r. (r.now, typing.new)) result
+        (typed_at owner form.now (tree_of term.now) lines.now typing.old) }
 {
     at(lines, term_row(form, term))?;
     match term {

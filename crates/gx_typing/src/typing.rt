@@ -30,14 +30,16 @@ impl Model for Owners {
     ghost view = { λ o. o.0.items };
 }
 
-/// The leaves of an equation in the order of its text: what each is, and the number of the definition that it stands in.
+/// The leaves of an equation in the order of its text: what each is, and the number of the
+/// definition that it stands in.
 #[derive(Debug, Drop)]
 pub struct Typing {
     pub specs: Specs,
     pub owners: Owners,
 }
 
-/// How many pages the leaves have from the start on: a hashed leaf one for each of its chains, every other leaf one.
+/// How many pages the leaves have from the start on: a hashed leaf one for each of its chains,
+/// every other leaf one.
 pub fn root_pages(specs: &Specs) -> u32
     requires { length specs.now ≤ 255 }
     ensures value { result ≡ root_pages specs.now }
@@ -46,8 +48,8 @@ pub fn root_pages(specs: &Specs) -> u32
     gx_ports::root_pages(&specs.0)
 }
 
-/// The number of blocks of the smallest device that has room for the leaves: 7, and two for each of the 16 pages of the owner
-/// table and for each root page.
+/// The number of blocks of the smallest device that has room for the leaves: 7, and two for each of
+/// the 16 pages of the owner table and for each root page.
 pub fn smallest_device(specs: &Specs) -> u32
     requires { length specs.now ≤ 255 }
     ensures { result ≡ smallest_device specs.now }

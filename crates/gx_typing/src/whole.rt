@@ -26,7 +26,8 @@ fn definition_typed<'a>(
     lines: &'a [u32],
     typing: &mut Typing,
 ) -> Result<&'a [u32], Untyped>
-    ensures { Answers (λ r. (r.now, typing.new)) result (definition_typed number due.now (definition_of definition.now) lines.now typing.old) }
+    ensures { Answers (λ r. (r.now, typing.new)) result
+        (definition_typed number due.now (definition_of definition.now) lines.now typing.old) }
 {
     let named = due.name.as_slice() == definition.name.as_slice();
     at(lines, tested(TypeWhy::Definition, named))?;
@@ -47,7 +48,8 @@ fn definitions_typed(
     lines: &[u32],
 ) -> Result<Typing, Untyped>
     requires { length dues.now < 2 ^ 16 }
-    ensures { Answers (λ x. x) result (definitions_typed 0 dues.now (definitions_of definitions.now) lines.now no_leaves) }
+    ensures { Answers (λ x. x) result
+        (definitions_typed 0 dues.now (definitions_of definitions.now) lines.now no_leaves) }
 {
     let mut typing = Typing {
         specs: Specs(Vec::new(alloc)),
@@ -74,30 +76,40 @@ fn definitions_typed(
 
 fn typed_exactly(alloc: Global, schema: &Schema, equation: &Equation) -> Result<Typing, Untyped>
     requires { IsSchema schema.now }
-    ensures { Answers (λ x. x) result (typing_of schema.now (definitions_of equation.now.definitions) equation.now.lines) }
+    ensures { Answers (λ x. x) result
+        (typing_of schema.now (definitions_of equation.now.definitions) equation.now.lines) }
 {
     let due = dues(alloc, schema)?;
     definitions_typed(alloc, &due, &equation.definitions.0, &equation.lines.0)
 }
 
-/// The leaves of an equation under a schema, in the order of the definitions and in each from left to right.
+/// The leaves of an equation under a schema, in the order of the definitions and in each from left
+/// to right.
 ///
-/// `Mistyped` comes exactly where the equation isn't typed under the schema, with the line of its first place that fails and
-/// the first reason there. Places are the name of each definition and then the heads of its side, in the order of the
-/// text; for a definition that is missing at the end the line is the text's last. `NoMemory` comes where there was none for
-/// forms or leaves.
+/// `Mistyped` comes exactly where the equation isn't typed under the schema, with the line of its
+/// first place that fails and the first reason there. Places are the name of each definition and
+/// then the heads of its side, in the order of the text; for a definition that is missing at the
+/// end the line is the text's last. `NoMemory` comes where there was none for forms or leaves.
 pub fn typed(alloc: Global, schema: &Schema, equation: &Equation) -> Result<Typing, Untyped>
     requires { IsSchema schema.now }
     // Leaves are given only where the equation is typed, and then they are its leaves.
-    ensures typed { IfOk result (λ _. IsTyped schema.now (definitions_of equation.now.definitions)) }
-    ensures leaves { IfOk result (λ typing. typing ≡ typing_with (leaves schema.now (definitions_of equation.now.definitions))) }
+    ensures typed { IfOk result
+        (λ _. IsTyped schema.now (definitions_of equation.now.definitions)) }
+    ensures leaves { IfOk result
+        (λ typing. typing
+        ≡ typing_with (leaves schema.now (definitions_of equation.now.definitions))) }
     ensures few { IfOk result (λ typing. length typing.specs ≤ 255) }
     // Where it is typed they are given, unless there is no memory.
-    ensures only { IsTyped schema.now (definitions_of equation.now.definitions) → IfErr result (λ error. error ≡ Untyped.NoMemory) }
-    // The places of the text are gone through in order: the first that fails has this line, and this is its first reason.
-    ensures first { (line : ℕ) (reason : TypeWhyOf) → result ≡ Err (Untyped.Mistyped line reason) → IsFirstFault 0 (places schema.now (definitions_of equation.now.definitions)) equation.now.lines line reason }
+    ensures only { IsTyped schema.now (definitions_of equation.now.definitions) →
+        IfErr result (λ error. error ≡ Untyped.NoMemory) }
+    // The places of the text are gone through in order: the first that fails has this line, and
+    // this is its first reason.
+    ensures first { (line : ℕ) (reason : TypeWhyOf) → result ≡ Err (Untyped.Mistyped line reason) →
+        IsFirstFault 0
+        (places schema.now (definitions_of equation.now.definitions)) equation.now.lines line reason }
     // The same by recursion on the terms.
-    ensures exact { Answers (λ x. x) result (typing_of schema.now (definitions_of equation.now.definitions) equation.now.lines) }
+    ensures exact { Answers (λ x. x) result
+        (typing_of schema.now (definitions_of equation.now.definitions) equation.now.lines) }
 {
     typed_exactly(alloc, schema, equation)
 }

@@ -24,12 +24,15 @@ IsSpanKind (kind.Bytes most) = ⊥
 
 -- a key that begins with a value of the kind is inside exactly where the value meets the condition
 abbrev pub HoldsThoseMet : Kind → Op → Value → Span → Type 0
-HoldsThoseMet kind op bound span = (v : Value) (rest : List ℕ) → Fits kind v → is_inside span.lo span.hi (bytes_of v ++ rest) ≡ is_met op (value_cmp v bound)
+HoldsThoseMet kind op bound span = (v : Value) (rest : List ℕ) → Fits kind v
+    → is_inside span.lo span.hi (bytes_of v ++ rest) ≡ is_met op (value_cmp v bound)
 
 -- no key bytes of a value of the kind are a proper prefix of an end of the span
 pub record IsValueSpan (kind : Kind) (span : Span) : Type 0 where
-  pub lo_whole : (v : Value) (rest : List ℕ) → Fits kind v → span.lo ≡ bytes_of v ++ rest → rest ≡ []
-  pub hi_whole : (v : Value) (rest : List ℕ) → Fits kind v → span.hi ≡ bytes_of v ++ rest → rest ≡ []
+  pub lo_whole : (v : Value) (rest : List ℕ) → Fits kind v → span.lo ≡ bytes_of v ++ rest
+      → rest ≡ []
+  pub hi_whole : (v : Value) (rest : List ℕ) → Fits kind v → span.hi ≡ bytes_of v ++ rest
+      → rest ≡ []
 
 -- below the least int, above the greatest int, or below the empty text
 abbrev pub IsBeyond : Op → Value → Type 0
@@ -47,11 +50,16 @@ IsSpanBound (value.Text text) = (length text ≤ 399) × IsTrue (list_all is_pri
 IsSpanBound (value.Bytes bytes) = ⊥
 
 -- at or above the lower end are the values that compare so with the bound
-pub record IsLow (kind : Kind) (meets : Ordering → Bool) (bound : Value) (lo : List ℕ) : Type 0 where
+pub record IsLow (kind : Kind) (meets : Ordering → Bool) (bound : Value)
+    (lo : List ℕ) : Type 0 where
   pub whole : (v : Value) (rest : List ℕ) → Fits kind v → lo ≡ bytes_of v ++ rest → rest ≡ []
-  pub decides : (v : Value) (rest : List ℕ) → Fits kind v → is_le (slice_cmp nat_cmp lo (bytes_of v ++ rest)) ≡ meets (value_cmp v bound)
+  pub decides : (v : Value) (rest : List ℕ) → Fits kind v
+      → is_le (slice_cmp nat_cmp lo (bytes_of v ++ rest)) ≡ meets (value_cmp v bound)
 
 -- at or below the upper end are those
-pub record IsHigh (kind : Kind) (meets : Ordering → Bool) (bound : Value) (hi : List ℕ) : Type 0 where
+pub record IsHigh (kind : Kind) (meets : Ordering → Bool) (bound : Value)
+    (hi : List ℕ) : Type 0 where
   pub whole : (v : Value) (rest : List ℕ) → Fits kind v → hi ≡ bytes_of v ++ rest → rest ≡ []
-  pub decides : (v : Value) (rest : List ℕ) → Fits kind v → is_le (slice_cmp nat_cmp (take (length hi) (bytes_of v ++ rest)) hi) ≡ meets (value_cmp v bound)
+  pub decides : (v : Value) (rest : List ℕ) → Fits kind v
+      → is_le (slice_cmp nat_cmp (take (length hi) (bytes_of v ++ rest)) hi)
+      ≡ meets (value_cmp v bound)

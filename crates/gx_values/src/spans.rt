@@ -12,9 +12,9 @@ use crate::keys::{Span, value_key};
 use crate::values::{Kind, Op, Value};
 use arrayvec::ArrayVec;
 
-/// The span of the keys that begin with a value which meets the condition. Values are of the kind: ints,
-/// or texts of at most 399 bytes. `None`: no value meets it, as it is `Less` with the least int or the
-/// empty text, or `Greater` with the greatest int.
+/// The span of the keys that begin with a value which meets the condition. Values are of the kind:
+/// ints, or texts of at most 399 bytes. `None`: no value meets it, as it is `Less` with the least
+/// int or the empty text, or `Greater` with the greatest int.
 pub fn span(kind: Kind, op: Op, bound: &Value) -> Option<Span>
     requires kind { IsSpanKind kind }
     requires fits { Fits kind bound.now }
@@ -22,7 +22,8 @@ pub fn span(kind: Kind, op: Op, bound: &Value) -> Option<Span>
     ensures meets { IfSome result (HoldsThoseMet kind op bound.now) }
     ensures whole { IfSome result (IsValueSpan kind) }
     ensures none { IsNone result ↔ IsBeyond op bound.now }
-    ensures nothing { IsNone result → (v : FieldValue) → Fits kind v → is_met op (value_cmp v bound.now) ≡ false }
+    ensures nothing { IsNone result → (v : FieldValue) → Fits kind v →
+        is_met op (value_cmp v bound.now) ≡ false }
 {
     let _ = kind;
     let (lo, hi) = match op {
@@ -46,7 +47,8 @@ fn no_bound() -> KeyBuf
 fn below(bound: &Value) -> Option<KeyBuf>
     requires { IsSpanBound bound.now }
     ensures none { IsNone result ↔ IsBeyond the_op.Less bound.now }
-    ensures some { (kind : TheKind) → Fits kind bound.now → IfSome result (IsHigh kind is_lt bound.now) }
+    ensures some { (kind : TheKind) → Fits kind bound.now →
+        IfSome result (IsHigh kind is_lt bound.now) }
 {
     match bound {
         Value::Int(n) => Some(value_key(&Value::Int(n.checked_sub(1)?))),
@@ -61,7 +63,8 @@ fn below(bound: &Value) -> Option<KeyBuf>
 fn above(bound: &Value) -> Option<KeyBuf>
     requires { IsSpanBound bound.now }
     ensures none { IsNone result ↔ IsBeyond the_op.Greater bound.now }
-    ensures some { (kind : TheKind) → Fits kind bound.now → IfSome result (IsLow kind is_gt bound.now) }
+    ensures some { (kind : TheKind) → Fits kind bound.now →
+        IfSome result (IsLow kind is_gt bound.now) }
 {
     match bound {
         Value::Int(n) => Some(value_key(&Value::Int(n.checked_add(1)?))),

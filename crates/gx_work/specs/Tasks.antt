@@ -26,18 +26,25 @@ owner_of i = i % 10
 
 -- the employees of the pay that the raises give
 abbrev pub by_pay : Find
-by_pay = record { file = 1; conds = record { field = 2; op = op.Equal; bound = int 1500 } ∷ []; of = None; order = record { field = 0; desc = false } }
+by_pay =
+    record
+    { file = 1; conds = record { field = 2; op = op.Equal; bound = int 1500 } ∷ []; of = None; order = record { field = 0; desc = false } }
 
 -- the employees of department 3
 abbrev pub by_link : Find
-by_link = record { file = 1; conds = []; of = Some (record { link = 0; owner = int 3 }); order = record { field = 0; desc = false } }
+by_link =
+    record
+    { file = 1; conds = []; of = Some (record { link = 0; owner = int 3 }); order = record { field = 0; desc = false } }
 
 -- the command that a task is
 abbrev pub command_of : Task → Command
 command_of task.Begin = command.Begin
 command_of task.Commit = command.Commit
-command_of (task.Department d) = command.Insert 0 (int d ∷ value.Text (codes "dept " ++ decimal d) ∷ [])
-command_of (task.Employee i) = command.Insert 1 (int i ∷ value.Text (codes "emp " ++ decimal i) ∷ int (pay_of i) ∷ value.Text (room_of i) ∷ [])
+command_of (task.Department d) =
+    command.Insert 0 (int d ∷ value.Text (codes "dept " ++ decimal d) ∷ [])
+command_of (task.Employee i) =
+    command.Insert 1 (int i ∷ value.Text (codes "emp " ++ decimal i) ∷ int (pay_of i)
+    ∷ value.Text (room_of i) ∷ [])
 command_of (task.Connection i) = command.Connect 0 (int (owner_of i)) (int i)
 command_of (task.Raise i) = command.Update 1 (int i) (record { field = 2; value = int 1500 } ∷ [])
 command_of task.FindByPay = command.Find by_pay
@@ -51,9 +58,13 @@ room_text i = if i % 2 == 0 then codes " \"\"\n" else codes " \"r7\"\n"
 abbrev pub line_text : Task → List ℕ
 line_text task.Begin = codes "begin\n"
 line_text task.Commit = codes "commit\n"
-line_text (task.Department d) = codes "insert dept " ++ decimal d ++ codes " \"dept " ++ decimal d ++ codes "\"\n"
-line_text (task.Employee i) = codes "insert emp " ++ decimal i ++ codes " \"emp " ++ decimal i ++ codes "\" " ++ decimal (pay_of i) ++ room_text i
-line_text (task.Connection i) = codes "connect works " ++ decimal (owner_of i) ++ codes " " ++ decimal i ++ codes "\n"
+line_text (task.Department d) =
+    codes "insert dept " ++ decimal d ++ codes " \"dept " ++ decimal d ++ codes "\"\n"
+line_text (task.Employee i) =
+    codes "insert emp " ++ decimal i ++ codes " \"emp " ++ decimal i ++ codes "\" "
+    ++ decimal (pay_of i) ++ room_text i
+line_text (task.Connection i) =
+    codes "connect works " ++ decimal (owner_of i) ++ codes " " ++ decimal i ++ codes "\n"
 line_text (task.Raise i) = codes "update emp " ++ decimal i ++ codes " pay 1500\n"
 line_text task.FindByPay = codes "find emp where pay = 1500\n"
 line_text task.FindByLink = codes "find emp of works 3\n"

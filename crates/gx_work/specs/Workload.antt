@@ -18,9 +18,11 @@ departments = in_transaction (map task.Department (range_with_len 0 10))
 abbrev pub joining : ℕ → List Task
 joining i = task.Employee i ∷ task.Connection i ∷ []
 
--- twenty employees with successive numbers from 1 on, or as many as there are left, for the group of this number from 0 on
+-- twenty employees with successive numbers from 1 on, or as many as there are left, for the group
+-- of this number from 0 on
 abbrev pub group : ℕ → ℕ → List Task
-group n number = in_transaction (flat_map joining (range_with_len (20 * number + 1) (min 20 (n - 20 * number))))
+group n number =
+    in_transaction (flat_map joining (range_with_len (20 * number + 1) (min 20 (n - 20 * number))))
 
 abbrev pub employees : ℕ → List Task
 employees n = flat_map (group n) (range_with_len 0 ((n + 19) / 20))

@@ -29,11 +29,11 @@ const FIND_BY_PAY: &[u8] = b"find emp where pay = 1500\n";
 const FIND_BY_LINK: &[u8] = b"find emp of works 3\n";
 
 /// Plays the workload's script over leaves, says nothing and hears nothing, and gives the line of
-/// its summary. The leaves are handed back, under the same limit. On leaves that hold a state: after
-/// `Ok` all of the script was played from that state, to its end, and the last kept state is in the
-/// kept leaves; after `NoMemory` and `Full` the first lines, and their last kept state. `Full` comes
-/// only where the pages may be too few for the command of the next line, which may want room. No
-/// other ending is answered but `Fault`, after which the count of faults rose.
+/// its summary. The leaves are handed back, under the same limit. On leaves that hold a state:
+/// after `Ok` all of the script was played from that state, to its end, and the last kept state is
+/// in the kept leaves; after `NoMemory` and `Full` the first lines, and their last kept state.
+/// `Full` comes only where the pages may be too few for the command of the next line, which may
+/// want room. No other ending is answered but `Fault`, after which the count of faults rose.
 pub fn play_work<'a, B: Leaves + Drop>(
     alloc: Global,
     schema: Schema,
