@@ -19,10 +19,6 @@ use Rattle.gx_mapping.specs.declared.parts.Part.{Part}
 use Rattle.gx_mapping.specs.Rule.{In, IsOf}
 use Rattle.gx_mapping.specs.Searched.{IsAlone}
 use Rattle.gx_gather.proofs.Lists.{in_each, from_each, all_at, all_of, nat_cases}
-use Rattle.gx_partition.specs.declared.layer.Partition.{Partition}
-use Rattle.gx_partition.specs.Places.{value_at}
-use Rattle.gx_partition.specs.Bounds.{child_of}
-use Rattle.gx_partition.specs.Rules.{at_of, bounds_of, rule_of}
 use Rattle.gx_stack.specs.declared.entries.LeafEntry.{LeafEntry}
 use Rattle.gx_stack.specs.declared.node.Node.{Node}
 use Rattle.gx_stack.specs.declared.node.LayerNode.{LayerNode}
@@ -34,7 +30,6 @@ use Rattle.gx_stack.proofs.Seen.{seen_layer, layer_form, child_valid, child_leav
 use Rattle.gx_stack.proofs.Children.{union_from_internal, internal_from_union}
 use Rattle.gx_stack.proofs.Unique.{entry_leaf, entries_apart}
 use Rattle.gx_types.specs.declared.any.AnyMapping.{AnyMapping}
-use Rattle.gx_types.specs.declared.any.AnyMapping.TheVariants as any
 use Rattle.gx_types.specs.Passing.{PassesWhole}
 use Rattle.gx_types.specs.Any.{any_rule, any_laws}
 use Rattle.gx_typing.specs.Dues.{file_form}
@@ -66,19 +61,6 @@ home_itself file key t = record {
 }
 
 -- ---- one step down
-
--- a partition passes each record whole
-pub partition_passes : (m : AnyMapping) (p : Partition) → m ≡ any.Partition p
-    → PassesWhole (any_rule m)
-partition_passes m p is = subst (λ (x : AnyMapping). PassesWhole (any_rule x)) (sym is) (record {
-  form = λ child. refl;
-  one = λ r. (child_of (bounds_of p) (value_at (at_of p) r), refl);
-})
-
-pub partition_alone : (m : AnyMapping) (p : Partition) (span : Span) (c : ℕ) → m ≡ any.Partition p
-    → IsAlone (rule_of p) span c → IsAlone (any_rule m) span c
-partition_alone m p span c is alone =
-    subst (λ (x : AnyMapping). IsAlone (any_rule x) span c) (sym is) alone
 
 module _ (n : Node AnyMapping) (l : LayerNode AnyMapping) (is : n ≡ nodes.Layer l)
     (valid : IsValid any_rule (tree_of n)) (passes : PassesWhole (any_rule l.mapping))

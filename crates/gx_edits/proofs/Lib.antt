@@ -4,8 +4,5 @@ mod EndLemmas
 mod RelinkLemmas
 pub mod EditLemmas
 mod AloneLemmas
-mod BodyLemmas
-mod GroupLemmas
-mod PlainLemmas
 mod SegmentLemmas
 mod HomeLemmas

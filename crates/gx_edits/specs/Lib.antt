@@ -1,4 +1,4 @@
 pub mod Records
 pub mod Edits
-pub mod Alone
+pub mod OneRecord
 pub mod Home

@@ -1,5 +1,5 @@
 // Records that have one leaf entry each, under their own key: one is changed at its one place.
-ghost use Rattle.std.specs.Prelude.{◌≡◌, ◌<◌, ℕ, true, length, is_some, IfSome, IfOk};
+ghost use Rattle.std.specs.Prelude.{◌≡◌, ◌<◌, ℕ, length, is_some, IfOk};
 ghost use Rattle.std.specs.FinMap as fin;
 ghost use Rattle.gx_values.specs.Values.{Fits};
 ghost use Rattle.gx_values.specs.Keys.{bytes_of};
@@ -11,44 +11,16 @@ ghost use Rattle.gx_types.specs.Any.{any_rule};
 ghost use Rattle.gx_schema.specs.Lookups.{key_kind};
 ghost use Rattle.gx_model.specs.States.{File as FileMap};
 ghost use Rattle.gx_scan.specs.Files.{rec_of, IsInternal as IsStored, IsStorable, IsTreeFor};
-ghost use Rattle.gx_edits.specs.Alone.{AreOwnLeaves, IsOnlyLeaf, KeepsKeys, Takes, Puts};
+ghost use Rattle.gx_entries.specs.Entries.{AreOwnLeaves, IsOnlyLeaf};
+ghost use Rattle.gx_edits.specs.OneRecord.{Takes, Puts};
 
-use crate::bodies::only_body;
-use crate::segments::OwnLeaves;
+use gx_entries::{OwnLeaves, only_body};
 use gx_ports::{Entries, Leaves, Stop};
 use gx_schema::FileDef;
 use gx_stack::Node;
 use gx_types::AnyMapping;
 use gx_values::{KeyBuf, Span, Value, Values};
 use std::alloc::Global;
-
-/// The leaf where each record of the node has its one entry, under its own key. `None`: there may be other
-/// entries.
-pub(crate) fn only_leaf(node: &Node<AnyMapping>) -> Option<u32>
-    requires { IsValid any_rule (tree_of node.now) }
-    ensures { IfSome result (IsOnlyLeaf (tree_of node.now)) }
-{
-    match node {
-        Node::Leaf(node) => Some(node.leaf),
-        Node::Layer(layer) => {
-            if keeps_keys(&layer.mapping) {
-                only_leaf(&layer.kids[0])
-            } else {
-                None
-            }
-        }
-    }
-}
-
-// Whether each record is known to have one part, for the first child and with the record's own key.
-fn keeps_keys(mapping: &AnyMapping) -> bool
-    ensures { result ≡ true → KeepsKeys mapping.now }
-{
-    match mapping {
-        AnyMapping::Actual(_) | AnyMapping::Encode(_) => true,
-        _ => false,
-    }
-}
 
 /// Whether the file has a record with this key, by the span of the key. Each of its records has an entry
 /// in the first of the node's own leaves: its values needn't be read.

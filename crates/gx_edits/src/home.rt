@@ -13,11 +13,11 @@ use gx_mapping::Mapping;
 use gx_scan::whole_span;
 use gx_schema::FileDef;
 use gx_stack::Node;
-use gx_types::AnyMapping;
+use gx_types::{AnyMapping, Passing};
 use gx_values::{Span, Value};
 
-/// The lowest node, below partitions by the key, that has all leaf entries of the record with this
-/// key.
+/// The lowest node, below layers that pass records whole, that has all leaf entries of the record
+/// with this key.
 pub(crate) fn home_of<'a>(
     file: &FileDef,
     node: &'a Node<AnyMapping>,
@@ -34,7 +34,7 @@ pub(crate) fn home_of<'a>(
     let Node::Layer(layer) = node else {
         return node;
     };
-    let AnyMapping::Partition(_) = &layer.mapping else {
+    let Passing::Whole = layer.mapping.passing() else {
         return node;
     };
     let mut span = whole_span();
@@ -43,8 +43,8 @@ pub(crate) fn home_of<'a>(
     home_inside(node, &span)
 }
 
-// The lowest node, below partitions by the key, that has all leaf entries of the records whose keys
-// are inside the span.
+// The lowest node, below layers that pass records whole, that has all leaf entries of the records
+// whose keys are inside the span.
 fn home_inside<'a>(node: &'a Node<AnyMapping>, span: &Span) -> &'a Node<AnyMapping>
     requires { IsValid any_rule (tree_of node.now) }
     ensures { HasAllInside span.now (tree_of node.now) (tree_of result.now) }
@@ -52,8 +52,8 @@ fn home_inside<'a>(node: &'a Node<AnyMapping>, span: &Span) -> &'a Node<AnyMappi
     let Node::Layer(layer) = node else {
         return node;
     };
-    match &layer.mapping {
-        AnyMapping::Partition(mapping) => match mapping.only_searched(span) {
+    match layer.mapping.passing() {
+        Passing::Whole => match layer.mapping.only_searched(span) {
             Some(child) => home_inside(&layer.kids[child as usize], span),
             None => node,
         },

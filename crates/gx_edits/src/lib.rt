@@ -2,13 +2,10 @@
 #![tactic(auto)]
 
 mod alone;
-mod bodies;
 mod edits;
 mod files;
-mod groups;
 mod home;
 mod links;
-mod plain;
 mod records;
 mod segments;
 

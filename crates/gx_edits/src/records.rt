@@ -10,12 +10,13 @@ ghost use Rattle.gx_typing.specs.Dues.{file_form};
 ghost use Rattle.gx_model.specs.Commands.{changed};
 ghost use Rattle.gx_scan.specs.Files.{rec_of, IsStorable, IsTreeFor};
 ghost use Rattle.gx_edits.specs.Records.{Inserts, Deletes, Updates};
-ghost use Rattle.gx_edits.specs.Alone.{AreOwnLeaves};
+ghost use Rattle.gx_entries.specs.Entries.{AreOwnLeaves};
 
 use crate::alone::is_there;
-use crate::segments::{OwnLeaves, others_stay, own_leaves, put_changed, put_own, take_own};
+use crate::segments::{put_changed, put_own, take_own};
 use arrayvec::ArrayVec;
 use gx_commands::Changes;
+use gx_entries::{OwnLeaves, others_stay, own_leaves};
 use gx_pairs::Refused;
 use gx_ports::{Leaves, Stop};
 use gx_scan::{find_record, find_values, whole_span};

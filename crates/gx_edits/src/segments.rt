@@ -1,6 +1,5 @@
 // Records that have an entry in one leaf and may have one in a second, both under their own key.
-ghost use Rattle.std.specs.Prelude.{◌≡◌, ◌≢◌, ◌<◌, ◌≤◌, ◌+◌, ℕ, List, length, true, is_some, if◌then◌else◌, IfSome, OnOk, IsErrOf};
-ghost use Rattle.gx_values.specs.declared.values.Value.{Value as TheValue};
+ghost use Rattle.std.specs.Prelude.{◌≡◌, ◌≢◌, ◌<◌, ◌≤◌, ◌+◌, ℕ, length, true, is_some, if◌then◌else◌, OnOk, IsErrOf};
 ghost use Rattle.gx_values.specs.Keys.{bytes_of};
 ghost use Rattle.gx_ports.specs.LeafMaps.{map_at, with_entry, without_entry, entry_count, IsCrowdedBy};
 ghost use Rattle.gx_ports.specs.declared.leaves.TheConstants.{MAX_ENTRY_LEN};
@@ -9,49 +8,17 @@ ghost use Rattle.gx_mapping.specs.Rule.{In, IsOf};
 ghost use Rattle.gx_stack.specs.Tree.{leaves_of, tree_form, IsValid};
 ghost use Rattle.gx_stack.specs.Seen.{tree_of};
 ghost use Rattle.gx_types.specs.Any.{any_rule};
-ghost use Rattle.gx_model.specs.Commands.{changed as changed_values};
 ghost use Rattle.gx_scan.specs.Files.{rec_of};
-ghost use Rattle.gx_edits.specs.Alone.{AreOwnLeaves, AreTwoLeaves, others_in, Takes, Puts, HasOthersIf};
+ghost use Rattle.gx_entries.specs.Entries.{AreOwnLeaves, AreTwoLeaves};
+ghost use Rattle.gx_edits.specs.OneRecord.{Takes, Puts, HasOthersIf};
 
-use crate::alone::{only_leaf, put_alone, take_alone};
-use crate::bodies::{both_bodies, first_body};
-use crate::groups::are_first;
-use gx_commands::Changes;
+use crate::alone::{put_alone, take_alone};
+use gx_entries::{OwnLeaves, both_bodies, first_body};
 use gx_ports::{Leaves, Stop};
 use gx_stack::Node;
 use gx_types::AnyMapping;
 use gx_values::{KeyBuf, Octets, Span, Value, Values};
 use std::alloc::Global;
-
-/// The leaf of the first entry of each record, and that of the second, where records may have two.
-#[derive(Clone, Copy, Debug)]
-pub(crate) struct OwnLeaves {
-    pub(crate) first: u32,
-    pub(crate) second: Option<u32>,
-}
-
-/// The leaves where each record of the node has its entries, under its own key. `None`: there may be
-/// other entries.
-pub(crate) fn own_leaves(node: &Node<AnyMapping>) -> Option<OwnLeaves>
-    requires { IsValid any_rule (tree_of node.now) }
-    ensures { IfSome result (λ own. AreOwnLeaves (tree_of node.now) own.first own.second) }
-{
-    if let Node::Layer(layer) = node
-        && let AnyMapping::Segment(_) = &layer.mapping
-    {
-        let first = only_leaf(&layer.kids[0])?;
-        let second = only_leaf(&layer.kids[1])?;
-        return Some(OwnLeaves {
-            first,
-            second: Some(second),
-        });
-    }
-    let first = only_leaf(node)?;
-    Some(OwnLeaves {
-        first,
-        second: None,
-    })
-}
 
 /// Takes the record with this key, by the span of the key, out of its own leaves.
 pub(crate) fn take_own<B: Leaves>(
@@ -179,20 +146,6 @@ fn put_first<B: Leaves>(
     let (_, _) = (key, second);
     let body = first_body(alloc, node, fields)?;
     leaves.put(alloc, first, bytes.as_slice(), body.as_slice())
-}
-
-/// Whether each change is of a field of the first group of a segment, so that the others stay.
-pub(crate) fn others_stay(node: &Node<AnyMapping>, changes: &Changes) -> bool
-    ensures { result ≡ true → (values : List TheValue) →
-        others_in (tree_of node.now) (changed_values values changes.now)
-        ≡ others_in (tree_of node.now) values }
-{
-    if let Node::Layer(layer) = node
-        && let AnyMapping::Segment(mapping) = &layer.mapping
-    {
-        return are_first(mapping.mask(), changes);
-    }
-    false
 }
 
 // The same of two leaves.

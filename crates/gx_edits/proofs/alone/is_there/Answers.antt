@@ -3,7 +3,7 @@ use Rattle.gx_ports.specs.declared.leaves.Entry.{Entry}
 use Rattle.gx_ports.specs.LeafMaps.{map_at, selected}
 use Rattle.gx_stack.specs.Seen.{tree_of}
 use Rattle.gx_edits.proofs.AloneLemmas.{there_is}
-use Rattle.gx_edits.proofs.SegmentLemmas.{own_has}
+use Rattle.gx_entries.proofs.TwoLemmas.{own_has}
 use Rattle.gx_edits.proofs.alone.is_there.Goals as goal
 
 pub select-requires : goal.select-requires

@@ -10,7 +10,8 @@ use Rattle.gx_stack.proofs.Unique.{entries_small}
 use Rattle.gx_types.specs.Any.{any_rule, any_laws}
 use Rattle.gx_scan.specs.Files.{rec_of}
 use Rattle.gx_states.proofs.CountLemmas.{crowded_more}
-use Rattle.gx_edits.proofs.AloneLemmas.{only_in_tree, alone_put}
+use Rattle.gx_entries.proofs.OneLemmas.{only_in_tree}
+use Rattle.gx_edits.proofs.AloneLemmas.{alone_put}
 use Rattle.gx_edits.proofs.alone.put_alone.Goals as goal
 
 pub only_body-requires-clause-only : goal.only_body-requires-clause-only

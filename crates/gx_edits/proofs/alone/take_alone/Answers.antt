@@ -4,7 +4,8 @@ use Rattle.gx_values.specs.Keys.{bytes_of, key_of}
 use Rattle.gx_mapping.specs.Rule.{In}
 use Rattle.gx_stack.specs.Tree.{leaves_of}
 use Rattle.gx_stack.specs.Seen.{tree_of}
-use Rattle.gx_edits.proofs.AloneLemmas.{only_in_tree, alone_removed}
+use Rattle.gx_entries.proofs.OneLemmas.{only_in_tree}
+use Rattle.gx_edits.proofs.AloneLemmas.{alone_removed}
 use Rattle.gx_edits.proofs.alone.take_alone.Goals as goal
 
 pub remove-requires-clause-leaf : goal.remove-requires-clause-leaf

@@ -12,7 +12,7 @@ use Rattle.gx_types.specs.Any.{any_rule}
 use Rattle.gx_scan.specs.Files.{records_of}
 use Rattle.gx_scan.proofs.FileLemmas.{set_of, there_in, row_fits}
 use Rattle.gx_model.specs.Commands.{no_record}
-use Rattle.gx_edits.specs.Alone.{AreOwnLeaves}
+use Rattle.gx_entries.specs.Entries.{AreOwnLeaves}
 use Rattle.gx_edits.proofs.RecordLemmas.{is_done, delete_edit}
 use Rattle.gx_edits.proofs.records.delete_record.Goals as goal
 

@@ -11,7 +11,7 @@ use Rattle.gx_scan.proofs.FileLemmas.{set_of, row_fits}
 use Rattle.gx_model.specs.Commands.{key_exists}
 use Rattle.gx_edits.proofs.ChangeLemmas.{is_insert}
 use Rattle.gx_edits.proofs.RecordLemmas.{missing, none_there, is_done, insert_edit, crowded_same}
-use Rattle.gx_edits.specs.Alone.{AreOwnLeaves}
+use Rattle.gx_entries.specs.Entries.{AreOwnLeaves}
 use Rattle.gx_edits.proofs.records.insert_record.Goals as goal
 
 pub replace-requires-clause-below : goal.replace-requires-clause-below

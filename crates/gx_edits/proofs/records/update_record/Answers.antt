@@ -14,7 +14,7 @@ use Rattle.gx_model.specs.States.{Row}
 use Rattle.gx_model.specs.Commands.{changed, no_record}
 use Rattle.gx_scan.specs.Files.{rec_of, records_of}
 use Rattle.gx_scan.proofs.FileLemmas.{set_of, there_in, row_fits}
-use Rattle.gx_edits.specs.Alone.{AreOwnLeaves, others_in}
+use Rattle.gx_entries.specs.Entries.{AreOwnLeaves, others_in}
 use Rattle.gx_edits.specs.Records.{IsEdited}
 use Rattle.gx_edits.proofs.RecordLemmas.{is_done, update_edit, updated_is, rec_made}
 use Rattle.gx_edits.proofs.records.update_record.Goals as goal

@@ -11,8 +11,9 @@ use Rattle.gx_stack.proofs.Unique.{entries_small}
 use Rattle.gx_types.specs.Any.{any_rule, any_laws}
 use Rattle.gx_scan.specs.Files.{rec_of}
 use Rattle.gx_states.proofs.CountLemmas.{crowded_more}
-use Rattle.gx_edits.specs.Alone.{AreBodies}
-use Rattle.gx_edits.proofs.SegmentLemmas.{first_in_tree, second_in_tree, short_put, each_put}
+use Rattle.gx_entries.specs.Entries.{AreBodies}
+use Rattle.gx_entries.proofs.TwoLemmas.{first_in_tree, second_in_tree}
+use Rattle.gx_edits.proofs.SegmentLemmas.{short_put, each_put}
 use Rattle.gx_edits.proofs.segments.put_both.Goals as goal
 
 pub put_short-requires-clause-first : goal.put_short-requires-clause-first

@@ -1,6 +1,6 @@
 use Rattle.std.proofs.Common.{sym, subst}
 use Rattle.gx_stack.specs.Seen.{tree_of}
-use Rattle.gx_edits.specs.Alone.{Puts, HasOthersIf}
+use Rattle.gx_edits.specs.OneRecord.{Puts, HasOthersIf}
 use Rattle.gx_edits.proofs.SegmentLemmas.{there_if, puts_so}
 use Rattle.gx_edits.proofs.segments.put_changed.Goals as goal
 

@@ -10,7 +10,8 @@ use Rattle.gx_stack.proofs.Unique.{entries_small}
 use Rattle.gx_types.specs.Any.{any_rule, any_laws}
 use Rattle.gx_scan.specs.Files.{rec_of}
 use Rattle.gx_states.proofs.CountLemmas.{crowded_more}
-use Rattle.gx_edits.proofs.SegmentLemmas.{first_in_tree, first_put}
+use Rattle.gx_entries.proofs.TwoLemmas.{first_in_tree}
+use Rattle.gx_edits.proofs.SegmentLemmas.{first_put}
 use Rattle.gx_edits.proofs.segments.put_first.Goals as goal
 
 pub put-requires-clause-leaf : goal.put-requires-clause-leaf

@@ -5,7 +5,8 @@ use Rattle.gx_ports.specs.LeafMaps.{without_entry}
 use Rattle.gx_mapping.specs.Rule.{In}
 use Rattle.gx_stack.specs.Tree.{leaves_of}
 use Rattle.gx_stack.specs.Seen.{tree_of}
-use Rattle.gx_edits.proofs.SegmentLemmas.{first_in_tree, second_in_tree, both_removed}
+use Rattle.gx_entries.proofs.TwoLemmas.{first_in_tree, second_in_tree}
+use Rattle.gx_edits.proofs.SegmentLemmas.{both_removed}
 use Rattle.gx_edits.proofs.segments.take_both.Goals as goal
 
 pub remove-requires-clause-leaf : goal.remove-requires-clause-leaf

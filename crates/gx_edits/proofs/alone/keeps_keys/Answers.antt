@@ -1,8 +1,0 @@
-use Rattle.gx_edits.proofs.AloneLemmas.{either_keeps}
-use Rattle.gx_edits.proofs.alone.keeps_keys.Goals as goal
-
-pub returns-in-Actual : goal.returns-in-Actual
-returns-in-Actual c = λ yes. either_keeps c.args.mapping.now c.in-Actual.is
-
-pub returns-in-Actual-2 : goal.returns-in-Actual-2
-returns-in-Actual-2 c = λ yes. either_keeps c.args.mapping.now c.in-Actual.is

@@ -1,0 +1,5 @@
+pub mod OneLemmas
+pub mod TwoLemmas
+mod BodyLemmas
+mod GroupLemmas
+mod PlainLemmas
