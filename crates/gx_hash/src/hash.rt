@@ -1,10 +1,8 @@
 // The calls on a hashed file.
-ghost use Rattle.std.specs.Prelude.{◌≡◌, ◌+◌, ◌≤◌, ◌++◌, length, IsTrue, OnOk, IsErrOf};
-ghost use Rattle.std.specs.FinMap.{empty, insert, remove};
+ghost use Rattle.std.specs.Prelude.{◌+◌, ◌≤◌, length};
 ghost use Rattle.gx_ports.specs.declared.leaves.TheConstants.{MAX_KEY_LEN, MAX_ENTRY_LEN};
-ghost use Rattle.gx_ports.specs.Files.{IsPlace, IsVacant, ClaimsRoots, Holds, OthersStay, EndsFile, SparesOthers, IsFull, IsWhole};
-ghost use Rattle.gx_ports.specs.LeafMaps.{LeafMap, Extends, selected};
-ghost use Rattle.gx_ports.specs.PageCalls.{KeepsPages, ReadsPages, CountsPageFaults};
+ghost use Rattle.gx_ports.specs.FileCalls.{MakesFile, PutsInFile, RemovesFromFile, SelectsInFile, ChecksFile};
+ghost use Rattle.gx_ports.specs.Files.{IsPlace};
 ghost use Rattle.gx_hash.specs.Buckets.{IsHashed};
 ghost use Rattle.gx_hash.specs.Hash.{IsHash};
 
@@ -23,17 +21,8 @@ use std::alloc::Global;
 pub fn make<P: Pages>(pages: &mut P, place: &Place) -> Result<(), Failed>
     requires kind { IsHashed place.now.spec.kind }
     requires place { IsPlace (P.ground pages.old) place.now }
-    ensures made { IsTrue P.tells → IsVacant place.now (P.working pages.old) →
-        OnOk result (IsHash (P.ground pages.old) place.now (P.working pages.new) empty) }
-    ensures others { IsTrue P.tells → IsVacant place.now (P.working pages.old) →
-        OnOk result
-        (OthersStay (P.ground pages.old) place.now.owner (P.working pages.old)
-        (P.working pages.new)) }
-    ensures roots { IsTrue P.tells → IsVacant place.now (P.working pages.old) →
-        OnOk result
-        (ClaimsRoots place.now (P.working pages.old) (P.working pages.new)) }
-    ensures keeps { KeepsPages P.PageView pages.old pages.new }
-    ensures faults { CountsPageFaults P.PageView pages.old pages.new result }
+    ensures { MakesFile P.PageView (IsHash (P.ground pages.old) place.now)
+        place.now pages.old pages.new result }
 {
     for bucket in 0..place.spec.kind.roots() {
         let first = root(pages, place, bucket);
@@ -50,19 +39,8 @@ pub fn put<P: Pages>(pages: &mut P, place: &Place, key: &[u8], body: &[u8]) -> R
     requires place { IsPlace (P.ground pages.old) place.now }
     requires key { length key.now ≤ MAX_KEY_LEN }
     requires entry { length key.now + length body.now ≤ MAX_ENTRY_LEN }
-    ensures ok { (map : LeafMap) →
-        Holds P.PageView (IsHash (P.ground pages.old) place.now) pages.old map → OnOk result
-        (IsHash (P.ground pages.old) place.now (P.working pages.new)
-        (insert map key.now body.now)) }
-    ensures others { SparesOthers P.PageView (IsHash (P.ground pages.old) place.now)
-        place.now.owner pages.old pages.new result }
-    ensures full { IsFull P.PageView (IsHash (P.ground pages.old) place.now)
-        place.now pages.old pages.new result }
-    ensures keeps { KeepsPages P.PageView pages.old pages.new }
-    ensures ends { EndsFile P.PageView
-        (IsWhole P.PageView (IsHash (P.ground pages.old) place.now) pages.old)
-        pages.old pages.new result }
-    ensures frugal { ¬ IsErrOf result Stop.NoMemory }
+    ensures { PutsInFile P.PageView (IsHash (P.ground pages.old) place.now)
+        place.now key.now body.now pages.old pages.new result }
 {
     let first = root(pages, place, bucket(place, key));
     put_in(pages, first, place.owner, key, body)
@@ -75,17 +53,8 @@ pub fn remove<P: Pages>(pages: &mut P, place: &Place, key: &[u8]) -> Result<(), 
     requires kind { IsHashed place.now.spec.kind }
     requires place { IsPlace (P.ground pages.old) place.now }
     requires key { length key.now ≤ MAX_KEY_LEN }
-    ensures ok { (map : LeafMap) →
-        Holds P.PageView (IsHash (P.ground pages.old) place.now) pages.old map → OnOk result
-        (IsHash (P.ground pages.old) place.now (P.working pages.new) (remove map key.now)) }
-    ensures others { SparesOthers P.PageView (IsHash (P.ground pages.old) place.now)
-        place.now.owner pages.old pages.new result }
-    ensures keeps { KeepsPages P.PageView pages.old pages.new }
-    ensures ends { EndsFile P.PageView
-        (IsWhole P.PageView (IsHash (P.ground pages.old) place.now) pages.old)
-        pages.old pages.new result }
-    ensures not_full { ¬ IsErrOf result Stop.Full }
-    ensures frugal { ¬ IsErrOf result Stop.NoMemory }
+    ensures { RemovesFromFile P.PageView (IsHash (P.ground pages.old) place.now)
+        place.now key.now pages.old pages.new result }
 {
     let first = root(pages, place, bucket(place, key));
     remove_from(pages, first, place.owner, key)
@@ -104,15 +73,8 @@ pub fn select<P: Pages>(
 ) -> Result<(), Stop>
     requires kind { IsHashed place.now.spec.kind }
     requires place { IsPlace (P.ground pages.old) place.now }
-    ensures ok { (map : LeafMap) →
-        Holds P.PageView (IsHash (P.ground pages.old) place.now) pages.old map →
-        OnOk result (out.new ≡ out.old ++ selected span.now.lo span.now.hi map) }
-    ensures extends { Extends out.old out.new }
-    ensures reads { ReadsPages P.PageView pages.old pages.new }
-    ensures ends { EndsFile P.PageView
-        (IsWhole P.PageView (IsHash (P.ground pages.old) place.now) pages.old)
-        pages.old pages.new result }
-    ensures not_full { ¬ IsErrOf result Stop.Full }
+    ensures { SelectsInFile P.PageView (IsHash (P.ground pages.old) place.now)
+        span.now out.old out.new pages.old pages.new result }
 {
     let mut found = gather_inside(alloc, pages, place, span)?;
     append_sorted(&mut found, out)?;
@@ -125,13 +87,8 @@ pub fn select<P: Pages>(
 pub fn check<P: Pages>(alloc: Global, pages: &mut P, place: &Place) -> Result<(), Stop>
     requires kind { IsHashed place.now.spec.kind }
     requires place { IsPlace (P.ground pages.old) place.now }
-    ensures ok { IsTrue P.tells → OnOk result
-        (IsWhole P.PageView (IsHash (P.ground pages.old) place.now) pages.old) }
-    ensures reads { ReadsPages P.PageView pages.old pages.new }
-    ensures ends { EndsFile P.PageView
-        (IsWhole P.PageView (IsHash (P.ground pages.old) place.now) pages.old)
+    ensures { ChecksFile P.PageView (IsHash (P.ground pages.old) place.now)
         pages.old pages.new result }
-    ensures not_full { ¬ IsErrOf result Stop.Full }
 {
     let count = pages.pages();
     let mut visits = no_visits(alloc, count)?;

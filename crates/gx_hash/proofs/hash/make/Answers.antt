@@ -1,6 +1,6 @@
-use Rattle.std.proofs.Common.{◌≡◌, ◌<◌, refl, sym, subst, ◌∙◌, arith}
+use Rattle.std.proofs.Common.{◌≡◌, ◌<◌, IsTrue, refl, sym, subst, ◌∙◌, arith, rules}
 use Rattle.std.specs.Prelude.{slice_get, Some}
-use Rattle.gx_ports.specs.Files.{IsPlace}
+use Rattle.gx_ports.specs.Files.{IsPlace, IsVacant}
 use Rattle.gx_ports.specs.Roots.{roots_of}
 use Rattle.gx_ports.specs.Sheets.{Ground}
 use Rattle.gx_ports.proofs.PageLemmas.{pages_keep_themselves, kept_pages_joined}
@@ -45,35 +45,26 @@ loop-bucket-preserved g c =
           (subst (λ n. IsMade ground place.owner n t u) c.root-first.ensures (subst (λ (x : Ground). IsMade x place.owner c.root-first.result t u) i.keeps.ground made));
     }
 
-pub returns-clause-made : goal.returns-clause-made
-returns-clause-made g c told vacant =
+pub returns : goal.returns
+returns g c =
     let ground = g.P.PageView.ground c.args.pages.now in
     let place = c.args.place.now in
     let s = g.P.PageView.working c.args.pages.now in
     let t = g.P.PageView.working c.loop-bucket.pages in
-    let within = c.loop-bucket.invariant.within in
+    let i = c.loop-bucket.invariant in
+    let within = i.within in
     let over = c.loop-bucket-test.false in
-    let end : c.loop-bucket.bucket ≡ roots_of place.spec = omega (arith, within, over, c.roots-bucket-end.ensures.value) in
-    hash_made ground place s t c.requires.place (roots_some place.spec c.requires.kind) vacant (subst (AreRootsMade ground place s t) end (c.loop-bucket.invariant.made told vacant))
-
-pub returns-clause-others : goal.returns-clause-others
-returns-clause-others g c told vacant =
-    let ground = g.P.PageView.ground c.args.pages.now in
-    let place = c.args.place.now in
-    let s = g.P.PageView.working c.args.pages.now in
-    let t = g.P.PageView.working c.loop-bucket.pages in
-    let within = c.loop-bucket.invariant.within in
-    let over = c.loop-bucket-test.false in
-    let end : c.loop-bucket.bucket ≡ roots_of place.spec = omega (arith, within, over, c.roots-bucket-end.ensures.value) in
-    hash_made_others ground place s t c.requires.place (roots_some place.spec c.requires.kind) vacant (subst (AreRootsMade ground place s t) end (c.loop-bucket.invariant.made told vacant))
-
-pub returns-clause-roots : goal.returns-clause-roots
-returns-clause-roots g c told vacant =
-    let ground = g.P.PageView.ground c.args.pages.now in
-    let place = c.args.place.now in
-    let s = g.P.PageView.working c.args.pages.now in
-    let t = g.P.PageView.working c.loop-bucket.pages in
-    let within = c.loop-bucket.invariant.within in
-    let over = c.loop-bucket-test.false in
-    let end : c.loop-bucket.bucket ≡ roots_of place.spec = omega (arith, within, over, c.roots-bucket-end.ensures.value) in
-    (subst (AreRootsMade ground place s t) end (c.loop-bucket.invariant.made told vacant)).owners
+    let end : c.loop-bucket.bucket ≡ roots_of place.spec =
+    omega (arith, within, over, c.roots-bucket-end.ensures.value) in
+    let some = roots_some place.spec c.requires.kind in
+    let made = λ (told : IsTrue g.P.PageView.tells) (vacant : IsVacant place s).
+    subst (AreRootsMade ground place s t) end (i.made told vacant) in
+    record {
+      made = λ told vacant.
+          hash_made ground place s t c.requires.place some vacant (made told vacant);
+      others = λ told vacant.
+          hash_made_others ground place s t c.requires.place some vacant (made told vacant);
+      roots = λ told vacant. (made told vacant).owners;
+      keeps = i.keeps;
+      faults = search rules;
+    }

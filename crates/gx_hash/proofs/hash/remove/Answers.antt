@@ -1,5 +1,6 @@
 use Rattle.std.proofs.Common.{◌≡◌, ◌+◌, ap, refl, subst, ◌∙◌}
 use Rattle.std.proofs.lemmas.Result.{on_ok_weaker}
+use Rattle.gx_ports.specs.LeafMaps.{LeafMap}
 use Rattle.gx_ports.specs.Files.{IsWhole}
 use Rattle.gx_ports.proofs.PageLemmas.{ends_as}
 use Rattle.gx_chain.specs.Chain.{HasChainOf}
@@ -12,48 +13,50 @@ use Rattle.gx_hash.proofs.HashLemmas.{root_past, chain_at, has_chain, hash_remov
 use Rattle.gx_hash.proofs.hash.remove.Goals as goal
 
 pub remove_from-requires-clause-first : goal.remove_from-requires-clause-first
-remove_from-requires-clause-first g c = root_past (g.P.PageView.ground c.args.pages.now) c.args.place.now c.bucket.result c.root-first.result c.requires.place c.bucket.ensures.below c.root-first.ensures
+remove_from-requires-clause-first g c =
+    root_past (g.P.PageView.ground c.args.pages.now) c.args.place.now c.bucket.result
+    c.root-first.result c.requires.place c.bucket.ensures.below c.root-first.ensures
 
-pub returns-clause-ok : goal.returns-clause-ok
-returns-clause-ok g c map holds =
-    let p = c.args.pages.now in
+pub returns : goal.returns
+returns g c =
     let place = c.args.place.now in
     let key = c.args.key.now in
-    let roots = roots_some place.spec c.requires.kind in
+    let p = c.args.pages.now in
     let ground = g.P.PageView.ground p in
     let s = g.P.PageView.working p in
     let t = g.P.PageView.working c.remove_from.new.pages in
-    let h = holds.file in
-    let first : c.root-first.result ≡ place.root + bucket_of place.spec key = c.root-first.ensures ∙ ap (λ n. place.root + n) c.bucket.ensures.is in
-    let chain = chain_at ground place s map key c.root-first.result roots first h in
-    on_ok_weaker c.remove_from.result
-    (λ less. hash_removed ground place s t map key c.requires.place.least roots h (subst (λ n. IsRemovedFrom ground place.owner n key s t (h.pages (bucket_of place.spec key))) first less))
-    (c.remove_from.ensures.removed holds.told (h.pages (bucket_of place.spec key)) chain)
-
-pub returns-clause-others : goal.returns-clause-others
-returns-clause-others g c whole fault =
-    let p = c.args.pages.now in
-    let place = c.args.place.now in
-    let key = c.args.key.now in
+    let result = c.remove_from.result in
+    let root = c.root-first.result in
+    let sound = HasChainOf g.P.PageView p place.owner root in
+    let least = c.requires.place.least in
     let roots = roots_some place.spec c.requires.kind in
-    let ground = g.P.PageView.ground p in
-    let s = g.P.PageView.working p in
-    let t = g.P.PageView.working c.remove_from.new.pages in
-    let h = whole.1.file in
-    let first : c.root-first.result ≡ place.root + bucket_of place.spec key = c.root-first.ensures ∙ ap (λ n. place.root + n) c.bucket.ensures.is in
-    let chain = chain_at ground place s whole.0 key c.root-first.result roots first h in
-    let has = has_chain g.P.PageView p place key c.root-first.result roots first whole in
-    spared g.P.PageView (HasChainOf g.P.PageView p place.owner c.root-first.result) ground place.owner p c.remove_from.new.pages c.remove_from.result has c.remove_from.ensures.ends
-    (on_ok_weaker c.remove_from.result
-    (λ less. hash_removed_others ground place s t whole.0 key c.requires.place.least roots h (subst (λ n. IsRemovedFrom ground place.owner n key s t (h.pages (bucket_of place.spec key))) first less))
-    (c.remove_from.ensures.removed whole.1.told (h.pages (bucket_of place.spec key)) chain))
-    (λ is. absurd (c.remove_from.ensures.not_full is)) c.remove_from.ensures.frugal fault
-
-pub returns-clause-ends : goal.returns-clause-ends
-returns-clause-ends g c =
-    let p = c.args.pages.now in
-    let place = c.args.place.now in
-    let key = c.args.key.now in
-    let first : c.root-first.result ≡ place.root + bucket_of place.spec key = c.root-first.ensures ∙ ap (λ n. place.root + n) c.bucket.ensures.is in
-    ends_as g.P.PageView (IsWhole g.P.PageView (IsHash (g.P.PageView.ground p) place) p) (HasChainOf g.P.PageView p place.owner c.root-first.result) p p c.remove_from.new.pages c.remove_from.result
-    refl refl (has_chain g.P.PageView p place key c.root-first.result (roots_some place.spec c.requires.kind) first) c.remove_from.ensures.ends
+    let bucket = bucket_of place.spec key in
+    let first : root ≡ place.root + bucket =
+    c.root-first.ensures ∙ ap (λ n. place.root + n) c.bucket.ensures.is in
+    let chain = λ (map : LeafMap) (h : IsHash ground place s map).
+    chain_at ground place s map key root roots first h in
+    let is_less = λ (map : LeafMap) (h : IsHash ground place s map).
+    subst (λ n. IsRemovedFrom ground place.owner n key s t (h.pages bucket)) first in
+    let is_whole = IsWhole g.P.PageView (IsHash ground place) p in
+    let has = has_chain g.P.PageView p place key root roots first in
+    record {
+      ok = λ map holds.
+          let h = holds.file in
+          on_ok_weaker result
+          (λ less. hash_removed ground place s t map key least roots h (is_less map h less))
+          (c.remove_from.ensures.removed holds.told (h.pages bucket) (chain map h));
+      others = λ whole fault.
+          let h = whole.1.file in
+          spared g.P.PageView sound ground place.owner p c.remove_from.new.pages result
+          (has whole) c.remove_from.ensures.ends
+          (on_ok_weaker result
+          (λ less. hash_removed_others ground place s t whole.0 key least roots h
+          (is_less whole.0 h less))
+          (c.remove_from.ensures.removed whole.1.told (h.pages bucket) (chain whole.0 h)))
+          (λ is. absurd (c.remove_from.ensures.not_full is)) c.remove_from.ensures.frugal fault;
+      keeps = c.remove_from.ensures.keeps;
+      ends = ends_as g.P.PageView is_whole sound p p c.remove_from.new.pages result refl refl
+          has c.remove_from.ensures.ends;
+      not_full = c.remove_from.ensures.not_full;
+      frugal = c.remove_from.ensures.frugal;
+    }

@@ -1,4 +1,4 @@
-use Rattle.std.proofs.Common.{◌+◌, ◌<◌, refl, sym, subst, ◌∙◌}
+use Rattle.std.proofs.Common.{◌+◌, refl, sym, subst, ◌∙◌}
 use Rattle.std.proofs.lemmas.Bool.{false≢true}
 use Rattle.gx_ports.specs.Sheets.{Ground, IsHome}
 use Rattle.gx_ports.proofs.PageLemmas.{ends_handed_on}
