@@ -1,11 +1,11 @@
 // The calls on an indexed sequential file.
-ghost use Rattle.std.specs.Prelude.{◌≡◌, ◌+◌, ◌≤◌, ◌++◌, [], length, IsTrue, IfOk, OnOk, IsErrOf};
-ghost use Rattle.std.specs.FinMap.{empty, insert, remove};
+ghost use Rattle.std.specs.Prelude.{◌≡◌, ◌+◌, ◌≤◌, [], length, IfOk, OnOk, IsErrOf};
 ghost use Rattle.gx_ports.specs.declared.leaves.TheConstants.{MAX_KEY_LEN, MAX_ENTRY_LEN};
 ghost use Rattle.gx_ports.specs.declared.kinds.LeafKind.TheVariants.{Isam};
-ghost use Rattle.gx_ports.specs.Files.{IsPlace, IsVacant, ClaimsRoots, Holds, OthersStay, EndsFile, SparesOthers, IsFull, IsWhole};
-ghost use Rattle.gx_ports.specs.LeafMaps.{LeafMap, Extends, selected};
-ghost use Rattle.gx_ports.specs.PageCalls.{KeepsPages, ReadsPages, CountsPageFaults};
+ghost use Rattle.gx_ports.specs.FileCalls.{MakesFile, PutsInFile, RemovesFromFile, SelectsInFile, ChecksFile};
+ghost use Rattle.gx_ports.specs.Files.{IsPlace, Holds, EndsFile, SparesOthers, IsFull, IsWhole};
+ghost use Rattle.gx_ports.specs.LeafMaps.{LeafMap, selected};
+ghost use Rattle.gx_ports.specs.PageCalls.{KeepsPages, ReadsPages};
 ghost use Rattle.gx_isam.specs.Fresh.{IsFresh};
 ghost use Rattle.gx_isam.specs.Isam.{IsIsam};
 ghost use Rattle.gx_isam_index.specs.Layout.{AreOrdered};
@@ -28,17 +28,8 @@ use std::alloc::Global;
 pub fn make<P: Pages>(pages: &mut P, place: &Place) -> Result<(), Failed>
     requires kind { place.now.spec.kind ≡ Isam }
     requires place { IsPlace (P.ground pages.old) place.now }
-    ensures made { IsTrue P.tells → IsVacant place.now (P.working pages.old) →
-        OnOk result (IsIsam (P.ground pages.old) place.now (P.working pages.new) empty) }
-    ensures others { IsTrue P.tells → IsVacant place.now (P.working pages.old) →
-        OnOk result
-        (OthersStay (P.ground pages.old) place.now.owner (P.working pages.old)
-        (P.working pages.new)) }
-    ensures roots { IsTrue P.tells → IsVacant place.now (P.working pages.old) →
-        OnOk result
-        (ClaimsRoots place.now (P.working pages.old) (P.working pages.new)) }
-    ensures keeps { KeepsPages P.PageView pages.old pages.new }
-    ensures faults { CountsPageFaults P.PageView pages.old pages.new result }
+    ensures { MakesFile P.PageView (IsIsam (P.ground pages.old) place.now)
+        place.now pages.old pages.new result }
 {
     pages.claim_at(place.root, place.owner)?;
     let mut index = [0; PAGE_LEN];
@@ -55,19 +46,8 @@ pub fn put<P: Pages>(pages: &mut P, place: &Place, key: &[u8], body: &[u8]) -> R
     requires place { IsPlace (P.ground pages.old) place.now }
     requires key { length key.now ≤ MAX_KEY_LEN }
     requires entry { length key.now + length body.now ≤ MAX_ENTRY_LEN }
-    ensures ok { (map : LeafMap) →
-        Holds P.PageView (IsIsam (P.ground pages.old) place.now) pages.old map → OnOk result
-        (IsIsam (P.ground pages.old) place.now (P.working pages.new)
-        (insert map key.now body.now)) }
-    ensures others { SparesOthers P.PageView (IsIsam (P.ground pages.old) place.now)
-        place.now.owner pages.old pages.new result }
-    ensures full { IsFull P.PageView (IsIsam (P.ground pages.old) place.now)
-        place.now pages.old pages.new result }
-    ensures keeps { KeepsPages P.PageView pages.old pages.new }
-    ensures ends { EndsFile P.PageView
-        (IsWhole P.PageView (IsIsam (P.ground pages.old) place.now) pages.old)
-        pages.old pages.new result }
-    ensures frugal { ¬ IsErrOf result Stop.NoMemory }
+    ensures { PutsInFile P.PageView (IsIsam (P.ground pages.old) place.now)
+        place.now key.now body.now pages.old pages.new result }
 {
     let mut index = [0; PAGE_LEN];
     read_index(pages, place.root, &mut index)?;
@@ -88,17 +68,8 @@ pub fn remove<P: Pages>(pages: &mut P, place: &Place, key: &[u8]) -> Result<(), 
     requires kind { place.now.spec.kind ≡ Isam }
     requires place { IsPlace (P.ground pages.old) place.now }
     requires key { length key.now ≤ MAX_KEY_LEN }
-    ensures ok { (map : LeafMap) →
-        Holds P.PageView (IsIsam (P.ground pages.old) place.now) pages.old map → OnOk result
-        (IsIsam (P.ground pages.old) place.now (P.working pages.new) (remove map key.now)) }
-    ensures others { SparesOthers P.PageView (IsIsam (P.ground pages.old) place.now)
-        place.now.owner pages.old pages.new result }
-    ensures keeps { KeepsPages P.PageView pages.old pages.new }
-    ensures ends { EndsFile P.PageView
-        (IsWhole P.PageView (IsIsam (P.ground pages.old) place.now) pages.old)
-        pages.old pages.new result }
-    ensures not_full { ¬ IsErrOf result Stop.Full }
-    ensures frugal { ¬ IsErrOf result Stop.NoMemory }
+    ensures { RemovesFromFile P.PageView (IsIsam (P.ground pages.old) place.now)
+        place.now key.now pages.old pages.new result }
 {
     let mut index = [0; PAGE_LEN];
     read_index(pages, place.root, &mut index)?;
@@ -125,15 +96,8 @@ pub fn select<P: Pages>(
 ) -> Result<(), Stop>
     requires kind { place.now.spec.kind ≡ Isam }
     requires place { IsPlace (P.ground pages.old) place.now }
-    ensures ok { (map : LeafMap) →
-        Holds P.PageView (IsIsam (P.ground pages.old) place.now) pages.old map →
-        OnOk result (out.new ≡ out.old ++ selected span.now.lo span.now.hi map) }
-    ensures extends { Extends out.old out.new }
-    ensures reads { ReadsPages P.PageView pages.old pages.new }
-    ensures ends { EndsFile P.PageView
-        (IsWhole P.PageView (IsIsam (P.ground pages.old) place.now) pages.old)
-        pages.old pages.new result }
-    ensures not_full { ¬ IsErrOf result Stop.Full }
+    ensures { SelectsInFile P.PageView (IsIsam (P.ground pages.old) place.now)
+        span.now out.old out.new pages.old pages.new result }
 {
     let mut found = gather_inside(alloc, pages, place, span)?;
     append_sorted(&mut found, out)?;
@@ -205,13 +169,8 @@ fn gather_all<P: Pages>(alloc: Global, pages: &mut P, place: &Place) -> Result<E
 pub fn check<P: Pages>(alloc: Global, pages: &mut P, place: &Place) -> Result<(), Stop>
     requires kind { place.now.spec.kind ≡ Isam }
     requires place { IsPlace (P.ground pages.old) place.now }
-    ensures ok { IsTrue P.tells → OnOk result
-        (IsWhole P.PageView (IsIsam (P.ground pages.old) place.now) pages.old) }
-    ensures reads { ReadsPages P.PageView pages.old pages.new }
-    ensures ends { EndsFile P.PageView
-        (IsWhole P.PageView (IsIsam (P.ground pages.old) place.now) pages.old)
+    ensures { ChecksFile P.PageView (IsIsam (P.ground pages.old) place.now)
         pages.old pages.new result }
-    ensures not_full { ¬ IsErrOf result Stop.Full }
 {
     let mut index = [0; PAGE_LEN];
     read_index(pages, place.root, &mut index)?;

@@ -1,36 +1,31 @@
-use Rattle.std.proofs.Common.{ap, arith}
+use Rattle.std.proofs.Common.{ap, arith, rules}
 use Rattle.gx_isam.proofs.MakeLemmas.{one_root, isam_made, isam_made_others, isam_made_roots}
 use Rattle.gx_isam.proofs.isam.make.Goals as goal
 
-pub returns-clause-made : goal.returns-clause-made
-returns-clause-made g c told vacant =
+pub returns : goal.returns
+returns g c =
     let place = c.args.place.now in
     let s = g.P.PageView.working c.args.pages.now in
-    let claim = c.in_ok-claim_at.ensures.claimed told (vacant.free place.root (omega arith) (omega (arith, one_root place c.requires.kind))) in
-    let many = g.met.P.Pages.many c.claim_at.new.self told in
     let base = ap (λ x. x.size) c.in_ok-claim_at.ensures.keeps.ground in
-    let below = claim.past.below in
-    isam_made (g.P.PageView.ground c.args.pages.now) place s (g.P.PageView.working c.claim_at.new.self) (g.P.PageView.working c.write.new.self) c.clear_index.new.page c.requires.kind c.requires.place vacant claim
-    (omega (arith, below, many.1, base)) (c.in_ok-write.ensures.written told) c.clear_index.ensures.page c.clear_index.ensures.one c.clear_index.ensures.first
-
-pub returns-clause-others : goal.returns-clause-others
-returns-clause-others g c told vacant =
-    let place = c.args.place.now in
-    let s = g.P.PageView.working c.args.pages.now in
-    let claim = c.in_ok-claim_at.ensures.claimed told (vacant.free place.root (omega arith) (omega (arith, one_root place c.requires.kind))) in
-    let many = g.met.P.Pages.many c.claim_at.new.self told in
-    let base = ap (λ x. x.size) c.in_ok-claim_at.ensures.keeps.ground in
-    let below = claim.past.below in
-    isam_made_others (g.P.PageView.ground c.args.pages.now) place s (g.P.PageView.working c.claim_at.new.self) (g.P.PageView.working c.write.new.self) c.clear_index.new.page c.requires.kind c.requires.place vacant claim
-    (omega (arith, below, many.1, base)) (c.in_ok-write.ensures.written told) c.clear_index.ensures.page c.clear_index.ensures.one c.clear_index.ensures.first
-
-pub returns-clause-roots : goal.returns-clause-roots
-returns-clause-roots g c told vacant =
-    let place = c.args.place.now in
-    let s = g.P.PageView.working c.args.pages.now in
-    let claim = c.in_ok-claim_at.ensures.claimed told (vacant.free place.root (omega arith) (omega (arith, one_root place c.requires.kind))) in
-    let many = g.met.P.Pages.many c.claim_at.new.self told in
-    let base = ap (λ x. x.size) c.in_ok-claim_at.ensures.keeps.ground in
-    let below = claim.past.below in
-    isam_made_roots (g.P.PageView.ground c.args.pages.now) place s (g.P.PageView.working c.claim_at.new.self) (g.P.PageView.working c.write.new.self) c.clear_index.new.page c.requires.kind c.requires.place vacant claim
-    (omega (arith, below, many.1, base)) (c.in_ok-write.ensures.written told) c.clear_index.ensures.page c.clear_index.ensures.one c.clear_index.ensures.first
+    record {
+      made = λ told vacant. (
+          let claim = c.in_ok-claim_at.ensures.claimed told (vacant.free place.root (omega arith) (omega (arith, one_root place c.requires.kind))) in
+          let many = g.met.P.Pages.many c.claim_at.new.self told in
+          let below = claim.past.below in
+          isam_made (g.P.PageView.ground c.args.pages.now) place s (g.P.PageView.working c.claim_at.new.self) (g.P.PageView.working c.write.new.self) c.clear_index.new.page c.requires.kind c.requires.place vacant claim
+          (omega (arith, below, many.1, base)) (c.in_ok-write.ensures.written told) c.clear_index.ensures.page c.clear_index.ensures.one c.clear_index.ensures.first);
+      others = λ told vacant. (
+          let claim = c.in_ok-claim_at.ensures.claimed told (vacant.free place.root (omega arith) (omega (arith, one_root place c.requires.kind))) in
+          let many = g.met.P.Pages.many c.claim_at.new.self told in
+          let below = claim.past.below in
+          isam_made_others (g.P.PageView.ground c.args.pages.now) place s (g.P.PageView.working c.claim_at.new.self) (g.P.PageView.working c.write.new.self) c.clear_index.new.page c.requires.kind c.requires.place vacant claim
+          (omega (arith, below, many.1, base)) (c.in_ok-write.ensures.written told) c.clear_index.ensures.page c.clear_index.ensures.one c.clear_index.ensures.first);
+      roots = λ told vacant. (
+          let claim = c.in_ok-claim_at.ensures.claimed told (vacant.free place.root (omega arith) (omega (arith, one_root place c.requires.kind))) in
+          let many = g.met.P.Pages.many c.claim_at.new.self told in
+          let below = claim.past.below in
+          isam_made_roots (g.P.PageView.ground c.args.pages.now) place s (g.P.PageView.working c.claim_at.new.self) (g.P.PageView.working c.write.new.self) c.clear_index.new.page c.requires.kind c.requires.place vacant claim
+          (omega (arith, below, many.1, base)) (c.in_ok-write.ensures.written told) c.clear_index.ensures.page c.clear_index.ensures.one c.clear_index.ensures.first);
+      keeps = search rules;
+      faults = search rules;
+    }
