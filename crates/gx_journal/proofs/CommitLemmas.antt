@@ -4,15 +4,18 @@ use Rattle.std.specs.Prelude.{◌||◌, OnOk, is_err}
 use Rattle.std.proofs.lemmas.List.{append-nil}
 use Rattle.std.proofs.lemmas.List.FromFn.{length-map-range_with_len}
 use Rattle.gx_frames.specs.Pool.{Resident}
+use Rattle.gx_device.specs.declared.device.Failed.{Failed}
 use Rattle.gx_device.specs.Content.{Content}
 use Rattle.gx_device.specs.Crash.{Image, EachImage, LeavesOnly}
 use Rattle.gx_device.specs.Quiet.{IsPrefix, IsQuiet, IsOldOrNew}
-use Rattle.gx_device.proofs.RunLemmas.{weakened}
+use Rattle.gx_device.proofs.RunLemmas.{joined, weakened}
 use Rattle.gx_layout.specs.Layout.{View, Shows, StandsFor, Either, AtRest, SameButChanged, Holds, with_said, with_pages}
 use Rattle.gx_layout.specs.Recovered.{view_now}
 use Rattle.gx_layout.specs.Calm.{Calm}
 use Rattle.gx_layout.specs.CalmLaws.{calm_now, calm_leaves}
 use Rattle.gx_layout.proofs.CalmLemmas.{rest_own, rest_new}
+use Rattle.gx_layout.proofs.CommitLemmas.{left}
+use Rattle.gx_journal.specs.Publishing.{IsPrepared, Replaces}
 use Rattle.gx_journal.specs.Sources.{stored, page_of, SamePages, OnlySlots, IsListed}
 use Rattle.gx_journal.specs.State.{pages_told, homes_told, head_told, CalmSince}
 use Rattle.gx_journal.proofs.ForgetLemmas.{none_left}
@@ -82,6 +85,32 @@ module _ (P : ℕ) (kept : View) (old mid : Content) (count : length kept.pages 
     none_spilled listed empty h =
         subst (λ (s : List ℕ). AtRest mid.now (with_said (with_pages kept (pages_told tells P old was rs)) s)) spilled_rest.fits.said
         (rest_new mid.now kept (pages_told tells P old was rs) is spilled_count spilled_same (none_left 0 listed is (omega (arith, empty)) h.every) (rest_own kept mid.now spilled_rest))
+
+    pub spilled_prepared : IsPrepared kept (pages_told tells P old was rs) is mid.now
+    spilled_prepared = record {
+      kept_count = spilled_count;
+      count = spilled_long;
+      rest = spilled_rest;
+      same = spilled_same;
+      slots = spilled_held;
+    }
+
+  -- no page was published
+  pub spilled_only : {T : Type 0} {result : Result T Failed} (pages : List (List ℕ))
+      → OnOk result (AtRest mid.now (with_pages kept pages)) → Replaces kept pages old mid result
+  spilled_only pages at_rest = record {
+    images = left kept (with_pages kept pages) old mid spilled_images;
+    at_rest = at_rest;
+  }
+
+  -- and then they were
+  pub spilled_replaced : {T : Type 0} {result : Result T Failed} (pages : List (List ℕ))
+      (new : Content) → Replaces kept pages mid new result → Replaces kept pages old new result
+  spilled_replaced pages new then = record {
+    images = joined (EachImage (Either kept (with_pages kept pages))) old mid new
+        (left kept (with_pages kept pages) old mid spilled_images) then.images;
+    at_rest = then.at_rest;
+  }
 
 -- what a commit leaves, in the words of the journal
 module _ (tells : Bool) (told : IsTrue tells) (kept pages : List (List ℕ)) (a b : Content) where

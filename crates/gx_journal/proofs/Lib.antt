@@ -8,3 +8,5 @@ pub mod UnchangedLemmas
 pub mod PublishLemmas
 pub mod OpenLemmas
 pub mod CommitLemmas
+pub mod CallLemmas
+pub mod DeviceLemmas

@@ -8,6 +8,7 @@ use Rattle.std.proofs.lemmas.Option.{same_Some}
 use Rattle.std.proofs.lemmas.Bool.{true≢false}
 use Rattle.gx_frames.specs.Order.{IsUnique, IsAbsent}
 use Rattle.gx_frames.specs.Pool.{Resident, Pool, find_page, without, to_front, IsLast, IsPool}
+use Rattle.gx_frames.specs.Calls.{placed_first}
 use Rattle.gx_frames.proofs.PoolLemmas.{eqb_other, find_here, without_here}
 use Rattle.gx_layout.specs.Layout.{home}
 use Rattle.gx_journal.specs.Sources.{stored, page_of, IsCached}
@@ -174,3 +175,22 @@ module _ (P : ℕ) where
           ap (λ (y : Resident). y.bytes) f ∙ mine (ap (λ (y : Resident). y.changed) (sym f) ∙ same) ∙ ap (stored P blocks spilled) at_p.1)
       | inr other ↦ cached q x (sym (there q other.1) ∙ found) same
     ]
+
+  -- a page comes into a frame as it is stored
+  module _ (blocks : List (List ℕ)) (spilled : List Bool) (rs : List Resident) (p : ℕ) (bytes : List ℕ) (is : bytes ≡ stored P blocks spilled p) where
+    here : find_page p (placed_first p bytes rs) ≡ Some (record { page = p; bytes = bytes; changed = false })
+    here = find_here p (record { page = p; bytes = bytes; changed = false }) rs refl
+
+    there : (q : ℕ) → p ≢ q → find_page q (placed_first p bytes rs) ≡ find_page q rs
+    there q ne = find_past q (record { page = p; bytes = bytes; changed = false }) rs ne
+
+    pub admitted_pages : find_page p rs ≡ None → (q : ℕ) → page_of P blocks spilled (placed_first p bytes rs) q ≡ page_of P blocks spilled rs q
+    admitted_pages absent q = elim (eqb_tells p q) [
+      | inl same ↦ ap (page_of P blocks spilled (placed_first p bytes rs)) (sym same.1)
+          ∙ page_resident blocks spilled (placed_first p bytes rs) p _ here ∙ is
+          ∙ sym (page_absent blocks spilled rs p absent) ∙ ap (page_of P blocks spilled rs) same.1
+      | inr other ↦ placed_other blocks spilled rs (placed_first p bytes rs) p _ here there q other.1
+    ]
+
+    pub admitted_cached : IsCached P blocks spilled rs → IsCached P blocks spilled (placed_first p bytes rs)
+    admitted_cached = placed_cached blocks spilled rs (placed_first p bytes rs) p _ here there (λ plain. is)

@@ -2,5 +2,8 @@ pub mod Sources
 pub mod State
 pub mod StateLaws
 pub mod Working
+pub mod DeviceCalls
+pub mod WorkingCalls
+pub mod Publishing
 pub mod Journal
 pub mod Opening

@@ -1,11 +1,11 @@
 // Reads and writes of pages, by way of the frames.
-ghost use Rattle.std.specs.Prelude.{◌≡◌, ◌≢◌, ◌<◌, ◌≤◌, ◌+◌, ◌*◌, ◌⊎◌, ℕ, true, Some, [], ◌∷◌, length, slice_index_or, IsTrue, OnOk, OnErr, if◌then◌else◌};
-ghost use Rattle.gx_device.specs.Content.{OnlyTime};
-ghost use Rattle.gx_device.specs.Faults.{IsCounted};
+ghost use Rattle.std.specs.Prelude.{◌≡◌, ◌≢◌, ◌<◌, ◌+◌, ◌∷◌, ◌⊎◌, ℕ, true, [], length, slice_index_or, IsTrue, OnOk, OnErr, if◌then◌else◌};
 ghost use Rattle.gx_frames.specs.Pool.{IsResident, HasFreeFrame, without, with_residents};
 ghost use Rattle.gx_layout.specs.Layout.{home};
-ghost use Rattle.gx_journal.specs.Sources.{SamePages, OnlySlots};
-ghost use Rattle.gx_journal.specs.Working.{size_in, page_in, IsCachedIn, IsUnchangedIn};
+ghost use Rattle.gx_journal.specs.DeviceCalls.{HasPlaces, ReadsOnly};
+ghost use Rattle.gx_journal.specs.Sources.{SamePages};
+ghost use Rattle.gx_journal.specs.Working.{size_in, page_in, IsUnchangedIn};
+ghost use Rattle.gx_journal.specs.WorkingCalls.{IsBacked, WritesSlots, KeepsWorking};
 
 use crate::room::{make_room, reserve};
 use crate::working::WorkingPages;
@@ -36,9 +36,7 @@ pub(crate) fn write<D: Device>(
 ) -> Result<(), Failed>
     requires below { p < size_in working.old }
     requires bytes { length from.now ≡ 4096 }
-    requires room { 7 + 2 * size_in working.old ≤ D.size device.old }
-    requires cached { IsTrue D.tells →
-        IsCachedIn (size_in working.old) (D.content device.old) working.old }
+    requires backed { IsBacked D.Device device.old working.old }
     ensures page { IsTrue D.tells →
         OnOk result (page_in (size_in working.old) (D.content device.new) working.new p
         ≡ from.now) }
@@ -49,12 +47,7 @@ pub(crate) fn write<D: Device>(
         OnErr result
         (SamePages (page_in (size_in working.old) (D.content device.old) working.old)
         (page_in (size_in working.old) (D.content device.new) working.new)) }
-    ensures long { size_in working.new ≡ size_in working.old }
-    ensures cached { IsTrue D.tells →
-        IsCachedIn (size_in working.old) (D.content device.new) working.new }
-    ensures slots { OnlySlots (size_in working.old) (D.content device.old) (D.content device.new) }
-    ensures size { D.size device.new ≡ D.size device.old }
-    ensures cause { IsCounted (D.faults device.old) (D.faults device.new) result }
+    ensures writes { WritesSlots D.Device device.old device.new working.old working.new result }
 {
     reserve(device, working, p)?;
     put(&mut working.frames, p, from);
@@ -71,15 +64,12 @@ fn fetch<D: Device>(
 ) -> Result<(), Failed>
     requires below { p < pages }
     requires bytes { length into.old ≡ 4096 }
-    requires room { 7 + 2 * pages ≤ D.size device.old }
-    requires few { pages ≤ 32768 }
+    requires places { HasPlaces D.Device device.old pages }
     ensures page { IsTrue D.tells →
         OnOk result
         (into.new ≡ (if is_spilled then slice_index_or (D.content device.old).now.blocks (7 + p) []
         else slice_index_or (D.content device.old).now.blocks (home pages p) [])) }
-    ensures rest { OnlyTime (D.content device.old) (D.content device.new) }
-    ensures size { D.size device.new ≡ D.size device.old }
-    ensures cause { IsCounted (D.faults device.old) (D.faults device.new) result }
+    ensures reads { ReadsOnly D.Device device.old device.new result }
 {
     if is_spilled {
         device.read_block(7 + p, into)
@@ -97,22 +87,12 @@ pub(crate) fn read<D: Device>(
 ) -> Result<(), Failed>
     requires below { p < size_in working.old }
     requires bytes { length into.old ≡ 4096 }
-    requires room { 7 + 2 * size_in working.old ≤ D.size device.old }
-    requires cached { IsTrue D.tells →
-        IsCachedIn (size_in working.old) (D.content device.old) working.old }
+    requires backed { IsBacked D.Device device.old working.old }
     ensures page { IsTrue D.tells →
         OnOk result
         (into.new ≡ page_in (size_in working.old) (D.content device.old) working.old p) }
-    ensures same { IsTrue D.tells →
-        SamePages (page_in (size_in working.old) (D.content device.old) working.old)
-        (page_in (size_in working.old) (D.content device.new) working.new) }
     ensures unchanged { IsUnchangedIn working.old → IsUnchangedIn working.new }
-    ensures long { size_in working.new ≡ size_in working.old }
-    ensures cached { IsTrue D.tells →
-        IsCachedIn (size_in working.old) (D.content device.new) working.new }
-    ensures slots { OnlySlots (size_in working.old) (D.content device.old) (D.content device.new) }
-    ensures size { D.size device.new ≡ D.size device.old }
-    ensures cause { IsCounted (D.faults device.old) (D.faults device.new) result }
+    ensures keeps { KeepsWorking D.Device device.old device.new working.old working.new result }
 {
     if let Some(bytes) = working.frames.get(p) {
         into.copy_from_slice(bytes);

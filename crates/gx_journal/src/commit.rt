@@ -1,12 +1,12 @@
 // The first step of a commit: the changed pages go to their slots.
-ghost use Rattle.std.specs.Prelude.{◌≡◌, ◌<◌, ◌≤◌, ◌+◌, ◌*◌, ℕ, false, [], length, slice_index_or, vec_capacity, IsTrue, OnOk};
+ghost use Rattle.std.specs.Prelude.{◌≡◌, ◌<◌, ◌≤◌, ℕ, false, [], length, slice_index_or, vec_capacity, IsTrue, OnOk};
 ghost use Rattle.gx_device.specs.Content.{block_of};
-ghost use Rattle.gx_device.specs.Crash.{LeavesOnly};
-ghost use Rattle.gx_device.specs.Faults.{IsCounted};
 ghost use Rattle.gx_frames.specs.Pool.{IsChanged};
-ghost use Rattle.gx_layout.specs.Layout.{View, AtRest, Either, OnlyBlocks, with_pages, home, is_open};
-ghost use Rattle.gx_journal.specs.Sources.{stored, SamePages, IsListed, OnlySlots, IsBody};
-ghost use Rattle.gx_journal.specs.Working.{size_in, page_in, pages_in, IsCachedIn, IsUnchangedIn};
+ghost use Rattle.gx_layout.specs.Layout.{View, AtRest, home, is_open};
+ghost use Rattle.gx_journal.specs.Publishing.{Replaces};
+ghost use Rattle.gx_journal.specs.Sources.{stored, SamePages, IsListed};
+ghost use Rattle.gx_journal.specs.Working.{size_in, page_in, pages_in, IsUnchangedIn};
+ghost use Rattle.gx_journal.specs.WorkingCalls.{IsBacked, KeepsWorking, KeepsHead};
 
 use crate::publish::publish;
 use crate::room::spill;
@@ -17,21 +17,11 @@ use gx_device::{Device, Failed};
 fn spill_one<D: Device>(device: &mut D, working: &mut WorkingPages, p: u32) -> Result<(), Failed>
     requires below { p < size_in working.old }
     requires changed { IsChanged working.old.frames p }
-    requires room { 7 + 2 * size_in working.old ≤ D.size device.old }
-    requires cached { IsTrue D.tells →
-        IsCachedIn (size_in working.old) (D.content device.old) working.old }
+    requires backed { IsBacked D.Device device.old working.old }
     ensures clean { OnOk result (¬ IsChanged working.new.frames p) }
     ensures still { OnOk result ((q : ℕ) → ¬ IsChanged working.old.frames q →
         ¬ IsChanged working.new.frames q) }
-    ensures long { size_in working.new ≡ size_in working.old }
-    ensures same { IsTrue D.tells →
-        SamePages (page_in (size_in working.old) (D.content device.old) working.old)
-        (page_in (size_in working.old) (D.content device.new) working.new) }
-    ensures cached { IsTrue D.tells →
-        IsCachedIn (size_in working.old) (D.content device.new) working.new }
-    ensures slots { OnlySlots (size_in working.old) (D.content device.old) (D.content device.new) }
-    ensures size { D.size device.new ≡ D.size device.old }
-    ensures cause { IsCounted (D.faults device.old) (D.faults device.new) result }
+    ensures keeps { KeepsWorking D.Device device.old device.new working.old working.new result }
 {
     spill(device, working, p)?;
     working.frames.clean(p);
@@ -40,9 +30,7 @@ fn spill_one<D: Device>(device: &mut D, working: &mut WorkingPages, p: u32) -> R
 
 /// Each changed page goes to its slot: then each page is as it is stored.
 pub(crate) fn spill_all<D: Device>(device: &mut D, working: &mut WorkingPages) -> Result<(), Failed>
-    requires room { 7 + 2 * size_in working.old ≤ D.size device.old }
-    requires cached { IsTrue D.tells →
-        IsCachedIn (size_in working.old) (D.content device.old) working.old }
+    requires backed { IsBacked D.Device device.old working.old }
     ensures unchanged { ((q : ℕ) → ¬ IsChanged working.old.frames q) →
         (device.new ≡ device.old) × (working.new ≡ working.old) }
     ensures none_changed { OnOk result ((q : ℕ) → ¬ IsChanged working.new.frames q) }
@@ -50,15 +38,7 @@ pub(crate) fn spill_all<D: Device>(device: &mut D, working: &mut WorkingPages) -
         OnOk result ((q : ℕ) → page_in (size_in working.old) (D.content device.new) working.new q
         ≡ stored (size_in working.old)
         (D.content device.new).now.blocks working.new.spilled.items q) }
-    ensures long { size_in working.new ≡ size_in working.old }
-    ensures same { IsTrue D.tells →
-        SamePages (page_in (size_in working.old) (D.content device.old) working.old)
-        (page_in (size_in working.old) (D.content device.new) working.new) }
-    ensures cached { IsTrue D.tells →
-        IsCachedIn (size_in working.old) (D.content device.new) working.new }
-    ensures slots { OnlySlots (size_in working.old) (D.content device.old) (D.content device.new) }
-    ensures size { D.size device.new ≡ D.size device.old }
-    ensures cause { IsCounted (D.faults device.old) (D.faults device.new) result }
+    ensures keeps { KeepsWorking D.Device device.old device.new working.old working.new result }
 {
     let mut from = 0;
     while let Some(p) = working.frames.next_changed(from) {
@@ -84,9 +64,7 @@ pub(crate) fn clear(spilled: &mut Vec<bool>, listed: &mut Vec<u32>)
 
 /// Makes the pages as they are those at home, all at once.
 pub(crate) fn commit<D: Device>(device: &mut D, working: &mut WorkingPages) -> Result<(), Failed>
-    requires room { 7 + 2 * size_in working.old ≤ D.size device.old }
-    requires cached { IsTrue D.tells →
-        IsCachedIn (size_in working.old) (D.content device.old) working.old }
+    requires backed { IsBacked D.Device device.old working.old }
     ensures home { IsTrue D.tells →
         OnOk result ((q : ℕ) → page_in (size_in working.old) (D.content device.new) working.new q
         ≡ slice_index_or (D.content device.new).now.blocks (home (size_in working.old) q) []) }
@@ -94,29 +72,15 @@ pub(crate) fn commit<D: Device>(device: &mut D, working: &mut WorkingPages) -> R
         OnOk result
         (SamePages (page_in (size_in working.old) (D.content device.old) working.old)
         (page_in (size_in working.old) (D.content device.new) working.new)) }
-    ensures images { IsTrue D.tells → (kept : View) → length kept.pages ≡ size_in working.old →
+    ensures replaces { IsTrue D.tells → (kept : View) → length kept.pages ≡ size_in working.old →
         AtRest (D.content device.old).now kept
-        → LeavesOnly
-        (Either kept
-        (with_pages kept
-        (pages_in D.tells (size_in working.old) (D.content device.old) working.old)))
-        (D.content device.old) (D.content device.new) }
-    ensures at_rest { IsTrue D.tells → (kept : View) → length kept.pages ≡ size_in working.old →
-        AtRest (D.content device.old).now kept
-        → OnOk result
-        (AtRest (D.content device.new).now
-        (with_pages kept
-        (pages_in D.tells (size_in working.old) (D.content device.old) working.old))) }
+        → Replaces kept (pages_in D.tells (size_in working.old) (D.content device.old) working.old)
+        (D.content device.old) (D.content device.new) result }
     ensures closed { IsTrue D.tells → is_open (block_of (D.content device.old).now 1) ≡ false →
         OnOk result (is_open (block_of (D.content device.new).now 1) ≡ false) }
-    ensures cached { IsTrue D.tells →
-        IsCachedIn (size_in working.old) (D.content device.new) working.new }
     ensures unchanged { IsUnchangedIn working.old → device.new ≡ device.old }
     ensures saved { OnOk result (IsUnchangedIn working.new) }
-    ensures body { OnlyBlocks IsBody (D.content device.old) (D.content device.new) }
-    ensures long { size_in working.new ≡ size_in working.old }
-    ensures size { D.size device.new ≡ D.size device.old }
-    ensures cause { IsCounted (D.faults device.old) (D.faults device.new) result }
+    ensures keeps { KeepsHead D.Device device.old device.new working.old working.new result }
 {
     spill_all(device, working)?;
     if working.listed.is_empty() {

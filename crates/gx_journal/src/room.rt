@@ -1,10 +1,12 @@
 // Room in the frames.
-ghost use Rattle.std.specs.Prelude.{◌≡◌, ◌<◌, ◌≤◌, ◌+◌, ◌*◌, ◌⊎◌, ℕ, true, false, Some, None, length, slice_set, vec_capacity, IsTrue, OnOk};
-ghost use Rattle.gx_device.specs.Content.{Writes, Written};
-ghost use Rattle.gx_device.specs.Faults.{IsCounted};
-ghost use Rattle.gx_frames.specs.Pool.{Resident, IsResident, HasFreeFrame, find_page, to_front, with_residents};
-ghost use Rattle.gx_journal.specs.Sources.{stored, SamePages, IsListed, OnlySlots};
-ghost use Rattle.gx_journal.specs.Working.{size_in, page_in, IsCachedIn, IsUnchangedIn};
+ghost use Rattle.std.specs.Prelude.{◌≡◌, ◌<◌, ◌≤◌, ◌+◌, ◌⊎◌, ℕ, true, false, Some, None, length, slice_set, vec_capacity, IsTrue, IsSomeAnd, OnOk};
+ghost use Rattle.gx_device.specs.Content.{Written};
+ghost use Rattle.gx_frames.specs.Pool.{Resident, IsResident, IsChanged, HasFreeFrame, find_page, to_front, with_residents};
+ghost use Rattle.gx_journal.specs.DeviceCalls.{HasPlaces, WritesBlock};
+ghost use Rattle.gx_journal.specs.Publishing.{SameResidents};
+ghost use Rattle.gx_journal.specs.Sources.{stored, IsListed};
+ghost use Rattle.gx_journal.specs.Working.{size_in, IsUnchangedIn};
+ghost use Rattle.gx_journal.specs.WorkingCalls.{IsBacked, KeepsWorking};
 
 use crate::working::WorkingPages;
 use gx_device::{Device, Failed};
@@ -12,16 +14,13 @@ use gx_frames::Frames;
 
 // Writes a resident page to its slot.
 fn write_slot<D: Device>(device: &mut D, frames: &mut Frames, p: u32) -> Result<(), Failed>
-    requires room { 7 + 2 * frames.old.pages ≤ D.size device.old }
-    requires few { frames.old.pages ≤ 32768 }
+    requires places { HasPlaces D.Device device.old frames.old.pages }
     requires below { p < frames.old.pages }
     requires resident { IsResident frames.old p }
     ensures frames { frames.new ≡ with_residents frames.old (to_front p frames.old.resident) }
     ensures written { IsTrue D.tells → (r : Resident) → find_page p frames.old.resident ≡ Some r →
         OnOk result (Written (7 + p) r.bytes (D.content device.old) (D.content device.new)) }
-    ensures rest { Writes (7 + p) (D.content device.old) (D.content device.new) }
-    ensures size { D.size device.new ≡ D.size device.old }
-    ensures cause { IsCounted (D.faults device.old) (D.faults device.new) result }
+    ensures writes { WritesBlock D.Device (7 + p) device.old device.new result }
 {
     if let Some(bytes) = frames.get(p) {
         device.write_block(7 + p, bytes)
@@ -51,13 +50,9 @@ pub(crate) fn spill<D: Device>(
     working: &mut WorkingPages,
     p: u32,
 ) -> Result<(), Failed>
-    requires room { 7 + 2 * size_in working.old ≤ D.size device.old }
     requires below { p < size_in working.old }
-    requires resident { IsResident working.old.frames p }
-    requires changed { (r : Resident) → find_page p working.old.frames.resident ≡ Some r →
-        r.changed ≡ true }
-    requires cached { IsTrue D.tells →
-        IsCachedIn (size_in working.old) (D.content device.old) working.old }
+    requires changed { IsChanged working.old.frames p }
+    requires backed { IsBacked D.Device device.old working.old }
     ensures frames { working.new.frames
         ≡ with_residents working.old.frames (to_front p working.old.frames.resident) }
     ensures stored { IsTrue D.tells → (r : Resident) →
@@ -65,15 +60,7 @@ pub(crate) fn spill<D: Device>(
         OnOk result
         (stored (size_in working.old) (D.content device.new).now.blocks working.new.spilled.items p
         ≡ r.bytes) }
-    ensures same { IsTrue D.tells →
-        SamePages (page_in (size_in working.old) (D.content device.old) working.old)
-        (page_in (size_in working.old) (D.content device.new) working.new) }
-    ensures cached { IsTrue D.tells →
-        IsCachedIn (size_in working.old) (D.content device.new) working.new }
-    ensures slots { OnlySlots (size_in working.old) (D.content device.old) (D.content device.new) }
-    ensures long { size_in working.new ≡ size_in working.old }
-    ensures size { D.size device.new ≡ D.size device.old }
-    ensures cause { IsCounted (D.faults device.old) (D.faults device.new) result }
+    ensures keeps { KeepsWorking D.Device device.old device.new working.old working.new result }
 {
     write_slot(device, &mut working.frames, p)?;
     note(&mut working.spilled, &mut working.listed, p);
@@ -87,32 +74,18 @@ fn settle<D: Device>(
     p: u32,
     changed: bool,
 ) -> Result<(), Failed>
-    requires room { 7 + 2 * size_in working.old ≤ D.size device.old }
     requires below { p < size_in working.old }
-    requires resident { IsResident working.old.frames p }
-    requires changed { (r : Resident) → find_page p working.old.frames.resident ≡ Some r →
-        r.changed ≡ changed }
-    requires cached { IsTrue D.tells →
-        IsCachedIn (size_in working.old) (D.content device.old) working.old }
+    requires resident { IsSomeAnd (find_page p working.old.frames.resident)
+        (λ r. r.changed ≡ changed) }
+    requires backed { IsBacked D.Device device.old working.old }
     ensures untouched { changed ≡ false → working.new ≡ working.old }
-    ensures order { (q : ℕ) →
-        find_page q working.new.frames.resident ≡ find_page q working.old.frames.resident }
-    ensures count { length working.new.frames.resident ≤ length working.old.frames.resident }
-    ensures frames { working.new.frames.frames ≡ working.old.frames.frames }
+    ensures frames { SameResidents working.old.frames working.new.frames }
     ensures stored { IsTrue D.tells → (r : Resident) →
         find_page p working.old.frames.resident ≡ Some r →
         OnOk result
         (stored (size_in working.old) (D.content device.new).now.blocks working.new.spilled.items p
         ≡ r.bytes) }
-    ensures same { IsTrue D.tells →
-        SamePages (page_in (size_in working.old) (D.content device.old) working.old)
-        (page_in (size_in working.old) (D.content device.new) working.new) }
-    ensures cached { IsTrue D.tells →
-        IsCachedIn (size_in working.old) (D.content device.new) working.new }
-    ensures slots { OnlySlots (size_in working.old) (D.content device.old) (D.content device.new) }
-    ensures long { size_in working.new ≡ size_in working.old }
-    ensures size { D.size device.new ≡ D.size device.old }
-    ensures cause { IsCounted (D.faults device.old) (D.faults device.new) result }
+    ensures keeps { KeepsWorking D.Device device.old device.new working.old working.new result }
 {
     if !changed {
         return Ok(());
@@ -123,22 +96,12 @@ fn settle<D: Device>(
 /// Makes room for a page in the frames: the page that was used longest ago leaves them, and goes to
 /// its slot where it has changed.
 pub(crate) fn make_room<D: Device>(device: &mut D, working: &mut WorkingPages) -> Result<(), Failed>
-    requires room { 7 + 2 * size_in working.old ≤ D.size device.old }
-    requires cached { IsTrue D.tells →
-        IsCachedIn (size_in working.old) (D.content device.old) working.old }
+    requires backed { IsBacked D.Device device.old working.old }
     ensures free { OnOk result (HasFreeFrame working.new.frames) }
     ensures unchanged { IsUnchangedIn working.old → IsUnchangedIn working.new }
     ensures absent { (p : ℕ) → find_page p working.old.frames.resident ≡ None →
         find_page p working.new.frames.resident ≡ None }
-    ensures same { IsTrue D.tells →
-        SamePages (page_in (size_in working.old) (D.content device.old) working.old)
-        (page_in (size_in working.old) (D.content device.new) working.new) }
-    ensures cached { IsTrue D.tells →
-        IsCachedIn (size_in working.old) (D.content device.new) working.new }
-    ensures slots { OnlySlots (size_in working.old) (D.content device.old) (D.content device.new) }
-    ensures long { size_in working.new ≡ size_in working.old }
-    ensures size { D.size device.new ≡ D.size device.old }
-    ensures cause { IsCounted (D.faults device.old) (D.faults device.new) result }
+    ensures keeps { KeepsWorking D.Device device.old device.new working.old working.new result }
 {
     let Some((page, changed)) = working.frames.victim() else {
         return Ok(());
@@ -155,19 +118,9 @@ pub(crate) fn reserve<D: Device>(
     p: u32,
 ) -> Result<(), Failed>
     requires below { p < size_in working.old }
-    requires room { 7 + 2 * size_in working.old ≤ D.size device.old }
-    requires cached { IsTrue D.tells →
-        IsCachedIn (size_in working.old) (D.content device.old) working.old }
+    requires backed { IsBacked D.Device device.old working.old }
     ensures free { OnOk result (IsResident working.new.frames p ⊎ HasFreeFrame working.new.frames) }
-    ensures same { IsTrue D.tells →
-        SamePages (page_in (size_in working.old) (D.content device.old) working.old)
-        (page_in (size_in working.old) (D.content device.new) working.new) }
-    ensures cached { IsTrue D.tells →
-        IsCachedIn (size_in working.old) (D.content device.new) working.new }
-    ensures slots { OnlySlots (size_in working.old) (D.content device.old) (D.content device.new) }
-    ensures long { size_in working.new ≡ size_in working.old }
-    ensures size { D.size device.new ≡ D.size device.old }
-    ensures cause { IsCounted (D.faults device.old) (D.faults device.new) result }
+    ensures keeps { KeepsWorking D.Device device.old device.new working.old working.new result }
 {
     if working.frames.is_resident(p) {
         return Ok(());

@@ -1,50 +1,40 @@
-use Rattle.std.proofs.Common.{rules, ◌≡◌, ◌∙◌, ℕ, ◌+◌, ◌*◌, ◌≤◌, false, true, List, [], length, get_or, vec_len, sym, subst, arith}
-use Rattle.gx_device.specs.Crash.{EachImage}
-use Rattle.gx_device.proofs.RunLemmas.{joined}
+use Rattle.std.proofs.Common.{rules, Bool, ap, ◌≡◌, ◌∙◌, ℕ, ◌+◌, ◌*◌, ◌≤◌, false, true, List, [], length, get_or, vec_len, refl, sym, subst, arith}
+use Rattle.std.specs.Prelude.{if◌then◌else◌}
 use Rattle.gx_device.specs.Content.{block_of}
-use Rattle.gx_layout.specs.Layout.{Either, OnlyBlocks, with_pages, home}
-use Rattle.gx_layout.proofs.CommitLemmas.{left}
+use Rattle.gx_layout.specs.Layout.{OnlyBlocks, home}
 use Rattle.gx_journal.specs.State.{pages_told}
-use Rattle.gx_journal.proofs.CommitLemmas.{spilled_rest, spilled_images, spilled_count, spilled_long, spilled_same, spilled_held, none_spilled}
+use Rattle.gx_journal.proofs.CommitLemmas.{spilled_prepared, spilled_only, spilled_replaced, none_spilled}
+use Rattle.gx_journal.proofs.CallLemmas.{writes_slots_failed, head_spilled, head_published}
+use Rattle.gx_journal.proofs.DeviceLemmas.{no_ok, touches_failed}
 use Rattle.gx_journal.specs.Sources.{IsCommitted}
 use Rattle.gx_journal.proofs.PublishLemmas.{failed_stored, done_stored, moved_cached, moved_pages, stored_home}
 use Rattle.gx_journal.proofs.SlotLemmas.{slots_gate}
+use Rattle.gx_journal.proofs.SourceLemmas.{page_resident}
 use Rattle.gx_journal.proofs.ForgetLemmas.{none_left}
 use Rattle.gx_journal.proofs.UnchangedLemmas.{never_listed, still_unchanged}
 use Rattle.gx_journal.proofs.commit.commit.Goals as goal
 
-pub returns-in_err-spill_all-clause-images : goal.returns-in_err-spill_all-clause-images
-returns-in_err-spill_all-clause-images g c told kept count rest =
-    let content = g.D.Device.content in
-    let tells = g.D.Device.tells in
-    let flags = c.args.working.now.spilled.items in
-    let rs = c.args.working.now.frames.resident in
-    let P = length flags in
-    let old = content c.args.device.now in
-    let mid = content c.spill_all.new.device in
-    let is = c.spill_all.new.working.spilled.items in
-    let ss = c.spill_all.new.working.frames.resident in
-    let e = c.spill_all.ensures in
-    let new = with_pages kept (pages_told tells P old flags rs) in
-    left kept new old mid (spilled_images P kept old mid count rest e.slots)
+pub publish-requires-clause-spilled : goal.publish-requires-clause-spilled
+publish-requires-clause-spilled g c =
+    let P = length c.args.working.now.spilled.items in
+    let working = c.spill_all.new.working in
+    let blocks = (g.D.Device.content c.spill_all.new.device).now.blocks in
+    record {
+      count = working.pages;
+      named = working.named;
+      slots = λ p on told r is.
+          sym (page_resident P blocks working.spilled.items working.frames.resident p r is)
+          ∙ c.in_ok-spill_all.ensures.stored told p
+          ∙ ap (λ (b : Bool). if b then get_or blocks (7 + p) [] else get_or blocks (home P p) []) on;
+    }
 
-pub returns-then-is_empty-clause-images : goal.returns-then-is_empty-clause-images
-returns-then-is_empty-clause-images g c told kept count rest =
-    let content = g.D.Device.content in
-    let tells = g.D.Device.tells in
-    let flags = c.args.working.now.spilled.items in
-    let rs = c.args.working.now.frames.resident in
-    let P = length flags in
-    let old = content c.args.device.now in
-    let mid = content c.spill_all.new.device in
-    let is = c.spill_all.new.working.spilled.items in
-    let ss = c.spill_all.new.working.frames.resident in
-    let e = c.spill_all.ensures in
-    let new = with_pages kept (pages_told tells P old flags rs) in
-    left kept new old mid (spilled_images P kept old mid count rest e.slots)
+pub returns-in_err-spill_all-clause-replaces : goal.returns-in_err-spill_all-clause-replaces
+returns-in_err-spill_all-clause-replaces g c told kept count rest =
+    spilled_only _ kept _ _ count rest c.spill_all.ensures.keeps.writes.slots _
+    (no_ok _ c.from_residual.result c.from_residual.ensures.0)
 
-pub returns-in_err-publish-clause-images : goal.returns-in_err-publish-clause-images
-returns-in_err-publish-clause-images g c told kept count rest =
+pub returns-then-is_empty-clause-replaces : goal.returns-then-is_empty-clause-replaces
+returns-then-is_empty-clause-replaces g c told kept count rest =
     let content = g.D.Device.content in
     let tells = g.D.Device.tells in
     let flags = c.args.working.now.spilled.items in
@@ -54,49 +44,21 @@ returns-in_err-publish-clause-images g c told kept count rest =
     let mid = content c.spill_all.new.device in
     let is = c.spill_all.new.working.spilled.items in
     let ss = c.spill_all.new.working.frames.resident in
-    let e = c.spill_all.ensures in
-    let new = with_pages kept (pages_told tells P old flags rs) in
-    let room : 7 + 2 * P ≤ length mid.now.blocks = omega (arith, g.met.D.Device.sized c.spill_all.new.device told, e.size, c.requires.room) in
-    let at_slot = c.in_ok-spill_all.ensures.stored told in
-    joined (EachImage (Either kept new)) old mid _ (left kept new old mid (spilled_images P kept old mid count rest e.slots)) (c.publish.ensures.images told kept (pages_told tells P old flags rs) (spilled_count P kept old mid count rest e.slots tells told room flags is rs ss e.long (e.same told) at_slot) (spilled_long P kept old mid count rest e.slots tells told room flags is rs ss e.long (e.same told) at_slot) (spilled_rest P kept old mid count rest e.slots) (spilled_same P kept old mid count rest e.slots tells told room flags is rs ss e.long (e.same told) at_slot) (spilled_held P kept old mid count rest e.slots tells told room flags is rs ss e.long (e.same told) at_slot))
-
-pub returns-clause-images : goal.returns-clause-images
-returns-clause-images g c told kept count rest =
-    let content = g.D.Device.content in
-    let tells = g.D.Device.tells in
-    let flags = c.args.working.now.spilled.items in
-    let rs = c.args.working.now.frames.resident in
-    let P = length flags in
-    let old = content c.args.device.now in
-    let mid = content c.spill_all.new.device in
-    let is = c.spill_all.new.working.spilled.items in
-    let ss = c.spill_all.new.working.frames.resident in
-    let e = c.spill_all.ensures in
-    let new = with_pages kept (pages_told tells P old flags rs) in
-    let room : 7 + 2 * P ≤ length mid.now.blocks = omega (arith, g.met.D.Device.sized c.spill_all.new.device told, e.size, c.requires.room) in
-    let at_slot = c.in_ok-spill_all.ensures.stored told in
-    joined (EachImage (Either kept new)) old mid _ (left kept new old mid (spilled_images P kept old mid count rest e.slots)) (c.publish.ensures.images told kept (pages_told tells P old flags rs) (spilled_count P kept old mid count rest e.slots tells told room flags is rs ss e.long (e.same told) at_slot) (spilled_long P kept old mid count rest e.slots tells told room flags is rs ss e.long (e.same told) at_slot) (spilled_rest P kept old mid count rest e.slots) (spilled_same P kept old mid count rest e.slots tells told room flags is rs ss e.long (e.same told) at_slot) (spilled_held P kept old mid count rest e.slots tells told room flags is rs ss e.long (e.same told) at_slot))
-
-pub returns-then-is_empty-clause-at_rest : goal.returns-then-is_empty-clause-at_rest
-returns-then-is_empty-clause-at_rest g c told kept count rest =
-    let content = g.D.Device.content in
-    let tells = g.D.Device.tells in
-    let flags = c.args.working.now.spilled.items in
-    let rs = c.args.working.now.frames.resident in
-    let P = length flags in
-    let old = content c.args.device.now in
-    let mid = content c.spill_all.new.device in
-    let is = c.spill_all.new.working.spilled.items in
-    let ss = c.spill_all.new.working.frames.resident in
-    let e = c.spill_all.ensures in
-    let new = with_pages kept (pages_told tells P old flags rs) in
-    let room : 7 + 2 * P ≤ length mid.now.blocks = omega (arith, g.met.D.Device.sized c.spill_all.new.device told, e.size, c.requires.room) in
+    let e = c.spill_all.ensures.keeps in
+    let pages = pages_told tells P old flags rs in
+    let most = c.requires.backed.room in
+    let blocks = e.writes.blocks in
+    let room : 7 + 2 * P ≤ length mid.now.blocks =
+    omega (arith, g.met.D.Device.sized c.spill_all.new.device told, blocks, most) in
     let at_slot = c.in_ok-spill_all.ensures.stored told in
     let none : length c.spill_all.new.working.listed.items ≡ 0 = search rules in
-    none_spilled P kept old mid count rest e.slots tells told room flags is rs ss e.long (e.same told) at_slot c.spill_all.new.working.listed.items none c.spill_all.new.working.named
+    spilled_only P kept old mid count rest e.writes.slots pages
+    (none_spilled P kept old mid count rest e.writes.slots tells told room flags is rs ss
+    e.writes.size (e.same told) at_slot c.spill_all.new.working.listed.items none
+    c.spill_all.new.working.named)
 
-pub returns-clause-at_rest : goal.returns-clause-at_rest
-returns-clause-at_rest g c told kept count rest =
+pub returns-in_err-publish-clause-replaces : goal.returns-in_err-publish-clause-replaces
+returns-in_err-publish-clause-replaces g c told kept count rest =
     let content = g.D.Device.content in
     let tells = g.D.Device.tells in
     let flags = c.args.working.now.spilled.items in
@@ -106,77 +68,149 @@ returns-clause-at_rest g c told kept count rest =
     let mid = content c.spill_all.new.device in
     let is = c.spill_all.new.working.spilled.items in
     let ss = c.spill_all.new.working.frames.resident in
-    let e = c.spill_all.ensures in
-    let new = with_pages kept (pages_told tells P old flags rs) in
-    let room : 7 + 2 * P ≤ length mid.now.blocks = omega (arith, g.met.D.Device.sized c.spill_all.new.device told, e.size, c.requires.room) in
+    let e = c.spill_all.ensures.keeps in
+    let pages = pages_told tells P old flags rs in
+    let most = c.requires.backed.room in
+    let blocks = e.writes.blocks in
+    let room : 7 + 2 * P ≤ length mid.now.blocks =
+    omega (arith, g.met.D.Device.sized c.spill_all.new.device told, blocks, most) in
     let at_slot = c.in_ok-spill_all.ensures.stored told in
-    c.in_ok-publish.ensures.at_rest told kept (pages_told tells P old flags rs) (spilled_count P kept old mid count rest e.slots tells told room flags is rs ss e.long (e.same told) at_slot) (spilled_long P kept old mid count rest e.slots tells told room flags is rs ss e.long (e.same told) at_slot) (spilled_rest P kept old mid count rest e.slots) (spilled_same P kept old mid count rest e.slots tells told room flags is rs ss e.long (e.same told) at_slot) (spilled_held P kept old mid count rest e.slots tells told room flags is rs ss e.long (e.same told) at_slot)
+    let prepared = spilled_prepared P kept old mid count rest e.writes.slots tells told room flags
+    is rs ss e.writes.size (e.same told) at_slot in
+    let published = c.publish.ensures.replaces told kept pages prepared in
+    spilled_replaced P kept old mid count rest e.writes.slots pages (content c.publish.new.device)
+    (record {
+      images = published.images;
+      at_rest =
+          no_ok _ c.from_residual-in_err-publish.result c.from_residual-in_err-publish.ensures.0;
+    })
+
+pub returns-clause-replaces : goal.returns-clause-replaces
+returns-clause-replaces g c told kept count rest =
+    let content = g.D.Device.content in
+    let tells = g.D.Device.tells in
+    let flags = c.args.working.now.spilled.items in
+    let rs = c.args.working.now.frames.resident in
+    let P = length flags in
+    let old = content c.args.device.now in
+    let mid = content c.spill_all.new.device in
+    let is = c.spill_all.new.working.spilled.items in
+    let ss = c.spill_all.new.working.frames.resident in
+    let e = c.spill_all.ensures.keeps in
+    let pages = pages_told tells P old flags rs in
+    let most = c.requires.backed.room in
+    let blocks = e.writes.blocks in
+    let room : 7 + 2 * P ≤ length mid.now.blocks =
+    omega (arith, g.met.D.Device.sized c.spill_all.new.device told, blocks, most) in
+    let at_slot = c.in_ok-spill_all.ensures.stored told in
+    let prepared = spilled_prepared P kept old mid count rest e.writes.slots tells told room flags
+    is rs ss e.writes.size (e.same told) at_slot in
+    spilled_replaced P kept old mid count rest e.writes.slots pages (content c.publish.new.device)
+    (c.in_ok-publish.ensures.replaces told kept pages prepared)
 
 pub returns-then-is_empty-clause-closed : goal.returns-then-is_empty-clause-closed
-returns-then-is_empty-clause-closed g c told closed = slots_gate (length c.args.working.now.spilled.items) _ _ c.spill_all.ensures.slots closed
+returns-then-is_empty-clause-closed g c told closed =
+    slots_gate (length c.args.working.now.spilled.items) _ _ c.spill_all.ensures.keeps.writes.slots
+    closed
 
-pub returns-in_err-publish-clause-cached : goal.returns-in_err-publish-clause-cached
-returns-in_err-publish-clause-cached g c told =
+pub returns-in_err-spill_all-clause-keeps : goal.returns-in_err-spill_all-clause-keeps
+returns-in_err-spill_all-clause-keeps g c =
+    head_spilled g.D.Device (writes_slots_failed g.D.Device c.from_residual.result
+    c.from_residual.ensures.0 c.in_err-spill_all.ensures.keeps.writes)
+
+pub returns-then-is_empty-clause-keeps : goal.returns-then-is_empty-clause-keeps
+returns-then-is_empty-clause-keeps g c =
+    head_spilled g.D.Device c.in_ok-spill_all.ensures.keeps.writes
+
+pub returns-in_err-publish-clause-keeps : goal.returns-in_err-publish-clause-keeps
+returns-in_err-publish-clause-keeps g c =
     let content = g.D.Device.content in
     let P = length c.args.working.now.spilled.items in
-    let e = c.spill_all.ensures in
+    let e = c.spill_all.ensures.keeps in
     let is = c.spill_all.new.working.spilled.items in
     let rs = c.spill_all.new.working.frames.resident in
     let listed = c.spill_all.new.working.listed.items in
+    let named = c.spill_all.new.working.named in
     let mid = content c.spill_all.new.device in
     let new = content c.publish.new.device in
-    let rest = subst (λ (k : ℕ). OnlyBlocks (IsCommitted k listed) mid new) e.long c.publish.ensures.rest in
-    moved_cached P mid.now.blocks new.now.blocks is is rs c.publish.new.frames.resident c.publish.ensures.order
-    (failed_stored P is listed c.spill_all.new.working.named e.long mid new rest) (e.cached told)
+    let rest = subst (λ (k : ℕ). OnlyBlocks (IsCommitted k listed) mid new) e.writes.size
+    c.publish.ensures.touches.rest in
+    head_published g.D.Device _ listed c.in_ok-spill_all.ensures.keeps.writes
+    (touches_failed g.D.Device c.from_residual-in_err-publish.result
+    c.from_residual-in_err-publish.ensures.0 c.in_err-publish.ensures.touches) refl (λ told cached.
+    moved_cached P mid.now.blocks new.now.blocks is is rs c.publish.new.frames.resident
+    c.publish.ensures.frames.found (failed_stored P is listed named e.writes.size mid new rest)
+    cached)
 
-pub returns-clause-cached : goal.returns-clause-cached
-returns-clause-cached g c told =
+pub returns-clause-keeps : goal.returns-clause-keeps
+returns-clause-keeps g c =
     let content = g.D.Device.content in
     let P = length c.args.working.now.spilled.items in
-    let e = c.spill_all.ensures in
+    let e = c.spill_all.ensures.keeps in
     let is = c.spill_all.new.working.spilled.items in
     let rs = c.spill_all.new.working.frames.resident in
     let listed = c.spill_all.new.working.listed.items in
+    let named = c.spill_all.new.working.named in
     let mid = content c.spill_all.new.device in
     let new = content c.publish.new.device in
-    let rest = subst (λ (k : ℕ). OnlyBlocks (IsCommitted k listed) mid new) e.long c.publish.ensures.rest in
+    let rest = subst (λ (k : ℕ). OnlyBlocks (IsCommitted k listed) mid new) e.writes.size
+    c.publish.ensures.touches.rest in
+    head_published g.D.Device _ listed c.in_ok-spill_all.ensures.keeps.writes
+    c.in_ok-publish.ensures.touches c.clear.ensures.long (λ told cached.
     let flags = c.clear.new.spilled.items in
-    let homes = subst (λ (k : ℕ). (p : ℕ) → get_or is p false ≡ true → block_of new.now (home k p) ≡ block_of mid.now (7 + p)) e.long (c.in_ok-publish.ensures.homes told) in
-    let stored = done_stored P is listed c.spill_all.new.working.named e.long mid new rest flags c.clear.ensures.none homes in
-    moved_cached P mid.now.blocks new.now.blocks is flags rs c.publish.new.frames.resident c.publish.ensures.order stored (e.cached told)
+    let homes = subst (λ (k : ℕ). (p : ℕ) → get_or is p false ≡ true →
+    block_of new.now (home k p) ≡ block_of mid.now (7 + p)) e.writes.size
+    (c.in_ok-publish.ensures.homes told) in
+    let stored = done_stored P is listed named e.writes.size mid new rest flags
+    c.clear.ensures.none homes in
+    moved_cached P mid.now.blocks new.now.blocks is flags rs c.publish.new.frames.resident
+    c.publish.ensures.frames.found stored cached)
 
 pub returns-clause-same : goal.returns-clause-same
 returns-clause-same g c told q =
     let content = g.D.Device.content in
     let P = length c.args.working.now.spilled.items in
-    let e = c.spill_all.ensures in
+    let e = c.spill_all.ensures.keeps in
     let is = c.spill_all.new.working.spilled.items in
     let rs = c.spill_all.new.working.frames.resident in
     let listed = c.spill_all.new.working.listed.items in
+    let named = c.spill_all.new.working.named in
     let mid = content c.spill_all.new.device in
     let new = content c.publish.new.device in
-    let rest = subst (λ (k : ℕ). OnlyBlocks (IsCommitted k listed) mid new) e.long c.publish.ensures.rest in
+    let rest = subst (λ (k : ℕ). OnlyBlocks (IsCommitted k listed) mid new) e.writes.size
+    c.publish.ensures.touches.rest in
     let flags = c.clear.new.spilled.items in
-    let homes = subst (λ (k : ℕ). (p : ℕ) → get_or is p false ≡ true → block_of new.now (home k p) ≡ block_of mid.now (7 + p)) e.long (c.in_ok-publish.ensures.homes told) in
-    let stored = done_stored P is listed c.spill_all.new.working.named e.long mid new rest flags c.clear.ensures.none homes in
-    moved_pages P mid.now.blocks new.now.blocks is flags rs c.publish.new.frames.resident c.publish.ensures.order stored q ∙ e.same told q
+    let homes = subst (λ (k : ℕ). (p : ℕ) → get_or is p false ≡ true →
+    block_of new.now (home k p) ≡ block_of mid.now (7 + p)) e.writes.size
+    (c.in_ok-publish.ensures.homes told) in
+    let stored = done_stored P is listed named e.writes.size mid new rest flags
+    c.clear.ensures.none homes in
+    moved_pages P mid.now.blocks new.now.blocks is flags rs c.publish.new.frames.resident
+    c.publish.ensures.frames.found stored q ∙ e.same told q
 
 pub returns-clause-home : goal.returns-clause-home
 returns-clause-home g c told q =
     let content = g.D.Device.content in
     let P = length c.args.working.now.spilled.items in
-    let e = c.spill_all.ensures in
+    let e = c.spill_all.ensures.keeps in
     let is = c.spill_all.new.working.spilled.items in
     let rs = c.spill_all.new.working.frames.resident in
     let listed = c.spill_all.new.working.listed.items in
+    let named = c.spill_all.new.working.named in
     let mid = content c.spill_all.new.device in
     let new = content c.publish.new.device in
-    let rest = subst (λ (k : ℕ). OnlyBlocks (IsCommitted k listed) mid new) e.long c.publish.ensures.rest in
+    let rest = subst (λ (k : ℕ). OnlyBlocks (IsCommitted k listed) mid new) e.writes.size
+    c.publish.ensures.touches.rest in
     let flags = c.clear.new.spilled.items in
-    let homes = subst (λ (k : ℕ). (p : ℕ) → get_or is p false ≡ true → block_of new.now (home k p) ≡ block_of mid.now (7 + p)) e.long (c.in_ok-publish.ensures.homes told) in
-    let stored = done_stored P is listed c.spill_all.new.working.named e.long mid new rest flags c.clear.ensures.none homes in
-    moved_pages P mid.now.blocks new.now.blocks is flags rs c.publish.new.frames.resident c.publish.ensures.order stored q
-    ∙ c.in_ok-spill_all.ensures.stored told q ∙ sym (stored q) ∙ stored_home P new.now.blocks flags c.clear.ensures.none q
+    let homes = subst (λ (k : ℕ). (p : ℕ) → get_or is p false ≡ true →
+    block_of new.now (home k p) ≡ block_of mid.now (7 + p)) e.writes.size
+    (c.in_ok-publish.ensures.homes told) in
+    let stored = done_stored P is listed named e.writes.size mid new rest flags
+    c.clear.ensures.none homes in
+    moved_pages P mid.now.blocks new.now.blocks is flags rs c.publish.new.frames.resident
+    c.publish.ensures.frames.found stored q
+    ∙ c.in_ok-spill_all.ensures.stored told q ∙ sym (stored q)
+    ∙ stored_home P new.now.blocks flags c.clear.ensures.none q
 
 -- ---- where no page has changed
 
@@ -211,6 +245,6 @@ returns-then-is_empty-clause-saved g c =
 pub returns-clause-saved : goal.returns-clause-saved
 returns-clause-saved g c = record {
   clean = λ q. still_unchanged c.spill_all.new.working.frames.resident c.publish.new.frames.resident q
-      (c.publish.ensures.order q) (c.in_ok-spill_all.ensures.none_changed q);
+      (c.publish.ensures.frames.found q) (c.in_ok-spill_all.ensures.none_changed q);
   unspilled = c.clear.ensures.none;
 }

@@ -1,19 +1,32 @@
 use Rattle.std.proofs.Common.{◌≡◌, ℕ, Bool, List, [], length, get_or, subst, sym}
-use Rattle.gx_layout.proofs.BlockLemmas.{blocks_twice, blocks_sync}
 use Rattle.gx_device.specs.Content.{block_of}
-use Rattle.gx_layout.proofs.FlushLemmas.{unflushed}
 use Rattle.gx_layout.specs.Layout.{Names}
+use Rattle.gx_journal.proofs.DeviceLemmas.{counted, not_flushed, flushed}
 use Rattle.gx_journal.proofs.PublishLemmas.{always}
 use Rattle.gx_journal.proofs.publish.log.Goals as goal
 
-pub returns-clause-rest : goal.returns-clause-rest
-returns-clause-rest g c = blocks_twice (λ n. n ≡ 2) _ (g.D.Device.content c.write_bitmap.new.device) _ c.write_bitmap.ensures.rest (blocks_sync (λ n. n ≡ 2) _ _ c.sync.ensures.rest)
-
 pub returns-in_err-write_bitmap-clause-flushes : goal.returns-in_err-write_bitmap-clause-flushes
-returns-in_err-write_bitmap-clause-flushes g c = unflushed (λ n. n ≡ 2) _ _ c.write_bitmap.ensures.run
+returns-in_err-write_bitmap-clause-flushes g c =
+    not_flushed g.D.Device c.from_residual.result c.from_residual.ensures.0 (record {
+      run = c.write_bitmap.ensures.run;
+      touches = record {
+        rest = c.write_bitmap.ensures.rest;
+        size = c.write_bitmap.ensures.size;
+        faults = c.in_err-write_bitmap.ensures.faults;
+      };
+    })
 
 pub returns-clause-flushes : goal.returns-clause-flushes
-returns-clause-flushes g c = record { written = g.D.Device.content c.write_bitmap.new.device; run = c.write_bitmap.ensures.run; synced = c.sync.ensures.rest }
+returns-clause-flushes g c =
+    let sync = c.sync.ensures in
+    flushed g.D.Device (record {
+      run = c.write_bitmap.ensures.run;
+      touches = record {
+        rest = c.write_bitmap.ensures.rest;
+        size = c.write_bitmap.ensures.size;
+        faults = c.in_ok-write_bitmap.ensures.faults;
+      };
+    }) sync.rest sync.size (counted sync.cause sync.counted) sync.none_pending
 
 pub returns-clause-names : goal.returns-clause-names
 returns-clause-names g c told =

@@ -1,10 +1,19 @@
-use Rattle.std.proofs.Common.{◌≡◌, ap}
-use Rattle.gx_frames.specs.Pool.{Pool, to_front, with_residents}
-use Rattle.gx_journal.proofs.SlotLemmas.{front_found}
+use Rattle.std.proofs.Common.{◌≡◌, refl}
+use Rattle.gx_layout.specs.Layout.{home}
+use Rattle.gx_journal.proofs.CallLemmas.{front_residents}
+use Rattle.gx_journal.proofs.DeviceLemmas.{counted, block_writes}
 use Rattle.gx_journal.proofs.publish.write_home.Goals as goal
 
-pub returns-in-Some-clause-order : goal.returns-in-Some-clause-order
-returns-in-Some-clause-order g c =
-    let rs = c.args.frames.now.resident in
-    let e : c.get.follows.lender-at-none ≡ with_residents c.args.frames.now (to_front c.args.p rs) = c.get.follows.holds-at-none in
-    front_found c.args.p rs _ (ap (λ (x : Pool). x.resident) e)
+pub returns-in-Some-clause-frames : goal.returns-in-Some-clause-frames
+returns-in-Some-clause-frames g c =
+    front_residents c.args.p c.args.frames.now _ c.get.follows.holds-at-none
+
+pub returns-in-Some-clause-writes : goal.returns-in-Some-clause-writes
+returns-in-Some-clause-writes g c =
+    let write = c.write_block.ensures in
+    block_writes g.D.Device (λ n. n ≡ home c.args.pages c.args.p) (home c.args.pages c.args.p) refl
+    (record {
+      rest = write.rest;
+      size = write.size;
+      faults = counted write.cause write.counted;
+    })

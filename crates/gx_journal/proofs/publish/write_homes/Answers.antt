@@ -1,35 +1,63 @@
-use Rattle.std.proofs.Common.{◌≡◌, ◌<◌, ℕ, rules, get_or, length, subst, sym, ◌∙◌}
+use Rattle.std.proofs.Common.{◌≡◌, ◌<◌, ◌+◌, ℕ, rules, get_or, length, subst, ap, sym, ◌∙◌, arith}
 use Rattle.std.proofs.lemmas.List.{get_or_default}
-use Rattle.gx_journal.proofs.PublishLemmas.{more_rest, more_run, more_homes}
+use Rattle.gx_layout.specs.Layout.{home}
+use Rattle.gx_journal.specs.Sources.{IsHomeOf}
+use Rattle.gx_journal.proofs.DeviceLemmas.{residents_joined, still_in_slot, writes_failed, writes_joined, writes_more}
+use Rattle.gx_journal.proofs.PublishLemmas.{more_homes}
 use Rattle.gx_journal.proofs.publish.write_homes.Goals as goal
 
 pub loop-i-preserved : goal.loop-i-preserved
 loop-i-preserved g c =
     let inv = c.loop-i.invariant in
-    let e = c.write_home.ensures in
+    let written = c.in_ok-write_home.ensures in
     let listed = c.args.listed.now.items in
-    let lt : c.loop-i.i < length listed = search rules in
-    let at : c.index.result.now ≡ get_or listed c.loop-i.i 0 = c.index.ensures ∙ get_or_default listed c.loop-i.i c.index.result.now 0 lt in
+    let P = c.args.pages in
+    let i = c.loop-i.i in
+    let p = c.index.result.now in
+    let lt : i < length listed = search rules in
+    let is : p ≡ get_or listed i 0 = c.index.ensures ∙ get_or_default listed i p 0 lt in
     let before = g.D.Device.content c.args.device.now in
     let mid = g.D.Device.content c.loop-i.device in
     let after = g.D.Device.content c.write_home.new.device in
-    let below = subst (λ (k : ℕ). k < c.args.pages) (sym at) (c.requires.within c.loop-i.i lt) in
+    let below = subst (λ (k : ℕ). k < P) (sym is) (c.requires.listed.below i lt) in
     record {
-      size = e.size ∙ inv.size;
-      faults = c.in_ok-write_home.ensures.faults.same ∙ inv.faults;
-      pages = e.pages ∙ inv.pages;
-      order = λ q. e.order q ∙ inv.order q;
-      rest = more_rest c.args.pages listed c.loop-i.i c.index.result.now at lt below before mid after inv.rest e.rest;
-      run = more_run c.args.pages listed c.loop-i.i c.index.result.now at lt below before mid after inv.rest e.rest inv.run e.run;
-      homes = λ told. more_homes c.args.pages listed c.loop-i.i c.index.result.now at lt below before mid after inv.rest e.rest (c.in_ok-write_home.ensures.home told) (inv.homes told);
+      frames = residents_joined inv.frames c.write_home.ensures.frames;
+      writes = writes_joined g.D.Device inv.writes
+          (writes_more g.D.Device (λ n. n ≡ home P p) (IsHomeOf P listed)
+          (λ n e. record { place = i; below = lt; is = e ∙ ap (home P) is }) written.writes);
+      homes = λ told. more_homes P listed i p is lt below before mid after inv.writes.touches.rest
+          written.writes.touches.rest (written.home told) (inv.homes told);
     }
 
-pub returns-in_err-write_home-clause-run : goal.returns-in_err-write_home-clause-run
-returns-in_err-write_home-clause-run g c =
-    let inv = c.loop-i.invariant in
-    let e = c.write_home.ensures in
+pub returns-in_err-write_home-clause-writes : goal.returns-in_err-write_home-clause-writes
+returns-in_err-write_home-clause-writes g c =
     let listed = c.args.listed.now.items in
-    let lt : c.loop-i.i < length listed = search rules in
-    let at : c.index.result.now ≡ get_or listed c.loop-i.i 0 = c.index.ensures ∙ get_or_default listed c.loop-i.i c.index.result.now 0 lt in
-    let below = subst (λ (k : ℕ). k < c.args.pages) (sym at) (c.requires.within c.loop-i.i lt) in
-    more_run c.args.pages listed c.loop-i.i c.index.result.now at lt below (g.D.Device.content c.args.device.now) (g.D.Device.content c.loop-i.device) (g.D.Device.content c.write_home.new.device) inv.rest e.rest inv.run e.run
+    let P = c.args.pages in
+    let i = c.loop-i.i in
+    let p = c.index.result.now in
+    let lt : i < length listed = search rules in
+    let is : p ≡ get_or listed i 0 = c.index.ensures ∙ get_or_default listed i p 0 lt in
+    writes_failed g.D.Device c.from_residual.result c.from_residual.ensures.0
+    (writes_joined g.D.Device c.loop-i.invariant.writes
+    (writes_more g.D.Device (λ n. n ≡ home P p) (IsHomeOf P listed)
+    (λ n e. record { place = i; below = lt; is = e ∙ ap (home P) is })
+    c.in_err-write_home.ensures.writes))
+
+pub returns-in_err-write_home-clause-frames : goal.returns-in_err-write_home-clause-frames
+returns-in_err-write_home-clause-frames g c =
+    residents_joined c.loop-i.invariant.frames c.write_home.ensures.frames
+
+pub write_home-requires-clause-slot : goal.write_home-requires-clause-slot
+write_home-requires-clause-slot g c =
+    let listed = c.args.listed.now.items in
+    let P = c.args.pages in
+    let i = c.loop-i.i in
+    let p = c.index.result.now in
+    let lt : i < length listed = search rules in
+    let is : p ≡ get_or listed i 0 = c.index.ensures ∙ get_or_default listed i p 0 lt in
+    let below = subst (λ (k : ℕ). k < P) (sym is) (c.requires.listed.below i lt) in
+    still_in_slot g.D.Device p c.args.frames.now c.loop-i.frames c.args.device.now c.loop-i.device
+    (subst (λ (k : ℕ). Rattle.gx_journal.specs.Publishing.IsInSlot g.D.Device k c.args.frames.now c.args.device.now) (sym is) (c.requires.listed.slots i lt))
+    c.loop-i.invariant.frames
+    (c.loop-i.invariant.writes.touches.rest.blocks (7 + p)
+    (λ (x : IsHomeOf P listed (7 + p)). (let e = x.is in absurd (omega (arith, e, below)))))

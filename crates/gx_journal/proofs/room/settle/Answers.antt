@@ -1,11 +1,15 @@
-use Rattle.std.proofs.Common.{◌≤◌, length, ap, sym, subst}
-use Rattle.gx_frames.specs.Pool.{Pool}
-use Rattle.gx_journal.proofs.SourceLemmas.{length_front}
-use Rattle.gx_journal.proofs.SlotLemmas.{front_found}
+use Rattle.std.proofs.Common.{◌≡◌, Bool, true, rules, subst}
+use Rattle.std.specs.Prelude.{IsSomeAnd}
+use Rattle.gx_frames.specs.Pool.{find_page}
+use Rattle.gx_journal.proofs.CallLemmas.{front_residents}
 use Rattle.gx_journal.proofs.room.settle.Goals as goal
 
-pub returns-clause-order : goal.returns-clause-order
-returns-clause-order g c = front_found c.args.p c.args.working.now.frames.resident _ (ap (λ (x : Pool). x.resident) c.spill.ensures.frames)
+pub spill-requires-clause-changed : goal.spill-requires-clause-changed
+spill-requires-clause-changed g c =
+    let on : c.args.changed ≡ true = search rules in
+    let found = find_page c.args.p c.args.working.now.frames.resident in
+    subst (λ (b : Bool). IsSomeAnd found (λ r. r.changed ≡ b)) on c.requires.resident
 
-pub returns-clause-count : goal.returns-clause-count
-returns-clause-count g c = subst (λ (x : Pool). length x.resident ≤ length c.args.working.now.frames.resident) (sym c.spill.ensures.frames) (length_front c.args.p c.args.working.now.frames.resident)
+pub returns-clause-frames : goal.returns-clause-frames
+returns-clause-frames g c =
+    front_residents c.args.p c.args.working.now.frames _ c.spill.ensures.frames

@@ -1,44 +1,30 @@
-use Rattle.std.proofs.Common.{refl, ap, arith}
-use Rattle.gx_frames.specs.Pool.{Pool}
-use Rattle.gx_journal.proofs.SourceLemmas.{some_is}
-use Rattle.gx_journal.proofs.SlotLemmas.{slots_write, flags_off, front_found, write_pages, write_cached, written_stored}
+use Rattle.std.proofs.Common.{refl, arith, ap, ◌∙◌, List, Bool, length, false}
+use Rattle.std.proofs.lemmas.List.{length-set}
+use Rattle.gx_journal.proofs.CallLemmas.{keeps_failed, slot_written}
+use Rattle.gx_journal.proofs.SlotLemmas.{flags_off, written_stored}
 use Rattle.gx_journal.proofs.room.spill.Goals as goal
 
-pub returns-in_err-write_slot-clause-same : goal.returns-in_err-write_slot-clause-same
-returns-in_err-write_slot-clause-same g c told =
-    let rs = c.args.working.now.frames.resident in
-    let r = some_is _ c.requires.resident in
-    write_pages _ c.args.p c.requires.below (g.D.Device.content c.args.device.now) (g.D.Device.content c.write_slot.new.device) (c.write_slot.ensures.rest) c.args.working.now.spilled.items c.args.working.now.spilled.items (λ q ne. refl)
-    rs c.write_slot.new.frames.resident (front_found c.args.p rs _ (ap (λ (x : Pool). x.resident) c.write_slot.ensures.frames)) r.0 r.1
-
-pub returns-in_err-write_slot-clause-cached : goal.returns-in_err-write_slot-clause-cached
-returns-in_err-write_slot-clause-cached g c told =
-    let rs = c.args.working.now.frames.resident in
-    let r = some_is _ c.requires.resident in
-    write_cached _ c.args.p c.requires.below (g.D.Device.content c.args.device.now) (g.D.Device.content c.write_slot.new.device) (c.write_slot.ensures.rest) c.args.working.now.spilled.items c.args.working.now.spilled.items (λ q ne. refl)
-    rs c.write_slot.new.frames.resident (front_found c.args.p rs _ (ap (λ (x : Pool). x.resident) c.write_slot.ensures.frames)) r.0 r.1 (c.requires.changed r.0 r.1) (c.requires.cached told)
-
-pub returns-in_err-write_slot-clause-slots : goal.returns-in_err-write_slot-clause-slots
-returns-in_err-write_slot-clause-slots g c = slots_write _ c.args.p c.requires.below _ _ (c.write_slot.ensures.rest)
+pub returns-in_err-write_slot-clause-keeps : goal.returns-in_err-write_slot-clause-keeps
+returns-in_err-write_slot-clause-keeps g c =
+    keeps_failed g.D.Device c.from_residual.result c.from_residual.ensures.0
+    (slot_written g.D.Device c.args.p c.args.device.now c.write_slot.new.device c.args.working.now _
+    c.requires.below c.requires.changed c.requires.backed c.in_err-write_slot.ensures.writes refl
+    (λ q ne. refl) c.write_slot.ensures.frames)
 
 pub returns-clause-stored : goal.returns-clause-stored
 returns-clause-stored g c told r is =
-    written_stored _ c.args.p r.bytes (g.D.Device.content c.args.device.now) (g.D.Device.content c.write_slot.new.device) c.args.working.now.spilled.items c.note.new.spilled.items c.requires.below
-    (omega (arith, c.requires.room, c.requires.below, g.met.D.Device.sized c.args.device.now told)) c.note.ensures.spilled (c.in_ok-write_slot.ensures.written told r is)
+    let room = c.requires.backed.room in
+    written_stored _ c.args.p r.bytes (g.D.Device.content c.args.device.now)
+    (g.D.Device.content c.write_slot.new.device) c.args.working.now.spilled.items
+    c.note.new.spilled.items c.requires.below
+    (omega (arith, room, c.requires.below, g.met.D.Device.sized c.args.device.now told))
+    c.note.ensures.spilled (c.in_ok-write_slot.ensures.written told r is)
 
-pub returns-clause-same : goal.returns-clause-same
-returns-clause-same g c told =
-    let rs = c.args.working.now.frames.resident in
-    let r = some_is _ c.requires.resident in
-    write_pages _ c.args.p c.requires.below (g.D.Device.content c.args.device.now) (g.D.Device.content c.write_slot.new.device) (c.write_slot.ensures.rest) c.args.working.now.spilled.items c.note.new.spilled.items (flags_off c.args.working.now.spilled.items c.note.new.spilled.items c.args.p c.note.ensures.spilled)
-    rs c.write_slot.new.frames.resident (front_found c.args.p rs _ (ap (λ (x : Pool). x.resident) c.write_slot.ensures.frames)) r.0 r.1
-
-pub returns-clause-cached : goal.returns-clause-cached
-returns-clause-cached g c told =
-    let rs = c.args.working.now.frames.resident in
-    let r = some_is _ c.requires.resident in
-    write_cached _ c.args.p c.requires.below (g.D.Device.content c.args.device.now) (g.D.Device.content c.write_slot.new.device) (c.write_slot.ensures.rest) c.args.working.now.spilled.items c.note.new.spilled.items (flags_off c.args.working.now.spilled.items c.note.new.spilled.items c.args.p c.note.ensures.spilled)
-    rs c.write_slot.new.frames.resident (front_found c.args.p rs _ (ap (λ (x : Pool). x.resident) c.write_slot.ensures.frames)) r.0 r.1 (c.requires.changed r.0 r.1) (c.requires.cached told)
-
-pub returns-clause-slots : goal.returns-clause-slots
-returns-clause-slots g c = slots_write _ c.args.p c.requires.below _ _ (c.write_slot.ensures.rest)
+pub returns-clause-keeps : goal.returns-clause-keeps
+returns-clause-keeps g c =
+    let old = c.args.working.now.spilled.items in
+    slot_written g.D.Device c.args.p c.args.device.now c.write_slot.new.device c.args.working.now _
+    c.requires.below c.requires.changed c.requires.backed c.in_ok-write_slot.ensures.writes
+    (ap (λ (l : List Bool). length l) c.note.ensures.spilled ∙ length-set old c.args.p _)
+    (flags_off old c.note.new.spilled.items c.args.p c.note.ensures.spilled)
+    c.write_slot.ensures.frames

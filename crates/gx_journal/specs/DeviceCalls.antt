@@ -1,0 +1,48 @@
+-- What calls on the device alone need, and what they keep.
+use Rattle.std.specs.Prelude.{◌≡◌, ◌≤◌, ◌+◌, ◌*◌, ℕ, Result, IsTrue, OnOk}
+use Rattle.gx_device.specs.declared.device.Device as device
+use Rattle.gx_device.specs.declared.device.Failed.{Failed}
+use Rattle.gx_device.specs.Content.{OnlyTime, Writes, NonePending}
+use Rattle.gx_device.specs.Crash.{Through, Outside}
+use Rattle.gx_device.specs.Faults.{IsCounted}
+use Rattle.gx_layout.specs.Layout.{OnlyBlocks}
+use Rattle.gx_layout.specs.Besides.{Flushes}
+
+module _ {D : Type 0} (g : device.Ghosts D) where
+  -- the bitmap has a bit for each of so many pages, and the device a slot and a home
+  pub record HasPlaces (d : D) (pages : ℕ) : Type 0 where
+    pub few : pages ≤ 32768
+    pub room : 7 + 2 * pages ≤ g.size d
+
+  -- a call that changes no block
+  pub record ReadsOnly {T : Type 0} (old new : D) (result : Result T Failed) : Type 0 where
+    pub rest : OnlyTime (g.content old) (g.content new)
+    pub size : g.size new ≡ g.size old
+    pub faults : IsCounted (g.faults old) (g.faults new) result
+
+  -- a call that writes one block
+  pub record WritesBlock {T : Type 0} (n : ℕ) (old new : D)
+      (result : Result T Failed) : Type 0 where
+    pub rest : Writes n (g.content old) (g.content new)
+    pub size : g.size new ≡ g.size old
+    pub faults : IsCounted (g.faults old) (g.faults new) result
+
+  -- a call that changes none but these blocks, and neither hears nor says anything
+  pub record TouchesOnly {T : Type 0} (free : ℕ → Type 0) (old new : D)
+      (result : Result T Failed) : Type 0 where
+    pub rest : OnlyBlocks free (g.content old) (g.content new)
+    pub size : g.size new ≡ g.size old
+    pub faults : IsCounted (g.faults old) (g.faults new) result
+
+  -- the same, and no other block is pending at a moment within the call
+  pub record WritesOnly {T : Type 0} (free : ℕ → Type 0) (old new : D)
+      (result : Result T Failed) : Type 0 where
+    pub run : Through (Outside free (g.content old).now) (g.content old) (g.content new)
+    pub touches : TouchesOnly free old new result
+
+  -- the same of a call that ends with a sync
+  pub record FlushesOnly {T : Type 0} (free : ℕ → Type 0) (old new : D)
+      (result : Result T Failed) : Type 0 where
+    pub run : Flushes free (g.content old) (g.content new)
+    pub none_pending : IsTrue g.tells → OnOk result (NonePending (g.content new))
+    pub touches : TouchesOnly free old new result
