@@ -4,7 +4,7 @@ use Rattle.std.specs.Prelude.{OnOk, IsErr}
 use Rattle.std.proofs.lemmas.Bool.{true≢false}
 use Rattle.gx_device.specs.declared.device.Device as device
 use Rattle.gx_device.specs.declared.device.Failed.{Failed}
-use Rattle.gx_device.specs.Content.{NonePending, Writes, Syncs, block_of}
+use Rattle.gx_device.specs.Content.{NonePending, Syncs, block_of}
 use Rattle.gx_device.specs.Faults.{HasCause, IsCounted}
 use Rattle.gx_device.proofs.RunLemmas.{outside_joined, outside_write}
 use Rattle.gx_layout.proofs.BlockLemmas.{blocks_twice, blocks_more, blocks_read, blocks_sync, blocks_write}

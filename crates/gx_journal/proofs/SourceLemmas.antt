@@ -177,20 +177,26 @@ module _ (P : ℕ) where
     ]
 
   -- a page comes into a frame as it is stored
-  module _ (blocks : List (List ℕ)) (spilled : List Bool) (rs : List Resident) (p : ℕ) (bytes : List ℕ) (is : bytes ≡ stored P blocks spilled p) where
-    here : find_page p (placed_first p bytes rs) ≡ Some (record { page = p; bytes = bytes; changed = false })
+  module _ (blocks : List (List ℕ)) (spilled : List Bool) (rs : List Resident) (p : ℕ)
+      (bytes : List ℕ) (is : bytes ≡ stored P blocks spilled p) where
+    here : find_page p (placed_first p bytes rs) ≡ Some (record
+        { page = p; bytes = bytes; changed = false })
     here = find_here p (record { page = p; bytes = bytes; changed = false }) rs refl
 
     there : (q : ℕ) → p ≢ q → find_page q (placed_first p bytes rs) ≡ find_page q rs
     there q ne = find_past q (record { page = p; bytes = bytes; changed = false }) rs ne
 
-    pub admitted_pages : find_page p rs ≡ None → (q : ℕ) → page_of P blocks spilled (placed_first p bytes rs) q ≡ page_of P blocks spilled rs q
+    pub admitted_pages : find_page p rs ≡ None → (q : ℕ) → page_of P blocks spilled
+        (placed_first p bytes rs) q ≡ page_of P blocks spilled rs q
     admitted_pages absent q = elim (eqb_tells p q) [
       | inl same ↦ ap (page_of P blocks spilled (placed_first p bytes rs)) (sym same.1)
           ∙ page_resident blocks spilled (placed_first p bytes rs) p _ here ∙ is
           ∙ sym (page_absent blocks spilled rs p absent) ∙ ap (page_of P blocks spilled rs) same.1
-      | inr other ↦ placed_other blocks spilled rs (placed_first p bytes rs) p _ here there q other.1
+      | inr other ↦ placed_other blocks spilled rs (placed_first p bytes rs) p _ here there q
+          other.1
     ]
 
-    pub admitted_cached : IsCached P blocks spilled rs → IsCached P blocks spilled (placed_first p bytes rs)
-    admitted_cached = placed_cached blocks spilled rs (placed_first p bytes rs) p _ here there (λ plain. is)
+    pub admitted_cached : IsCached P blocks spilled rs → IsCached P blocks spilled
+        (placed_first p bytes rs)
+    admitted_cached = placed_cached blocks spilled rs (placed_first p bytes rs) p _ here there
+        (λ plain. is)

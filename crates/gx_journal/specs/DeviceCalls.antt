@@ -9,12 +9,12 @@ use Rattle.gx_layout.specs.Layout.{OnlyBlocks}
 use Rattle.gx_layout.specs.Besides.{Flushes}
 
 module _ {D : Type 0} (g : device.Ghosts D) where
-  -- the bitmap has a bit for each of so many pages, and the device a slot and a home
+  -- the bitmap has a bit for each of so many pages, and the device has a slot and a home for each
   pub record HasPlaces (d : D) (pages : ℕ) : Type 0 where
     pub few : pages ≤ 32768
     pub room : 7 + 2 * pages ≤ g.size d
 
-  -- a call that changes no block
+  -- a call that takes a moment of the device, and changes nothing of what it holds
   pub record ReadsOnly {T : Type 0} (old new : D) (result : Result T Failed) : Type 0 where
     pub rest : OnlyTime (g.content old) (g.content new)
     pub size : g.size new ≡ g.size old
@@ -34,13 +34,13 @@ module _ {D : Type 0} (g : device.Ghosts D) where
     pub size : g.size new ≡ g.size old
     pub faults : IsCounted (g.faults old) (g.faults new) result
 
-  -- the same, and no other block is pending at a moment within the call
+  -- the same at each moment within the call, and no other block becomes pending
   pub record WritesOnly {T : Type 0} (free : ℕ → Type 0) (old new : D)
       (result : Result T Failed) : Type 0 where
     pub run : Through (Outside free (g.content old).now) (g.content old) (g.content new)
     pub touches : TouchesOnly free old new result
 
-  -- the same of a call that ends with a sync
+  -- a call that writes these blocks and ends with a sync: after an Ok no block is pending
   pub record FlushesOnly {T : Type 0} (free : ℕ → Type 0) (old new : D)
       (result : Result T Failed) : Type 0 where
     pub run : Flushes free (g.content old) (g.content new)

@@ -49,7 +49,8 @@ module _ {D : Type 0} (g : device.Ghosts D) where
     pub slots : (i : ℕ) → i < length listed → IsInSlot (get_or listed i 0) frames d
 
   -- the spilled pages are listed, and in their slots
-  pub record AreSpilled (spilled : List Bool) (listed : List ℕ) (frames : Pool) (d : D) : Type 0 where
+  pub record AreSpilled (spilled : List Bool) (listed : List ℕ) (frames : Pool)
+      (d : D) : Type 0 where
     pub count : frames.pages ≡ length spilled
     pub named : IsListed spilled listed
     pub slots : (p : ℕ) → get_or spilled p false ≡ true → IsInSlot p frames d

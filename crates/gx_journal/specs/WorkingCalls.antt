@@ -1,5 +1,5 @@
 -- What calls on the working pages need of the device, and what they keep.
-use Rattle.std.specs.Prelude.{◌≡◌, ◌≤◌, ◌+◌, ◌*◌, ℕ, Result, IsTrue}
+use Rattle.std.specs.Prelude.{◌≡◌, ◌≤◌, ◌+◌, ◌*◌, Result, IsTrue}
 use Rattle.gx_device.specs.declared.device.Device as device
 use Rattle.gx_device.specs.declared.device.Failed.{Failed}
 use Rattle.gx_device.specs.Faults.{IsCounted}
@@ -9,8 +9,8 @@ use Rattle.gx_journal.specs.Sources.{SamePages, OnlySlots, IsBody}
 use Rattle.gx_journal.specs.Working.{size_in, page_in, IsCachedIn}
 
 module _ {D : Type 0} (g : device.Ghosts D) where
-  -- the device has a slot and a home for each page, and holds the bytes of each page in a frame that
-  -- hasn't changed
+  -- the device has a slot and a home for each page, and holds the bytes of each page that stands in
+  -- a frame and hasn't changed
   pub record IsBacked (d : D) (w : WorkingPages) : Type 0 where
     pub room : 7 + 2 * size_in w ≤ g.size d
     pub cached : IsTrue g.tells → IsCachedIn (size_in w) (g.content d) w

@@ -75,8 +75,8 @@ fn log<D: Device>(device: &mut D, spilled: &Vec<bool>) -> Result<(), Failed>
     requires few { length spilled.now.items ≤ 32768 }
     requires room { 2 < D.size device.old }
     ensures names { IsTrue D.tells →
-        OnOk result
-        (Names spilled.now.items (block_of (D.content device.new).now 2) (length spilled.now.items)) }
+        OnOk result (Names spilled.now.items (block_of (D.content device.new).now 2)
+        (length spilled.now.items)) }
     ensures flushes { FlushesOnly D.Device (λ n. n ≡ 2) device.old device.new result }
 {
     write_bitmap(device, spilled)?;
@@ -112,7 +112,8 @@ pub(crate) fn publish<D: Device>(
     listed: &Vec<u32>,
 ) -> Result<(), Failed>
     requires places { HasPlaces D.Device device.old (length spilled.now.items) }
-    requires spilled { AreSpilled D.Device spilled.now.items listed.now.items frames.old device.old }
+    requires spilled { AreSpilled D.Device spilled.now.items listed.now.items frames.old
+        device.old }
     ensures homes { IsTrue D.tells →
         OnOk result ((p : ℕ) → slice_index_or spilled.now.items p false ≡ true →
         block_of (D.content device.new).now (home (length spilled.now.items) p)

@@ -32,7 +32,8 @@ returns-in_err-make_room-clause-keeps g c =
 
 pub returns-in_err-fetch-clause-keeps : goal.returns-in_err-fetch-clause-keeps
 returns-in_err-fetch-clause-keeps g c =
-    keeps_failed g.D.Device c.from_residual-in_err-fetch.result c.from_residual-in_err-fetch.ensures.0
+    keeps_failed g.D.Device c.from_residual-in_err-fetch.result
+    c.from_residual-in_err-fetch.ensures.0
     (keeps_read g.D.Device (keeps_joined g.D.Device (keeps_order g.D.Device _
     (keeps_itself g.D.Device (tt {0}) c.args.device.now c.args.working.now c.requires.backed)
     (front_residents c.args.p c.args.working.now.frames _ c.get.follows.holds-at-none) refl)

@@ -1,4 +1,4 @@
-use Rattle.std.proofs.Common.{rules, Bool, ap, ◌≡◌, ◌∙◌, ℕ, ◌+◌, ◌*◌, ◌≤◌, false, true, List, [], length, get_or, vec_len, refl, sym, subst, arith}
+use Rattle.std.proofs.Common.{rules, Bool, ap, ◌≡◌, ◌∙◌, ℕ, ◌+◌, ◌*◌, ◌≤◌, false, true, [], length, get_or, vec_len, refl, sym, subst, arith}
 use Rattle.std.specs.Prelude.{if◌then◌else◌}
 use Rattle.gx_device.specs.Content.{block_of}
 use Rattle.gx_layout.specs.Layout.{OnlyBlocks, home}
@@ -25,7 +25,8 @@ publish-requires-clause-spilled g c =
       slots = λ p on told r is.
           sym (page_resident P blocks working.spilled.items working.frames.resident p r is)
           ∙ c.in_ok-spill_all.ensures.stored told p
-          ∙ ap (λ (b : Bool). if b then get_or blocks (7 + p) [] else get_or blocks (home P p) []) on;
+          ∙ ap (λ (b : Bool). if b then get_or blocks (7 + p) [] else get_or blocks (home P p) [])
+          on;
     }
 
 pub returns-in_err-spill_all-clause-replaces : goal.returns-in_err-spill_all-clause-replaces

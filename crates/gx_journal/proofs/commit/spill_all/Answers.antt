@@ -1,4 +1,4 @@
-use Rattle.std.proofs.Common.{◌≡◌, ◌<◌, ℕ, length, inl, inr, subst, ◌∙◌, arith}
+use Rattle.std.proofs.Common.{◌≡◌, ◌<◌, ℕ, inl, inr, subst, arith}
 use Rattle.std.proofs.lemmas.Bool.Decides.{eqb_tells, leb_tells}
 use Rattle.gx_frames.specs.Pool.{Pool, find_page, IsPool, IsNextChanged, IsChanged}
 use Rattle.gx_journal.proofs.SourceLemmas.{found_below}
@@ -27,7 +27,14 @@ overflow_add-from g c = omega (arith, next_below c.loop-p.working.frames c.loop-
 pub loop-p-smaller : goal.loop-p-smaller
 loop-p-smaller g c =
     let size = c.spill_one.ensures.keeps.writes.size in
-    omega (arith, next_below c.loop-p.working.frames c.loop-p.from c.in-Some.p c.next_changed.ensures.pool c.in-Some.ensures.next, c.in-Some.ensures.next.above, c.loop-p.working.pages, size)
+    omega (
+      arith,
+      next_below c.loop-p.working.frames c.loop-p.from c.in-Some.p
+          c.next_changed.ensures.pool c.in-Some.ensures.next,
+      c.in-Some.ensures.next.above,
+      c.loop-p.working.pages,
+      size,
+    )
 
 pub loop-p-preserved : goal.loop-p-preserved
 loop-p-preserved g c =

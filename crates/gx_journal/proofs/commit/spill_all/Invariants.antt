@@ -5,8 +5,10 @@ use Rattle.gx_journal.proofs.commit.spill_all.Given as goal
 
 abbrev pub invariant-loop-p : goal.invariant-loop-p
 invariant-loop-p g l = record {
-  keeps : KeepsWorking g.D.Device {T = Unit {0}} l.fn.device l.device l.fn.working l.working (Ok tt);
-  idle : ((q : ℕ) → IsChanged l.fn.working.frames q → ⊥) → (l.device ≡ l.fn.device) × (l.working ≡ l.fn.working);
+  keeps : KeepsWorking g.D.Device {T = Unit {0}} l.fn.device l.device l.fn.working l.working
+      (Ok tt);
+  idle : ((q : ℕ) → IsChanged l.fn.working.frames q → ⊥) → (l.device ≡ l.fn.device) ×
+      (l.working ≡ l.fn.working);
   below : (q : ℕ) → q < l.from → IsChanged l.working.frames q → ⊥;
 }
 

@@ -50,10 +50,13 @@ returns-clause-keeps g c =
     let P = length c.args.working.now.spilled.items in
     let spilled = c.spill.new.working.spilled.items in
     keeps_placed g.D.Device _ c.in_ok-spill.ensures.keeps refl
-    (λ told q. ap (λ (y : Pool). page_of P blocks spilled y.resident q) c.clean.ensures ∙ elim (eqb_tells p q) [
+    (λ told q. ap (λ (y : Pool). page_of P blocks spilled y.resident q) c.clean.ensures ∙ elim
+    (eqb_tells p q) [
       | inl same ↦ page_resident P blocks spilled (cleaned p ss) q x.0 (ap (λ (k : ℕ). find_page k (cleaned p ss)) (sym same.1) ∙ x.1) ∙ x.2
           ∙ sym (page_resident P blocks spilled ss q r.0 (ap (λ (k : ℕ). find_page k ss) (sym same.1) ∙ order p ∙ r.1))
       | inr other ↦ placed_other P blocks spilled ss (cleaned p ss) p x.0 x.1 (λ k off. find_cleaned_other p k ss off) q other.1
     ])
     (λ told cached. subst (λ (y : Pool). IsCached P blocks spilled y.resident) (sym c.clean.ensures)
-    (placed_cached P blocks spilled ss (cleaned p ss) p x.0 x.1 (λ k off. find_cleaned_other p k ss off) (λ e. x.2 ∙ sym (c.in_ok-spill.ensures.stored told r.0 r.1)) cached))
+    (placed_cached P blocks spilled ss (cleaned p ss) p x.0 x.1
+    (λ k off. find_cleaned_other p k ss off) (λ e. x.2 ∙ sym
+    (c.in_ok-spill.ensures.stored told r.0 r.1)) cached))

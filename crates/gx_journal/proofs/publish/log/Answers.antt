@@ -1,4 +1,4 @@
-use Rattle.std.proofs.Common.{◌≡◌, ℕ, Bool, List, [], length, get_or, subst, sym}
+use Rattle.std.proofs.Common.{ℕ, Bool, List, [], length, get_or, subst, sym}
 use Rattle.gx_device.specs.Content.{block_of}
 use Rattle.gx_layout.specs.Layout.{Names}
 use Rattle.gx_journal.proofs.DeviceLemmas.{counted, not_flushed, flushed}

@@ -1,6 +1,7 @@
 use Rattle.std.proofs.Common.{◌≡◌, ◌<◌, ◌+◌, ℕ, rules, get_or, length, subst, ap, sym, ◌∙◌, arith}
 use Rattle.std.proofs.lemmas.List.{get_or_default}
 use Rattle.gx_layout.specs.Layout.{home}
+use Rattle.gx_journal.specs.Publishing.{IsInSlot}
 use Rattle.gx_journal.specs.Sources.{IsHomeOf}
 use Rattle.gx_journal.proofs.DeviceLemmas.{residents_joined, still_in_slot, writes_failed, writes_joined, writes_more}
 use Rattle.gx_journal.proofs.PublishLemmas.{more_homes}
@@ -57,7 +58,8 @@ write_home-requires-clause-slot g c =
     let is : p ≡ get_or listed i 0 = c.index.ensures ∙ get_or_default listed i p 0 lt in
     let below = subst (λ (k : ℕ). k < P) (sym is) (c.requires.listed.below i lt) in
     still_in_slot g.D.Device p c.args.frames.now c.loop-i.frames c.args.device.now c.loop-i.device
-    (subst (λ (k : ℕ). Rattle.gx_journal.specs.Publishing.IsInSlot g.D.Device k c.args.frames.now c.args.device.now) (sym is) (c.requires.listed.slots i lt))
+    (subst (λ (k : ℕ). IsInSlot g.D.Device k c.args.frames.now
+    c.args.device.now) (sym is) (c.requires.listed.slots i lt))
     c.loop-i.invariant.frames
     (c.loop-i.invariant.writes.touches.rest.blocks (7 + p)
     (λ (x : IsHomeOf P listed (7 + p)). (let e = x.is in absurd (omega (arith, e, below)))))

@@ -12,6 +12,9 @@ invariant-loop-i g l =
     let page = λ (i : ℕ). get_or l.listed.items i 0 in
     record {
       frames : SameResidents l.fn.frames l.frames;
-      writes : WritesOnly g.D.Device {T = Unit {0}} (IsHomeOf l.pages l.listed.items) l.fn.device l.device (Ok tt);
-      homes : IsTrue g.D.Device.tells → (j : ℕ) → j < l.i → j < length l.listed.items → block_of (content l.device).now (home l.pages (page j)) ≡ block_of (content l.fn.device).now (7 + page j);
+      writes : WritesOnly g.D.Device {T = Unit {0}} (IsHomeOf l.pages l.listed.items) l.fn.device
+          l.device (Ok tt);
+      homes : IsTrue g.D.Device.tells → (j : ℕ) → j < l.i → j < length l.listed.items → block_of
+          (content l.device).now (home l.pages (page j)) ≡ block_of (content l.fn.device).now
+          (7 + page j);
     }

@@ -1,4 +1,4 @@
-use Rattle.std.proofs.Common.{refl, arith, ap, ◌∙◌, List, Bool, length, false}
+use Rattle.std.proofs.Common.{refl, arith, ap, ◌∙◌, List, Bool, length}
 use Rattle.std.proofs.lemmas.List.{length-set}
 use Rattle.gx_journal.proofs.CallLemmas.{keeps_failed, slot_written}
 use Rattle.gx_journal.proofs.SlotLemmas.{flags_off, written_stored}
