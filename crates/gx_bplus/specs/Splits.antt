@@ -1,15 +1,22 @@
 -- Pages that are given to the parts of a page without room.
-use Rattle.std.specs.Prelude.{◌≡◌, ◌⊎◌, ℕ, List, [], ◌∷◌}
-use Rattle.gx_ports.specs.Sheets.{Sheets, Ground, IsClaimed}
+use Rattle.std.specs.Prelude.{◌≡◌, ◌⊎◌, ℕ, List, [], ◌∷◌, Result, IsTrue, IsErrOf}
+use Rattle.gx_ports.specs.declared.page_view.PageView.{Ghosts}
+use Rattle.gx_ports.specs.declared.stop.Stop.{Stop}
+use Rattle.gx_ports.specs.declared.stop.Stop.TheVariants.{Full, NoMemory}
+use Rattle.gx_ports.specs.Files.{EndsFile}
+use Rattle.gx_ports.specs.PageCalls.{KeepsPages}
+use Rattle.gx_ports.specs.Sheets.{Sheets, Ground, IsClaimed, HasNone}
 use Rattle.gx_bnode.specs.Page.{first_of, branches_of}
 use Rattle.gx_btree.specs.Bplus.{IsWritten}
 use Rattle.gx_btree.specs.Tree.{ShowsInner, with_branch}
 
--- A free page was given to the right part of the child on the way to a key. The child's page holds the left part, and the page
--- above has both, with the separator between.
-pub record IsDivided (ground : Ground) (owner at child : ℕ) (page key separator left right : List ℕ) (old new : Sheets) (fresh : ℕ) : Type 0 where
+-- A free page was given to the right part of the child on the way to a key. The child's page holds
+-- the left part, and the page above has both, with the separator between.
+pub record IsDivided (ground : Ground) (owner at child : ℕ) (page key separator left right : List ℕ)
+    (old new : Sheets) (fresh : ℕ) : Type 0 where
   pub above : List ℕ
-  pub shows : ShowsInner above (first_of page) (with_branch (branches_of page) key (record { separator = separator; child = fresh }))
+  pub shows : ShowsInner above (first_of page)
+      (with_branch (branches_of page) key (record { separator = separator; child = fresh }))
   pub one : Sheets
   pub claimed : IsClaimed fresh owner ground old one
   pub two : Sheets
@@ -18,8 +25,10 @@ pub record IsDivided (ground : Ground) (owner at child : ℕ) (page key separato
   pub left_is : IsWritten child left two three
   pub above_is : IsWritten at above three new
 
--- Two free pages were given to the two parts of the root, which has both as its children, with the separator between.
-pub record IsRaised (ground : Ground) (owner root : ℕ) (separator left right : List ℕ) (old new : Sheets) (first second : ℕ) : Type 0 where
+-- Two free pages were given to the two parts of the root, which has both as its children, with the
+-- separator between.
+pub record IsRaised (ground : Ground) (owner root : ℕ) (separator left right : List ℕ)
+    (old new : Sheets) (first second : ℕ) : Type 0 where
   pub top : List ℕ
   pub shows : ShowsInner top first (record { separator = separator; child = second } ∷ [])
   pub one : Sheets
@@ -34,4 +43,28 @@ pub record IsRaised (ground : Ground) (owner root : ℕ) (separator left right :
 
 -- no page but the owner's has changed, which may have one more
 abbrev pub MayHaveClaimed : Ground → ℕ → Sheets → Sheets → Type 0
-MayHaveClaimed ground owner old new = (new ≡ old) ⊎ ((page : ℕ) × IsClaimed page owner ground old new)
+MayHaveClaimed ground owner old new =
+    (new ≡ old) ⊎ ((page : ℕ) × IsClaimed page owner ground old new)
+
+-- What a call that claims one page at most keeps, and when it is given up. `Full`: nothing has
+-- changed. Damage is found only where something was not sound.
+pub record ClaimsOnePage {S T : Type 0} (g : Ghosts S) (sound : Type 0) (old new : S)
+    (result : Result T Stop) : Type 0
+  where
+    pub full : IsTrue g.tells → IsErrOf result Full → HasNone (g.ground old) (g.working old)
+    pub unchanged : IsErrOf result Full → g.working new ≡ g.working old
+    pub keeps : KeepsPages g old new
+    pub ends : EndsFile g sound old new result
+    pub frugal : ¬ IsErrOf result NoMemory
+
+-- The same of a call that claims two pages for an owner at most. `Full`: it may have one of them.
+pub record ClaimsTwoPages {S T : Type 0} (g : Ghosts S) (owner : ℕ) (old new : S)
+    (result : Result T Stop) : Type 0
+  where
+    pub full : IsTrue g.tells → IsErrOf result Full → HasNone (g.ground old) (g.working new)
+    pub claimed : IsTrue g.tells
+        → IsErrOf result Full
+        → MayHaveClaimed (g.ground old) owner (g.working old) (g.working new)
+    pub keeps : KeepsPages g old new
+    pub ends : EndsFile g (Unit {0}) old new result
+    pub frugal : ¬ IsErrOf result NoMemory

@@ -1,11 +1,9 @@
 // The calls on a B+ tree.
-ghost use Rattle.std.specs.Prelude.{◌≡◌, ◌+◌, ◌≤◌, length, IsTrue, OnOk, IsErrOf};
-ghost use Rattle.std.specs.FinMap.{empty, insert, remove};
+ghost use Rattle.std.specs.Prelude.{◌≡◌, ◌+◌, ◌≤◌, length};
 ghost use Rattle.gx_ports.specs.declared.kinds.LeafKind.TheVariants as kinds;
 ghost use Rattle.gx_ports.specs.declared.leaves.TheConstants.{MAX_KEY_LEN, MAX_ENTRY_LEN};
-ghost use Rattle.gx_ports.specs.Files.{IsPlace, IsVacant, ClaimsRoots, Holds, OthersStay, EndsFile, SparesOthers, IsFull, IsWhole};
-ghost use Rattle.gx_ports.specs.LeafMaps.{LeafMap};
-ghost use Rattle.gx_ports.specs.PageCalls.{KeepsPages, CountsPageFaults};
+ghost use Rattle.gx_ports.specs.FileCalls.{MakesFile, PutsInFile, RemovesFromFile};
+ghost use Rattle.gx_ports.specs.Files.{IsPlace};
 ghost use Rattle.gx_btree.specs.Bplus.{IsBplus};
 
 use crate::putting::{put_alone, put_below};
@@ -21,16 +19,8 @@ use gx_slots::clear;
 pub fn make<P: Pages>(pages: &mut P, place: &Place) -> Result<(), Failed>
     requires kind { place.now.spec.kind ≡ kinds.Bplus }
     requires place { IsPlace (P.ground pages.old) place.now }
-    ensures made { IsTrue P.tells → IsVacant place.now (P.working pages.old) →
-        OnOk result (IsBplus (P.ground pages.old) place.now (P.working pages.new) empty) }
-    ensures others { IsTrue P.tells → IsVacant place.now (P.working pages.old) →
-        OnOk result
-        (OthersStay (P.ground pages.old) place.now.owner
-        (P.working pages.old) (P.working pages.new)) }
-    ensures roots { IsTrue P.tells → IsVacant place.now (P.working pages.old) →
-        OnOk result (ClaimsRoots place.now (P.working pages.old) (P.working pages.new)) }
-    ensures keeps { KeepsPages P.PageView pages.old pages.new }
-    ensures faults { CountsPageFaults P.PageView pages.old pages.new result }
+    ensures { MakesFile P.PageView (IsBplus (P.ground pages.old) place.now)
+        place.now pages.old pages.new result }
 {
     let mut page = [0; PAGE_LEN];
     clear(&mut page);
@@ -47,19 +37,8 @@ pub fn put<P: Pages>(pages: &mut P, place: &Place, key: &[u8], body: &[u8]) -> R
     requires place { IsPlace (P.ground pages.old) place.now }
     requires key { length key.now ≤ MAX_KEY_LEN }
     requires entry { length key.now + length body.now ≤ MAX_ENTRY_LEN }
-    ensures ok { (map : LeafMap) →
-        Holds P.PageView (IsBplus (P.ground pages.old) place.now) pages.old map → OnOk result
-        (IsBplus (P.ground pages.old) place.now (P.working pages.new)
-        (insert map key.now body.now)) }
-    ensures others { SparesOthers P.PageView (IsBplus (P.ground pages.old) place.now)
-        place.now.owner pages.old pages.new result }
-    ensures full { IsFull P.PageView (IsBplus (P.ground pages.old) place.now)
-        place.now pages.old pages.new result }
-    ensures keeps { KeepsPages P.PageView pages.old pages.new }
-    ensures ends { EndsFile P.PageView
-        (IsWhole P.PageView (IsBplus (P.ground pages.old) place.now) pages.old)
-        pages.old pages.new result }
-    ensures frugal { ¬ IsErrOf result Stop.NoMemory }
+    ensures { PutsInFile P.PageView (IsBplus (P.ground pages.old) place.now)
+        place.now key.now body.now pages.old pages.new result }
 {
     let mut page = [0; PAGE_LEN];
     match read_page(pages, place.root, place.root, &mut page)? {
@@ -105,17 +84,8 @@ pub fn remove<P: Pages>(pages: &mut P, place: &Place, key: &[u8]) -> Result<(), 
     requires kind { place.now.spec.kind ≡ kinds.Bplus }
     requires place { IsPlace (P.ground pages.old) place.now }
     requires key { length key.now ≤ MAX_KEY_LEN }
-    ensures ok { (map : LeafMap) →
-        Holds P.PageView (IsBplus (P.ground pages.old) place.now) pages.old map → OnOk result
-        (IsBplus (P.ground pages.old) place.now (P.working pages.new) (remove map key.now)) }
-    ensures others { SparesOthers P.PageView (IsBplus (P.ground pages.old) place.now)
-        place.now.owner pages.old pages.new result }
-    ensures keeps { KeepsPages P.PageView pages.old pages.new }
-    ensures ends { EndsFile P.PageView
-        (IsWhole P.PageView (IsBplus (P.ground pages.old) place.now) pages.old)
-        pages.old pages.new result }
-    ensures not_full { ¬ IsErrOf result Stop.Full }
-    ensures frugal { ¬ IsErrOf result Stop.NoMemory }
+    ensures { RemovesFromFile P.PageView (IsBplus (P.ground pages.old) place.now)
+        place.now key.now pages.old pages.new result }
 {
     let mut page = [0; PAGE_LEN];
     let mut at = place.root;

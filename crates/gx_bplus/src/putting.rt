@@ -1,16 +1,14 @@
 // An entry is put on the pages where a search for its key ended.
-ghost use Rattle.std.specs.Prelude.{◌≡◌, ◌≤◌, ℕ, length, IsTrue, OnOk, IsErrOf};
+ghost use Rattle.std.specs.Prelude.{◌≡◌, ◌≤◌, ℕ, IsTrue, OnOk};
 ghost use Rattle.gx_ports.specs.declared.pages.TheConstants.{MAX_OWNER};
-ghost use Rattle.gx_ports.specs.Files.{EndsFile};
-ghost use Rattle.gx_ports.specs.PageCalls.{KeepsPages};
-ghost use Rattle.gx_ports.specs.Sheets.{IsPast, HasNone};
+ghost use Rattle.gx_ports.specs.Sheets.{IsPast};
 ghost use Rattle.gx_slots.specs.Entries.{IsFit};
 ghost use Rattle.gx_bnode.specs.Page.{IsInnerPage, HasRoom, first_of, branches_of, separators_of};
 ghost use Rattle.gx_btree.specs.declared.reading.Shape.TheVariants as shapes;
 ghost use Rattle.gx_btree.specs.Bplus.{Shows};
 ghost use Rattle.gx_btree.specs.Tree.{Tree, child_for};
 ghost use Rattle.gx_bplus.specs.Search.{IsHeld, IsReached, HasReached, HasPut};
-ghost use Rattle.gx_bplus.specs.Splits.{MayHaveClaimed};
+ghost use Rattle.gx_bplus.specs.Splits.{ClaimsOnePage, ClaimsTwoPages};
 
 use crate::insertion::{set_entry, spread};
 use crate::splitting::{divide, raise};
@@ -45,15 +43,10 @@ pub(crate) fn put_below<P: Pages>(
         OnOk result (HasPut (P.ground pages.old) owner root
         (record { key = key.now; body = body.now })
         (P.working pages.old) (P.working pages.new) tree) }
-    ensures full { IsTrue P.tells → IsErrOf result Stop.Full →
-        HasNone (P.ground pages.old) (P.working pages.old) }
-    ensures unchanged { IsErrOf result Stop.Full → P.working pages.new ≡ P.working pages.old }
-    ensures keeps { KeepsPages P.PageView pages.old pages.new }
-    ensures ends { EndsFile P.PageView
+    ensures claims { ClaimsOnePage P.PageView
         (IsTrue P.tells × HasReached (P.ground pages.old) (P.working pages.old) at child key.now
         page.old below.old)
         pages.old pages.new result }
-    ensures frugal { ¬ IsErrOf result Stop.NoMemory }
 {
     if set_entry(below, key, body) {
         pages.write(child, below)?;
@@ -95,13 +88,7 @@ pub(crate) fn put_alone<P: Pages>(
         OnOk result (HasPut (P.ground pages.old) owner root
         (record { key = key.now; body = body.now })
         (P.working pages.old) (P.working pages.new) tree) }
-    ensures full { IsTrue P.tells → IsErrOf result Stop.Full →
-        HasNone (P.ground pages.old) (P.working pages.new) }
-    ensures claimed { IsTrue P.tells → IsErrOf result Stop.Full →
-        MayHaveClaimed (P.ground pages.old) owner (P.working pages.old) (P.working pages.new) }
-    ensures keeps { KeepsPages P.PageView pages.old pages.new }
-    ensures ends { EndsFile P.PageView (Unit {0}) pages.old pages.new result }
-    ensures frugal { ¬ IsErrOf result Stop.NoMemory }
+    ensures claims { ClaimsTwoPages P.PageView owner pages.old pages.new result }
 {
     if set_entry(page, key, body) {
         pages.write(root, page)?;

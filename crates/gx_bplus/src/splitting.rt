@@ -1,18 +1,16 @@
 // Pages without room are split.
-ghost use Rattle.std.specs.Prelude.{◌≡◌, ◌↔◌, ◌+◌, ◌-◌, ◌≤◌, ◌<◌, ℕ, [], length, slice_index_or, IsTrue, OnOk, IfOk, IsErrOf};
+ghost use Rattle.std.specs.Prelude.{◌≡◌, ◌↔◌, ◌+◌, ◌-◌, ◌≤◌, ◌<◌, ℕ, [], length, slice_index_or, IsTrue, OnOk, IfOk};
 ghost use Rattle.std.specs.Bool.{OnTrue, OnFalse};
 ghost use Rattle.std.specs.List.{insert};
 ghost use Rattle.gx_ports.specs.declared.pages.TheConstants.{MAX_OWNER, PAGE_LEN};
-ghost use Rattle.gx_ports.specs.Files.{EndsFile};
-ghost use Rattle.gx_ports.specs.PageCalls.{KeepsPages};
-ghost use Rattle.gx_ports.specs.Sheets.{IsPast, HasNone};
+ghost use Rattle.gx_ports.specs.Sheets.{IsPast};
 ghost use Rattle.gx_bnode.specs.Branches.{AreAscending};
 ghost use Rattle.gx_bnode.specs.Page.{IsInnerPage, HasRoom, first_of, branches_of, separators_of};
 ghost use Rattle.gx_btree.specs.Order.{IsBelow};
 ghost use Rattle.gx_btree.specs.Tree.{Tree, ShowsInner, child_for, with_branch};
 ghost use Rattle.gx_bplus.specs.Changes.{MayStand};
 ghost use Rattle.gx_bplus.specs.Search.{IsHeld, IsReached, HasReached, HasCome};
-ghost use Rattle.gx_bplus.specs.Splits.{IsDivided, IsRaised, MayHaveClaimed};
+ghost use Rattle.gx_bplus.specs.Splits.{IsDivided, IsRaised, ClaimsOnePage, ClaimsTwoPages};
 
 use gx_bnode::{child_of, has_room, insert, make_inner, separator, separators, split};
 use gx_btree::child_for;
@@ -47,15 +45,10 @@ pub(crate) fn make_room<P: Pages>(
     ensures past { IfOk result (λ next. IsPast (P.ground pages.old) next) }
     ensures inner { OnOk result (IsInnerPage below.new) }
     ensures room { OnOk result (HasRoom (separators_of below.new)) }
-    ensures full { IsTrue P.tells → IsErrOf result Stop.Full →
-        HasNone (P.ground pages.old) (P.working pages.old) }
-    ensures unchanged { IsErrOf result Stop.Full → P.working pages.new ≡ P.working pages.old }
-    ensures keeps { KeepsPages P.PageView pages.old pages.new }
-    ensures ends { EndsFile P.PageView
+    ensures claims { ClaimsOnePage P.PageView
         (IsTrue P.tells × HasReached (P.ground pages.old) (P.working pages.old) at child key.now
         page.old below.old)
         pages.old pages.new result }
-    ensures frugal { ¬ IsErrOf result Stop.NoMemory }
 {
     if has_room(below) {
         return Ok(child);
@@ -101,13 +94,7 @@ pub(crate) fn open_root<P: Pages>(
     ensures past { IfOk result (λ at. IsPast (P.ground pages.old) at) }
     ensures inner { OnOk result (IsInnerPage page.new) }
     ensures room { OnOk result (HasRoom (separators_of page.new)) }
-    ensures full { IsTrue P.tells → IsErrOf result Stop.Full →
-        HasNone (P.ground pages.old) (P.working pages.new) }
-    ensures claimed { IsTrue P.tells → IsErrOf result Stop.Full →
-        MayHaveClaimed (P.ground pages.old) owner (P.working pages.old) (P.working pages.new) }
-    ensures keeps { KeepsPages P.PageView pages.old pages.new }
-    ensures ends { EndsFile P.PageView (Unit {0}) pages.old pages.new result }
-    ensures frugal { ¬ IsErrOf result Stop.NoMemory }
+    ensures claims { ClaimsTwoPages P.PageView owner pages.old pages.new result }
 {
     if has_room(page) {
         return Ok(root);
@@ -149,13 +136,9 @@ pub(crate) fn divide<P: Pages>(
         IfOk result (IsDivided (P.ground pages.old) owner at child page.old key.now
         separator.now left.now right.now (P.working pages.old) (P.working pages.new)) }
     ensures past { IfOk result (λ fresh. IsPast (P.ground pages.old) fresh) }
-    ensures full { IsTrue P.tells → IsErrOf result Stop.Full →
-        HasNone (P.ground pages.old) (P.working pages.old) }
-    ensures unchanged { IsErrOf result Stop.Full → P.working pages.new ≡ P.working pages.old }
-    ensures keeps { KeepsPages P.PageView pages.old pages.new }
-    ensures ends { EndsFile P.PageView (MayStand (branches_of page.old) key.now separator.now)
+    ensures claims { ClaimsOnePage P.PageView
+        (MayStand (branches_of page.old) key.now separator.now)
         pages.old pages.new result }
-    ensures frugal { ¬ IsErrOf result Stop.NoMemory }
 {
     let fresh = pages.claim(owner)?;
     if !put_child(page, key, separator, fresh) {
@@ -195,13 +178,7 @@ pub(crate) fn raise<P: Pages>(
         parts.left parts.right) }
     ensures left { IfOk result (λ parts. IsPast (P.ground pages.old) parts.left) }
     ensures right { IfOk result (λ parts. IsPast (P.ground pages.old) parts.right) }
-    ensures full { IsTrue P.tells → IsErrOf result Stop.Full →
-        HasNone (P.ground pages.old) (P.working pages.new) }
-    ensures claimed { IsTrue P.tells → IsErrOf result Stop.Full →
-        MayHaveClaimed (P.ground pages.old) owner (P.working pages.old) (P.working pages.new) }
-    ensures keeps { KeepsPages P.PageView pages.old pages.new }
-    ensures ends { EndsFile P.PageView (Unit {0}) pages.old pages.new result }
-    ensures frugal { ¬ IsErrOf result Stop.NoMemory }
+    ensures claims { ClaimsTwoPages P.PageView owner pages.old pages.new result }
 {
     let first = pages.claim(owner)?;
     let second = pages.claim(owner)?;

@@ -21,7 +21,9 @@ root_part root = record { above = root; page = root; low = [] }
 
 -- the children of an inner page
 abbrev pub child_parts : ℕ → List ℕ → ℕ → List Branch → List Part
-child_parts above low first branches = record { above = above; page = first; low = low } ∷ map (λ b. record { above = above; page = b.child; low = b.separator }) branches
+child_parts above low first branches =
+    record { above = above; page = first; low = low }
+    ∷ map (λ b. record { above = above; page = b.child; low = b.separator }) branches
 
 -- the bound of what stands before some parts
 abbrev pub low_of : List Part → Option (List ℕ) → Option (List ℕ)

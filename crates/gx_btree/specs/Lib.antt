@@ -3,6 +3,7 @@ pub mod Checking
 pub mod Hole
 pub mod Map
 pub mod Order
+pub mod Reading
 pub mod Search
 pub mod Selection
 pub mod Tree

@@ -2,6 +2,7 @@
 ghost use Rattle.std.specs.Prelude.{◌≡◌, ◌↔◌, ◌++◌, ◌∷◌, [], None, false, ◌<◌, length, replicate, IsTrue, OnOk, IfOk, IsErrOf};
 ghost use Rattle.std.specs.Bool.{OnTrue};
 ghost use Rattle.gx_ports.specs.declared.kinds.LeafKind.TheVariants as kinds;
+ghost use Rattle.gx_ports.specs.FileCalls.{ChecksFile};
 ghost use Rattle.gx_ports.specs.Files.{IsPlace, EndsFile, IsWhole};
 ghost use Rattle.gx_ports.specs.PageCalls.{ReadsPages};
 ghost use Rattle.gx_ports.specs.Sheets.{IsPast};
@@ -50,13 +51,8 @@ pub(crate) struct Visits {
 pub fn check<P: Pages>(alloc: Global, pages: &mut P, place: &Place) -> Result<(), Stop>
     requires kind { place.now.spec.kind ≡ kinds.Bplus }
     requires place { IsPlace (P.ground pages.old) place.now }
-    ensures ok { IsTrue P.tells → OnOk result
-        (IsWhole P.PageView (IsBplus (P.ground pages.old) place.now) pages.old) }
-    ensures reads { ReadsPages P.PageView pages.old pages.new }
-    ensures ends { EndsFile P.PageView
-        (IsWhole P.PageView (IsBplus (P.ground pages.old) place.now) pages.old)
+    ensures { ChecksFile P.PageView (IsBplus (P.ground pages.old) place.now)
         pages.old pages.new result }
-    ensures not_full { ¬ IsErrOf result Stop.Full }
 {
     let seen = visit_tree(alloc, pages, place)?;
     seek_unseen(pages, place.owner, &seen)

@@ -1,10 +1,8 @@
 // Pages of a tree, as they are read.
-ghost use Rattle.std.specs.Prelude.{◌≡◌, ◌<◌, ◌↔◌, None, Some, length, IsTrue, OnOk, IfOk, IsErrOf, MatchOption};
-ghost use Rattle.gx_ports.specs.Files.{EndsFile};
-ghost use Rattle.gx_ports.specs.PageCalls.{ReadsPages};
-ghost use Rattle.gx_ports.specs.Sheets.{IsPast};
+ghost use Rattle.std.specs.Prelude.{◌≡◌, ◌<◌, ◌↔◌, None, Some, length, IsTrue, MatchOption};
 ghost use Rattle.gx_bnode.specs.Page.{IsInnerPage, first_of, branches_of};
-ghost use Rattle.gx_btree.specs.Bplus.{Shows, Seems, IsTreePage, bytes_at};
+ghost use Rattle.gx_btree.specs.Bplus.{Shows, Seems};
+ghost use Rattle.gx_btree.specs.Reading.{ReadsTreePage};
 ghost use Rattle.gx_btree.specs.Tree.{child_for, bound_for};
 
 use gx_bnode::{child, child_of, is_inner, separators};
@@ -31,16 +29,7 @@ pub fn read_page<P: Pages>(
 ) -> Result<Shape, Stop>
     requires from { from < (P.ground pages.old).size }
     requires bytes { length into.old ≡ 4096 }
-    ensures bytes { length into.new ≡ 4096 }
-    ensures past { OnOk result (IsPast (P.ground pages.old) page) }
-    ensures shape { IfOk result (λ shape. Shows shape into.new) }
-    ensures read { IsTrue P.tells → OnOk result (bytes_at (P.working pages.old) page ≡ into.new) }
-    ensures reads { ReadsPages P.PageView pages.old pages.new }
-    ensures ends { EndsFile P.PageView
-        (IsTrue P.tells × IsTreePage (P.ground pages.old) (P.working pages.old) page)
-        pages.old pages.new result }
-    ensures not_full { ¬ IsErrOf result Stop.Full }
-    ensures frugal { ¬ IsErrOf result Stop.NoMemory }
+    ensures { ReadsTreePage P.PageView Shows page into.new pages.old pages.new result }
 {
     if page < pages.tables() || page >= pages.pages() {
         return Err(Stop::Damaged(pages.block(from)));
@@ -78,16 +67,7 @@ pub(crate) fn read_kind<P: Pages>(
 ) -> Result<Shape, Stop>
     requires from { from < (P.ground pages.old).size }
     requires bytes { length into.old ≡ 4096 }
-    ensures bytes { length into.new ≡ 4096 }
-    ensures past { OnOk result (IsPast (P.ground pages.old) page) }
-    ensures kind { IfOk result (λ shape. Seems shape into.new) }
-    ensures read { IsTrue P.tells → OnOk result (bytes_at (P.working pages.old) page ≡ into.new) }
-    ensures reads { ReadsPages P.PageView pages.old pages.new }
-    ensures ends { EndsFile P.PageView
-        (IsTrue P.tells × IsTreePage (P.ground pages.old) (P.working pages.old) page)
-        pages.old pages.new result }
-    ensures not_full { ¬ IsErrOf result Stop.Full }
-    ensures frugal { ¬ IsErrOf result Stop.NoMemory }
+    ensures { ReadsTreePage P.PageView Seems page into.new pages.old pages.new result }
 {
     if page < pages.tables() || page >= pages.pages() {
         return Err(Stop::Damaged(pages.block(from)));

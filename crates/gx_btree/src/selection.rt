@@ -1,12 +1,12 @@
 // The entries inside a span.
-ghost use Rattle.std.specs.Prelude.{◌≡◌, ◌++◌, [], ◌∷◌, length, take, IsTrue, OnOk, IfOk, IsErrOf};
+ghost use Rattle.std.specs.Prelude.{◌≡◌, ◌++◌, [], ◌∷◌, length, take, IsTrue, OnOk, IfOk};
 ghost use Rattle.std.specs.Bool.{OnFalse};
 ghost use Rattle.std.specs.Cmp.Lexicographic.{slice_cmp};
 ghost use Rattle.std.specs.Ordering.{nat_cmp, is_le, is_gt};
 ghost use Rattle.gx_ports.specs.declared.kinds.LeafKind.TheVariants as kinds;
-ghost use Rattle.gx_ports.specs.Files.{IsPlace, Holds, EndsFile, IsWhole};
-ghost use Rattle.gx_ports.specs.LeafMaps.{LeafMap, Extends, selected};
-ghost use Rattle.gx_ports.specs.PageCalls.{ReadsPages};
+ghost use Rattle.gx_ports.specs.FileCalls.{SelectsInFile};
+ghost use Rattle.gx_ports.specs.Files.{IsPlace};
+ghost use Rattle.gx_ports.specs.LeafMaps.{Extends};
 ghost use Rattle.gx_slots.specs.Page.{IsAscendingPage, entries_of};
 ghost use Rattle.gx_btree.specs.Bplus.{IsBplus};
 ghost use Rattle.gx_btree.specs.Selection.{given_from, IsPastSpan};
@@ -31,15 +31,8 @@ pub fn select<P: Pages>(
 ) -> Result<(), Stop>
     requires kind { place.now.spec.kind ≡ kinds.Bplus }
     requires place { IsPlace (P.ground pages.old) place.now }
-    ensures ok { (map : LeafMap) →
-        Holds P.PageView (IsBplus (P.ground pages.old) place.now) pages.old map →
-        OnOk result (out.new ≡ out.old ++ selected span.now.lo span.now.hi map) }
-    ensures extends { Extends out.old out.new }
-    ensures reads { ReadsPages P.PageView pages.old pages.new }
-    ensures ends { EndsFile P.PageView
-        (IsWhole P.PageView (IsBplus (P.ground pages.old) place.now) pages.old)
-        pages.old pages.new result }
-    ensures not_full { ¬ IsErrOf result Stop.Full }
+    ensures { SelectsInFile P.PageView (IsBplus (P.ground pages.old) place.now)
+        span.now out.old out.new pages.old pages.new result }
 {
     let mut page = [0; PAGE_LEN];
     let mut key = KeyBuf::from_slice(span.lo.as_slice());

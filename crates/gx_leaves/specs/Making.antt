@@ -11,15 +11,21 @@ use Rattle.gx_leaves.specs.Wholeness.{table_owner}
 
 -- the table is its own, and each page past it is free
 pub record IsAllFree (base : Ground) (sheets : Sheets) : Type 0 where
-  pub own : (page : ℕ) → page < base.tables → page < base.size → slice_get sheets.owners page ≡ Some table_owner
+  pub own : (page : ℕ) → page < base.tables → page < base.size
+      → slice_get sheets.owners page ≡ Some table_owner
   pub free : (page : ℕ) → IsPast base page → slice_get sheets.owners page ≡ Some 0
 
--- So many of the leaves have been made, each empty. All pages from the root of the next one on are free.
-pub record AreMade (base : Ground) (places : List Place) (count : ℕ) (sheets : Sheets) : Type 0 where
-  pub made : (leaf : ℕ) (place : Place) → leaf < count → slice_get places leaf ≡ Some place → IsFileAt base place sheets empty
+-- So many of the leaves have been made, each empty. All pages from the root of the next one on are
+-- free.
+pub record AreMade (base : Ground) (places : List Place) (count : ℕ)
+    (sheets : Sheets) : Type 0 where
+  pub made : (leaf : ℕ) (place : Place) → leaf < count → slice_get places leaf ≡ Some place
+      → IsFileAt base place sheets empty
   pub own : (page : ℕ) → page < base.tables → slice_get sheets.owners page ≡ Some table_owner
-  pub taken : (page owner : ℕ) → IsPast base page → slice_get sheets.owners page ≡ Some owner → owner ≤ count
-  pub free : (leaf : ℕ) (place : Place) → count ≤ leaf → slice_get places leaf ≡ Some place → (page : ℕ) → place.root ≤ page → page < base.size → slice_get sheets.owners page ≡ Some 0
+  pub taken : (page owner : ℕ) → IsPast base page → slice_get sheets.owners page ≡ Some owner
+      → owner ≤ count
+  pub free : (leaf : ℕ) (place : Place) → count ≤ leaf → slice_get places leaf ≡ Some place
+      → (page : ℕ) → place.root ≤ page → page < base.size → slice_get sheets.owners page ≡ Some 0
 
 -- why leaves weren't made: the outside failed, or there was no memory
 abbrev pub HasMakeCause : ℕ → ℕ → Stop → Type 0

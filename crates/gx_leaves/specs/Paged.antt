@@ -29,7 +29,9 @@ module _ {P : Type 0} {g : page_view.Ghosts P} where
 
   -- the stored form of each leaf is whole, and was at the last commit
   abbrev pub IsWhole : PagedLeaves P g → Type 0
-  IsWhole l = AreWhole g.tells (g.steady l.pages) (g.ground l.pages) l.places.items (g.working l.pages)
+  IsWhole l =
+      AreWhole g.tells (g.steady l.pages) (g.ground l.pages) l.places.items (g.working l.pages)
 
   abbrev pub WasWhole : PagedLeaves P g → Type 0
-  WasWhole l = AreWhole g.tells (g.steady l.pages) (g.ground l.pages) l.places.items (g.kept l.pages)
+  WasWhole l =
+      AreWhole g.tells (g.steady l.pages) (g.ground l.pages) l.places.items (g.kept l.pages)

@@ -8,19 +8,29 @@ use Rattle.gx_leaves.specs.Kinds.{map_in}
 use Rattle.gx_leaves.specs.Wholeness.{maps_of, AreWhole, IsWholeAt}
 
 -- there is a map for each place
-pub map_count : (base : Ground) (places : List Place) (sheets : Sheets) → length (maps_of base places sheets) ≡ length places
+pub map_count : (base : Ground) (places : List Place) (sheets : Sheets)
+    → length (maps_of base places sheets) ≡ length places
 map_count base places sheets = length-map places (λ p. map_in base p sheets)
 
-module _ (tells : Bool) (steady : Type 0) (base : Ground) (places : List Place) (sheets : Sheets) where
-  pub whole_each : AreWhole tells steady base places sheets → (leaf : ℕ) → IsWholeAt tells base places sheets leaf
-  whole_each whole leaf = record { told = whole.told; table = whole.laid.table; held = λ place at. whole.laid.each leaf place at }
+module _ (tells : Bool) (steady : Type 0) (base : Ground) (places : List Place)
+    (sheets : Sheets) where
+  pub whole_each : AreWhole tells steady base places sheets → (leaf : ℕ)
+      → IsWholeAt tells base places sheets leaf
+  whole_each whole leaf =
+      record
+      { told = whole.told; table = whole.laid.table; held = λ place at. whole.laid.each leaf place at }
 
-  pub whole_all : steady → 0 < length (maps_of base places sheets) → ((leaf : ℕ) → leaf < length (maps_of base places sheets) → IsWholeAt tells base places sheets leaf) → AreWhole tells steady base places sheets
+  pub whole_all : steady → 0 < length (maps_of base places sheets)
+      → ((leaf : ℕ) → leaf < length (maps_of base places sheets)
+      → IsWholeAt tells base places sheets leaf) → AreWhole tells steady base places sheets
   whole_all settled some each = record {
     told = (each 0 some).told;
     settled = settled;
     laid = record {
       table = (each 0 some).table;
-      each = λ leaf place at. (each leaf (let within = slice_get_within places leaf place at in omega (arith, within, map_count base places sheets))).held place at;
+      each = λ leaf place at.
+          (each leaf
+          (let within = slice_get_within places leaf place at in omega
+          (arith, within, map_count base places sheets))).held place at;
     };
   }

@@ -9,7 +9,9 @@ use Rattle.gx_leaves.specs.Kinds.{are_built}
 -- the root pages lie one behind the other, and the owners are numbered
 abbrev pub places_from : ℕ → ℕ → List LeafSpec → List Place
 places_from root owner [] = []
-places_from root owner (spec ∷ specs) = record { spec = spec; root = root; owner = owner } ∷ places_from (root + roots_of spec) (owner + 1) specs
+places_from root owner (spec ∷ specs) =
+    record { spec = spec; root = root; owner = owner }
+    ∷ places_from (root + roots_of spec) (owner + 1) specs
 
 -- from the first page past the table on; leaf i has the owner i + 1
 abbrev pub places_of : Ground → List LeafSpec → List Place

@@ -1,10 +1,10 @@
 // The calls on a file, by the kind of its place.
-ghost use Rattle.std.specs.Prelude.{◌≡◌, ◌+◌, ◌≤◌, ◌++◌, length, IsTrue, OnOk, IsErrOf};
-ghost use Rattle.std.specs.FinMap.{empty, insert, remove};
+ghost use Rattle.std.specs.Prelude.{◌+◌, ◌≤◌, length, IsTrue, OnOk};
 ghost use Rattle.gx_ports.specs.declared.leaves.TheConstants.{MAX_KEY_LEN, MAX_ENTRY_LEN};
-ghost use Rattle.gx_ports.specs.Files.{IsPlace, IsVacant, Holds, OthersStay, EndsFile, SparesOthers, IsFull, IsWhole, ClaimsRoots};
-ghost use Rattle.gx_ports.specs.LeafMaps.{LeafMap, Extends, selected};
-ghost use Rattle.gx_ports.specs.PageCalls.{KeepsPages, ReadsPages, CountsPageFaults};
+ghost use Rattle.gx_ports.specs.FileCalls.{MakesFile, PutsInFile, RemovesFromFile, SelectsInFile, ChecksFile};
+ghost use Rattle.gx_ports.specs.Files.{IsPlace, Holds, EndsFile, SparesOthers, IsFull, IsWhole};
+ghost use Rattle.gx_ports.specs.LeafMaps.{LeafMap};
+ghost use Rattle.gx_ports.specs.PageCalls.{KeepsPages};
 ghost use Rattle.gx_leaves.specs.Kinds.{is_built, IsFileAt, IsFreshOf};
 
 use gx_bplus as bplus;
@@ -21,15 +21,8 @@ use std::alloc::Global;
 pub fn make_file<P: Pages>(pages: &mut P, place: &Place) -> Result<(), Failed>
     requires built { IsTrue (is_built place.now.spec.kind) }
     requires place { IsPlace (P.ground pages.old) place.now }
-    ensures made { IsTrue P.tells → IsVacant place.now (P.working pages.old) →
-        OnOk result (IsFileAt (P.ground pages.old) place.now (P.working pages.new) empty) }
-    ensures others { IsTrue P.tells → IsVacant place.now (P.working pages.old) →
-        OnOk result
-        (OthersStay (P.ground pages.old) place.now.owner (P.working pages.old) (P.working pages.new)) }
-    ensures roots { IsTrue P.tells → IsVacant place.now (P.working pages.old) →
-        OnOk result (ClaimsRoots place.now (P.working pages.old) (P.working pages.new)) }
-    ensures keeps { KeepsPages P.PageView pages.old pages.new }
-    ensures faults { CountsPageFaults P.PageView pages.old pages.new result }
+    ensures { MakesFile P.PageView (IsFileAt (P.ground pages.old) place.now)
+        place.now pages.old pages.new result }
 {
     match place.spec.kind {
         LeafKind::Heap => heap::make(pages, place),
@@ -50,19 +43,8 @@ pub fn put_in_file<P: Pages>(
     requires place { IsPlace (P.ground pages.old) place.now }
     requires key { length key.now ≤ MAX_KEY_LEN }
     requires entry { length key.now + length body.now ≤ MAX_ENTRY_LEN }
-    ensures ok { (map : LeafMap) →
-        Holds P.PageView (IsFileAt (P.ground pages.old) place.now) pages.old map → OnOk result
-        (IsFileAt (P.ground pages.old) place.now (P.working pages.new)
-        (insert map key.now body.now)) }
-    ensures others { SparesOthers P.PageView (IsFileAt (P.ground pages.old) place.now)
-        place.now.owner pages.old pages.new result }
-    ensures full { IsFull P.PageView (IsFileAt (P.ground pages.old) place.now)
-        place.now pages.old pages.new result }
-    ensures keeps { KeepsPages P.PageView pages.old pages.new }
-    ensures ends { EndsFile P.PageView
-        (IsWhole P.PageView (IsFileAt (P.ground pages.old) place.now) pages.old)
-        pages.old pages.new result }
-    ensures frugal { ¬ IsErrOf result Stop.NoMemory }
+    ensures { PutsInFile P.PageView (IsFileAt (P.ground pages.old) place.now)
+        place.now key.now body.now pages.old pages.new result }
 {
     match place.spec.kind {
         LeafKind::Heap => heap::put(pages, place, key, body),
@@ -77,17 +59,8 @@ pub fn remove_from_file<P: Pages>(pages: &mut P, place: &Place, key: &[u8]) -> R
     requires built { IsTrue (is_built place.now.spec.kind) }
     requires place { IsPlace (P.ground pages.old) place.now }
     requires key { length key.now ≤ MAX_KEY_LEN }
-    ensures ok { (map : LeafMap) →
-        Holds P.PageView (IsFileAt (P.ground pages.old) place.now) pages.old map → OnOk result
-        (IsFileAt (P.ground pages.old) place.now (P.working pages.new) (remove map key.now)) }
-    ensures others { SparesOthers P.PageView (IsFileAt (P.ground pages.old) place.now)
-        place.now.owner pages.old pages.new result }
-    ensures keeps { KeepsPages P.PageView pages.old pages.new }
-    ensures ends { EndsFile P.PageView
-        (IsWhole P.PageView (IsFileAt (P.ground pages.old) place.now) pages.old)
-        pages.old pages.new result }
-    ensures not_full { ¬ IsErrOf result Stop.Full }
-    ensures frugal { ¬ IsErrOf result Stop.NoMemory }
+    ensures { RemovesFromFile P.PageView (IsFileAt (P.ground pages.old) place.now)
+        place.now key.now pages.old pages.new result }
 {
     match place.spec.kind {
         LeafKind::Heap => heap::remove(pages, place, key),
@@ -107,15 +80,8 @@ pub fn select_in_file<P: Pages>(
 ) -> Result<(), Stop>
     requires built { IsTrue (is_built place.now.spec.kind) }
     requires place { IsPlace (P.ground pages.old) place.now }
-    ensures ok { (map : LeafMap) →
-        Holds P.PageView (IsFileAt (P.ground pages.old) place.now) pages.old map →
-        OnOk result (out.new ≡ out.old ++ selected span.now.lo span.now.hi map) }
-    ensures extends { Extends out.old out.new }
-    ensures reads { ReadsPages P.PageView pages.old pages.new }
-    ensures ends { EndsFile P.PageView
-        (IsWhole P.PageView (IsFileAt (P.ground pages.old) place.now) pages.old)
-        pages.old pages.new result }
-    ensures not_full { ¬ IsErrOf result Stop.Full }
+    ensures { SelectsInFile P.PageView (IsFileAt (P.ground pages.old) place.now)
+        span.now out.old out.new pages.old pages.new result }
 {
     match place.spec.kind {
         LeafKind::Heap => heap::select(alloc, pages, place, span, out),
@@ -155,13 +121,8 @@ pub fn reorganize_file<P: Pages>(alloc: Global, pages: &mut P, place: &Place) ->
 pub fn check_file<P: Pages>(alloc: Global, pages: &mut P, place: &Place) -> Result<(), Stop>
     requires built { IsTrue (is_built place.now.spec.kind) }
     requires place { IsPlace (P.ground pages.old) place.now }
-    ensures ok { IsTrue P.tells → OnOk result
-        (IsWhole P.PageView (IsFileAt (P.ground pages.old) place.now) pages.old) }
-    ensures reads { ReadsPages P.PageView pages.old pages.new }
-    ensures ends { EndsFile P.PageView
-        (IsWhole P.PageView (IsFileAt (P.ground pages.old) place.now) pages.old)
+    ensures { ChecksFile P.PageView (IsFileAt (P.ground pages.old) place.now)
         pages.old pages.new result }
-    ensures not_full { ¬ IsErrOf result Stop.Full }
 {
     match place.spec.kind {
         LeafKind::Heap => heap::check(alloc, pages, place),

@@ -1,4 +1,4 @@
-use Rattle.std.proofs.Common.{refl, sym, subst}
+use Rattle.std.proofs.Common.{refl, sym, subst, rules}
 use Rattle.gx_btree.proofs.CallLemmas.{ends_after, ends_handed}
 use Rattle.gx_bplus.proofs.GrowthLemmas.{child_put, spread_stands, spread_put}
 use Rattle.gx_bplus.proofs.InsertLemmas.{none_left}
@@ -16,14 +16,21 @@ returns-then-set_entry-clause-put g c told root steps tree reached =
 pub spread-separator-requires-clause-other : goal.spread-separator-requires-clause-other
 spread-separator-requires-clause-other g c = none_left (entries_of c.args.below.now) (entries_of c.set_entry.new.page) c.args.key.now c.if-set_entry.ensures.taken
 
-pub returns-in_err-divide-clause-ends : goal.returns-in_err-divide-clause-ends
-returns-in_err-divide-clause-ends g c =
+pub returns-in_err-divide-clause-claims : goal.returns-in_err-divide-clause-claims
+returns-in_err-divide-clause-claims g c =
     let old = c.args.pages.now in
-    ends_handed g.P.PageView _ _ _ old c.divide.new.pages _ c.from_residual-in_err-divide.result
-    (ends_after g.P.PageView _ _ old old c.divide.new.pages _ refl refl
-    (λ h. let r = h.1 in spread_stands (g.P.PageView.ground old) r.owner r.root c.args.at c.args.child r.steps c.args.key.now r.tree c.args.page.now c.args.below.now (g.P.PageView.working old) r.reached c.requires.page c.requires.way c.args.body.now c.requires.below
-    c.set_entry.new.page c.spread-separator.new.page c.spread-separator.new.right c.as_slice.result.now c.if-set_entry.ensures.taken (subst (IsSpread (entries_of c.set_entry.new.page) (record { key = c.args.key.now; body = c.args.body.now }) (entries_of c.spread-separator.new.page) (entries_of c.spread-separator.new.right)) (sym c.as_slice.ensures.value) c.spread-separator.ensures.spread))
-    c.in_err-divide.ensures.ends) c.from_residual-in_err-divide.ensures.1
+    record {
+      full = search rules;
+      unchanged = search rules;
+      keeps = search rules;
+      ends =
+          ends_handed g.P.PageView _ _ _ old c.divide.new.pages _ c.from_residual-in_err-divide.result
+          (ends_after g.P.PageView _ _ old old c.divide.new.pages _ refl refl
+          (λ h. let r = h.1 in spread_stands (g.P.PageView.ground old) r.owner r.root c.args.at c.args.child r.steps c.args.key.now r.tree c.args.page.now c.args.below.now (g.P.PageView.working old) r.reached c.requires.page c.requires.way c.args.body.now c.requires.below
+          c.set_entry.new.page c.spread-separator.new.page c.spread-separator.new.right c.as_slice.result.now c.if-set_entry.ensures.taken (subst (IsSpread (entries_of c.set_entry.new.page) (record { key = c.args.key.now; body = c.args.body.now }) (entries_of c.spread-separator.new.page) (entries_of c.spread-separator.new.right)) (sym c.as_slice.ensures.value) c.spread-separator.ensures.spread))
+          c.in_err-divide.ensures.claims.ends) c.from_residual-in_err-divide.ensures.1;
+      frugal = search rules;
+    }
 
 pub returns-clause-put : goal.returns-clause-put
 returns-clause-put g c told root steps tree reached =

@@ -1,4 +1,4 @@
-use Rattle.std.proofs.Common.{refl, sym, subst}
+use Rattle.std.proofs.Common.{refl, sym, subst, rules}
 use Rattle.std.proofs.lemmas.Result.{on_ok_weaker}
 use Rattle.gx_ports.specs.Files.{IsWhole}
 use Rattle.gx_ports.specs.Sheets.{Sheets}
@@ -7,29 +7,30 @@ use Rattle.gx_btree.specs.Bplus.{IsBplus}
 use Rattle.gx_seen.specs.Seen.{AreAllSeen, HasAllSeen}
 use Rattle.gx_btree.proofs.checking.check.Goals as goal
 
-pub returns-clause-ok : goal.returns-clause-ok
-returns-clause-ok g c told =
-    let s = g.P.PageView.working c.args.pages.now in
-    let owner = c.args.place.now.owner in
-    on_ok_weaker c.seek_unseen.result
-    (λ all. (c.in_ok-seen.ensures.seen told).1
-    (subst (AreAllSeen s owner) c.deref.ensures.value (subst (λ (x : Sheets). AreAllSeen x owner c.deref.result.now) c.visit_tree.ensures.reads.working all)))
-    (c.seek_unseen.ensures.all told)
-
-pub returns-clause-ends : goal.returns-clause-ends
-returns-clause-ends g c =
+pub returns : goal.returns
+returns g c =
     let p = c.args.pages.now in
     let s = g.P.PageView.working p in
-    let now = c.visit_tree.new.pages in
     let owner = c.args.place.now.owner in
-    ends_as g.P.PageView (IsWhole g.P.PageView (IsBplus (g.P.PageView.ground p) c.args.place.now) p)
-    (HasAllSeen g.P.PageView now owner c.deref.result.now) p now c.seek_unseen.new.pages
-    c.seek_unseen.result
-    (c.in_ok-seen.ensures.ends.cause.counted refl) c.visit_tree.ensures.reads.keeps.ground
-    (λ whole. (
-      whole.1.told,
-      subst (λ (x : Sheets). AreAllSeen x owner c.deref.result.now)
-          (sym c.visit_tree.ensures.reads.working)
-          (subst (AreAllSeen s owner) (sym c.deref.ensures.value) ((c.in_ok-seen.ensures.seen whole.1.told).0 whole)),
-    ))
-    c.seek_unseen.ensures.ends
+    let now = c.visit_tree.new.pages in
+    record {
+      ok = λ told.
+          on_ok_weaker c.seek_unseen.result
+          (λ all. (c.in_ok-seen.ensures.seen told).1
+          (subst (AreAllSeen s owner) c.deref.ensures.value (subst (λ (x : Sheets). AreAllSeen x owner c.deref.result.now) c.visit_tree.ensures.reads.working all)))
+          (c.seek_unseen.ensures.all told);
+      reads = search rules;
+      ends =
+          ends_as g.P.PageView (IsWhole g.P.PageView (IsBplus (g.P.PageView.ground p) c.args.place.now) p)
+          (HasAllSeen g.P.PageView now owner c.deref.result.now) p now c.seek_unseen.new.pages
+          c.seek_unseen.result
+          (c.in_ok-seen.ensures.ends.cause.counted refl) c.visit_tree.ensures.reads.keeps.ground
+          (λ whole. (
+            whole.1.told,
+            subst (λ (x : Sheets). AreAllSeen x owner c.deref.result.now)
+                (sym c.visit_tree.ensures.reads.working)
+                (subst (AreAllSeen s owner) (sym c.deref.ensures.value) ((c.in_ok-seen.ensures.seen whole.1.told).0 whole)),
+          ))
+          c.seek_unseen.ensures.ends;
+      not_full = search rules;
+    }

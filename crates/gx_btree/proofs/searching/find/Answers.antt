@@ -27,7 +27,7 @@ returns-in-Entries-clause-shown g c map holds =
     finding_shape g.P.PageView c.args.place.now c.args.key.now c.args.pages.now c.loop.pages
     c.loop.from c.loop.at
     c.loop.bound c.loop.invariant.1 c.read_kind.new.into shapes.Entries
-    (subst (λ s. Seems s c.read_kind.new.into) c.in-Entries.is e.kind) e.read map holds
+    (subst (λ s. Seems s c.read_kind.new.into) c.in-Entries.is e.shape) e.read map holds
 
 pub returns-in-Entries-clause-found : goal.returns-in-Entries-clause-found
 returns-in-Entries-clause-found g c map holds =
@@ -35,7 +35,7 @@ returns-in-Entries-clause-found g c map holds =
     finding_found g.P.PageView c.args.place.now c.args.key.now c.args.pages.now c.loop.pages
     c.loop.from c.loop.at
     c.loop.bound c.loop.invariant.1 c.read_kind.new.into
-    (subst (λ s. Seems s c.read_kind.new.into) c.in-Entries.is e.kind) e.read map holds
+    (subst (λ s. Seems s c.read_kind.new.into) c.in-Entries.is e.shape) e.read map holds
 
 pub returns-in_default-clause-ends : goal.returns-in_default-clause-ends
 returns-in_default-clause-ends g c =
@@ -47,7 +47,7 @@ returns-in_default-clause-ends g c =
     (e.ends.cause.counted refl)
     (subst (λ x. IsHome x c.block.result) (e.reads.keeps.ground ∙ i.reads.keeps.ground)
     (_, c.block.ensures.home))
-    (subst (λ s. Seems s c.read_kind.new.into) c.in-Inner.is e.kind) e.read c.in_default.ensures
+    (subst (λ s. Seems s c.read_kind.new.into) c.in-Inner.is e.shape) e.read c.in_default.ensures
 
 pub loop-preserved : goal.loop-preserved
 loop-preserved g c =
@@ -58,7 +58,7 @@ loop-preserved g c =
           c.loop.bound c.loop.invariant.1 c.read_kind.new.pages c.read_kind.new.into
           c.in-Some.way.page c.in-Some.way.bound e.reads
           (e.ends.cause.counted refl) e.past
-          (subst (λ s. Seems s c.read_kind.new.into) c.in-Inner.is e.kind) e.read c.in-Some.ensures,
+          (subst (λ s. Seems s c.read_kind.new.into) c.in-Inner.is e.shape) e.read c.in-Some.ensures,
     )
 
 pub returns-clause-ends : goal.returns-clause-ends
