@@ -37,28 +37,38 @@ edit_text None = codes "ok\n"
 edit_text (Some why) = refusal_text (refusal_for why)
 
 -- an edit was carried out on a state that the leaves stand for, or refused
-pub record IsEdit (schema : Schema) (built : Built) (c : Command) (s : State) (new : List LeafMap) (why : Option Refused) : Type 0 where
+pub record IsEdit (schema : Schema) (built : Built) (c : Command) (s : State) (new : List LeafMap)
+    (why : Option Refused) : Type 0 where
   pub why_is : option_map refusal_for why ≡ refusal_of schema s c
   pub stands : AreInternal schema built new (next_state schema s c)
 
 -- what is known of the states that an edit is carried out on
-pub record EditsEach {S : Type 0} (g : Ghosts S) (schema : Schema) (built : Built) (c : Command) (Known : State → Type 0) (old new : S) (result : Result (Option Refused) Stop) : Type 0 where
+pub record EditsEach {S : Type 0} (g : Ghosts S) (schema : Schema) (built : Built) (c : Command)
+    (Known : State → Type 0) (old new : S) (result : Result (Option Refused) Stop) : Type 0 where
   -- it was carried out or refused
-  pub edit : (s : State) → Known s → g.whole old → AreInternal schema built (g.working old) s → IfOk result (IsEdit schema built c s (g.working new))
+  pub edit : (s : State) → Known s → g.whole old → AreInternal schema built (g.working old) s
+      → IfOk result (IsEdit schema built c s (g.working new))
   -- the pages may not be enough for the entries that there are and those of the state after it
-  pub full : (s : State) → Known s → g.whole old → AreInternal schema built (g.working old) s → IsErrOf result stop.Full → IsCrowdedBy (g.limit old) (entry_count (g.working old) + state_entries built (next_state schema s c))
+  pub full : (s : State) → Known s → g.whole old → AreInternal schema built (g.working old) s
+      → IsErrOf result stop.Full
+      → IsCrowdedBy (g.limit old) (entry_count (g.working old)
+      + state_entries built (next_state schema s c))
   -- they are enough for a delete
   pub bringing : IsErrOf result stop.Full → may_bring c ≡ true
   -- they are enough for an edit that is refused
-  pub accepted : (s : State) → Known s → g.whole old → AreInternal schema built (g.working old) s → IsErrOf result stop.Full → refusal_of schema s c ≡ None
+  pub accepted : (s : State) → Known s → g.whole old → AreInternal schema built (g.working old) s
+      → IsErrOf result stop.Full → refusal_of schema s c ≡ None
   pub keeps : Keeps g old new
   pub ends : Ends g (g.whole old × HaveState schema built (g.working old)) old new result
   pub block : (n : ℕ) → IsErrOf result (stop.Damaged n) → g.whole old → n ≡ 0
 
 -- an edit on any state
-abbrev pub Edits : {S : Type 0} → Ghosts S → Schema → Built → Command → S → S → Result (Option Refused) Stop → Type 0
+abbrev pub Edits : {S : Type 0} → Ghosts S → Schema → Built → Command → S → S
+    → Result (Option Refused) Stop → Type 0
 Edits g schema built c old new result = EditsEach g schema built c (λ s. Unit {0}) old new result
 
 -- on one in which the record is no end of a pair
-abbrev pub EditsUnlinked : {S : Type 0} → Ghosts S → Schema → Built → Command → ℕ → (key : Value) → S → S → Result (Option Refused) Stop → Type 0
-EditsUnlinked g schema built c file key old new result = EditsEach g schema built c (λ s. is_linked schema.links s.links file key ≡ false) old new result
+abbrev pub EditsUnlinked : {S : Type 0} → Ghosts S → Schema → Built → Command → ℕ → (key : Value)
+    → S → S → Result (Option Refused) Stop → Type 0
+EditsUnlinked g schema built c file key old new result =
+    EditsEach g schema built c (λ s. is_linked schema.links s.links file key ≡ false) old new result

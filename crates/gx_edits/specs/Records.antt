@@ -20,13 +20,16 @@ use Rattle.gx_model.specs.States.{File}
 use Rattle.gx_model.specs.Commands.{Refusal, changed, updated as updated_file, first_refusal, key_exists, no_record}
 use Rattle.gx_scan.specs.Files.{rec_of, IsInternal, HasFile}
 
--- the working maps after a command on one file: its tree holds the records after it, and all other leaves stay
-pub record IsEdited (file : FileDef) (t : Tree AnyMapping) (old new : List LeafMap) (f : File) : Type 0 where
+-- the working maps after a command on one file: its tree holds the records after it, and all other
+-- leaves stay
+pub record IsEdited (file : FileDef) (t : Tree AnyMapping) (old new : List LeafMap)
+    (f : File) : Type 0 where
   pub stands : IsInternal file t new f
   pub others : (n : ℕ) → ¬ In n (leaves_of t) → map_at new n ≡ map_at old n
 
 -- a command on one file was done, or refused and changed nothing
-pub record IsEditedWhere (file : FileDef) (t : Tree AnyMapping) (old new : List LeafMap) (before : File) (refusal : Option Refusal) (after : File) (why : Option Refused) : Type 0 where
+pub record IsEditedWhere (file : FileDef) (t : Tree AnyMapping) (old new : List LeafMap)
+    (before : File) (refusal : Option Refusal) (after : File) (why : Option Refused) : Type 0 where
   pub why_is : option_map refusal_for why ≡ refusal
   pub edited : IsEdited file t old new (if is_some refusal then before else after)
 

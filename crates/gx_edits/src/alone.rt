@@ -22,8 +22,8 @@ use gx_types::AnyMapping;
 use gx_values::{KeyBuf, Span, Value, Values};
 use std::alloc::Global;
 
-/// Whether the file has a record with this key, by the span of the key. Each of its records has an entry
-/// in the first of the node's own leaves: its values needn't be read.
+/// Whether the file has a record with this key, by the span of the key. Each of its records has an
+/// entry in the first of the node's own leaves: its values needn't be read.
 pub(crate) fn is_there<B: Leaves>(
     alloc: Global,
     file: &FileDef,
@@ -70,8 +70,8 @@ pub(crate) fn take_alone<B: Leaves>(
     leaves.remove(alloc, leaf, span.lo.as_slice())
 }
 
-/// Puts the record of this key, by its bytes, and these data into the only leaf of a node, in the place of
-/// what is there at the key.
+/// Puts the record of this key, by its bytes, and these data into the only leaf of a node, in the
+/// place of what is there at the key.
 pub(crate) fn put_alone<B: Leaves>(
     alloc: Global,
     node: &Node<AnyMapping>,

@@ -18,12 +18,13 @@ use gx_types::Built;
 use gx_values::{Value, Values};
 use std::alloc::Global;
 
-/// Carries out a command that changes records or links, as the abstract database does, or answers why
-/// it is refused. Where it is refused the leaves hold what they held.
+/// Carries out a command that changes records or links, as the abstract database does, or answers
+/// why it is refused. Where it is refused the leaves hold what they held.
 ///
 /// `Full`: the command isn't a delete and isn't refused, and the pages may not be enough for the
-/// entries that there are and those of the state after it. `Damaged`: the leaves stood for no state, which is said of
-/// block 0 where each is whole. `Fault`: the count of faults rose; with any other answer it stays.
+/// entries that there are and those of the state after it. `Damaged`: the leaves stood for no
+/// state, which is said of block 0 where each is whole. `Fault`: the count of faults rose; with any
+/// other answer it stays.
 /// `NoMemory`: an allocation failed. After a stop a part of the change may be made; what was last
 /// committed stays, whatever is answered.
 pub fn edit<B: Leaves>(

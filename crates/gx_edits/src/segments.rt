@@ -64,8 +64,8 @@ fn take_both<B: Leaves>(
     leaves.remove(alloc, first, span.lo.as_slice())
 }
 
-/// Puts the record of this key, by its bytes, and these data into its own leaves, in the place of what is
-/// there at the key. `replaces`: a record is there.
+/// Puts the record of this key, by its bytes, and these data into its own leaves, in the place of
+/// what is there at the key. `replaces`: a record is there.
 pub(crate) fn put_own<B: Leaves>(
     alloc: Global,
     node: &Node<AnyMapping>,
@@ -95,8 +95,8 @@ pub(crate) fn put_own<B: Leaves>(
     }
 }
 
-/// The same in the place of a record with this key. `others_stay`: its values of the second group are those
-/// of the new one.
+/// The same in the place of a record with this key. `others_stay`: its values of the second group
+/// are those of the new one.
 pub(crate) fn put_changed<B: Leaves>(
     alloc: Global,
     node: &Node<AnyMapping>,

@@ -58,8 +58,8 @@ AreTwoLeaves (layer m no_kids) n k = ⊥
 AreTwoLeaves (layer m (kid a no_kids)) n k = ⊥
 AreTwoLeaves (layer m (kid a (kid b ks))) n k = Splits m × IsOnlyLeaf a n × IsOnlyLeaf b k
 
--- each record of the tree has an entry in the first leaf and, where there is a second leaf, may have
--- one in it, and no others
+-- each record of the tree has an entry in the first leaf and, where there is a second leaf, may
+-- have one in it, and no others
 abbrev pub AreOwnLeaves : Tree AnyMapping → ℕ → Option ℕ → Type 0
 AreOwnLeaves t n None = IsOnlyLeaf t n
 AreOwnLeaves t n (Some k) = AreTwoLeaves t n k

@@ -23,11 +23,13 @@ is_on field c = nat_eq c.field field && has_span c.op
 
 -- whether the field's value meets each of those conditions
 abbrev pub meets_on : ℕ → List Cond → Value → Bool
-meets_on field conds v = list_all (λ c. is_met c.op (value_cmp v c.bound)) (filter (is_on field) conds)
+meets_on field conds v =
+    list_all (λ c. is_met c.op (value_cmp v c.bound)) (filter (is_on field) conds)
 
 -- a key that begins with a value of the kind is inside exactly where the value meets them
 abbrev pub HoldsAllMet : Kind → ℕ → List Cond → Span → Type 0
-HoldsAllMet kind field conds span = (v : Value) (rest : List ℕ) → Fits kind v → is_inside span.lo span.hi (bytes_of v ++ rest) ≡ meets_on field conds v
+HoldsAllMet kind field conds span = (v : Value) (rest : List ℕ) → Fits kind v
+    → is_inside span.lo span.hi (bytes_of v ++ rest) ≡ meets_on field conds v
 
 -- ---- the two ends
 

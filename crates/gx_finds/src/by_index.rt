@@ -31,8 +31,8 @@ use gx_types::AnyMapping;
 use gx_values::NoMemory;
 use std::alloc::Global;
 
-/// Whether each field of a file is indexed in its node, by the number of the field. `NoMemory`: there was
-/// none for it.
+/// Whether each field of a file is indexed in its node, by the number of the field. `NoMemory`:
+/// there was none for it.
 pub fn indexed_fields(
     alloc: Global,
     file: &FileDef,
@@ -49,9 +49,9 @@ pub fn indexed_fields(
     Ok(indexed)
 }
 
-/// Appends the records that meet the conditions to none, in any order. One of the conditions is on an
-/// indexed field: the index says whose value is inside the span of all conditions on it, and each of these
-/// records is tested for all conditions.
+/// Appends the records that meet the conditions to none, in any order. One of the conditions is on
+/// an indexed field: the index says whose value is inside the span of all conditions on it, and
+/// each of these records is tested for all conditions.
 pub(crate) fn add_by_index<B: Leaves>(
     alloc: Global,
     file: &FileDef,
@@ -68,7 +68,8 @@ pub(crate) fn add_by_index<B: Leaves>(
     requires there { In cond.now conds.now }
     requires past_key { 0 < cond.now.field }
     requires op { cond.now.op ≢ op.Unequal }
-    requires indexed { is_indexed any_rule (tree_of node.now) (field_at file.now cond.now.field).name ≡ true }
+    requires indexed { is_indexed any_rule (tree_of node.now)
+        (field_at file.now cond.now.field).name ≡ true }
     requires none { rows.old.items ≡ [] }
     ensures those { (f : FileMap) → B.whole leaves.old →
         IsInternal file.now (tree_of node.now) (B.working leaves.old) f → OnOk result
@@ -77,7 +78,8 @@ pub(crate) fn add_by_index<B: Leaves>(
         IsInternal file.now (tree_of node.now) (B.working leaves.old) f →
         HaveAtMost most (tree_of node.now) f → OnOk result
         (B.work leaves.new
-        ≤ B.work leaves.old + ((length (rows_meeting (Some cond.now) f) + 1) * length (leaves_of (tree_of node.now))
+        ≤ B.work leaves.old
+        + ((length (rows_meeting (Some cond.now) f) + 1) * length (leaves_of (tree_of node.now))
         + 2 * (length (rows_meeting (Some cond.now) f) * most))) }
     ensures reads { ReadsMaps B.View
         (B.whole leaves.old × HasFile file.now (tree_of node.now) (B.working leaves.old))

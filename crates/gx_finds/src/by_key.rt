@@ -33,9 +33,9 @@ pub fn condition_at(find: &Find, number: u16) -> &Cond
     &find.conds.0[usize::from(number)]
 }
 
-/// Appends the records that meet the conditions to none, in any order. One of the conditions is on the
-/// key: the records whose key is inside the span of all conditions on it are looked at, and each of them is
-/// tested for all conditions.
+/// Appends the records that meet the conditions to none, in any order. One of the conditions is on
+/// the key: the records whose key is inside the span of all conditions on it are looked at, and
+/// each of them is tested for all conditions.
 pub(crate) fn add_by_key<B: Leaves>(
     alloc: Global,
     file: &FileDef,

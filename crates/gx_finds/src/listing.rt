@@ -62,8 +62,8 @@ pub fn found_text<B: Leaves>(
     Ok(records_text(alloc, file, &rows)?)
 }
 
-// Appends the records that meet the conditions to none, in any order. The plan says which records are
-// looked at, and each of them is tested for all conditions.
+// Appends the records that meet the conditions to none, in any order. The plan says which records
+// are looked at, and each of them is tested for all conditions.
 fn add_found<B: Leaves>(
     alloc: Global,
     file: &FileDef,

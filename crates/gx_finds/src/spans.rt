@@ -16,8 +16,8 @@ use gx_scan::whole_span;
 use gx_schema::FileDef;
 use gx_values::{KeyBuf, Kind, Op, Span, span};
 
-/// The span of the values of a field that meet all conditions on it, but for those by `<>`. `None`: no
-/// value meets them all.
+/// The span of the values of a field that meet all conditions on it, but for those by `<>`. `None`:
+/// no value meets them all.
 pub(crate) fn span_of_conditions(file: &FileDef, field: u16, conds: &[Cond]) -> Option<Span>
     requires in_file { field < length file.now.fields }
     requires kind { IsSpanKind (field_at file.now field).kind }
@@ -53,8 +53,8 @@ fn has_span_on(field: u16, cond: &Cond) -> bool
     cond.field == field && !matches!(cond.op, Op::Unequal)
 }
 
-// Makes this the span of the values that meet a condition. That of one value is written where it stands,
-// as most conditions on a key are by `=`. `None`: no value meets the condition.
+// Makes this the span of the values that meet a condition. That of one value is written where it
+// stands, as most conditions on a key are by `=`. `None`: no value meets the condition.
 fn set_span(one: &mut Span, kind: Kind, cond: &Cond) -> Option<()>
     requires kind { IsSpanKind kind }
     requires fits { Fits kind cond.now.bound }
@@ -96,8 +96,8 @@ fn raise_low(low: &mut KeyBuf, other: &KeyBuf)
     }
 }
 
-// Makes an upper end the one of the two that lets fewer keys through. All that begin with an end are let
-// through, so an end is after each longer one that begins with it.
+// Makes an upper end the one of the two that lets fewer keys through. All that begin with an end
+// are let through, so an end is after each longer one that begins with it.
 fn lower_high(high: &mut KeyBuf, other: &KeyBuf)
     ensures one { (high.new ≡ high.old) ⊎ (high.new ≡ other.now) }
     ensures both { (key : List ℕ) → is_up_to high.new key

@@ -6,8 +6,11 @@ use Rattle.gx_hash.specs.Buckets.{bucket_of}
 
 -- each key inside the span has this bucket, where there is one
 abbrev pub IsOnlyBucket : LeafSpec → List ℕ → List ℕ → Option ℕ → Type 0
-IsOnlyBucket spec lo hi bucket = MatchOption bucket (Unit {0}) (λ b. (key : List ℕ) → is_inside lo hi key ≡ true → bucket_of spec key ≡ b)
+IsOnlyBucket spec lo hi bucket =
+    MatchOption bucket (Unit {0}) (λ b. (key : List ℕ) → is_inside lo hi key ≡ true
+    → bucket_of spec key ≡ b)
 
 -- each key inside the span has a bucket from one up to another
 abbrev pub HaveBuckets : LeafSpec → List ℕ → List ℕ → ℕ → ℕ → Type 0
-HaveBuckets spec lo hi from end = (key : List ℕ) → is_inside lo hi key ≡ true → (from ≤ bucket_of spec key) × (bucket_of spec key < end)
+HaveBuckets spec lo hi from end = (key : List ℕ) → is_inside lo hi key ≡ true
+    → (from ≤ bucket_of spec key) × (bucket_of spec key < end)

@@ -10,13 +10,18 @@ use Rattle.gx_chain.specs.Chain.{IsChain, IsOn}
 use Rattle.gx_chain.specs.Chains.{IsOfChain, IsOnChain}
 use Rattle.gx_hash.specs.Buckets.{bucket_of}
 
--- The pages of the owner are those of one chain from each root on, each once. An entry stands in the chain of its bucket, and the map
--- is the union of the entries.
+-- The pages of the owner are those of one chain from each root on, each once. An entry stands in
+-- the chain of its bucket, and the map is the union of the entries.
 pub record IsHash (ground : Ground) (place : Place) (sheets : Sheets) (map : LeafMap) : Type 0 where
   -- those of each chain
   pub pages : ℕ → List ℕ
-  pub chains : (bucket : ℕ) → bucket < roots_of place.spec → IsChain ground place.owner sheets (place.root + bucket) (pages bucket)
-  pub once : (bucket other page : ℕ) → bucket < roots_of place.spec → other < roots_of place.spec → Contains (pages bucket) page → Contains (pages other) page → bucket ≡ other
-  pub owned : (page : ℕ) → slice_get sheets.owners page ≡ Some place.owner → IsOfChain pages (roots_of place.spec) page
-  pub placed : (bucket : ℕ) (key body : List ℕ) → bucket < roots_of place.spec → IsOn sheets (pages bucket) key body → bucket_of place.spec key ≡ bucket
-  pub map_is : (key body : List ℕ) → (get map key ≡ Some body) ↔ IsOnChain sheets pages (roots_of place.spec) key body
+  pub chains : (bucket : ℕ) → bucket < roots_of place.spec
+      → IsChain ground place.owner sheets (place.root + bucket) (pages bucket)
+  pub once : (bucket other page : ℕ) → bucket < roots_of place.spec → other < roots_of place.spec
+      → Contains (pages bucket) page → Contains (pages other) page → bucket ≡ other
+  pub owned : (page : ℕ) → slice_get sheets.owners page ≡ Some place.owner
+      → IsOfChain pages (roots_of place.spec) page
+  pub placed : (bucket : ℕ) (key body : List ℕ) → bucket < roots_of place.spec
+      → IsOn sheets (pages bucket) key body → bucket_of place.spec key ≡ bucket
+  pub map_is : (key body : List ℕ) → (get map key ≡ Some body)
+      ↔ IsOnChain sheets pages (roots_of place.spec) key body

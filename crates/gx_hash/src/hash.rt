@@ -32,8 +32,8 @@ pub fn make<P: Pages>(pages: &mut P, place: &Place) -> Result<(), Failed>
 }
 
 /// Sets one pair, of a key of at most `MAX_KEY_LEN` bytes, with its body at most `MAX_ENTRY_LEN`.
-/// `Full`: no page past the table is free. `Damaged`: no whole file stands there. `Fault`: the pages
-/// are to be opened again. After a refusal the pages of this owner may hold anything.
+/// `Full`: no page past the table is free. `Damaged`: no whole file stands there. `Fault`: the
+/// pages are to be opened again. After a refusal the pages of this owner may hold anything.
 pub fn put<P: Pages>(pages: &mut P, place: &Place, key: &[u8], body: &[u8]) -> Result<(), Stop>
     requires kind { IsHashed place.now.spec.kind }
     requires place { IsPlace (P.ground pages.old) place.now }
@@ -62,8 +62,8 @@ pub fn remove<P: Pages>(pages: &mut P, place: &Place, key: &[u8]) -> Result<(), 
 
 /// Appends the entries inside the span, in ascending order of their keys. One chain is read where
 /// both ends of the span have the same whole front, otherwise all are. `Damaged`: no whole file
-/// stands there. `Fault`: a page couldn't be read. `NoMemory`: there was none for the entries. After
-/// a refusal `out` may hold more than before.
+/// stands there. `Fault`: a page couldn't be read. `NoMemory`: there was none for the entries.
+/// After a refusal `out` may hold more than before.
 pub fn select<P: Pages>(
     alloc: Global,
     pages: &mut P,
@@ -81,9 +81,9 @@ pub fn select<P: Pages>(
     Ok(())
 }
 
-/// Looks whether the file is whole. Each page of its chains is read once. `Damaged` has the block of
-/// a page that shows that it isn't. `Fault`: a page couldn't be read. `NoMemory`: there was none for
-/// a flag for each page and the keys of one chain.
+/// Looks whether the file is whole. Each page of its chains is read once. `Damaged` has the block
+/// of a page that shows that it isn't. `Fault`: a page couldn't be read. `NoMemory`: there was none
+/// for a flag for each page and the keys of one chain.
 pub fn check<P: Pages>(alloc: Global, pages: &mut P, place: &Place) -> Result<(), Stop>
     requires kind { IsHashed place.now.spec.kind }
     requires place { IsPlace (P.ground pages.old) place.now }

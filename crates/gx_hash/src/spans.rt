@@ -15,8 +15,8 @@ use gx_ports::{Entry, Pages, Place, Stop};
 use gx_values::Span;
 use std::alloc::Global;
 
-/// The entries inside the span, one chain after the other. Only the chain in which all of them stand
-/// is read, where the span shows which it is.
+/// The entries inside the span, one chain after the other. Only the chain in which all of them
+/// stand is read, where the span shows which it is.
 pub(crate) fn gather_inside<P: Pages>(
     alloc: Global,
     pages: &mut P,

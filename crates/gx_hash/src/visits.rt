@@ -74,7 +74,8 @@ fn visit_bucket<P: Pages>(
 // Whether all keys have the bucket.
 fn are_placed(place: &Place, number: u32, keys: &BTreeSet<Vec<u8>>) -> bool
     requires { IsHashed place.now.spec.kind }
-    ensures { result ≡ list_all (λ key. bucket_of place.now.spec key.items == number) keys.now.keys }
+    ensures { result ≡ list_all (λ key. bucket_of place.now.spec key.items
+        == number) keys.now.keys }
 {
     keys.iter().all(|key| bucket(place, key) == number)
 }

@@ -7,7 +7,8 @@ use Rattle.gx_ports.specs.LeafMaps.{LeafMap}
 use Rattle.gx_ports.specs.Sheets.{Sheets, Ground}
 use Rattle.gx_chain.specs.Chain.{IsChain, IsOn}
 
--- The pages of the owner are those of one chain from the root on, and the map is the union of the entries on them.
+-- The pages of the owner are those of one chain from the root on, and the map is the union of the
+-- entries on them.
 pub record IsHeap (ground : Ground) (place : Place) (sheets : Sheets) (map : LeafMap) : Type 0 where
   pub pages : List ℕ
   pub chain : IsChain ground place.owner sheets place.root pages

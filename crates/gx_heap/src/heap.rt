@@ -12,8 +12,8 @@ use gx_ports::{Entries, Pages, Place, Stop};
 use gx_values::Span;
 use std::alloc::Global;
 
-/// Makes an empty heap at a place whose root is free and whose owner has no page. After `Failed` the pages
-/// are to be opened again.
+/// Makes an empty heap at a place whose root is free and whose owner has no page. After `Failed`
+/// the pages are to be opened again.
 pub fn make<P: Pages>(pages: &mut P, place: &Place) -> Result<(), Failed>
     requires kind { place.now.spec.kind ≡ kinds.Heap }
     requires place { IsPlace (P.ground pages.old) place.now }
@@ -23,8 +23,9 @@ pub fn make<P: Pages>(pages: &mut P, place: &Place) -> Result<(), Failed>
     make_first(pages, place.root, place.owner)
 }
 
-/// Sets one pair, of a key of at most `MAX_KEY_LEN` bytes, with its body at most `MAX_ENTRY_LEN`. After a
-/// refusal the pages of this owner may hold anything. After `Fault` the pages are to be opened again.
+/// Sets one pair, of a key of at most `MAX_KEY_LEN` bytes, with its body at most `MAX_ENTRY_LEN`.
+/// After a refusal the pages of this owner may hold anything. After `Fault` the pages are to be
+/// opened again.
 pub fn put<P: Pages>(pages: &mut P, place: &Place, key: &[u8], body: &[u8]) -> Result<(), Stop>
     requires kind { place.now.spec.kind ≡ kinds.Heap }
     requires place { IsPlace (P.ground pages.old) place.now }
@@ -36,8 +37,8 @@ pub fn put<P: Pages>(pages: &mut P, place: &Place, key: &[u8], body: &[u8]) -> R
     put_in(pages, place.root, place.owner, key, body)
 }
 
-/// Takes the pair at a key of at most `MAX_KEY_LEN` bytes away; a key that isn't there changes nothing.
-/// Refusals leave what those of `put` leave.
+/// Takes the pair at a key of at most `MAX_KEY_LEN` bytes away; a key that isn't there changes
+/// nothing. Refusals leave what those of `put` leave.
 pub fn remove<P: Pages>(pages: &mut P, place: &Place, key: &[u8]) -> Result<(), Stop>
     requires kind { place.now.spec.kind ≡ kinds.Heap }
     requires place { IsPlace (P.ground pages.old) place.now }
@@ -48,8 +49,8 @@ pub fn remove<P: Pages>(pages: &mut P, place: &Place, key: &[u8]) -> Result<(), 
     remove_from(pages, place.root, place.owner, key)
 }
 
-/// Appends the entries inside the span, in ascending order of their keys. After a refusal `out` may hold
-/// more than before.
+/// Appends the entries inside the span, in ascending order of their keys. After a refusal `out` may
+/// hold more than before.
 pub fn select<P: Pages>(
     alloc: Global,
     pages: &mut P,

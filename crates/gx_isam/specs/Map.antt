@@ -7,4 +7,6 @@ use Rattle.gx_chain.specs.Map.{owned_map}
 
 -- that of the pages of the owner but for the root
 abbrev pub isam_map : Place → Sheets → LeafMap
-isam_map place sheets = owned_map place.owner (record { owners = slice_set sheets.owners place.root 0; bytes = sheets.bytes })
+isam_map place sheets =
+    owned_map place.owner
+    (record { owners = slice_set sheets.owners place.root 0; bytes = sheets.bytes })

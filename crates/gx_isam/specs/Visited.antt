@@ -13,26 +13,33 @@ pub record ArePlaced (index : List ℕ) (sheets : Sheets) (bucket : ℕ) (pages 
   pub placed : HaveBucket (bucket_of index) sheets bucket pages
   pub filled : (page : ℕ) → Contains pages page → entries_at sheets page ≢ []
 
--- One chain with the keys of the bucket stands there, and its pages are marked beside those that were marked before.
+-- One chain with the keys of the bucket stands there, and its pages are marked beside those that
+-- were marked before.
 abbrev pub IsVisitedBucket : Ground → ℕ → Sheets → List ℕ → ℕ → List Bool → List Bool → Type 0
-IsVisitedBucket the_ground owner sheets index bucket = IsPlacedChain the_ground owner sheets (first_of index bucket) (ArePlaced index sheets bucket)
+IsVisitedBucket the_ground owner sheets index bucket =
+    IsPlacedChain the_ground owner sheets (first_of index bucket) (ArePlaced index sheets bucket)
 
 -- the pages tell what the device holds, and such a chain stands there of which no page is marked
 abbrev pub HasUnseenBucket : {S : Type 0} → Ghosts S → S → ℕ → List ℕ → ℕ → List Bool → Type 0
-HasUnseenBucket g p owner index bucket = HasPlacedChain g p owner (first_of index bucket) (ArePlaced index (g.working p) bucket)
+HasUnseenBucket g p owner index bucket =
+    HasPlacedChain g p owner (first_of index bucket) (ArePlaced index (g.working p) bucket)
 
 -- the chains of the first buckets were visited, and their pages are marked
 abbrev pub AreVisitedBuckets : Ground → ℕ → Sheets → List ℕ → ℕ → List Bool → Type 0
-AreVisitedBuckets the_ground owner sheets index = ArePlacedChains the_ground owner sheets (first_of index) (ArePlaced index sheets)
+AreVisitedBuckets the_ground owner sheets index =
+    ArePlacedChains the_ground owner sheets (first_of index) (ArePlaced index sheets)
 
 -- the owner has the root, and each other page that it has is marked
 pub record IsRootAndSeen (sheets : Sheets) (owner root : ℕ) (seen : List Bool) : Type 0 where
   pub root_owned : slice_get sheets.owners root ≡ Some owner
-  pub others : (page : ℕ) → slice_get sheets.owners page ≡ Some owner → (page ≡ root) ⊎ (slice_get seen page ≡ Some true)
+  pub others : (page : ℕ) → slice_get sheets.owners page ≡ Some owner
+      → (page ≡ root) ⊎ (slice_get seen page ≡ Some true)
 
 abbrev pub HasRootAndSeen : {S : Type 0} → Ghosts S → S → ℕ → ℕ → List Bool → Type 0
 HasRootAndSeen g p owner root seen = IsTrue g.tells × IsRootAndSeen (g.working p) owner root seen
 
 -- the pages tell what the device holds, and an entry page with an entry stands there
 abbrev pub HasEntryAt : {S : Type 0} → Ghosts S → S → ℕ → Type 0
-HasEntryAt g p page = IsTrue g.tells × IsEntryPage (bytes_at (g.working p) page) × (entries_at (g.working p) page ≢ [])
+HasEntryAt g p page =
+    IsTrue g.tells × IsEntryPage (bytes_at (g.working p) page)
+    × (entries_at (g.working p) page ≢ [])
