@@ -1,13 +1,9 @@
 -- Values in two groups.
-use Rattle.std.proofs.Common.{◌≡◌, ℕ, zero, suc, ◌+◌, ◌-◌, ◌<◌, List, [], ◌∷◌, ◌++◌, length, map, get_or, set, drop, Bool, true, false, cond, refl, sym, ap, subst, ◌∙◌, arith, append_assoc, append-nil}
-use Rattle.std.specs.Prelude.{not, slice_set}
-use Rattle.std.specs.List.{AllByRecursion}
-use Rattle.std.proofs.lemmas.Bool.{true≢false}
+use Rattle.std.proofs.Common.{◌≡◌, ℕ, zero, suc, ◌+◌, ◌-◌, ◌<◌, List, [], ◌∷◌, ◌++◌, length, map, get_or, drop, Bool, true, false, cond, refl, sym, ap, ◌∙◌, arith, append_assoc, append-nil}
+use Rattle.std.specs.Prelude.{not}
 use Rattle.std.proofs.lemmas.List.{drop_more}
 use Rattle.gx_values.specs.declared.values.Value.{Value}
 use Rattle.gx_split.specs.Groups.{chosen}
-use Rattle.gx_commands.specs.declared.command.Change.{Change}
-use Rattle.gx_model.specs.Commands.{changed}
 
 pub chosen_none : (mask : List Bool) → chosen {A = Value} mask [] ≡ []
 chosen_none [] = refl
@@ -46,21 +42,3 @@ chosen_lengths (b ∷ mask) [] (y ∷ ys) same = absurd (omega (arith, same))
 chosen_lengths (b ∷ mask) (x ∷ xs) [] same = absurd (omega (arith, same))
 chosen_lengths (true ∷ mask) (x ∷ xs) (y ∷ ys) same = ap suc (chosen_lengths mask xs ys (omega (arith, same)))
 chosen_lengths (false ∷ mask) (x ∷ xs) (y ∷ ys) same = chosen_lengths mask xs ys (omega (arith, same))
-
--- ---- changes of fields of the first group
-
-chosen_set : (mask : List Bool) (vs : List Value) (i : ℕ) (v : Value) → get_or mask i false ≡ true → chosen (map not mask) (set vs i v) ≡ chosen (map not mask) vs
-chosen_set [] vs i v here = refl
-chosen_set (b ∷ mask) [] i v here = refl
-chosen_set (true ∷ mask) (w ∷ vs) zero v here = refl
-chosen_set (false ∷ mask) (w ∷ vs) zero v here = absurd (true≢false (sym here))
-chosen_set (true ∷ mask) (w ∷ vs) (suc i) v here = chosen_set mask vs i v here
-chosen_set (false ∷ mask) (w ∷ vs) (suc i) v here = ap (λ (ws : List Value). w ∷ ws) (chosen_set mask vs i v here)
-
-pub others_same : (mask : List Bool) (cs : List Change) (vs : List Value) → AllByRecursion (λ (c : Change). get_or mask (c.field - 1) false ≡ true) cs → chosen (map not mask) (changed vs cs) ≡ chosen (map not mask) vs
-others_same mask [] vs all = refl
-others_same mask (c ∷ cs) vs all = others_same mask cs (slice_set vs (c.field - 1) c.value) all.1 ∙ chosen_set mask vs (c.field - 1) c.value all.0
-
--- a change more is of the first group
-pub all_more : (P : Change → Type 0) (cs : List Change) (i : ℕ) (c : Change) → i < length cs → c ≡ get_or cs i c → P c → (AllByRecursion P (drop i cs) → AllByRecursion P cs) → AllByRecursion P (drop (i + 1) cs) → AllByRecursion P cs
-all_more P cs i c lt is here before rest = before (subst (AllByRecursion P) (sym (drop_more cs i c lt ∙ ap (λ (d : Change). d ∷ drop (i + 1) cs) (sym is))) (here, rest))

@@ -8,4 +8,5 @@ mod BodyLemmas
 mod GroupLemmas
 mod PlainLemmas
 mod SegmentLemmas
+mod FirstGroupLemmas
 mod HomeLemmas

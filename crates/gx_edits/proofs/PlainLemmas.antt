@@ -18,9 +18,9 @@ use Rattle.gx_stack.specs.Seen.{tree_of}
 use Rattle.gx_types.specs.declared.any.AnyMapping.{AnyMapping}
 use Rattle.gx_types.specs.declared.any.AnyMapping.TheVariants as any
 use Rattle.gx_types.specs.Any.{any_rule}
-use Rattle.gx_edits.specs.Alone.{IsActual, IsPlain, AreTwoLeaves, AreDataOf, IsOnlyBody, IsFirstBody, AreBodies, others_of}
+use Rattle.gx_edits.specs.Alone.{IsActual, IsPlain, AreTwoLeaves, AreDataOf, IsOnlyBody, AreBodies, others_of}
 use Rattle.gx_edits.proofs.AloneLemmas.{one_entry}
-use Rattle.gx_edits.proofs.SegmentLemmas.{IsOtherBody, first_ready, second_ready, node_bodies, node_first, read_second, two_kids}
+use Rattle.gx_edits.proofs.SegmentLemmas.{IsOtherBody, first_ready, second_ready, node_bodies, read_second, two_kids}
 
 -- ---- such a tree
 
@@ -77,9 +77,6 @@ module _ (node : Node AnyMapping) (l : LayerNode AnyMapping) (is : node ≡ node
       of_each : (o : Option (List Value)) → o ≡ others_of x fields → IfSome o (AllByRecursion HasLength)
       of_each None o_is = tt
       of_each (Some vs) o_is = plain_lengths (tree_of w) plain vs (second_ready node l is x seg fields valid has w vs read o_is).1
-
-  pub plain_first : (q : Node AnyMapping) (body : List ℕ) → q ≡ get_or l.kids.items 0 q → IsPlain (tree_of q) → body ≡ body_of (chosen x.mask fields) → IsFirstBody (tree_of node) fields body
-  plain_first q body read plain body_is = node_first node l is x seg fields valid has q body read (subst (IsOnlyBody (tree_of q) (chosen x.mask fields)) (sym body_is) (plain_only (tree_of q) plain (chosen x.mask fields)))
 
   pub plain_both : (n k : ℕ) → AreTwoLeaves (tree_of node) n k → (q w : Node AnyMapping) (body : List ℕ) (other : Option (List ℕ)) → q ≡ get_or l.kids.items 0 q → w ≡ get_or l.kids.items 1 w → IsPlain (tree_of q) → IsPlain (tree_of w)
       → body ≡ body_of (chosen x.mask fields) → other ≡ option_map body_of (others_of x fields) → AreBodies (tree_of node) fields body other

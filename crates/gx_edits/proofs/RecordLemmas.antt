@@ -128,7 +128,7 @@ delete_edit file t old new f k before o valid is was held others = record {
 pub updated_is : (f : File) (k : Value) (cs : List Change) (vs after : List Value) → Some vs ≡ fin.get f k → after ≡ changed vs cs → fin.insert f k after ≡ updated f k cs
 updated_is f k cs vs after there e = ap (fin.insert f k) e ∙ ap (λ (o : Option (List Value)). fin.insert f k (changed (unwrap_or o []) cs)) there
 
-are_set_value : (fs : List Field) (vs : List Value) (i : ℕ) (d : Field) (v : Value) → AreFit fs vs → i < length fs → Fits (get_or fs i d).kind v → AreFit fs (set vs i v)
+pub are_set_value : (fs : List Field) (vs : List Value) (i : ℕ) (d : Field) (v : Value) → AreFit fs vs → i < length fs → Fits (get_or fs i d).kind v → AreFit fs (set vs i v)
 are_set_value [] vs i d v are lt is = absurd (omega arith)
 are_set_value (f ∷ fs) [] i d v are lt is = absurd are
 are_set_value (f ∷ fs) (w ∷ vs) zero d v are lt is = (is, are.1)
@@ -152,7 +152,7 @@ changed_more vs now cs i c v lt is so_far same =
     (λ j. set (so_far j) (c.field - 1) (same j)) ∙ ap (λ (d : Change). set (changed vs (take i cs)) (d.field - 1) d.value) is ∙ sym (changed_last vs cs i c lt) ∙ ap (λ n. changed vs (take n cs)) (let e : suc i ≡ i + 1 = omega arith in e)
 
 -- the field of a change among those other than the key
-data_field : (fs : List Field) (n : ℕ) (v : Value) → 0 < n → n < length fs → Fits (get_or fs n no_field).kind v → (n - 1 < length (drop 1 fs)) × Fits (get_or (drop 1 fs) (n - 1) no_field).kind v
+pub data_field : (fs : List Field) (n : ℕ) (v : Value) → 0 < n → n < length fs → Fits (get_or fs n no_field).kind v → (n - 1 < length (drop 1 fs)) × Fits (get_or (drop 1 fs) (n - 1) no_field).kind v
 data_field [] n v some lt is = absurd (omega arith)
 data_field (f ∷ fs) zero v some lt is = absurd (omega arith)
 data_field (f ∷ fs) (suc n) v some lt is = (omega arith, subst (λ m. Fits (get_or fs m no_field).kind v) (let e : n ≡ suc n - 1 = omega arith in e) is)

@@ -17,7 +17,7 @@ use Rattle.gx_mapping.specs.declared.parts.Part.{Part}
 use Rattle.gx_mapping.specs.Rule.{In, IsOf}
 use Rattle.gx_split.specs.declared.layer.Segment.{Segment}
 use Rattle.gx_split.specs.Groups.{chosen, are_default}
-use Rattle.gx_split.specs.SegmentRules.{is_short, other_part}
+use Rattle.gx_split.specs.SegmentRules.{is_short, mask_of, other_part}
 use Rattle.gx_stack.specs.declared.entries.LeafEntry.{LeafEntry}
 use Rattle.gx_stack.specs.declared.node.Node.{Node}
 use Rattle.gx_stack.specs.declared.node.LayerNode.{LayerNode}
@@ -32,7 +32,8 @@ use Rattle.gx_gather.proofs.Lists.{in_each, in_left, in_right, none_some, some_s
 use Rattle.gx_types.specs.declared.any.AnyMapping.{AnyMapping}
 use Rattle.gx_types.specs.declared.any.AnyMapping.TheVariants as any
 use Rattle.gx_types.specs.Any.{any_rule, any_laws}
-use Rattle.gx_edits.specs.Alone.{IsOnlyLeaf, Splits, AreTwoLeaves, AreOwnLeaves, AreDataOf, IsOnlyBody, IsFirstBody, AreBodies, other_entry, others_of, others_in, others_below, Puts, HasOthersIf}
+use Rattle.gx_scan.specs.Groups.{mask_in}
+use Rattle.gx_edits.specs.Alone.{IsOnlyLeaf, Splits, AreTwoLeaves, AreOwnLeaves, AreDataOf, IsOnlyBody, AreBodies, other_entry, others_of, Puts}
 use Rattle.gx_edits.proofs.AloneLemmas.{only_in_tree, body_in, one_entry, one_of, HasOwn, only_has, own_removed, own_put}
 
 -- ---- the entries of a record
@@ -58,6 +59,15 @@ segment_entries x a b ks r = ap (λ (es : List LeafEntry). entries_of any_rule a
     rest : (s : Bool) → flat_map (λ (p : Part). kid_entries any_rule (kid a (kid b ks)) p.child p.rec) (cond s [] (other_part x.mask r ∷ [])) ≡ cond s [] (entries_of any_rule b (other_rec x r))
     rest true = refl
     rest false = append-nil (entries_of any_rule b (other_rec x r))
+
+-- the values of the second group of such a layer, and of such a tree
+abbrev pub others_below : AnyMapping → List Value → List Value
+others_below (any.Segment m) fields = chosen (map not (mask_of m)) fields
+others_below _ fields = []
+
+abbrev pub others_in : Tree AnyMapping → List Value → List Value
+others_in (leaf i form) fields = []
+others_in (layer m ks) fields = others_below m fields
 
 -- the body of the second entry, by the values of the second group
 abbrev other_body : Tree AnyMapping → List Value → Option (List ℕ)
@@ -154,11 +164,36 @@ segment_bodies x a b ks fields rest body other rest_is first second = λ n k key
     more k key only false (Some values) (Some body) is has =
         ap (λ (vs : List Value). entries_of any_rule b (record { key = key; fields = vs })) (sym (some_same values (chosen (map not x.mask) fields) is)) ∙ has k key only
 
-segment_first : (x : Segment) (a b : Tree AnyMapping) (ks : Kids AnyMapping) (fields : List Value) (body : List ℕ) → IsOnlyBody a (chosen x.mask fields) body → IsFirstBody (layer (any.Segment x) (kid a (kid b ks))) fields body
-segment_first x a b ks fields body first = λ n k key two.
-    let r : Rec = record { key = key; fields = fields } in
-    let e : LeafEntry = record { leaf = n; key = key_of key; body = body } in
-    subst (In e) (sym (segment_entries x a b ks r)) (in_left e (entries_of any_rule a (first_rec x r)) (cond (is_short x.mask x.form r) [] (entries_of any_rule b (other_rec x r))) (subst (In e) (sym (first n key two.1)) (inl refl)))
+-- the first entry of a record
+first_among : (x : Segment) (a b : Tree AnyMapping) (ks : Kids AnyMapping) (n : ℕ) (r : Rec)
+    (body : List ℕ) → IsOnlyLeaf a n → IsOnlyBody a (chosen x.mask r.fields) body
+    → In (record { leaf = n; key = key_of r.key; body = body })
+    (entries_of any_rule (layer (any.Segment x) (kid a (kid b ks))) r)
+first_among x a b ks n r body only is =
+    let e : LeafEntry = record { leaf = n; key = key_of r.key; body = body } in
+    subst (In e) (sym (segment_entries x a b ks r))
+    (in_left e (entries_of any_rule a (first_rec x r))
+    (cond (is_short x.mask x.form r) [] (entries_of any_rule b (other_rec x r)))
+    (subst (In e) (sym (is n r.key only)) (inl refl)))
+
+-- what is known of a layer that splits, by its mask
+pub record IsSplitBy (m : AnyMapping) (a b : Tree AnyMapping) (ks : Kids AnyMapping)
+    (mask : List Bool) : Type 0 where
+  pub first : (n : ℕ) (r : Rec) (body : List ℕ) → IsOnlyLeaf a n
+      → IsOnlyBody a (chosen mask r.fields) body
+      → In (record { leaf = n; key = key_of r.key; body = body })
+      (entries_of any_rule (layer m (kid a (kid b ks))) r)
+  pub others : (vs : List Value) → others_in (layer m (kid a (kid b ks))) vs
+      ≡ chosen (map not mask) vs
+
+pub split_by : (m : AnyMapping) (a b : Tree AnyMapping) (ks : Kids AnyMapping) → Splits m
+    → IsSplitBy m a b ks (mask_in m)
+split_by m a b ks splits =
+    let split = split_of m splits in
+    subst (λ (y : AnyMapping). IsSplitBy y a b ks (mask_in y)) (sym split.1) (record {
+      first = first_among split.0 a b ks;
+      others = λ vs. refl;
+    })
 
 pub read_second : (ks : List (Node AnyMapping)) (w z : Node AnyMapping) → 1 < length ks → w ≡ get_or ks 1 w → z ≡ get_or ks 1 z → w ≡ z
 read_second [] w z lt is_w is_z = absurd (omega arith)
@@ -225,24 +260,10 @@ module _ (node : Node AnyMapping) (l : LayerNode AnyMapping) (is : node ≡ node
             subst (λ (c : AnyMapping). AreBodies (layer c (kid (tree_of y) (kid (tree_of z) (kids_from (map tree_of ks))))) fields body other) (sym e)
             (segment_bodies x (tree_of y) (tree_of z) (kids_from (map tree_of ks)) fields rest body other rest_is (subst (λ (c : Node AnyMapping). IsOnlyBody (tree_of c) (chosen x.mask fields) body) read first) (second z refl))
 
-    pub node_first : (q : Node AnyMapping) (body : List ℕ) → q ≡ get_or l.kids.items 0 q → IsOnlyBody (tree_of q) (chosen x.mask fields) body → IsFirstBody (tree_of node) fields body
-    node_first q body read first = subst (λ (t : Tree AnyMapping). IsFirstBody t fields body) (sym (seen_layer node l is)) (seen l.mapping l.kids.items seg read)
-      where
-        seen : (m : AnyMapping) (ks : List (Node AnyMapping)) → m ≡ any.Segment x → q ≡ get_or ks 0 q → IsFirstBody (layer m (kids_from (map tree_of ks))) fields body
-        seen m [] e read = λ n k key two. absurd two
-        seen m (y ∷ []) e read = λ n k key two. absurd two
-        seen m (y ∷ z ∷ ks) e read =
-            subst (λ (c : AnyMapping). IsFirstBody (layer c (kid (tree_of y) (kid (tree_of z) (kids_from (map tree_of ks))))) fields body) (sym e)
-            (segment_first x (tree_of y) (tree_of z) (kids_from (map tree_of ks)) fields body (subst (λ (c : Node AnyMapping). IsOnlyBody (tree_of c) (chosen x.mask fields) body) read first))
-
     -- the one child that is read is the second
     pub other_read : (n k : ℕ) → AreTwoLeaves (tree_of node) n k → (w : Node AnyMapping) (vs : List Value) (body : List ℕ) → w ≡ get_or l.kids.items 1 w → IsOnlyBody (tree_of w) vs body
         → (z : Node AnyMapping) → z ≡ get_or l.kids.items 1 z → IsOtherBody (tree_of z) (Some vs) (Some body)
     other_read n k two w vs body read body_is z read_z = subst (λ (c : Node AnyMapping). IsOnlyBody (tree_of c) vs body) (read_second l.kids.items w z (two_kids n k two) read read_z) body_is
-
--- the values of the second group
-pub others_seen : (node : Node AnyMapping) (l : LayerNode AnyMapping) (x : Segment) → node ≡ nodes.Layer l → l.mapping ≡ any.Segment x → (vs : List Value) → others_in (tree_of node) vs ≡ chosen (map not x.mask) vs
-others_seen node l x is seg vs = ap (λ (t : Tree AnyMapping). others_in t vs) (seen_layer node l is) ∙ ap (λ (m : AnyMapping). others_below m vs) seg
 
 -- ---- changes of them
 
@@ -317,7 +338,7 @@ module _ (t : Tree AnyMapping) (n k : ℕ) (two : AreTwoLeaves t n k) (valid : I
       ]) is
 
   -- one comes in the place of another one that has the same second part
-  in_place : (old new : Rec) (body : List ℕ) (after : List LeafMap) → In old R → old.key ≡ new.key
+  pub in_place : (old new : Rec) (body : List ℕ) (after : List LeafMap) → In old R → old.key ≡ new.key
       → IsOf (tree_form any_rule t) new → others_in t old.fields ≡ others_in t new.fields
       → In (record { leaf = n; key = key_of new.key; body = body }) (entries_of any_rule t new)
       → after ≡ with_entry maps n (key_of new.key) body → IsInternal any_rule t (changed R (Some old) (Some new)) after
@@ -353,21 +374,6 @@ module _ (t : Tree AnyMapping) (n k : ℕ) (two : AreTwoLeaves t n k) (valid : I
           (λ e h place. two_apart t n k two valid (ap (λ (y : LeafEntry). y.leaf) (sym (one_of e first h)) ∙ place.0)) in
           each_put (Some old) new body o after (there, same) fits come
           (is ∙ sym (same_with (with_entry maps n (key_of new.key) body) k (key_of new.key) o (kept ∙ ap (λ (key : List Value). at maps k (key_of key)) (sym same) ∙ stood)))
-
-  pub first_put : (gone : Option Rec) (new : Rec) (body : List ℕ) (after : List LeafMap)
-      → HasOthersIf true t new.fields gone → IsChange R gone (Some new)
-      → IsOf (tree_form any_rule t) new
-      → In (record { leaf = n; key = key_of new.key; body = body }) (entries_of any_rule t new)
-      → after ≡ with_entry maps n (key_of new.key) body
-      → IsInternal any_rule t (changed R gone (Some new)) after
-  first_put None new body after stay change fits comes is = absurd stay
-  first_put (Some old) new body after stay change fits comes is =
-      in_place old new body after change.0 change.1 fits (stay refl) comes is
-
-pub there_if : (same : Bool) (t : Tree AnyMapping) (fields : List Value) (gone : Option Rec)
-    → HasOthersIf same t fields gone → is_some gone ≡ true
-there_if same t fields None stay = absurd stay
-there_if same t fields (Some r) stay = refl
 
 -- what is put is told of less that was there
 pub puts_so : {S : Type 0} (g : Ghosts S) (t : Tree AnyMapping) (key : Value) (fields : List Value)

@@ -1,5 +1,5 @@
 -- Trees in which each record has one leaf entry, or two, under its own key.
-use Rattle.std.specs.Prelude.{◌≡◌, ℕ, ◌+◌, Bool, true, false, List, [], ◌∷◌, Option, Some, None, Result, length, map, not, if◌then◌else◌, IsSomeAnd, OnOk, IsErrOf}
+use Rattle.std.specs.Prelude.{◌≡◌, ℕ, ◌+◌, Bool, true, false, List, [], ◌∷◌, Option, Some, None, Result, length, map, not, if◌then◌else◌, OnOk, IsErrOf}
 use Rattle.gx_values.specs.declared.records.Form.{Form}
 use Rattle.gx_values.specs.declared.records.Rec.{Rec}
 use Rattle.gx_values.specs.declared.values.Value.{Value}
@@ -69,19 +69,6 @@ abbrev pub other_entry : ℕ → List ℕ → Option (List ℕ) → List LeafEnt
 other_entry k key None = []
 other_entry k key (Some body) = record { leaf = k; key = key; body = body } ∷ []
 
--- the values of the second group of such a layer, and of such a tree
-abbrev pub others_below : AnyMapping → List Value → List Value
-others_below (any.Segment m) fields = chosen (map not (mask_of m)) fields
-others_below _ fields = []
-
-abbrev pub others_in : Tree AnyMapping → List Value → List Value
-others_in (leaf i form) fields = []
-others_in (layer m ks) fields = others_below m fields
-
--- the body of the first entry of each record with these data
-abbrev pub IsFirstBody : Tree AnyMapping → List Value → List ℕ → Type 0
-IsFirstBody t fields body = (n k : ℕ) (key : List Value) → AreTwoLeaves t n k → In (record { leaf = n; key = key_of key; body = body }) (entries_of any_rule t (record { key = key; fields = fields }))
-
 -- such a tree of one `actual` over a leaf: the body of a record is the joined bytes of its values
 abbrev pub IsActual : AnyMapping → Type 0
 IsActual (any.Actual m) = Unit {0}
@@ -135,8 +122,3 @@ pub record Puts {S : Type 0} (g : Ghosts S) (t : Tree AnyMapping) (key : Value)
   -- the pages may not be enough for its entries besides all there are
   pub full : g.whole old → IsErrOf result stop.Full → IsCrowdedBy (g.limit old)
       (entry_count (g.working old) + length (entries_of any_rule t (rec_of (key, fields))))
-
--- there is a record and, where `same`, its values of the second group are those of these data
-abbrev pub HasOthersIf : Bool → Tree AnyMapping → List Value → Option Rec → Type 0
-HasOthersIf same t fields gone =
-    IsSomeAnd gone (λ r. same ≡ true → others_in t r.fields ≡ others_in t fields)

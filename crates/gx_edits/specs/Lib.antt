@@ -1,4 +1,5 @@
 pub mod Records
 pub mod Edits
 pub mod Alone
+pub mod FirstGroup
 pub mod Home

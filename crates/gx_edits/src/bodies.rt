@@ -7,10 +7,10 @@ ghost use Rattle.gx_encode.specs.Rules.{coded as coded_value, field_of, form_of,
 ghost use Rattle.gx_stack.specs.Tree.{leaf_body, tree_form, IsValid};
 ghost use Rattle.gx_stack.specs.Seen.{tree_of};
 ghost use Rattle.gx_types.specs.Any.{any_rule};
-ghost use Rattle.gx_edits.specs.Alone.{AreBodies, AreDataOf, AreTwoLeaves, IsFirstBody, IsOnlyBody, IsOnlyLeaf};
+ghost use Rattle.gx_edits.specs.Alone.{AreBodies, AreDataOf, AreTwoLeaves, IsOnlyBody, IsOnlyLeaf};
 
-use crate::groups::{first_group, two_groups};
-use crate::plain::{is_plain, plain_bodies, plain_body};
+use crate::groups::two_groups;
+use crate::plain::{is_plain, plain_bodies};
 use gx_actual::body_bytes;
 use gx_encode::{Encode, coded};
 use gx_mapping::Mapping;
@@ -85,31 +85,6 @@ pub(crate) fn both_bodies(
             Ok((body, Some(other)))
         }
     }
-}
-
-/// The body of the entry of each record with these data in the first leaf of a segment.
-pub(crate) fn first_body(
-    alloc: Global,
-    node: &Node<AnyMapping>,
-    fields: Values,
-) -> Result<Octets, NoMemory>
-    requires valid { IsValid any_rule (tree_of node.now) }
-    requires two { (n : ℕ) × (k : ℕ) × AreTwoLeaves (tree_of node.now) n k }
-    requires of_form { AreDataOf (tree_form any_rule (tree_of node.now)) fields }
-    ensures { IfOk result (IsFirstBody (tree_of node.now) fields) }
-{
-    let Node::Layer(layer) = node else {
-        unreachable!();
-    };
-    let AnyMapping::Segment(mapping) = &layer.mapping else {
-        unreachable!();
-    };
-    let first = &layer.kids[0];
-    if is_plain(first) {
-        return plain_body(alloc, mapping.mask(), true, &fields.0);
-    }
-    let chosen = first_group(alloc, mapping, fields)?;
-    only_body(alloc, first, chosen)
 }
 
 // The bytes of the only value; none where there is none.

@@ -1,12 +1,10 @@
 // The data of a record under a segment, in their two groups.
-ghost use Rattle.std.specs.Prelude.{◌≡◌, ◌-◌, ◌++◌, ◌∷◌, [], length, map, not, true, false, slice_index_or, if◌then◌else◌, IfOk};
-ghost use Rattle.std.specs.List.{AllByRecursion};
+ghost use Rattle.std.specs.Prelude.{◌≡◌, ◌++◌, ◌∷◌, [], length, map, not, if◌then◌else◌, IfOk};
 ghost use Rattle.gx_values.specs.Values.{AreFit};
 ghost use Rattle.gx_split.specs.Groups.{chosen, are_default};
 ghost use Rattle.gx_split.specs.SegmentRules.{form_of, mask_of};
 ghost use Rattle.gx_edits.specs.Alone.{others_of};
 
-use gx_commands::Changes;
 use gx_mapping::Mapping;
 use gx_split::Segment;
 use gx_values::{Fields, NoMemory, Value, Values, is_default};
@@ -27,43 +25,6 @@ pub(crate) fn two_groups(
         return Ok((first, None));
     }
     Ok((first, Some(others)))
-}
-
-/// The values of the first group.
-pub(crate) fn first_group(
-    alloc: Global,
-    mapping: &Segment,
-    values: Values,
-) -> Result<Values, NoMemory>
-    requires { AreFit (form_of mapping.now).fields values }
-    ensures { IfOk result (λ made. made ≡ chosen (mask_of mapping.now) values) }
-{
-    let (first, _) = grouped(alloc, mapping.mask(), values)?;
-    Ok(first)
-}
-
-/// Whether each change is of a field of the first group.
-pub(crate) fn are_first(mask: &[bool], changes: &Changes) -> bool
-    ensures { result ≡ true →
-        AllByRecursion (λ c. slice_index_or mask.now (c.field - 1) false ≡ true) changes.now }
-{
-    for change in changes.0.iter() {
-        if !is_first(mask, change.field) {
-            return false;
-        }
-    }
-    true
-}
-
-// Whether the mask has the data field with this number, from 1.
-fn is_first(mask: &[bool], field: u16) -> bool
-    ensures { result ≡ true → slice_index_or mask.now (field - 1) false ≡ true }
-{
-    if field == 0 {
-        return false;
-    }
-    let at = usize::from(field) - 1;
-    at < mask.len() && mask[at]
 }
 
 // The values that the mask chooses, and the others, each in their order.

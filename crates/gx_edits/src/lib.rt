@@ -5,6 +5,7 @@ mod alone;
 mod bodies;
 mod edits;
 mod files;
+mod first_group;
 mod groups;
 mod home;
 mod links;

@@ -50,8 +50,8 @@ pub(crate) fn plain_bodies(
     Ok((body, Some(other)))
 }
 
-/// The joined bytes of the values of one group.
-pub(crate) fn plain_body(
+// The joined bytes of the values of one group.
+fn plain_body(
     alloc: Global,
     mask: &[bool],
     is_first: bool,

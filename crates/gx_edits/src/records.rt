@@ -13,7 +13,8 @@ ghost use Rattle.gx_edits.specs.Records.{Inserts, Deletes, Updates};
 ghost use Rattle.gx_edits.specs.Alone.{AreOwnLeaves};
 
 use crate::alone::is_there;
-use crate::segments::{OwnLeaves, others_stay, own_leaves, put_changed, put_own, take_own};
+use crate::first_group::{first_group_of, update_first_group};
+use crate::segments::{OwnLeaves, own_leaves, put_own, take_own};
 use arrayvec::ArrayVec;
 use gx_commands::Changes;
 use gx_pairs::Refused;
@@ -156,15 +157,17 @@ pub(crate) fn update_record<B: Leaves>(
     requires changes { AllByRecursion (IsChangeOf file.now) changes }
     ensures { Updates B.View file.now (tree_of node.now) key changes leaves.old leaves.new result }
 {
+    if let Some(group) = first_group_of(alloc, node, &changes)? {
+        return update_first_group(alloc, file, node, &group, &key, changes, leaves);
+    }
     let Some(values) = find_values(alloc, file, node, &key, leaves)? else {
         return Ok(Some(Refused::NoRecord));
     };
     if let Some(own) = own_leaves(node) {
-        let stay = others_stay(node, &changes);
         let values = changed_values(file, values, changes);
         let mut bytes = KeyBuf(ArrayVec::new());
         bytes.set_value(&key);
-        put_changed(alloc, node, own, &key, &bytes, values, stay, leaves)?;
+        put_own(alloc, node, own, &key, &bytes, values, true, leaves)?;
         return Ok(None);
     }
     let old = new_record(alloc, key, values)?;

@@ -1,6 +1,5 @@
 // Records that have an entry in one leaf and may have one in a second, both under their own key.
-ghost use Rattle.std.specs.Prelude.{◌≡◌, ◌≢◌, ◌<◌, ◌≤◌, ◌+◌, ℕ, List, length, true, is_some, if◌then◌else◌, IfSome, OnOk, IsErrOf};
-ghost use Rattle.gx_values.specs.declared.values.Value.{Value as TheValue};
+ghost use Rattle.std.specs.Prelude.{◌≡◌, ◌≢◌, ◌<◌, ◌≤◌, ◌+◌, ℕ, List, length, is_some, if◌then◌else◌, IfSome, OnOk, IsErrOf};
 ghost use Rattle.gx_values.specs.Keys.{bytes_of};
 ghost use Rattle.gx_ports.specs.LeafMaps.{map_at, with_entry, without_entry, entry_count, IsCrowdedBy};
 ghost use Rattle.gx_ports.specs.declared.leaves.TheConstants.{MAX_ENTRY_LEN};
@@ -9,14 +8,11 @@ ghost use Rattle.gx_mapping.specs.Rule.{In, IsOf};
 ghost use Rattle.gx_stack.specs.Tree.{leaves_of, tree_form, IsValid};
 ghost use Rattle.gx_stack.specs.Seen.{tree_of};
 ghost use Rattle.gx_types.specs.Any.{any_rule};
-ghost use Rattle.gx_model.specs.Commands.{changed as changed_values};
 ghost use Rattle.gx_scan.specs.Files.{rec_of};
-ghost use Rattle.gx_edits.specs.Alone.{AreOwnLeaves, AreTwoLeaves, others_in, Takes, Puts, HasOthersIf};
+ghost use Rattle.gx_edits.specs.Alone.{AreOwnLeaves, AreTwoLeaves, Takes, Puts};
 
 use crate::alone::{only_leaf, put_alone, take_alone};
-use crate::bodies::{both_bodies, first_body};
-use crate::groups::are_first;
-use gx_commands::Changes;
+use crate::bodies::both_bodies;
 use gx_ports::{Leaves, Stop};
 use gx_stack::Node;
 use gx_types::AnyMapping;
@@ -126,73 +122,6 @@ pub(crate) fn put_own<B: Leaves>(
             )
         }
     }
-}
-
-/// The same in the place of a record with this key. `others_stay`: its values of the second group are those
-/// of the new one.
-pub(crate) fn put_changed<B: Leaves>(
-    alloc: Global,
-    node: &Node<AnyMapping>,
-    own: OwnLeaves,
-    key: &Value,
-    bytes: &KeyBuf,
-    fields: Values,
-    others_stay: bool,
-    leaves: &mut B,
-) -> Result<(), Stop>
-    requires valid { IsValid any_rule (tree_of node.now) }
-    requires below { (n : ℕ) → In n (leaves_of (tree_of node.now)) →
-        n < length (B.working leaves.old) }
-    requires own { AreOwnLeaves (tree_of node.now) own.first own.second }
-    requires bytes { bytes.now ≡ bytes_of key.now }
-    requires fits { IsOf (tree_form any_rule (tree_of node.now)) (rec_of (key.now, fields)) }
-    ensures { Puts B.View (tree_of node.now) key.now fields
-        (HasOthersIf others_stay (tree_of node.now) fields)
-        leaves.old leaves.new result }
-{
-    if others_stay && let Some(second) = own.second {
-        return put_first(alloc, node, own.first, second, key, bytes, fields, leaves);
-    }
-    put_own(alloc, node, own, key, bytes, fields, true, leaves)
-}
-
-// The same of two leaves, of which the second stays.
-fn put_first<B: Leaves>(
-    alloc: Global,
-    node: &Node<AnyMapping>,
-    first: u32,
-    second: u32,
-    key: &Value,
-    bytes: &KeyBuf,
-    fields: Values,
-    leaves: &mut B,
-) -> Result<(), Stop>
-    requires valid { IsValid any_rule (tree_of node.now) }
-    requires below { (n : ℕ) → In n (leaves_of (tree_of node.now)) →
-        n < length (B.working leaves.old) }
-    requires two { AreTwoLeaves (tree_of node.now) first second }
-    requires bytes { bytes.now ≡ bytes_of key.now }
-    requires fits { IsOf (tree_form any_rule (tree_of node.now)) (rec_of (key.now, fields)) }
-    ensures { Puts B.View (tree_of node.now) key.now fields
-        (HasOthersIf true (tree_of node.now) fields) leaves.old leaves.new result }
-{
-    let (_, _) = (key, second);
-    let body = first_body(alloc, node, fields)?;
-    leaves.put(alloc, first, bytes.as_slice(), body.as_slice())
-}
-
-/// Whether each change is of a field of the first group of a segment, so that the others stay.
-pub(crate) fn others_stay(node: &Node<AnyMapping>, changes: &Changes) -> bool
-    ensures { result ≡ true → (values : List TheValue) →
-        others_in (tree_of node.now) (changed_values values changes.now)
-        ≡ others_in (tree_of node.now) values }
-{
-    if let Node::Layer(layer) = node
-        && let AnyMapping::Segment(mapping) = &layer.mapping
-    {
-        return are_first(mapping.mask(), changes);
-    }
-    false
 }
 
 // The same of two leaves.

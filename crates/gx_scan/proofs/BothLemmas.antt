@@ -10,6 +10,7 @@ use Rattle.gx_values.specs.declared.values.Code.{Code}
 use Rattle.gx_values.specs.declared.values.Value.{Value}
 use Rattle.gx_values.specs.declared.values.Value.TheVariants as value
 use Rattle.gx_values.specs.declared.records.Field.{Field}
+use Rattle.gx_values.specs.declared.records.Form.{Form}
 use Rattle.gx_values.specs.declared.keys.Span.{Span}
 use Rattle.gx_values.specs.Values.{Fits, AreFit}
 use Rattle.gx_values.specs.Keys.{bytes_of}
@@ -17,16 +18,16 @@ use Rattle.gx_schema.specs.declared.schema.FileDef.{FileDef}
 use Rattle.gx_schema.specs.Lookups.{key_kind, data_fields}
 use Rattle.gx_ports.specs.declared.leaves.Entry.{Entry}
 use Rattle.gx_ports.specs.LeafMaps.{LeafMap, map_at, entry_of, selected, counted}
-use Rattle.gx_actual.specs.Bodies.{body_of}
+use Rattle.gx_actual.specs.Bodies.{body_of, AreShort}
 use Rattle.gx_split.specs.Groups.{chosen, defaults_of}
-use Rattle.gx_split.specs.GroupLaws.{fit_length}
+use Rattle.gx_split.specs.GroupLaws.{chosen_fit, fit_length}
 use Rattle.gx_gather.proofs.Lists.{some_same, none_some, bool_cases}
 use Rattle.gx_stack.specs.Tree.{Tree, leaves_of}
 use Rattle.gx_types.specs.declared.any.AnyMapping.{AnyMapping}
 use Rattle.gx_model.specs.States.{File, Row}
 use Rattle.gx_scan.specs.declared.groups.Groups.{Groups}
 use Rattle.gx_scan.specs.Files.{IsStorable, IsTreeFor, IsInternal}
-use Rattle.gx_scan.specs.Groups.{AreGroups, IsSplitRow, has_others, first_stored, other_stored, other_entry}
+use Rattle.gx_scan.specs.Groups.{AreGroups, IsSplitRow, IsFirstRow, has_others, first_stored, other_stored, other_entry}
 use Rattle.gx_scan.specs.Stored.{code_at, stored_value, stored_values, HasCode, HaveCodes}
 use Rattle.gx_scan.proofs.CodeLemmas.{nothing_stored}
 use Rattle.gx_scan.specs.Records.{list_of_one}
@@ -143,6 +144,42 @@ module _ (g : Groups) (fields : List Field) (r : Row) (es : List Entry)
         refl none fit
   ]
 
+-- ---- the first group alone
+
+short_chosen : (mask : List Bool) (fs : List Field) → AreShort fs → AreShort (chosen mask fs)
+short_chosen [] fs short = tt
+short_chosen (b ∷ mask) [] short = tt
+short_chosen (true ∷ mask) (f ∷ fs) short = (short.0, short_chosen mask fs short.1)
+short_chosen (false ∷ mask) (f ∷ fs) short = short_chosen mask fs short.1
+
+module _ (file : FileDef) (t : Tree AnyMapping) (g : Groups) (leaves : ℕ)
+    (storable : IsStorable file) (tree : IsTreeFor file t leaves) (are : AreGroups t g) where
+  pub fields_are : g.fields.now ≡ chosen g.mask.now (data_fields file)
+  fields_are = are.fields ∙ ap (λ (form : Form). chosen g.mask.now form.fields) tree.form
+
+  pub group_short : AreShort g.fields.now
+  group_short = subst AreShort (sym fields_are)
+      (short_chosen g.mask.now (data_fields file) storable.short)
+
+  first_row : (r : Row) → IsSplitRow file g r → IsFirstRow g r
+  first_row r split = (
+    subst (λ (fs : List Field). AreFit fs (chosen g.mask.now r.1)) (sym fields_are)
+        (chosen_fit g.mask.now (data_fields file) r.1 split.0.1),
+    split.1,
+  )
+
+  first_rows : (rs : List Row) → AllByRecursion (IsSplitRow file g) rs
+      → AllByRecursion (IsFirstRow g) rs
+  first_rows [] all = tt
+  first_rows (r ∷ rs) all = (first_row r all.0, first_rows rs all.1)
+
+pub group_values : (mask : List Bool) (k : Value) (o : Option (List Value))
+    → option_map (λ (r : Row). chosen mask r.1)
+    (option_map (λ (values : List Value). (k, values)) o)
+    ≡ option_map (chosen mask) o
+group_values mask k None = refl
+group_values mask k (Some values) = refl
+
 -- ---- the record at a key
 
 module _ (file : FileDef) (t : Tree AnyMapping) (g : Groups) (leaves : ℕ) (maps : List LeafMap)
@@ -160,6 +197,9 @@ module _ (file : FileDef) (t : Tree AnyMapping) (g : Groups) (leaves : ℕ) (map
   one_fits = subst (AllByRecursion (IsSplitRow file g)) rows_are
       (rows_split_inside file t g leaves maps f storable tree is are span)
 
+  pub first_fits : AllByRecursion (IsFirstRow g) (list_of_one one)
+  first_fits = first_rows file t g leaves storable tree are (list_of_one one) one_fits
+
   -- what a search of the first leaf appends
   module _ (start firsts : List Entry) (none : start ≡ [])
       (first : firsts ≡ start ++ selected span.lo span.hi (map_at maps g.first.leaf)) where
@@ -170,6 +210,11 @@ module _ (file : FileDef) (t : Tree AnyMapping) (g : Groups) (leaves : ℕ) (map
     firsts_are = firsts_stored file t g leaves maps f storable tree is are span firsts
         (first ∙ ap (λ (es : List Entry). es ++ selected span.lo span.hi (map_at maps g.first.leaf))
         none)
+
+    -- they are the first entry of the record
+    pub first_one : firsts ≡ map (λ (r : Row). entry_of (first_stored g r)) (list_of_one one)
+    first_one = firsts_are
+        ∙ ap (map (λ (r : Row). entry_of (first_stored g r))) rows_are
 
     many : length firsts - length start ≡ length (rows_inside span f)
     many = omega (

@@ -47,7 +47,7 @@ use Rattle.gx_scan.specs.declared.groups.Groups.{Groups}
 use Rattle.gx_scan.specs.Files.{rec_of, records_of, IsStorable, IsTreeFor, IsInternal}
 use Rattle.gx_scan.specs.Steps.{HaveAtMost, is_key_inside, rows_inside}
 use Rattle.gx_scan.specs.Entries.{below, entry_of_row, data_leaves, IsAlone, ArePlaces}
-use Rattle.gx_scan.specs.Groups.{AreGroups, ArePlain, IsSplitRow, group_row, has_others, first_entry, other_entry, first_stored, other_stored}
+use Rattle.gx_scan.specs.Groups.{AreGroups, ArePlain, mask_in, IsSplitRow, group_row, has_others, first_entry, other_entry, first_stored, other_stored}
 use Rattle.gx_scan.specs.Stored.{HaveCodes}
 use Rattle.gx_scan.proofs.FileLemmas.{find_in, in_find, set_of}
 use Rattle.gx_scan.proofs.EntryLemmas.{filter_map, map_joined, span_entries}
@@ -216,16 +216,19 @@ module _ (node : Node AnyMapping) (l : LayerNode AnyMapping) (s : Segment) (is :
   pub groups_made : (g : Groups) (a b : Node AnyMapping) → a ≡ get_or l.kids.items 0 a → b
       ≡ get_or l.kids.items 1 b
       → g.mask.now ≡ mask_of s → length (mask_of s) ≡ length (form_of s).fields
+      → g.fields.now ≡ chosen (mask_of s) (form_of s).fields
       → ArePlaces 0 (tree_of a) (g.first ∷ []) → ArePlaces 0 (tree_of b) (g.others ∷ [])
       → AreGroups (tree_of node) g
-  groups_made g a b first second masked long first_at second_at = record {
+  groups_made g a b first second masked long fields first_at second_at = record {
     mapping = l.mapping;
     first = tree_of a;
     others = tree_of b;
     tree = seen_layer node l is ∙ ap (layer l.mapping) (two_kids l.kids.items a b
         (kids_many node l is valid ∙ ap (λ (rule : Rule). rule.kids) rule_is) first second);
     splits = rule_is ∙ (λ i. segment_rule (sym node_form i) (sym masked i));
+    masked = masked ∙ ap mask_in (sym segment_is);
     long = ap length masked ∙ long ∙ ap (λ (form : Form). length form.fields) (sym node_form);
+    fields = fields ∙ (λ i. chosen (sym masked i) (sym node_form i).fields);
     first_place = first_at;
     other_place = second_at;
   }

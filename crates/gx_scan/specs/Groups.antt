@@ -2,19 +2,26 @@
 use Rattle.std.specs.Prelude.{[], ◌≡◌, ℕ, List, ◌∷◌, Bool, true, not, length, map}
 use Rattle.gx_values.specs.declared.records.Field.{Field}
 use Rattle.gx_values.specs.declared.values.Value.{Value}
+use Rattle.gx_values.specs.Values.{AreFit}
 use Rattle.gx_schema.specs.declared.schema.FileDef.{FileDef}
 use Rattle.gx_schema.specs.Lookups.{data_fields}
 use Rattle.gx_actual.specs.Bodies.{body_of}
 use Rattle.gx_split.specs.Groups.{chosen, are_default}
-use Rattle.gx_split.specs.SegmentRules.{segment_rule}
+use Rattle.gx_split.specs.SegmentRules.{mask_of, segment_rule}
 use Rattle.gx_stack.specs.Tree.{Tree, layer, kid, no_kids, tree_form}
 use Rattle.gx_types.specs.declared.any.AnyMapping.{AnyMapping}
+use Rattle.gx_types.specs.declared.any.AnyMapping.TheVariants as any
 use Rattle.gx_types.specs.Any.{any_rule}
 use Rattle.gx_model.specs.States.{Row, IsRowOf}
 use Rattle.gx_scan.specs.declared.groups.Groups.{Groups}
 use Rattle.gx_scan.specs.declared.both.Rest.{Rest}
 use Rattle.gx_scan.specs.Stored.{stored_values, HaveCodes}
 use Rattle.gx_scan.specs.Entries.{ArePlaces, entry_of_row}
+
+-- of each data field, whether it is in the first group of a segment
+abbrev pub mask_in : AnyMapping → List Bool
+mask_in (any.Segment m) = mask_of m
+mask_in _ = []
 
 -- A segment splits the tree's records by the mask, and each of the two groups stands whole in one
 -- leaf.
@@ -24,7 +31,9 @@ pub record AreGroups (t : Tree AnyMapping) (g : Groups) : Type 0 where
   pub others : Tree AnyMapping
   pub tree : t ≡ layer mapping (kid first (kid others no_kids))
   pub splits : any_rule mapping ≡ segment_rule (tree_form any_rule t) g.mask.now
+  pub masked : g.mask.now ≡ mask_in mapping
   pub long : length g.mask.now ≡ length (tree_form any_rule t).fields
+  pub fields : g.fields.now ≡ chosen g.mask.now (tree_form any_rule t).fields
   pub first_place : ArePlaces 0 first (g.first ∷ [])
   pub other_place : ArePlaces 0 others (g.others ∷ [])
 
@@ -61,6 +70,11 @@ abbrev pub IsSplitRow : FileDef → Groups → Row → Type 0
 IsSplitRow file g r = IsRowOf file r × HaveCodes g.first.codes (chosen g.mask.now r.1)
     × (has_others g.mask.now (data_fields file) r ≡ true
     → HaveCodes g.others.codes (chosen (map not g.mask.now) r.1))
+
+-- a record whose first group fits and has the codes of its place
+abbrev pub IsFirstRow : Groups → Row → Type 0
+IsFirstRow g r = AreFit g.fields.now (chosen g.mask.now r.1)
+    × HaveCodes g.first.codes (chosen g.mask.now r.1)
 
 -- what is left of a group's body and of its codes is that of these values
 abbrev pub IsLeft : Rest → List Value → Type 0

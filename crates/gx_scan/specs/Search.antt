@@ -1,6 +1,7 @@
 -- What a search by a key answers, how many steps it takes, and what it keeps.
-use Rattle.std.specs.Prelude.{◌≡◌, ℕ, ◌+◌, ◌≤◌, List, length, Option, Result, IfOk, IfSome, OnOk}
+use Rattle.std.specs.Prelude.{◌≡◌, ℕ, ◌+◌, ◌≤◌, Bool, List, length, Option, Result, IfOk, IfSome, OnOk}
 use Rattle.std.specs.FinMap as fin
+use Rattle.std.specs.Option.{option_map}
 use Rattle.gx_values.specs.declared.values.Value.{Value}
 use Rattle.gx_values.specs.declared.records.Rec.{Rec}
 use Rattle.gx_values.specs.Values.{AreFit}
@@ -10,6 +11,7 @@ use Rattle.gx_ports.specs.declared.stop.Stop.{Stop}
 use Rattle.gx_ports.specs.declared.view.View.{Ghosts}
 use Rattle.gx_ports.specs.Calls.{ReadsMaps}
 use Rattle.gx_mapping.specs.Rule.{IsOf}
+use Rattle.gx_split.specs.Groups.{chosen}
 use Rattle.gx_stack.specs.Tree.{Tree, leaves_of}
 use Rattle.gx_types.specs.declared.any.AnyMapping.{AnyMapping}
 use Rattle.gx_typing.specs.Dues.{file_form}
@@ -36,6 +38,13 @@ abbrev pub FindsValues : {S : Type 0} → Ghosts S → FileDef → Tree AnyMappi
     → Result (Option (List Value)) Stop → Type 0
 FindsValues g file t key old new result =
     Finds g file t (λ f. fin.get f key) (AreFit (data_fields file)) old new result
+
+-- those of the first group, by its mask
+abbrev pub FindsGroup : {S : Type 0} → Ghosts S → FileDef → Tree AnyMapping → (mask : List Bool)
+    → (key : Value) → S → S → Result (Option (List Value)) Stop → Type 0
+FindsGroup g file t mask key old new result =
+    Finds g file t (λ f. option_map (chosen mask) (fin.get f key))
+    (AreFit (chosen mask (data_fields file))) old new result
 
 -- the record with the key, where there is one
 abbrev pub FindsRecord : {S : Type 0} → Ghosts S → FileDef → Tree AnyMapping → (key : Value) → S → S

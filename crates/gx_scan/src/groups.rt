@@ -1,6 +1,8 @@
 // The leaves where a segment puts the two groups of a file's data fields.
 ghost use Rattle.std.specs.Prelude.{◌≡◌, ◌∷◌, [], IfOk, IfSome};
 ghost use Rattle.gx_values.specs.Keys.{AreKeyFields};
+ghost use Rattle.gx_split.specs.Groups.{chosen};
+ghost use Rattle.gx_split.specs.SegmentRules.{form_of, mask_of};
 ghost use Rattle.gx_stack.specs.Tree.{tree_form, IsValid};
 ghost use Rattle.gx_stack.specs.Seen.{tree_of};
 ghost use Rattle.gx_types.specs.Any.{any_rule};
@@ -8,9 +10,11 @@ ghost use Rattle.gx_scan.specs.Entries.{ArePlaces};
 ghost use Rattle.gx_scan.specs.Groups.{AreGroups, ArePlain};
 
 use crate::places::{Place, leaf_below_actual, place_of, places_of};
+use gx_mapping::Mapping;
+use gx_split::Segment;
 use gx_stack::Node;
 use gx_types::AnyMapping;
-use gx_values::NoMemory;
+use gx_values::{Field, NoMemory};
 use std::alloc::Global;
 
 /// Two leaves with the two groups of data fields that a segment makes.
@@ -18,6 +22,8 @@ use std::alloc::Global;
 pub struct Groups<'a> {
     /// of each data field, whether it is in the first group
     pub mask: &'a [bool],
+    /// the fields of the first group
+    pub fields: &'a [Field],
     /// where the first group of each record stands
     pub first: Place,
     /// where its other fields stand, unless each has its default
@@ -26,10 +32,7 @@ pub struct Groups<'a> {
 
 /// The two groups of the records of a file's node. `None`: no segment splits them, or a group isn't
 /// whole in one leaf. `NoMemory`: there was none for the groups.
-pub(crate) fn groups_of(
-    alloc: Global,
-    node: &Node<AnyMapping>,
-) -> Result<Option<Groups<'_>>, NoMemory>
+pub fn groups_of(alloc: Global, node: &Node<AnyMapping>) -> Result<Option<Groups<'_>>, NoMemory>
     requires valid { IsValid any_rule (tree_of node.now) }
     requires plain { AreKeyFields (tree_form any_rule (tree_of node.now)).fields }
     ensures { IfOk result (λ found. IfSome found (AreGroups (tree_of node.now))) }
@@ -48,9 +51,17 @@ pub(crate) fn groups_of(
     };
     Ok(Some(Groups {
         mask: segment.mask(),
+        fields: first_fields(segment),
         first,
         others,
     }))
+}
+
+// The fields of the first group.
+fn first_fields(segment: &Segment) -> &[Field]
+    ensures { result.now ≡ chosen (mask_of segment.now) (form_of segment.now).fields }
+{
+    &segment.kid_form(0).fields.0
 }
 
 /// The same where no field of either group stands by a code.

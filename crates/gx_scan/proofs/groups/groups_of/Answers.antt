@@ -38,8 +38,9 @@ returns c =
     let first = c.in_ok-first.ensures in
     let others = c.in_ok-others.ensures in
     groups_made c.args.node.now c.in-Layer.layer s c.in-Layer.is c.in-Segment.is c.requires.valid
-    (record { mask = c.mask.result; first = c.in-Some.first; others = c.in-Some-2.others })
+    (record { mask = c.mask.result; fields = c.first_fields.result; first = c.in-Some.first; others = c.in-Some-2.others })
     k q c.index.ensures c.index-2.ensures c.mask.ensures.mask
     (sym (ap length c.mask.ensures.mask) ∙ c.mask.ensures.long)
+    c.first_fields.ensures
     (subst (λ o. IfSome o (λ p. ArePlaces 0 (tree_of k) (p ∷ []))) c.in-Some.is first)
     (subst (λ o. IfSome o (λ p. ArePlaces 0 (tree_of q) (p ∷ []))) c.in-Some-2.is others)

@@ -1,7 +1,7 @@
 use Rattle.std.proofs.Common.{◌≡◌, ◌-◌, true, false, drop, get_or}
 use Rattle.std.specs.List.{AllByRecursion}
 use Rattle.gx_commands.specs.declared.command.Change.{Change}
-use Rattle.gx_edits.proofs.groups.are_first.Given as goal
+use Rattle.gx_edits.proofs.first_group.are_first.Given as goal
 
 abbrev pub invariant-loop-change : goal.invariant-loop-change
 invariant-loop-change l =

@@ -1,7 +1,7 @@
 use Rattle.std.proofs.Common.{◌≡◌, ◌-◌, ◌<◌, ◌∙◌, List, true, false, length, get_or, ap, arith}
 use Rattle.gx_commands.specs.declared.command.Change.{Change}
-use Rattle.gx_edits.proofs.GroupLemmas.{all_more}
-use Rattle.gx_edits.proofs.groups.are_first.Goals as goal
+use Rattle.gx_edits.proofs.FirstGroupLemmas.{all_more}
+use Rattle.gx_edits.proofs.first_group.are_first.Goals as goal
 
 pub loop-change-preserved : goal.loop-change-preserved
 loop-change-preserved c =

@@ -1,0 +1,23 @@
+use Rattle.std.proofs.Common.{◌≡◌, List, length}
+use Rattle.std.specs.List.{AllByRecursion}
+use Rattle.std.specs.Vec.Iter.{into_iter_items, into_iter_len}
+use Rattle.gx_values.specs.declared.values.Value.{Value}
+use Rattle.gx_values.specs.Values.{AreFit}
+use Rattle.gx_schema.specs.Lookups.{data_fields}
+use Rattle.gx_commands.specs.Commands.{IsChangeOf}
+use Rattle.gx_split.specs.Groups.{chosen}
+use Rattle.gx_model.specs.Commands.{changed}
+use Rattle.gx_edits.specs.FirstGroup.{AreOfFirst}
+use Rattle.gx_edits.proofs.first_group.changed_group.Given as goal
+
+-- what is still to come of the changes
+abbrev pub invariant-loop-change : goal.invariant-loop-change
+invariant-loop-change l = record {
+  many : into_iter_len l.change-iterator ≡ length (into_iter_items l.change-iterator);
+  those : AllByRecursion (IsChangeOf l.file) (into_iter_items l.change-iterator);
+  first : AreOfFirst l.mask (into_iter_items l.change-iterator);
+  so_far : (all : List Value) → l.fn.values ≡ chosen l.mask all → (now : List Value)
+      × (l.values.items ≡ chosen l.mask now)
+      × (changed now (into_iter_items l.change-iterator) ≡ changed all l.fn.changes);
+  fit : AreFit (chosen l.mask (data_fields l.file)) l.values.items;
+}

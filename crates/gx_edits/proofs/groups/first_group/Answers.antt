@@ -1,6 +1,0 @@
-use Rattle.std.proofs.Common.{◌∙◌}
-use Rattle.gx_split.specs.GroupLaws.{fit_length}
-use Rattle.gx_edits.proofs.groups.first_group.Goals as goal
-
-pub grouped-requires : goal.grouped-requires
-grouped-requires c = c.mask.ensures.long ∙ fit_length _ c.args.values c.requires
