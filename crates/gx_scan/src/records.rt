@@ -10,7 +10,7 @@ ghost use Rattle.gx_mapping.specs.Rule.{In, IsOf};
 ghost use Rattle.gx_stack.specs.Seen.{tree_of};
 ghost use Rattle.gx_scan.specs.Files.{IsStorable, IsTreeFor};
 ghost use Rattle.gx_scan.specs.Records.{list_of_one};
-ghost use Rattle.gx_scan.specs.Search.{FindsRecord};
+ghost use Rattle.gx_scan.specs.Search.{IsSpanOf, FindsRecord};
 
 use crate::by_groups::record_by_groups;
 use crate::groups::groups_of;
@@ -38,8 +38,7 @@ pub(crate) fn data_fields(file: &FileDef) -> &[Field]
 /// Makes this the span of one key. It is written where it stands: to move a span is to copy two buffers.
 pub(crate) fn set_key(span: &mut Span, key: &Value)
     requires { length (bytes_of key.now) ≤ MAX_KEY_LEN }
-    ensures lo { span.new.lo ≡ bytes_of key.now }
-    ensures hi { span.new.hi ≡ bytes_of key.now }
+    ensures { IsSpanOf key.now span.new }
 {
     span.lo.set_value(key);
     span.hi.set_value(key);
@@ -78,8 +77,7 @@ fn record_in<B: Leaves>(
     requires tree { IsTreeFor file.now (tree_of node.now) (length (B.working leaves.old)) }
     requires storable { IsStorable file.now }
     requires key { Fits (key_kind file.now) key.now }
-    requires lo { span.now.lo ≡ bytes_of key.now }
-    requires hi { span.now.hi ≡ bytes_of key.now }
+    requires span { IsSpanOf key.now span.now }
     ensures { FindsRecord B.View file.now (tree_of node.now) key.now leaves.old leaves.new result }
 {
     match groups_of(alloc, node)? {
@@ -100,8 +98,7 @@ pub(crate) fn record_inside<B: Leaves>(
     requires tree { IsTreeFor file.now (tree_of node.now) (length (B.working leaves.old)) }
     requires storable { IsStorable file.now }
     requires key { Fits (key_kind file.now) key.now }
-    requires lo { span.now.lo ≡ bytes_of key.now }
-    requires hi { span.now.hi ≡ bytes_of key.now }
+    requires span { IsSpanOf key.now span.now }
     ensures { FindsRecord B.View file.now (tree_of node.now) key.now leaves.old leaves.new result }
 {
     let (_, _) = (file, key);
