@@ -1,5 +1,5 @@
 // The request to play the workload on a device that is made.
-ghost use Rattle.std.specs.Prelude.{◌≡◌, ◌≢◌, ◌≤◌, ◌<◌, ℕ, List, [], false, IsTrue, IfOk, IfErr, IsErrOf};
+ghost use Rattle.std.specs.Prelude.{◌≡◌, ◌≤◌, ℕ, List, [], false, IsTrue, IfOk, IfErr, IsErrOf};
 ghost use Rattle.gx_device.specs.Content.{SameContent};
 ghost use Rattle.gx_device.specs.Faults.{Rose};
 ghost use Rattle.gx_work.specs.Schema.{work_schema};
@@ -47,9 +47,7 @@ pub fn work<M: Machine + Drop>(
         IsCount digits blocks → IsRecordCount number records →
         LeavesWorked (request_words (working device.now digits number) [] equation.now) device.now
         (M.content machine) (M.content result.1) result.0 }
-    ensures outside { result.0 ≡ Status.Outside → Rose (M.faults machine) (M.faults result.1) }
-    ensures counted { result.0 ≢ Status.Outside → M.faults result.1 ≡ M.faults machine }
-    ensures later { M.faults machine ≤ M.faults result.1 }
+    ensures failures { CountsOutside (M.faults machine) (M.faults result.1) result.0 }
 {
     let mut machine = machine;
     match prepare_work(alloc, equation, &mut machine) {
