@@ -28,17 +28,22 @@ pub fn body_bytes(alloc: Global, fields: &[Field], values: &[Value]) -> Result<O
 fn room_for(values: &[Value]) -> usize {
     let mut room = 0usize;
     for value in values {
-        let width = match value {
-            Value::Int(_) => 8,
-            Value::Text(text) => text.0.len().saturating_add(1),
-            Value::Bytes(bytes) => bytes.0.len().saturating_add(2),
-        };
-        room = room.saturating_add(width);
+        room = room.saturating_add(width_of(value));
     }
     room
 }
 
-fn push_value(body: &mut Vec<u8>, value: &Value) -> Result<(), AllocError>
+/// How many bytes of a body the value takes, as room is made for it before it is appended.
+pub fn width_of(value: &Value) -> usize {
+    match value {
+        Value::Int(_) => 8,
+        Value::Text(text) => text.0.len().saturating_add(1),
+        Value::Bytes(bytes) => bytes.0.len().saturating_add(2),
+    }
+}
+
+/// Appends the bytes of a value to a body. An error is an allocation failure.
+pub fn push_value(body: &mut Vec<u8>, value: &Value) -> Result<(), AllocError>
     requires { HasLength value.now }
     ensures { IfOk result (λ _. body.new.items ≡ body.old.items ++ field_bytes value.now) }
 {

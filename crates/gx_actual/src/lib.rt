@@ -6,6 +6,6 @@ mod layer;
 mod make;
 mod mapping;
 
-pub use bodies::{body_bytes, read_body};
+pub use bodies::{body_bytes, push_value, read_body, width_of};
 pub use layer::Actual;
 pub use make::actual;

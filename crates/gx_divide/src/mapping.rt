@@ -7,7 +7,7 @@ ghost use Rattle.gx_divide.specs.Rules.{form_of, rule_of};
 ghost use Rattle.gx_divide.specs.Laws.{divide_laws};
 
 use crate::layer::Divide;
-use crate::pieces::{bytes_in, joined, numbered_pieces, one_value};
+use crate::pieces::{bytes_in, joined, numbered_pieces, one_value, only_piece};
 use gx_mapping::{Mapping, Parts};
 use gx_values::{Form, Kind, Name, NoMemory, Octets, Rec, Span, Value, Values};
 use std::alloc::Global;
@@ -35,6 +35,13 @@ impl Mapping for Divide {
 
     fn parts(&self, alloc: Global, rec: &Rec) -> Result<Parts, NoMemory> {
         numbered_pieces(alloc, self.size, &rec.key, bytes_in(&rec.fields))
+    }
+
+    fn into_parts(&self, alloc: Global, rec: Rec) -> Result<Parts, NoMemory> {
+        if bytes_in(&rec.fields).len() < usize::from(self.size) {
+            return Parts::one(alloc, only_piece(alloc, rec)?);
+        }
+        self.parts(alloc, &rec)
     }
 
     fn gather(&self, alloc: Global, key: &Values, parts: &Parts) -> Result<Option<Rec>, NoMemory> {

@@ -35,13 +35,39 @@ fn piece_part(alloc: Global, key: &Values, number: u32, piece: &[u8]) -> Result<
     requires { AreSized key.now }
     ensures { IfOk result (λ part. part ≡ piece_part key.now number piece.now) }
 {
-    let mut values = key.copy(alloc)?.0;
-    values.push(Value::Int(i64::from(number)))?;
+    let key = piece_key(alloc, key, number)?;
     let piece = Octets::from_slice(alloc, piece)?;
     let fields = one_value(alloc, Value::Bytes(piece))?;
+    let rec = Rec { key, fields };
+    Ok(Part { child: 0, rec })
+}
+
+// The key of a piece, in memory of its length.
+fn piece_key(alloc: Global, key: &Values, number: u32) -> Result<Values, NoMemory>
+    requires { AreSized key.now }
+    ensures { IfOk result (λ made. made ≡ key.now ++ value.Int (pos number) ∷ []) }
+{
+    let mut values = Vec::with_capacity(alloc, key.0.len().saturating_add(1))?;
+    for value in &key.0 {
+        values.push(value.copy(alloc)?)?;
+    }
+    values.push(Value::Int(i64::from(number)))?;
+    Ok(Values(values))
+}
+
+/// The one piece of a record whose bytes are fewer than those of a piece. `NoMemory`: there was none
+/// for its key.
+pub(crate) fn only_piece(alloc: Global, rec: Rec) -> Result<Part, NoMemory>
+    requires { AreSized rec.key }
+    ensures { IfOk result (λ part. part ≡ record {
+      child = 0;
+      rec = record { key = rec.key ++ value.Int (pos 0) ∷ []; fields = rec.fields };
+    }) }
+{
+    let key = piece_key(alloc, &rec.key, 0)?;
     let rec = Rec {
-        key: Values(values),
-        fields,
+        key,
+        fields: rec.fields,
     };
     Ok(Part { child: 0, rec })
 }
@@ -60,7 +86,7 @@ pub(crate) fn numbered_pieces(
     ensures { IfOk result (λ parts. parts ≡ numbered key.now 0 (pieces size bytes.now)) }
 {
     let size = usize::from(size);
-    let mut parts = Vec::new(alloc);
+    let mut parts = Vec::with_capacity(alloc, bytes.len() / size + 1)?;
     let mut rest = bytes;
     let mut number = 0u32;
     while rest.len() >= size {

@@ -8,6 +8,7 @@ ghost use Rattle.gx_split.specs.SegmentRules.{form_of, mask_of};
 ghost use Rattle.gx_stack.specs.Seen.{tree_of};
 ghost use Rattle.gx_entries.specs.Entries.{IsPlain, of_group, others_of};
 
+use gx_actual::{push_value, width_of};
 use gx_mapping::Mapping;
 use gx_split::Segment;
 use gx_stack::Node;
@@ -82,14 +83,6 @@ fn room_for(mask: &[bool], is_first: bool, values: &[Value]) -> usize
     room
 }
 
-fn width_of(value: &Value) -> usize {
-    match value {
-        Value::Int(_) => 8,
-        Value::Text(text) => text.0.len().saturating_add(1),
-        Value::Bytes(bytes) => bytes.0.len().saturating_add(2),
-    }
-}
-
 // Whether the value with this number is of the group.
 fn is_chosen(mask: &[bool], is_first: bool, at: usize) -> bool
     requires { at < length mask.now }
@@ -105,24 +98,6 @@ fn push_chosen(body: &mut Vec<u8>, is_chosen: bool, value: &Value) -> Result<(),
 {
     if is_chosen {
         push_value(body, value)?;
-    }
-    Ok(())
-}
-
-fn push_value(body: &mut Vec<u8>, value: &Value) -> Result<(), AllocError>
-    requires { HasLength value.now }
-    ensures { IfOk result (λ _. body.new.items ≡ body.old.items ++ field_bytes value.now) }
-{
-    match value {
-        Value::Int(n) => body.extend_from_slice(&n.to_be_bytes())?,
-        Value::Text(text) => {
-            body.push(text.0.len() as u8)?;
-            body.extend_from_slice(&text.0)?;
-        }
-        Value::Bytes(bytes) => {
-            body.extend_from_slice(&(bytes.0.len() as u16).to_be_bytes())?;
-            body.extend_from_slice(&bytes.0)?;
-        }
     }
     Ok(())
 }

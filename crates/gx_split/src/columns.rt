@@ -29,8 +29,29 @@ fn column_part(alloc: Global, key: &Values, child: u16, value: &Value) -> Result
     requires value { IsSized value.now }
     ensures { IfOk result (λ part. part ≡ column_part key.now child value.now) }
 {
+    into_column(alloc, key, child, value.copy(alloc)?)
+}
+
+/// The same of values that needn't be kept.
+pub(crate) fn into_columns(alloc: Global, key: &Values, values: Values) -> Result<Parts, NoMemory>
+    requires key { AreSized key.now }
+    requires few { length values ≤ 65535 }
+    ensures { IfOk result (λ parts. parts ≡ columns key.now 0 values) }
+{
+    let mut parts = Vec::with_capacity(alloc, values.0.len())?;
+    for value in values.0 {
+        let child = parts.len() as u16;
+        parts.push(into_column(alloc, key, child, value)?)?;
+    }
+    Ok(Parts(parts))
+}
+
+fn into_column(alloc: Global, key: &Values, child: u16, value: Value) -> Result<Part, NoMemory>
+    requires { AreSized key.now }
+    ensures { IfOk result (λ part. part ≡ column_part key.now child value) }
+{
     let mut fields = Vec::with_capacity(alloc, 1)?;
-    fields.push(value.copy(alloc)?)?;
+    fields.push(value)?;
     let rec = Rec {
         key: key.copy(alloc)?,
         fields: Values(fields),
@@ -39,8 +60,7 @@ fn column_part(alloc: Global, key: &Values, child: u16, value: &Value) -> Result
 }
 
 /// The values of the parts, which have one each. `None`: they don't stand in the children from 0
-/// on.
-/// `NoMemory`: there was none for the values.
+/// on. `NoMemory`: there was none for the values.
 pub(crate) fn column_values(alloc: Global, parts: &[Part]) -> Result<Option<Values>, NoMemory>
     requires { (p : ThePart) → In p parts.now → IsAlone p }
     ensures { IfOk result (λ found. found ≡ column_values 0 parts.now) }

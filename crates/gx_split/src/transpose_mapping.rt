@@ -3,7 +3,7 @@ ghost use Rattle.std.specs.Prelude.{◌≡◌, IfOk};
 ghost use Rattle.gx_split.specs.TransposeRules.{rule_of};
 ghost use Rattle.gx_split.specs.TransposeLaws.{transpose_laws};
 
-use crate::columns::{column_values, columns};
+use crate::columns::{column_values, columns, into_columns};
 use crate::layer::Transpose;
 use gx_mapping::{Mapping, Parts, field_number};
 use gx_values::{Form, Name, NoMemory, Rec, Span, Values};
@@ -32,6 +32,11 @@ impl Mapping for Transpose {
 
     fn parts(&self, alloc: Global, rec: &Rec) -> Result<Parts, NoMemory> {
         columns(alloc, &rec.key, &rec.fields)
+    }
+
+    fn into_parts(&self, alloc: Global, rec: Rec) -> Result<Parts, NoMemory> {
+        let Rec { key, fields } = rec;
+        into_columns(alloc, &key, fields)
     }
 
     fn gather(&self, alloc: Global, key: &Values, parts: &Parts) -> Result<Option<Rec>, NoMemory> {
