@@ -37,20 +37,13 @@ use Rattle.gx_model.specs.States.{File, Row, IsRowOf, IsFileOf}
 use Rattle.gx_model.specs.Commands.{Refusal, changed, updated, first_refusal, key_exists, no_record}
 use Rattle.gx_pairs.specs.declared.refused.Refused.{Refused}
 use Rattle.gx_scan.specs.Files.{rec_of, records_of, IsInternal, IsStorable, IsTreeFor}
+use Rattle.gx_scan.specs.Searched.{HasInside}
 use Rattle.gx_scan.proofs.FileLemmas.{value_cases, value_itself, other_value, one_key, inside_key, row_fits, find_in, in_find, in_there, there_in}
-use Rattle.gx_scan.proofs.SearchedLemmas.{inside_itself, inside_goes, kid_there, one_down}
-use Rattle.gx_edits.specs.Home.{HasAllInside, HoldsKey, IsHome}
+use Rattle.gx_edits.specs.Home.{HoldsKey, IsHome}
 use Rattle.gx_edits.specs.Records.{IsEdited, IsEditedWhere}
 use Rattle.gx_edits.proofs.RecordLemmas.{value_fits}
 
 -- ---- a tree itself
-
-pub all_itself : (span : Span) (t : Tree AnyMapping) → HasAllInside span t t
-all_itself span t = record {
-  records = inside_itself span t;
-  leaves = λ n h. h;
-  entries = λ r fits inside. refl;
-}
 
 pub home_itself : (file : FileDef) (key : Value) (t : Tree AnyMapping) → IsHome file key t t
 home_itself file key t = record {
@@ -60,58 +53,20 @@ home_itself file key t = record {
   entries = λ values fit. refl;
 }
 
--- ---- one step down
-
-module _ (n : Node AnyMapping) (l : LayerNode AnyMapping) (is : n ≡ nodes.Layer l)
-    (valid : IsValid any_rule (tree_of n)) (passes : PassesWhole (any_rule l.mapping))
-    (span : Span) (c : ℕ) (alone : IsAlone (any_rule l.mapping) span c)
-    (k : Node AnyMapping) (read : k ≡ get_or l.kids.items c k) where
-  -- a record of the child has the same entries below it
-  same_entries : (r : Rec) → (passes.one r).0 ≡ c
-      → entries_of any_rule (tree_of n) r ≡ entries_of any_rule (tree_of k) r
-  same_entries r child =
-      let ks = kids_from (map tree_of l.kids.items) in
-      ap (λ t. entries_of any_rule t r) (seen_layer n l is)
-      ∙ ap (λ (ps : List Part). flat_map (λ (p : Part). kid_entries any_rule ks p.child p.rec) ps)
-      (passes.one r).1
-      ∙ append-nil (kid_entries any_rule ks (passes.one r).0 r)
-      ∙ ap (λ d. kid_entries any_rule ks d r) child
-      ∙ kid_entries_at any_rule l.kids.items c k r (kid_there n l is valid passes span c alone)
-      ∙ ap (λ x. entries_of any_rule (tree_of x) r) (sym read)
-
-  kid_form : tree_form any_rule (tree_of k) ≡ tree_form any_rule (tree_of n)
-  kid_form =
-      let there = kid_there n l is valid passes span c alone in
-      (child_valid any_rule n l is c k valid there read).0 ∙ passes.form c
-      ∙ sym (layer_form any_rule n l is)
-
-  pub home_down : (u : Tree AnyMapping) → HasAllInside span (tree_of k) u
-      → HasAllInside span (tree_of n) u
-  home_down u inner =
-      let there = kid_there n l is valid passes span c alone in
-      record {
-        records = one_down n l is valid passes span c alone k read u inner.records;
-        leaves = λ i h. child_leaves any_rule n l is c k there read i (inner.leaves i h);
-        entries = λ r fits inside.
-            let of_layer = subst (λ form. IsOf form r) (layer_form any_rule n l is) fits in
-            same_entries r (inside_goes l.mapping passes c span alone r of_layer inside)
-            ∙ inner.entries r (subst (λ form. IsOf form r) (sym kid_form) fits) inside;
-      }
-
 -- ---- the span of one key
 
 pub home_of_span : (file : FileDef) (key : Value) (span : Span) (t u : Tree AnyMapping)
     → IsStorable file → Fits (key_kind file) key → span.lo ≡ bytes_of key → span.hi ≡ bytes_of key
-    → tree_form any_rule t ≡ file_form file → HasAllInside span t u → IsHome file key t u
+    → tree_form any_rule t ≡ file_form file → HasInside span t u → IsHome file key t u
 home_of_span file key span t u storable fit lo hi form has =
     let inside : is_inside span.lo span.hi (key_of (key ∷ [])) ≡ true =
     (λ i. is_inside (lo i) (hi i) (key_of (key ∷ [])))
     ∙ inside_key file key key storable.key fit fit ∙ value_itself key in
     record {
-      tree = has.records.tree file;
+      tree = has.tree file;
       leaves = has.leaves;
       held = λ maps f is.
-          let p = has.records.held file maps f storable.keyed form is in
+          let p = has.held file maps f storable.keyed form is in
           record { part = p.part; held = p.held; same = p.same key inside };
       entries = λ values fits.
           let row : Row = (key, values) in

@@ -15,16 +15,6 @@ use Rattle.gx_types.specs.declared.any.AnyMapping.{AnyMapping}
 use Rattle.gx_types.specs.Any.{any_rule}
 use Rattle.gx_model.specs.States.{File}
 use Rattle.gx_scan.specs.Files.{rec_of, IsInternal, IsTreeFor}
-use Rattle.gx_scan.specs.Searched.{HasInside}
-
--- the second tree has all records of the first one whose keys are inside the span, with all their
--- leaf entries
-pub record HasAllInside (span : Span) (t u : Tree AnyMapping) : Type 0 where
-  pub records : HasInside span t u
-  pub leaves : (n : ℕ) → In n (leaves_of u) → In n (leaves_of t)
-  pub entries : (r : Rec) → IsOf (tree_form any_rule t) r
-      → is_inside span.lo span.hi (key_of r.key) ≡ true
-      → entries_of any_rule t r ≡ entries_of any_rule u r
 
 -- the leaves of the tree hold a part of the file, which has what the file has at the key
 pub record HoldsKey (file : FileDef) (key : Value) (t : Tree AnyMapping) (maps : List LeafMap)

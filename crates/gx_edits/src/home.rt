@@ -7,14 +7,13 @@ ghost use Rattle.gx_stack.specs.Seen.{tree_of};
 ghost use Rattle.gx_types.specs.Any.{any_rule};
 ghost use Rattle.gx_typing.specs.Dues.{file_form};
 ghost use Rattle.gx_scan.specs.Files.{IsStorable};
-ghost use Rattle.gx_edits.specs.Home.{HasAllInside, IsHome};
+ghost use Rattle.gx_edits.specs.Home.{IsHome};
 
-use gx_mapping::Mapping;
-use gx_scan::whole_span;
+use gx_scan::{searched_node, whole_span};
 use gx_schema::FileDef;
 use gx_stack::Node;
 use gx_types::{AnyMapping, Passing};
-use gx_values::{Span, Value};
+use gx_values::Value;
 
 /// The lowest node, below layers that pass records whole, that has all leaf entries of the record
 /// with this key.
@@ -40,23 +39,5 @@ pub(crate) fn home_of<'a>(
     let mut span = whole_span();
     span.lo.set_value(key);
     span.hi.set_value(key);
-    home_inside(node, &span)
-}
-
-// The lowest node, below layers that pass records whole, that has all leaf entries of the records
-// whose keys are inside the span.
-fn home_inside<'a>(node: &'a Node<AnyMapping>, span: &Span) -> &'a Node<AnyMapping>
-    requires { IsValid any_rule (tree_of node.now) }
-    ensures { HasAllInside span.now (tree_of node.now) (tree_of result.now) }
-{
-    let Node::Layer(layer) = node else {
-        return node;
-    };
-    match layer.mapping.passing() {
-        Passing::Whole => match layer.mapping.only_searched(span) {
-            Some(child) => home_inside(&layer.kids[child as usize], span),
-            None => node,
-        },
-        _ => node,
-    }
+    searched_node(node, &span)
 }

@@ -48,7 +48,9 @@ use Rattle.gx_scan.proofs.FileLemmas.{first_of_both, second_of_both, inside_key,
 pub inside_itself : (span : Span) (t : Tree AnyMapping) → HasInside span t t
 inside_itself span t = record {
   tree = λ file n is. is;
-  leaves = omega arith;
+  fewer = omega arith;
+  leaves = λ n h. h;
+  entries = λ r fits inside. refl;
   held = λ file maps f keyed form is. record { part = f; held = is; same = λ k h. refl; few = λ most h. h };
 }
 
@@ -227,7 +229,12 @@ module _ (n : Node AnyMapping) (l : LayerNode AnyMapping) (is : n ≡ nodes.Laye
     pub one_down : (u : Tree AnyMapping) → HasInside span (tree_of k) u → HasInside span (tree_of n) u
     one_down u inner = record {
       tree = λ file many tree. inner.tree file many (kid_tree file many tree);
-      leaves = (let low = inner.leaves in omega (arith, low, kid_fewer));
+      fewer = (let low = inner.fewer in omega (arith, low, kid_fewer));
+      leaves = λ j h. child_leaves any_rule n l is c k kid_there read j (inner.leaves j h);
+      entries = λ r fits within.
+          let of_layer = subst (λ fm. IsOf fm r) (layer_form any_rule n l is) fits in
+          same_entries r (inside_goes l.mapping passes c span alone r of_layer within)
+          ∙ inner.entries r (subst (λ fm. IsOf fm r) (sym kid_form) fits) within;
       held = λ file maps f keyed form held.
           let a = kid_part file maps f keyed form held in
           let b = inner.held file maps a.part keyed (kid_form ∙ form) a.held in
@@ -272,7 +279,7 @@ module _ {S T : Type 0} (g : Ghosts S) (file : FileDef) (k : Value) (span : Span
         fits = x.fits;
         steps = λ f most whole is few.
             let own = part f is in
-            on_ok_weaker r (λ steps. omega (arith, steps, inside.leaves))
+            on_ok_weaker r (λ steps. omega (arith, steps, inside.fewer))
             (x.steps own.part most whole own.held (own.few most few));
         reads = reads_weaker g (λ sound.
             let own = part sound.1.0 sound.1.1 in

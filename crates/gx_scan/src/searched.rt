@@ -9,9 +9,9 @@ use gx_stack::Node;
 use gx_types::{AnyMapping, Passing};
 use gx_values::Span;
 
-/// The lowest node that has all records inside the span as they are: below layers that pass records whole
-/// and of which one child alone is searched.
-pub(crate) fn searched_node<'a>(node: &'a Node<AnyMapping>, span: &Span) -> &'a Node<AnyMapping>
+/// The lowest node that has all records inside the span as they are, with all their leaf entries:
+/// below layers that pass records whole and of which one child alone is searched.
+pub fn searched_node<'a>(node: &'a Node<AnyMapping>, span: &Span) -> &'a Node<AnyMapping>
     requires valid { IsValid any_rule (tree_of node.now) }
     ensures { HasInside span.now (tree_of node.now) (tree_of result.now) }
 {
