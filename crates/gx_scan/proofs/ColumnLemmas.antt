@@ -90,6 +90,12 @@ pub column_there : (t : Tree AnyMapping) (ps : List Place) (p : Place) → AreCo
 column_there t ps p are h = subst (λ t. In p.leaf (leaves_of t)) (sym are.tree)
     (place_in are.kids ps p are.each h)
 
+-- there is one for each data field
+pub columns_many : (file : FileDef) (t : Tree AnyMapping) (ps : List Place) (leaves : ℕ)
+    → IsTreeFor file t leaves → AreColumns t ps → length ps ≡ length (data_fields file)
+columns_many file t ps leaves tree are =
+    are.long ∙ ap (λ (x : Form). length x.fields) tree.form
+
 -- a child at a number, its place, and what its leaves hold
 pub record KidAt (kids : Kids AnyMapping) (forms : ℕ → Form) (Rs : ℕ → List Rec)
     (maps : List LeafMap) (c : ℕ) (p : Place) : Type 0 where
@@ -124,7 +130,7 @@ kid_at (kid t kids) forms Rs maps (q ∷ ps) (suc c) p are valid held lt item =
       entries = x.entries;
     }
 
-place_at : (ps : List Place) (c : ℕ) → c < length ps → (p : Place) × (p ≡ get_or ps c p)
+pub place_at : (ps : List Place) (c : ℕ) → c < length ps → (p : Place) × (p ≡ get_or ps c p)
 place_at [] c lt = absurd (omega arith)
 place_at (p ∷ ps) zero lt = (p, refl)
 place_at (p ∷ ps) (suc c) lt = place_at ps c (omega arith)
@@ -209,7 +215,7 @@ sum_same g n [] same = omega arith
 sum_same g n (p ∷ ps) same =
     let one = same p (inl refl) in
     let rest = sum_same g n ps (λ q h. same q (inr h)) in
-    omega (arith, one, rest, sum_by-cons {A = List Entry} length (g p) (map g ps))
+    omega (arith, one, rest, sum_by-cons {X = List Entry} length (g p) (map g ps))
 
 -- ---- a record that is looked for
 
@@ -225,9 +231,6 @@ module _ (file : FileDef) (t : Tree AnyMapping) (ps : List Place) (leaves : ℕ)
 
   abbrev form : Form
   form = tree_form any_rule t
-
-  pub fields_many : length ps ≡ length (data_fields file)
-  fields_many = are.long ∙ ap (λ (x : Form). length x.fields) tree.form
 
   valid : IsValid any_rule (layer are.mapping are.kids)
   valid = subst (IsValid any_rule) are.tree tree.valid

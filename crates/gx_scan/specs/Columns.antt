@@ -1,6 +1,5 @@
 -- Records whose data fields stand each alone in a leaf of its own.
 use Rattle.std.specs.Prelude.{[], ◌≡◌, ℕ, ◌<◌, List, ◌∷◌, length, get_or, map}
-use Rattle.gx_values.specs.declared.values.Value.{Value}
 use Rattle.gx_ports.specs.declared.leaves.Entry.{Entry}
 use Rattle.gx_ports.specs.LeafMaps.{entry_of}
 use Rattle.gx_mapping.specs.Rule.{In}

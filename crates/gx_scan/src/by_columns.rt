@@ -122,7 +122,8 @@ fn select_at<B: Leaves>(
     ensures reads { ReadsMaps B.View (B.whole leaves.old) leaves.old leaves.new result }
 {
     entries.clear();
-    leaves.select(alloc, place.leaf, span, entries)
+    leaves.select(alloc, place.leaf, span, entries)?;
+    Ok(())
 }
 
 // The value of a column whose entry has this body. `None`: it is that of no value of the kind.
@@ -203,13 +204,15 @@ fn entries_of_each<B: Leaves>(
     ensures entries { B.whole leaves.old → IfOk result (λ found. found.items
         ≡ map (λ p. selected span.now.lo span.now.hi (map_at (B.working leaves.old) p.leaf))
         places.now) }
+    ensures many { IfOk result (λ found. length found.items ≡ length places.now) }
     ensures steps { IfOk result (λ found. B.work leaves.new
         ≤ B.work leaves.old + (length places.now + sum_by length found.items)) }
     ensures reads { ReadsMaps B.View (B.whole leaves.old) leaves.old leaves.new result }
 {
     let mut columns = Vec::with_capacity(alloc, places.len())?;
     for place in places {
-        columns.push(entries_at(alloc, place, span, leaves)?)?;
+        let entries = entries_at(alloc, place, span, leaves)?;
+        columns.push(entries)?;
     }
     Ok(columns)
 }
