@@ -5,6 +5,7 @@ use Rattle.std.proofs.lemmas.List.{take_all, take_more}
 use Rattle.gx_values.specs.Values.{Fits, AreFit}
 use Rattle.gx_values.proofs.WrittenLemmas.{next_fit}
 use Rattle.gx_schema.specs.Lookups.{data_fields}
+use Rattle.gx_actual.specs.Bodies.{AreShort}
 use Rattle.gx_actual.proofs.BodyLemmas.{item_short}
 use Rattle.gx_ports.specs.declared.leaves.Entry.{Entry}
 use Rattle.gx_ports.specs.LeafMaps.{LeafMap}
@@ -13,7 +14,7 @@ use Rattle.gx_gather.proofs.Lists.{in_read, some_same}
 use Rattle.gx_split.specs.Forms.{no_value}
 use Rattle.gx_split.specs.GroupLaws.{fit_length}
 use Rattle.gx_stack.specs.Seen.{tree_of}
-use Rattle.gx_stack.proofs.PassLemmas.{passes_joined, read_passes, reads_stopped, reads_given_after}
+use Rattle.gx_stack.proofs.PassLemmas.{passes_joined, read_passes, reads_stopped}
 use Rattle.gx_scan.specs.declared.places.Place.{Place}
 use Rattle.gx_scan.proofs.ColumnLemmas.{columns_many, column_there, column_coded, row_there, row_fit, steps_key, many_found, one_found, body_found, no_record, some_record, found_cases}
 use Rattle.gx_scan.proofs.ColumnSteps.{field_fits, reads_passed}
@@ -49,7 +50,8 @@ select_at-requires g c =
 
 pub read_alone-requires : goal.read_alone-requires
 read_alone-requires g c =
-    item_short c.data_fields-fields.result.now c.index-fields-at.result c.loop-at.at SHORT
+    item_short c.data_fields-fields.result.now c.index-fields-at.result c.loop-at.at
+    (subst AreShort (sym c.data_fields-fields.ensures) c.requires.storable.short)
     c.loop-at-test.true c.index-fields-at.is
 
 pub returns-then-at-eq0 : goal.returns-then-at-eq0
@@ -92,8 +94,8 @@ returns-then-at-eq0 g c =
           (read_passes b selected.reads));
     }
 
-pub returns-else-at-eq0 : goal.returns-else-at-eq0
-returns-else-at-eq0 g c =
+pub returns-then-is_empty : goal.returns-then-is_empty
+returns-then-is_empty g c =
     let b = g.B.View in
     let file = c.args.file.now in
     let t = tree_of c.args.node.now in

@@ -24,14 +24,23 @@ index-kid-requires c =
       l.kids.ok.0,
     )
 
-pub only_place-requires : goal.only_place-requires
-only_place-requires c =
+pub only_place-requires-clause-valid : goal.only_place-requires-clause-valid
+only_place-requires-clause-valid c =
     let l = c.in-Layer.layer in
     let within : c.loop-child.child < (any_rule l.mapping).kids =
     omega (arith, c.kids-child-end.ensures) in
-    kid_valid c.args.node.now l c.in-Transpose.field-0 c.in-Layer.is c.in-Transpose.is
+    (kid_valid c.args.node.now l c.in-Transpose.field-0 c.in-Layer.is c.in-Transpose.is
     c.requires.valid c.loop-child.child c.index-kid.result.now within c.index-kid.ensures
-    c.requires.plain
+    c.requires.plain).0
+
+pub only_place-requires-clause-plain : goal.only_place-requires-clause-plain
+only_place-requires-clause-plain c =
+    let l = c.in-Layer.layer in
+    let within : c.loop-child.child < (any_rule l.mapping).kids =
+    omega (arith, c.kids-child-end.ensures) in
+    (kid_valid c.args.node.now l c.in-Transpose.field-0 c.in-Layer.is c.in-Transpose.is
+    c.requires.valid c.loop-child.child c.index-kid.result.now within c.index-kid.ensures
+    c.requires.plain).1
 
 pub loop-child-preserved : goal.loop-child-preserved
 loop-child-preserved c =
@@ -48,8 +57,8 @@ loop-child-preserved c =
     (places_next l.kids.items c.loop-child.child c.loop-child.places.items k p there
     c.index-kid.ensures c.loop-child.invariant placed)
 
-pub returns-after-loop-child : goal.returns-after-loop-child
-returns-after-loop-child c =
+pub returns : goal.returns
+returns c =
     columns_made c.args.node.now c.in-Layer.layer c.in-Transpose.field-0 c.in-Layer.is
     c.in-Transpose.is c.requires.valid c.loop-child.places.items c.loop-child.child
     (omega (arith, c.loop-child-test.false, c.kids-child-end.ensures)) c.loop-child.invariant
