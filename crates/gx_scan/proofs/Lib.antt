@@ -15,5 +15,7 @@ mod DistinctLemmas
 mod KeyLemmas
 mod OnePlaceLemmas
 mod BothLemmas
+mod ColumnLemmas
+mod ColumnSteps
 pub mod StepLemmas
 pub mod SearchedLemmas

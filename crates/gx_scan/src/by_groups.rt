@@ -128,8 +128,8 @@ pub(crate) fn record_by_groups<B: Leaves>(
     Ok(Some(record_of(alloc, key, values)?))
 }
 
-// The record of a key and other values.
-fn record_of(alloc: Global, key: &Value, values: Values) -> Result<Rec, NoMemory>
+/// The record of a key and other values. `NoMemory`: there was none for the key.
+pub(crate) fn record_of(alloc: Global, key: &Value, values: Values) -> Result<Rec, NoMemory>
     requires { IsSized key.now }
     ensures { IfOk result (λ made. made ≡ rec_of (key.now, values)) }
 {
@@ -141,8 +141,8 @@ fn record_of(alloc: Global, key: &Value, values: Values) -> Result<Rec, NoMemory
     })
 }
 
-// The entries of a place within the span, in the order of their keys.
-fn entries_at<B: Leaves>(
+/// The entries of a place within the span, in the order of their keys.
+pub(crate) fn entries_at<B: Leaves>(
     alloc: Global,
     place: &Place,
     span: &Span,

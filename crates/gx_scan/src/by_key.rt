@@ -12,9 +12,11 @@ ghost use Rattle.gx_scan.specs.Entries.{ArePlaces};
 ghost use Rattle.gx_scan.specs.Records.{list_of_one};
 ghost use Rattle.gx_scan.specs.Search.{FindsValues};
 
+use crate::by_columns::values_by_columns;
 use crate::by_entries::{FEW_PLACES, add_by_entries};
 use crate::by_groups::values_by_groups;
 use crate::coded::values_at_place;
+use crate::columns::columns_of;
 use crate::groups::groups_of;
 use crate::places::{Place, place_of, places_of};
 use crate::records::{NO_BLOCK, record_inside, set_key};
@@ -30,8 +32,8 @@ use std::alloc::Global;
 
 /// The values of the record with this key, but for the key, where there is one. Below layers that pass
 /// records whole, only the node that may have the key is asked. Where the records stand whole in few
-/// leaves there, or a segment splits them in two, the values are read from the bytes of its entries. It
-/// takes a step for each leaf, and one for each leaf entry of the record.
+/// leaves there, or a segment splits them in two, or a transposition puts each field in a leaf of its
+/// own, the values are read from the bytes of its entries. It takes a step for each leaf, and one for each leaf entry of the record.
 ///
 /// `Damaged`: some leaf's stored form isn't whole, or the leaves hold no file, which is said of block 0.
 /// `Fault`: the count of faults rose; with any other answer it stays. `NoMemory`: there was none.
@@ -71,6 +73,9 @@ fn values_in<B: Leaves>(
 {
     if let Some(groups) = groups_of(alloc, node)? {
         return values_by_groups(alloc, file, node, &groups, key, span, leaves);
+    }
+    if let Some(places) = columns_of(alloc, node)? {
+        return values_by_columns(alloc, file, node, places.as_slice(), key, span, leaves);
     }
     if let Some(place) = place_of(alloc, node)? {
         return values_at(alloc, file, node, &place, key, span, leaves);

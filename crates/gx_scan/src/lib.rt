@@ -3,6 +3,7 @@
 #![tactic(auto)]
 
 mod both;
+mod by_columns;
 mod by_entries;
 mod by_groups;
 mod by_index;
@@ -10,6 +11,7 @@ mod by_key;
 mod by_records;
 mod coded;
 mod codes;
+mod columns;
 mod conditions;
 mod groups;
 mod joined;

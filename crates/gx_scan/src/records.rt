@@ -12,7 +12,9 @@ ghost use Rattle.gx_scan.specs.Files.{IsStorable, IsTreeFor};
 ghost use Rattle.gx_scan.specs.Records.{list_of_one};
 ghost use Rattle.gx_scan.specs.Search.{FindsRecord};
 
+use crate::by_columns::record_by_columns;
 use crate::by_groups::record_by_groups;
+use crate::columns::columns_of;
 use crate::groups::groups_of;
 use crate::searched::searched_node;
 use crate::within::whole_span;
@@ -45,8 +47,8 @@ pub(crate) fn set_key(span: &mut Span, key: &Value)
     span.hi.set_value(key);
 }
 
-/// The record with this key, where there is one. Where a segment splits the records in two leaves, it
-/// is made of the bytes of its entries. It takes a step for each leaf, and one for each leaf entry of
+/// The record with this key, where there is one. Where a segment splits the records in two leaves, or a
+/// transposition puts each field in a leaf of its own, it is made of the bytes of its entries. It takes a step for each leaf, and one for each leaf entry of
 /// the record.
 pub fn find_record<B: Leaves>(
     alloc: Global,
@@ -82,8 +84,13 @@ fn record_in<B: Leaves>(
     requires hi { span.now.hi ≡ bytes_of key.now }
     ensures { FindsRecord B.View file.now (tree_of node.now) key.now leaves.old leaves.new result }
 {
-    match groups_of(alloc, node)? {
-        Some(groups) => record_by_groups(alloc, file, node, &groups, key, span, leaves),
+    if let Some(groups) = groups_of(alloc, node)? {
+        return record_by_groups(alloc, file, node, &groups, key, span, leaves);
+    }
+    match columns_of(alloc, node)? {
+        Some(places) => {
+            record_by_columns(alloc, file, node, places.as_slice(), key, span, leaves)
+        }
         None => record_inside(alloc, file, node, key, span, leaves),
     }
 }

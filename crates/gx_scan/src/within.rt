@@ -13,9 +13,11 @@ ghost use Rattle.gx_scan.specs.Files.{IsInternal, HasFile, IsStorable, IsTreeFor
 ghost use Rattle.gx_scan.specs.Within.{AreAdded};
 ghost use Rattle.gx_scan.specs.Steps.{HaveAtMost, rows_inside};
 
+use crate::by_columns::add_by_columns;
 use crate::by_entries::{FEW_PLACES, add_by_entries};
 use crate::by_groups::add_by_groups;
 use crate::by_records::add_by_records;
+use crate::columns::plain_columns_of;
 use crate::groups::plain_groups_of;
 use crate::places::places_of;
 use gx_commands::Cond;
@@ -28,8 +30,8 @@ use gx_values::{KeyBuf, Span};
 use std::alloc::Global;
 
 /// Appends the records of the file within the span that meet the conditions, in any order. Where
-/// each record stands whole in one leaf, or a segment splits it in two, the conditions are tested on
-/// the bytes of leaf entries, and no other record is made, but for a single key that may stand in
+/// each record stands whole in one leaf, or a segment splits it in two, or a transposition puts each
+/// field in a leaf of its own, the conditions are tested on the bytes of leaf entries, and no other record is made, but for a single key that may stand in
 /// one of many leaves. It takes a step for each leaf, and one for each leaf entry of a record within
 /// the span.
 ///
@@ -63,6 +65,18 @@ pub fn rows_within<B: Leaves>(
 {
     if let Some(groups) = plain_groups_of(alloc, node)? {
         return add_by_groups(alloc, file, node, &groups, span, conds, leaves, rows);
+    }
+    if let Some(places) = plain_columns_of(alloc, node)? {
+        return add_by_columns(
+            alloc,
+            file,
+            node,
+            places.as_slice(),
+            span,
+            conds,
+            leaves,
+            rows,
+        );
     }
     let most = if is_one_key(span) {
         FEW_PLACES
