@@ -3,6 +3,7 @@ pub mod Records
 pub mod Stored
 pub mod Entries
 pub mod Groups
+pub mod Pieces
 pub mod Scan
 pub mod Within
 pub mod Where

@@ -128,8 +128,8 @@ pub(crate) fn record_by_groups<B: Leaves>(
     Ok(Some(record_of(alloc, key, values)?))
 }
 
-// The record of a key and other values.
-fn record_of(alloc: Global, key: &Value, values: Values) -> Result<Rec, NoMemory>
+/// The record of a key and other values.
+pub(crate) fn record_of(alloc: Global, key: &Value, values: Values) -> Result<Rec, NoMemory>
     requires { IsSized key.now }
     ensures { IfOk result (λ made. made ≡ rec_of (key.now, values)) }
 {

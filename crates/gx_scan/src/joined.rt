@@ -29,8 +29,8 @@ use gx_schema::FileDef;
 use gx_values::{Field, Kind, NoMemory};
 use std::alloc::{AllocError, Global};
 
-// Room for the body of a record of some short texts: most grow no further.
-const PLAIN_ROOM: usize = 128;
+/// Room for the body of a record of some short texts: most grow no further.
+pub(crate) const PLAIN_ROOM: usize = 128;
 
 /// Appends the records of the entries that meet the conditions, in the order of the entries, and
 /// answers whether each pair of entries looked at was that of a record of the file; one that a
@@ -145,8 +145,8 @@ fn add_joined(
     add_met(alloc, file, conds, key, plain.as_slice(), rows)
 }
 
-// The same of one body.
-fn add_met(
+/// The same of one body.
+pub(crate) fn add_met(
     alloc: Global,
     file: &FileDef,
     conds: &[Cond],

@@ -13,7 +13,9 @@ ghost use Rattle.gx_scan.specs.Records.{list_of_one};
 ghost use Rattle.gx_scan.specs.Search.{FindsRecord};
 
 use crate::by_groups::record_by_groups;
+use crate::by_pieces::record_by_pieces;
 use crate::groups::groups_of;
+use crate::pieces::pieces_of;
 use crate::searched::searched_node;
 use crate::within::whole_span;
 use gx_gather::Recs;
@@ -82,10 +84,13 @@ fn record_in<B: Leaves>(
     requires hi { span.now.hi ≡ bytes_of key.now }
     ensures { FindsRecord B.View file.now (tree_of node.now) key.now leaves.old leaves.new result }
 {
-    match groups_of(alloc, node)? {
-        Some(groups) => record_by_groups(alloc, file, node, &groups, key, span, leaves),
-        None => record_inside(alloc, file, node, key, span, leaves),
+    if let Some(groups) = groups_of(alloc, node)? {
+        return record_by_groups(alloc, file, node, &groups, key, span, leaves);
     }
+    if let Some(pieces) = pieces_of(node) {
+        return record_by_pieces(alloc, file, node, &pieces, key, span, leaves);
+    }
+    record_inside(alloc, file, node, key, span, leaves)
 }
 
 /// The same by the records of the node.

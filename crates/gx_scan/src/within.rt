@@ -15,8 +15,10 @@ ghost use Rattle.gx_scan.specs.Steps.{HaveAtMost, rows_inside};
 
 use crate::by_entries::{FEW_PLACES, add_by_entries};
 use crate::by_groups::add_by_groups;
+use crate::by_pieces::add_by_pieces;
 use crate::by_records::add_by_records;
 use crate::groups::plain_groups_of;
+use crate::pieces::pieces_of;
 use crate::places::places_of;
 use gx_commands::Cond;
 use gx_ports::{Entries, Leaves, Stop};
@@ -63,6 +65,9 @@ pub fn rows_within<B: Leaves>(
 {
     if let Some(groups) = plain_groups_of(alloc, node)? {
         return add_by_groups(alloc, file, node, &groups, span, conds, leaves, rows);
+    }
+    if let Some(pieces) = pieces_of(node) {
+        return add_by_pieces(alloc, file, node, &pieces, span, conds, leaves, rows);
     }
     let most = if is_one_key(span) {
         FEW_PLACES
