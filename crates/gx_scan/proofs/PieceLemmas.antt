@@ -49,7 +49,7 @@ use Rattle.gx_stack.specs.declared.node.Node.TheVariants as nodes
 use Rattle.gx_stack.specs.Internal.{IsUnion}
 use Rattle.gx_stack.specs.Seen.{tree_of, kids_from}
 use Rattle.gx_stack.specs.Selected.{IsKeySpan}
-use Rattle.gx_stack.specs.Tree.{Tree, leaf, layer, kid, no_kids, leaves_of, tree_form, entries_of, kid_entries, IsValid}
+use Rattle.gx_stack.specs.Tree.{Tree, Kids, leaf, layer, kid, no_kids, leaves_of, tree_form, entries_of, kid_entries, IsValid}
 use Rattle.gx_stack.proofs.Children.{union_from_internal}
 use Rattle.gx_stack.proofs.Seen.{seen_layer, seen_leaf, layer_form, child_there, child_valid}
 use Rattle.gx_stack.proofs.Selects.{le_longer, front_longer}
@@ -71,6 +71,9 @@ use Rattle.gx_scan.proofs.PlaceLemmas.{Pair, pair_cmp, key_cmp, entries_ascend, 
 use Rattle.gx_scan.proofs.StepLemmas.{counted_most}
 
 -- ---- a layer `actual` over a layer `divide` over a leaf
+
+abbrev one_leaf : ℕ → Form → Tree AnyMapping
+one_leaf n form = leaf n form
 
 one_kid : (ns : List (Node AnyMapping)) (a : Node AnyMapping) → length ns ≡ 1 → a ≡ get_or ns 0 a
     → kids_from (map tree_of ns) ≡ kid (tree_of a) no_kids
@@ -121,7 +124,7 @@ module _ (node : Node AnyMapping) (l : LayerNode AnyMapping) (a : Actual) (is : 
         → ArePieces (tree_of node) p
     pieces_made b n p leaf_read leaf_is number_is size_is =
         let bottom : tree_of b ≡ leaf p.leaf n.form =
-        seen_leaf b n leaf_is ∙ ap (λ (m : ℕ). leaf {M = AnyMapping} m n.form) (sym number_is) in
+        seen_leaf b n leaf_is ∙ ap (λ (m : ℕ). one_leaf m n.form) (sym number_is) in
         let below : tree_of k ≡ layer d.mapping (kid (leaf p.leaf n.form) no_kids) =
         seen_layer k d layer_is
         ∙ ap (layer d.mapping) (one_kid d.kids.items b inner_one leaf_read
@@ -160,7 +163,7 @@ module _ (t : Tree AnyMapping) (p : Pieces) (are : ArePieces t p) where
   record_entries : (r : Row) → entries_of any_rule t (rec_of r)
       ≡ map (in_leaf p.leaf) (piece_entries p.size r)
   record_entries r =
-      let lower = kid (leaf {M = AnyMapping} p.leaf are.form) no_kids in
+      let lower : Kids AnyMapping = kid (leaf p.leaf are.form) no_kids in
       let whole = actual_rec (rec_of r) in
       ap (λ (u : Tree AnyMapping). entries_of any_rule u (rec_of r)) are.tree
       ∙ ap (λ (rule : Rule). flat_map
@@ -174,8 +177,8 @@ module _ (t : Tree AnyMapping) (p : Pieces) (are : ArePieces t p) where
   pub pieces_there : In p.leaf (leaves_of t)
   pieces_there = subst (λ (u : Tree AnyMapping). In p.leaf (leaves_of u)) (sym are.tree) (inl refl)
 
-  one_leaf : length (leaves_of t) ≡ 1
-  one_leaf = ap (λ (u : Tree AnyMapping). length (leaves_of u)) are.tree
+  leaf_alone : length (leaves_of t) ≡ 1
+  leaf_alone = ap (λ (u : Tree AnyMapping). length (leaves_of u)) are.tree
 
   record_many : (r : Row) → length (entries_of any_rule t (rec_of r))
       ≡ length (piece_entries p.size r)
@@ -336,8 +339,11 @@ module _ (file : FileDef) (t : Tree AnyMapping) (p : Pieces) (leaves : ℕ) (map
       subst (In (in_leaf p.leaf e))
       (ap (entries_of any_rule t) row.2 ∙ record_entries t p are row.0) q.2 in
       let at = from_map (in_leaf p.leaf) (in_leaf p.leaf e) (made row.0) among in
-      let same : at.0 ≡ e = λ i. (sym (ap (λ (y : LeafEntry). y.key) at.2) i, sym (ap
-      (λ (y : LeafEntry). y.body) at.2) i) in
+      let same : at.0 ≡ e = λ i. (
+        sym (ap (λ (y : LeafEntry). y.key) at.2) i,
+        sym (ap
+            (λ (y : LeafEntry). y.body) at.2) i,
+      ) in
       in_each made row.0 e all_rows row.1 (subst (λ (y : Pair). In y (made row.0)) same at.1)
 
   row_entry : (e : Pair) → In e (flat_map made all_rows) → In e (fin.entries (map_at maps p.leaf))
@@ -423,7 +429,7 @@ module _ (file : FileDef) (t : Tree AnyMapping) (p : Pieces) (leaves : ℕ) (map
         (λ r h. (in_filter (is_key_inside span) r all_rows h).0) in
         let step = counted_most before after (length entries - length start) (length rows) steps
         (omega (arith, ap length pieces_inside, length-map rows entry_of, ap length none)) in
-        omega (arith, many, step, one_leaf t p are)
+        omega (arith, many, step, leaf_alone t p are)
 
   -- ---- the record at a key
 

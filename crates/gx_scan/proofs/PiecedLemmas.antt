@@ -1,12 +1,10 @@
 -- Entries that are pieces of the bytes of records, read one after the other.
 use Rattle.std.proofs.Common.{[], ◌≡◌, ℕ, zero, suc, ◌+◌, ◌-◌, ◌/◌, ◌<◌, ◌≤◌, ◌^◌, ◌%◌, ◌⊎◌, List, ◌∷◌, ◌++◌, length, length-append, take, drop, get_or, map, min, Option, None, Some, inl, inr, refl, sym, ap, subst, ◌∙◌, arith, append-nil, append_assoc}
-use Rattle.std.specs.Prelude.{filter, pos, slice_get, Bool}
-use Rattle.std.specs.Int.{w64, to_be_bytes, from_be_bytes}
+use Rattle.std.specs.Prelude.{filter, pos, slice_get, Bool, true, IsSomeAnd}
+use Rattle.std.specs.Bool.{then_some}
 use Rattle.std.specs.List.{AllByRecursion, flat_map}
-use Rattle.std.proofs.Math.Seq.{take-append_seam, drop-append_seam}
 use Rattle.std.proofs.lemmas.List.{length-map, length-take, take-append-drop, drop_more, map-append}
 use Rattle.std.proofs.lemmas.List.Elements.{filter-append}
-use Rattle.std.proofs.lemmas.Nat.{from_be_bytes-to_be_bytes_8}
 use Rattle.std.proofs.lemmas.Option.{slice_get_within, get_or_from_slice_get}
 use Rattle.gx_values.specs.declared.values.Value.TheVariants as value
 use Rattle.gx_values.specs.Keys.{bytes_of}
@@ -21,57 +19,6 @@ use Rattle.gx_model.specs.States.{Row}
 use Rattle.gx_scan.specs.Pieces.{numbered_entries, piece_entries}
 use Rattle.gx_scan.specs.Records.{list_of_one}
 use Rattle.gx_scan.proofs.PlaceLemmas.{Pair}
-
--- ---- the number at the end of a key
-
--- the bytes of a number are those of what 64 bits hold of it
-held_bytes : (m : ℕ) → to_be_bytes w64 (m % 2 ^ 64) ≡ to_be_bytes w64 m
-held_bytes m =
-    let n = m % 2 ^ 64 in
-    let b7 : n / 256 ^ 7 % 256 ≡ m / 256 ^ 7 % 256 = omega arith in
-    let b6 : n / 256 ^ 6 % 256 ≡ m / 256 ^ 6 % 256 = omega arith in
-    let b5 : n / 256 ^ 5 % 256 ≡ m / 256 ^ 5 % 256 = omega arith in
-    let b4 : n / 256 ^ 4 % 256 ≡ m / 256 ^ 4 % 256 = omega arith in
-    let b3 : n / 256 ^ 3 % 256 ≡ m / 256 ^ 3 % 256 = omega arith in
-    let b2 : n / 256 ^ 2 % 256 ≡ m / 256 ^ 2 % 256 = omega arith in
-    let b1 : n / 256 ^ 1 % 256 ≡ m / 256 ^ 1 % 256 = omega arith in
-    let b0 : n % 256 ≡ m % 256 = omega arith in
-    λ i. b7 i ∷ b6 i ∷ b5 i ∷ b4 i ∷ b3 i ∷ b2 i ∷ b1 i ∷ b0 i ∷ []
-
-held_number : (m : ℕ) → from_be_bytes w64 (to_be_bytes w64 m) ≡ m % 2 ^ 64
-held_number m =
-    let small : m % 2 ^ 64 < 2 ^ 64 = omega arith in
-    ap (from_be_bytes w64) (sym (held_bytes m)) ∙ from_be_bytes-to_be_bytes_8 (m % 2 ^ 64) small
-
-turned_back : (n : ℕ) → n < 2 ^ 64 → ((2 ^ 63 + n) % 2 ^ 64 + 2 ^ 63) % 2 ^ 64 ≡ n
-turned_back n small = omega arith
-
--- the key and the number, by the bytes before the last 8 and by the last 8
-pub number_split : (key bytes front last : List ℕ) (number found : ℕ) → number < 2 ^ 64
-    → bytes ≡ key ++ bytes_of (value.Int (pos number)) → front ≡ take (length bytes - 8) bytes
-    → last ≡ drop (length bytes - 8) bytes
-    → found ≡ (from_be_bytes w64 last + 2 ^ 63) % 2 ^ 64
-    → (front ≡ key) × (found ≡ number)
-number_split key bytes front last number found small is front_is last_is found_is =
-    let end = bytes_of (value.Int (pos number)) in
-    let long : length bytes - 8 ≡ length key = omega (arith, ap length is, length-append key end) in
-    let key_is : front ≡ key =
-    front_is ∙ (λ i. take (long i) (is i)) ∙ take-append_seam key end in
-    let end_is : last ≡ end =
-    last_is ∙ (λ i. drop (long i) (is i)) ∙ drop-append_seam key end in
-    (
-      key_is,
-      found_is ∙ ap (λ (bytes : List ℕ). (from_be_bytes w64 bytes + 2 ^ 63) % 2 ^ 64) end_is
-          ∙ ap (λ (m : ℕ). (m + 2 ^ 63) % 2 ^ 64) (held_number (2 ^ 63 + number))
-          ∙ turned_back number small,
-    )
-
--- a key that is at least so long can be split
-pub number_long : (key bytes : List ℕ) (number : ℕ)
-    → bytes ≡ key ++ bytes_of (value.Int (pos number)) → length bytes < 8 → ⊥
-number_long key bytes number is short =
-    let end = bytes_of (value.Int (pos number)) in
-    absurd (omega (arith, short, ap length is, length-append key end))
 
 -- ---- one piece
 
@@ -286,6 +233,21 @@ all_read size rs es meets before rows are none = go are.left are.parts are.ahead
           length-append here rest,
           record_some size r,
         ))
+
+-- ---- what a search through the pieces gives
+
+-- what follows the last piece, and what is joined
+abbrev pub IsJoined : List Entry → List Entry → List ℕ → List ℕ → ℕ → Type 0
+IsJoined es more bytes whole last = (drop (last + 1) es ≡ more) × (bytes ≡ whole)
+
+-- the same, and which records are kept
+abbrev pub IsAdded : List Entry → List Entry → List Row → List Row → ℕ → Type 0
+IsAdded es more rows kept last = (drop (last + 1) es ≡ more) × (rows ≡ kept)
+
+pub kept_some : {A : Type 0} (P : A → Type 0) (b : Bool) (x : A) (o : Option A)
+    → o ≡ then_some b x → b ≡ true → P x → IsSomeAnd o P
+kept_some P b x o is yes holds =
+    subst (λ o. IsSomeAnd o P) (sym (is ∙ ap (λ (b : Bool). then_some b x) yes)) holds
 
 -- ---- one record or none
 

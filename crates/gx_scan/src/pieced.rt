@@ -151,7 +151,7 @@ fn values_of_some(
     let Some(last) = push_pieces(size, key, entries, 0, &mut bytes)? else {
         return Ok(None);
     };
-    if last + 1 < entries.len() {
+    if entries.len() > last + 1 {
         return Ok(None);
     }
     read_values(alloc, file, bytes.as_slice())

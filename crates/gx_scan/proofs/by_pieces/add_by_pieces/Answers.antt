@@ -51,8 +51,8 @@ returns-then-branch-clause-steps g c = λ f most whole is few.
     c.new-entries.ensures (c.in_ok-select.ensures.ok whole) most _ _ few
     c.in_ok-select.ensures.steps
 
-pub returns-else-branch-clause-reads : goal.returns-else-branch-clause-reads
-returns-else-branch-clause-reads g c =
+pub returns-clause-reads : goal.returns-clause-reads
+returns-clause-reads g c =
     reads_stopped g.B.View _ refl
     (λ sound.
     let file = c.args.file.now in
