@@ -1,11 +1,10 @@
 -- The entries of records whose bytes stand in pieces, in the one leaf of their node.
-use Rattle.std.proofs.Common.{[], ◌≡◌, ℕ, zero, suc, ◌+◌, ◌-◌, ◌*◌, ◌/◌, ◌<◌, ◌≤◌, ◌^◌, List, ◌∷◌, ◌++◌, length, length-append, get_or, map, cond, Bool, true, false, Option, Some, inl, inr, refl, sym, ap, subst, ◌∙◌, arith, append-nil}
+use Rattle.std.proofs.Common.{[], ◌≡◌, ℕ, zero, suc, ◌+◌, ◌-◌, ◌*◌, ◌/◌, ◌<◌, ◌≤◌, ◌^◌, List, ◌∷◌, ◌++◌, length, length-append, get_or, map, cond, Bool, true, false, Option, inl, inr, refl, sym, ap, subst, ◌∙◌, arith, append-nil}
 use Rattle.std.specs.Prelude.{filter, pos, ◌&&◌}
 use Rattle.std.specs.FinMap as fin
 use Rattle.std.specs.Int.{w64}
 use Rattle.std.specs.Int.RustNames.{FitsSigned}
 use Rattle.std.specs.List.{AllByRecursion, flat_map}
-use Rattle.std.specs.List.Sorted.{IsPermutation}
 use Rattle.std.specs.Option.{option_map}
 use Rattle.std.specs.Ordering.{nat_cmp, int_cmp, ordering_then}
 use Rattle.std.specs.declared.cmp.Ordering.TheVariants.{Less}
@@ -21,7 +20,6 @@ use Rattle.gx_values.specs.declared.values.Kind.{Kind}
 use Rattle.gx_values.specs.declared.values.Kind.TheVariants as kind
 use Rattle.gx_values.specs.declared.values.Value.{Value}
 use Rattle.gx_values.specs.declared.values.Value.TheVariants as value
-use Rattle.gx_values.specs.declared.records.Field.{Field}
 use Rattle.gx_values.specs.declared.records.Form.{Form}
 use Rattle.gx_values.specs.declared.keys.Span.{Span}
 use Rattle.gx_values.specs.Values.{value_cmp, Fits}
@@ -51,7 +49,7 @@ use Rattle.gx_stack.specs.Seen.{tree_of, kids_from}
 use Rattle.gx_stack.specs.Selected.{IsKeySpan}
 use Rattle.gx_stack.specs.Tree.{Tree, Kids, leaf, layer, kid, no_kids, leaves_of, tree_form, entries_of, kid_entries, IsValid}
 use Rattle.gx_stack.proofs.Children.{union_from_internal}
-use Rattle.gx_stack.proofs.Seen.{seen_layer, seen_leaf, layer_form, child_there, child_valid}
+use Rattle.gx_stack.proofs.Seen.{seen_layer, seen_leaf, layer_form, child_valid}
 use Rattle.gx_stack.proofs.Selects.{le_longer, front_longer}
 use Rattle.gx_gather.proofs.Lists.{in_map, from_map, in_each, from_each, in_filter, all_at, all_of}
 use Rattle.gx_gather.proofs.Orders.{Ascends, ascends_append, ascends_unique}

@@ -1,5 +1,5 @@
 -- Entries that are pieces of the bytes of records, read one after the other.
-use Rattle.std.proofs.Common.{[], ◌≡◌, ℕ, zero, suc, ◌+◌, ◌-◌, ◌/◌, ◌<◌, ◌≤◌, ◌^◌, ◌%◌, ◌⊎◌, List, ◌∷◌, ◌++◌, length, length-append, take, drop, get_or, map, min, Option, None, Some, inl, inr, refl, sym, ap, subst, ◌∙◌, arith, append-nil, append_assoc}
+use Rattle.std.proofs.Common.{[], ◌≡◌, ℕ, zero, suc, ◌+◌, ◌/◌, ◌<◌, ◌≤◌, ◌⊎◌, List, ◌∷◌, ◌++◌, length, length-append, take, drop, get_or, map, Option, None, Some, inl, inr, refl, sym, ap, subst, ◌∙◌, arith, append-nil, append_assoc}
 use Rattle.std.specs.Prelude.{filter, pos, slice_get, Bool, true, IsSomeAnd}
 use Rattle.std.specs.Bool.{then_some}
 use Rattle.std.specs.List.{AllByRecursion, flat_map}
@@ -18,7 +18,6 @@ use Rattle.gx_gather.proofs.Lists.{in_right}
 use Rattle.gx_model.specs.States.{Row}
 use Rattle.gx_scan.specs.Pieces.{numbered_entries, piece_entries}
 use Rattle.gx_scan.specs.Records.{list_of_one}
-use Rattle.gx_scan.proofs.PlaceLemmas.{Pair}
 
 -- ---- one piece
 
@@ -246,8 +245,8 @@ IsAdded es more rows kept last = (drop (last + 1) es ≡ more) × (rows ≡ kept
 
 pub kept_some : {A : Type 0} (P : A → Type 0) (b : Bool) (x : A) (o : Option A)
     → o ≡ then_some b x → b ≡ true → P x → IsSomeAnd o P
-kept_some P b x o is yes holds =
-    subst (λ o. IsSomeAnd o P) (sym (is ∙ ap (λ (b : Bool). then_some b x) yes)) holds
+kept_some P b x o is passed holds =
+    subst (λ o. IsSomeAnd o P) (sym (is ∙ ap (λ (b : Bool). then_some b x) passed)) holds
 
 -- ---- one record or none
 

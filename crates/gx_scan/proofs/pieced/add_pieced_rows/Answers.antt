@@ -1,4 +1,4 @@
-use Rattle.std.proofs.Common.{◌≡◌, ◌+◌, ◌++◌, ◌∷◌, ◌≤◌, ◌∙◌, [], List, length, drop, sym, ap, subst, refl, arith, append-nil, append_assoc}
+use Rattle.std.proofs.Common.{◌≡◌, ◌++◌, ◌∷◌, ◌≤◌, ◌∙◌, [], length, drop, sym, ap, subst, refl, arith, append-nil, append_assoc}
 use Rattle.std.specs.Prelude.{IsSomeAnd, filter}
 use Rattle.std.proofs.lemmas.List.{length-drop}
 use Rattle.gx_gather.proofs.Lists.{all_at}

@@ -1,9 +1,7 @@
-use Rattle.std.proofs.Common.{◌≡◌, ◌∙◌, List, Option, Some, sym, ap}
+use Rattle.std.proofs.Common.{Option, Some, sym, ap}
 use Rattle.std.specs.Option.{option_map}
-use Rattle.gx_values.specs.declared.values.Value.{Value}
-use Rattle.gx_gather.proofs.Lists.{some_same}
-use Rattle.gx_model.specs.States.{Row, IsRowOf}
-use Rattle.gx_scan.proofs.PiecedLemmas.{none_pieced, one_pieced}
+use Rattle.gx_model.specs.States.{Row}
+use Rattle.gx_scan.proofs.PiecedLemmas.{none_pieced}
 use Rattle.gx_scan.proofs.pieced.values_of_pieces.Goals as goal
 
 pub returns-then-is_empty-clause-read : goal.returns-then-is_empty-clause-read
