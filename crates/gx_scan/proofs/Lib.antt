@@ -5,6 +5,8 @@ mod CodeLemmas
 mod EntryLemmas
 mod PlaceLemmas
 mod GroupLemmas
+mod PieceLemmas
+mod PiecedLemmas
 mod JoinLemmas
 pub mod ListingLemmas
 mod ScanLemmas

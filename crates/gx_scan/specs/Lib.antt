@@ -4,6 +4,7 @@ pub mod Stored
 pub mod Entries
 pub mod Groups
 pub mod Columns
+pub mod Pieces
 pub mod Scan
 pub mod Within
 pub mod Where

@@ -15,9 +15,11 @@ ghost use Rattle.gx_scan.specs.Search.{FindsValues};
 use crate::by_columns::values_by_columns;
 use crate::by_entries::{FEW_PLACES, add_by_entries};
 use crate::by_groups::values_by_groups;
+use crate::by_pieces::values_by_pieces;
 use crate::coded::values_at_place;
 use crate::columns::columns_of;
 use crate::groups::groups_of;
+use crate::pieces::pieces_of;
 use crate::places::{Place, place_of, places_of};
 use crate::records::{NO_BLOCK, record_inside, set_key};
 use crate::searched::searched_node;
@@ -76,6 +78,9 @@ fn values_in<B: Leaves>(
     }
     if let Some(places) = columns_of(alloc, node)? {
         return values_by_columns(alloc, file, node, places.as_slice(), key, span, leaves);
+    }
+    if let Some(pieces) = pieces_of(node) {
+        return values_by_pieces(alloc, file, node, &pieces, key, span, leaves);
     }
     if let Some(place) = place_of(alloc, node)? {
         return values_at(alloc, file, node, &place, key, span, leaves);

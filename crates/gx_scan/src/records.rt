@@ -14,8 +14,10 @@ ghost use Rattle.gx_scan.specs.Search.{FindsRecord};
 
 use crate::by_columns::record_by_columns;
 use crate::by_groups::record_by_groups;
+use crate::by_pieces::record_by_pieces;
 use crate::columns::columns_of;
 use crate::groups::groups_of;
+use crate::pieces::pieces_of;
 use crate::searched::searched_node;
 use crate::within::whole_span;
 use gx_gather::Recs;
@@ -87,12 +89,13 @@ fn record_in<B: Leaves>(
     if let Some(groups) = groups_of(alloc, node)? {
         return record_by_groups(alloc, file, node, &groups, key, span, leaves);
     }
-    match columns_of(alloc, node)? {
-        Some(places) => {
-            record_by_columns(alloc, file, node, places.as_slice(), key, span, leaves)
-        }
-        None => record_inside(alloc, file, node, key, span, leaves),
+    if let Some(places) = columns_of(alloc, node)? {
+        return record_by_columns(alloc, file, node, places.as_slice(), key, span, leaves);
     }
+    if let Some(pieces) = pieces_of(node) {
+        return record_by_pieces(alloc, file, node, &pieces, key, span, leaves);
+    }
+    record_inside(alloc, file, node, key, span, leaves)
 }
 
 /// The same by the records of the node.

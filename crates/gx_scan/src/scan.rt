@@ -215,7 +215,7 @@ pub(crate) fn key_value(kind: Kind, key: &[u8]) -> Option<ValueRef<'_>>
 }
 
 // How many ints are below 0.
-const HALF: u64 = 1 << 63;
+pub(crate) const HALF: u64 = 1 << 63;
 
 fn key_int(key: &[u8]) -> Option<i64>
     ensures { (n : ℤ) → FitsSigned w64 n → key.now ≡ bytes_of (value.Int n) → result ≡ Some n }

@@ -16,9 +16,11 @@ ghost use Rattle.gx_scan.specs.Steps.{HaveAtMost, rows_inside};
 use crate::by_columns::add_by_columns;
 use crate::by_entries::{FEW_PLACES, add_by_entries};
 use crate::by_groups::add_by_groups;
+use crate::by_pieces::add_by_pieces;
 use crate::by_records::add_by_records;
 use crate::columns::plain_columns_of;
 use crate::groups::plain_groups_of;
+use crate::pieces::pieces_of;
 use crate::places::places_of;
 use gx_commands::Cond;
 use gx_ports::{Entries, Leaves, Stop};
@@ -77,6 +79,9 @@ pub fn rows_within<B: Leaves>(
             leaves,
             rows,
         );
+    }
+    if let Some(pieces) = pieces_of(node) {
+        return add_by_pieces(alloc, file, node, &pieces, span, conds, leaves, rows);
     }
     let most = if is_one_key(span) {
         FEW_PLACES

@@ -1,0 +1,79 @@
+use Rattle.std.proofs.Common.{rules, ◌∙◌, List, sym, subst, refl}
+use Rattle.std.specs.Prelude.{IfSome}
+use Rattle.std.specs.Option.{option_map}
+use Rattle.std.specs.FinMap as fin
+use Rattle.gx_values.specs.declared.values.Value.{Value}
+use Rattle.gx_values.specs.Values.{AreFit}
+use Rattle.gx_schema.specs.Lookups.{data_fields}
+use Rattle.gx_gather.proofs.Lists.{some_same}
+use Rattle.gx_stack.specs.Seen.{tree_of}
+use Rattle.gx_stack.proofs.PassLemmas.{passes, reads_stopped}
+use Rattle.gx_scan.proofs.KeyLemmas.{row_values}
+use Rattle.gx_scan.proofs.PieceLemmas.{pieces_there, one_fits, one_pieces, one_steps}
+use Rattle.gx_scan.proofs.by_pieces.values_by_pieces.Goals as goal
+
+pub select-requires : goal.select-requires
+select-requires g c =
+    let pieces = c.args.pieces.now in
+    c.requires.tree.below pieces.leaf
+    (pieces_there (tree_of c.args.node.now) pieces c.requires.pieces)
+
+pub values_of_pieces-requires-clause-some : goal.values_of_pieces-requires-clause-some
+values_of_pieces-requires-clause-some g c = c.requires.pieces.some
+
+pub returns-in_default : goal.returns-in_default
+returns-in_default g c = record {
+  found = λ f whole is. tt;
+  fits = tt;
+  steps = λ f most whole is few. tt;
+  reads = reads_stopped g.B.View _ refl
+      (λ sound.
+      let file = c.args.file.now in
+      let t = tree_of c.args.node.now in
+      let pieces = c.args.pieces.now in
+      let key = c.args.key.now in
+      let span = c.args.span.now in
+      let maps = g.B.View.working c.args.leaves.now in
+      let f = sound.1.0 in
+      let is = sound.1.1 in
+      let fits = one_fits file t pieces _ maps f c.requires.storable c.requires.tree is
+      c.requires.pieces key span c.requires.key c.requires.lo c.requires.hi in
+      let all = one_pieces file t pieces _ maps f c.requires.storable c.requires.tree is
+      c.requires.pieces key span c.requires.key c.requires.lo c.requires.hi
+      c.new-entries.result c.select.new.out c.new-entries.ensures
+      (c.in_ok-select.ensures.ok sound.0) in
+      let one = option_map (λ (vs : List Value). (key, vs)) (fin.get f key) in
+      let found = c.in_ok-values.ensures.read one fits all in
+      let none = c.in_default.is in
+      cc)
+      (passes g.B.View c.in_ok-select.ensures.reads c.in_ok-select.ensures.ends);
+}
+
+pub returns : goal.returns
+returns g c = record {
+  found = λ f whole is.
+      let file = c.args.file.now in
+      let t = tree_of c.args.node.now in
+      let pieces = c.args.pieces.now in
+      let key = c.args.key.now in
+      let span = c.args.span.now in
+      let maps = g.B.View.working c.args.leaves.now in
+      let fits = one_fits file t pieces _ maps f c.requires.storable c.requires.tree is
+      c.requires.pieces key span c.requires.key c.requires.lo c.requires.hi in
+      let all = one_pieces file t pieces _ maps f c.requires.storable c.requires.tree is
+      c.requires.pieces key span c.requires.key c.requires.lo c.requires.hi
+      c.new-entries.result c.select.new.out c.new-entries.ensures
+      (c.in_ok-select.ensures.ok whole) in
+      let one = option_map (λ (vs : List Value). (key, vs)) (fin.get f key) in
+      let found = c.in_ok-values.ensures.read one fits all in
+      some_same c.in-Some.values _ (sym c.in-Some.is ∙ found) ∙ row_values key (fin.get f key);
+  fits = subst (λ o. IfSome o (λ values. IfSome values (AreFit (data_fields c.args.file.now))))
+      c.in-Some.is c.in_ok-values.ensures.fits;
+  steps = λ f most whole is few.
+      one_steps c.args.file.now (tree_of c.args.node.now) c.args.pieces.now _
+      (g.B.View.working c.args.leaves.now) f c.requires.storable c.requires.tree is
+      c.requires.pieces c.args.key.now c.args.span.now c.requires.key c.requires.lo c.requires.hi
+      c.new-entries.result c.select.new.out c.new-entries.ensures
+      (c.in_ok-select.ensures.ok whole) most _ _ few c.in_ok-select.ensures.steps;
+  reads = search rules;
+}

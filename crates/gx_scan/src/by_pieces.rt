@@ -1,0 +1,126 @@
+// Finding by pieces: where a layer cuts the bytes of each record into pieces, the entries of a record
+// in the one leaf are joined.
+ghost use Rattle.std.specs.Prelude.{◌≡◌, ◌≤◌, ◌+◌, ◌*◌, ℕ, length, OnOk};
+ghost use Rattle.std.specs.List.{AllByRecursion};
+ghost use Rattle.gx_values.specs.Values.{Fits};
+ghost use Rattle.gx_values.specs.Keys.{bytes_of};
+ghost use Rattle.gx_schema.specs.Lookups.{key_kind};
+ghost use Rattle.gx_ports.specs.Calls.{ReadsMaps};
+ghost use Rattle.gx_ports.specs.LeafMaps.{Extends};
+ghost use Rattle.gx_stack.specs.Selected.{IsKeySpan};
+ghost use Rattle.gx_stack.specs.Tree.{leaves_of};
+ghost use Rattle.gx_stack.specs.Seen.{tree_of};
+ghost use Rattle.gx_typing.specs.Dues.{file_form};
+ghost use Rattle.gx_model.specs.States.{File as FileMap, IsRowOf};
+ghost use Rattle.gx_scan.specs.Files.{IsInternal, HasFile, IsStorable, IsTreeFor};
+ghost use Rattle.gx_scan.specs.Pieces.{ArePieces};
+ghost use Rattle.gx_scan.specs.Within.{AreAdded};
+ghost use Rattle.gx_scan.specs.Search.{FindsValues, FindsRecord};
+ghost use Rattle.gx_scan.specs.Steps.{HaveAtMost, rows_inside};
+
+use crate::by_groups::record_of;
+use crate::pieced::{add_pieced_rows, values_of_pieces};
+use crate::pieces::Pieces;
+use crate::records::NO_BLOCK;
+use gx_commands::Cond;
+use gx_ports::{Entries, Leaves, Stop};
+use gx_rows::Row;
+use gx_schema::FileDef;
+use gx_stack::Node;
+use gx_types::AnyMapping;
+use gx_values::{Rec, Span, Value, Values};
+use std::alloc::Global;
+
+/// Appends the records of the file within the span that meet the conditions, in the order of their
+/// keys.
+pub(crate) fn add_by_pieces<B: Leaves>(
+    alloc: Global,
+    file: &FileDef,
+    node: &Node<AnyMapping>,
+    pieces: &Pieces,
+    span: &Span,
+    conds: &[Cond],
+    leaves: &mut B,
+    rows: &mut Vec<Row>,
+) -> Result<(), Stop>
+    requires pieces { ArePieces (tree_of node.now) pieces.now }
+    requires tree { IsTreeFor file.now (tree_of node.now) (length (B.working leaves.old)) }
+    requires storable { IsStorable file.now }
+    requires span { IsKeySpan (file_form file.now) span.now }
+    ensures rows { (f : FileMap) → B.whole leaves.old →
+        IsInternal file.now (tree_of node.now) (B.working leaves.old) f →
+        OnOk result (AreAdded span.now conds.now f rows.old.items rows.new.items) }
+    ensures steps { (f : FileMap) (most : ℕ) → B.whole leaves.old →
+        IsInternal file.now (tree_of node.now) (B.working leaves.old) f →
+        HaveAtMost most (tree_of node.now) f → OnOk result
+        (B.work leaves.new
+        ≤ B.work leaves.old
+        + (length (leaves_of (tree_of node.now)) + length (rows_inside span.now f) * most)) }
+    ensures front { Extends rows.old.items rows.new.items }
+    ensures fit { AllByRecursion (IsRowOf file.now) rows.old.items →
+        AllByRecursion (IsRowOf file.now) rows.new.items }
+    ensures reads { ReadsMaps B.View
+        (B.whole leaves.old × HasFile file.now (tree_of node.now) (B.working leaves.old))
+        leaves.old leaves.new result }
+{
+    let _node = node;
+    let mut entries = Entries::new(alloc);
+    leaves.select(alloc, pieces.leaf, span, &mut entries)?;
+    if add_pieced_rows(alloc, file, pieces.size, conds, &entries, rows)? {
+        Ok(())
+    } else {
+        Err(Stop::Damaged(NO_BLOCK))
+    }
+}
+
+/// The values of the record at a key, but for the key, where there is one, by the span of the key.
+pub(crate) fn values_by_pieces<B: Leaves>(
+    alloc: Global,
+    file: &FileDef,
+    node: &Node<AnyMapping>,
+    pieces: &Pieces,
+    key: &Value,
+    span: &Span,
+    leaves: &mut B,
+) -> Result<Option<Values>, Stop>
+    requires pieces { ArePieces (tree_of node.now) pieces.now }
+    requires tree { IsTreeFor file.now (tree_of node.now) (length (B.working leaves.old)) }
+    requires storable { IsStorable file.now }
+    requires key { Fits (key_kind file.now) key.now }
+    requires lo { span.now.lo ≡ bytes_of key.now }
+    requires hi { span.now.hi ≡ bytes_of key.now }
+    ensures { FindsValues B.View file.now (tree_of node.now) key.now leaves.old leaves.new result }
+{
+    let (_, _) = (node, key);
+    let mut entries = Entries::new(alloc);
+    leaves.select(alloc, pieces.leaf, span, &mut entries)?;
+    let Some(values) = values_of_pieces(alloc, file, pieces.size, &entries)? else {
+        return Err(Stop::Damaged(NO_BLOCK));
+    };
+    Ok(values)
+}
+
+/// The same of the record itself.
+pub(crate) fn record_by_pieces<B: Leaves>(
+    alloc: Global,
+    file: &FileDef,
+    node: &Node<AnyMapping>,
+    pieces: &Pieces,
+    key: &Value,
+    span: &Span,
+    leaves: &mut B,
+) -> Result<Option<Rec>, Stop>
+    requires pieces { ArePieces (tree_of node.now) pieces.now }
+    requires tree { IsTreeFor file.now (tree_of node.now) (length (B.working leaves.old)) }
+    requires storable { IsStorable file.now }
+    requires key { Fits (key_kind file.now) key.now }
+    requires lo { span.now.lo ≡ bytes_of key.now }
+    requires hi { span.now.hi ≡ bytes_of key.now }
+    ensures { FindsRecord B.View file.now (tree_of node.now) key.now leaves.old leaves.new result }
+{
+    let found = values_by_pieces(alloc, file, node, pieces, key, span, leaves)?;
+    let Some(values) = found else {
+        return Ok(None);
+    };
+    Ok(Some(record_of(alloc, key, values)?))
+}
