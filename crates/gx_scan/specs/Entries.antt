@@ -64,7 +64,8 @@ abbrev mutual
   -- those below the data children
   pub kids_data : (ℕ → Bool) → Kids AnyMapping → List ℕ
   kids_data holds_rest no_kids = []
-  kids_data holds_rest (kid t ks) = (if holds_rest 0 then data_leaves t else []) ++ kids_data (λ c. holds_rest (suc c)) ks
+  kids_data holds_rest (kid t ks) = (if holds_rest 0 then data_leaves t else []) ++ kids_data
+      (λ c. holds_rest (suc c)) ks
 
 -- the first of the entries, and the only one in these leaves
 pub record IsAlone (leaves : List ℕ) (e : LeafEntry) (es : List LeafEntry) : Type 0 where

@@ -25,7 +25,8 @@ abbrev pub records_of : File → List Rec
 records_of f = map rec_of (fin.entries f)
 
 -- a valid file, whose records the tree's leaves hold
-pub record IsInternal (file : FileDef) (t : Tree AnyMapping) (maps : List LeafMap) (f : File) : Type 0 where
+pub record IsInternal (file : FileDef) (t : Tree AnyMapping) (maps : List LeafMap)
+    (f : File) : Type 0 where
   pub fit : IsFileOf file f
   pub held : IsHeld any_rule t (records_of f) maps
 
@@ -33,7 +34,8 @@ pub record IsInternal (file : FileDef) (t : Tree AnyMapping) (maps : List LeafMa
 abbrev pub HasFile : FileDef → Tree AnyMapping → List LeafMap → Type 0
 HasFile file t maps = (f : File) × IsInternal file t maps f
 
--- the file has a key whose bytes can stand in a leaf; its other values are ints and texts, whose lengths can be written
+-- the file has a key whose bytes can stand in a leaf; its other values are ints and texts, whose
+-- lengths can be written
 pub record IsStorable (file : FileDef) : Type 0 where
   pub keyed : 0 < length file.fields
   pub key : IsKeyKind (key_kind file)

@@ -17,12 +17,14 @@ use Rattle.gx_model.specs.States.{File}
 use Rattle.gx_scan.specs.Files.{IsInternal, IsTreeFor}
 use Rattle.gx_scan.specs.Steps.{HaveAtMost}
 
--- the leaves of the second tree hold a part of the file, which has all its records whose keys are inside the span; none of them has
--- more leaf entries there
-pub record IsPart (file : FileDef) (span : Span) (t u : Tree AnyMapping) (maps : List LeafMap) (f : File) : Type 0 where
+-- the leaves of the second tree hold a part of the file, which has all its records whose keys are
+-- inside the span; none of them has more leaf entries there
+pub record IsPart (file : FileDef) (span : Span) (t u : Tree AnyMapping) (maps : List LeafMap)
+    (f : File) : Type 0 where
   pub part : File
   pub held : IsInternal file u maps part
-  pub same : (k : Value) → is_inside span.lo span.hi (key_of (k ∷ [])) ≡ true → fin.get part k ≡ fin.get f k
+  pub same : (k : Value) → is_inside span.lo span.hi (key_of (k ∷ [])) ≡ true →
+      fin.get part k ≡ fin.get f k
   pub few : (most : ℕ) → HaveAtMost most t f → HaveAtMost most u part
 
 -- where the first tree is for a file, the second one is too, and has such a part of what the first
@@ -34,5 +36,6 @@ pub record HasInside (span : Span) (t u : Tree AnyMapping) : Type 0 where
   pub entries : (r : Rec) → IsOf (tree_form any_rule t) r
       → is_inside span.lo span.hi (key_of r.key) ≡ true
       → entries_of any_rule t r ≡ entries_of any_rule u r
-  pub held : (file : FileDef) (maps : List LeafMap) (f : File) → 0 < length file.fields → tree_form any_rule t ≡ file_form file
+  pub held : (file : FileDef) (maps : List LeafMap) (f : File) → 0 < length file.fields →
+      tree_form any_rule t ≡ file_form file
       → IsInternal file t maps f → IsPart file span t u maps f

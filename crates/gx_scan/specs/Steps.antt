@@ -13,7 +13,8 @@ use Rattle.gx_scan.specs.Files.{rec_of}
 
 -- no record of the file has more leaf entries in the tree
 abbrev pub HaveAtMost : ℕ → Tree AnyMapping → File → Type 0
-HaveAtMost most t f = (r : Row) → In r (fin.entries f) → length (entries_of any_rule t (rec_of r)) ≤ most
+HaveAtMost most t f = (r : Row) → In r (fin.entries f) →
+    length (entries_of any_rule t (rec_of r)) ≤ most
 
 abbrev pub is_key_inside : Span → Row → Bool
 is_key_inside span r = is_inside span.lo span.hi (bytes_of r.0)
@@ -24,4 +25,5 @@ rows_inside span f = filter (is_key_inside span) (fin.entries f)
 
 -- the file's records whose field is inside the span
 abbrev pub rows_with : ℕ → Span → File → List Row
-rows_with field span f = filter (λ r. is_inside span.lo span.hi (bytes_of (value_at r field))) (fin.entries f)
+rows_with field span f = filter (λ r. is_inside span.lo span.hi (bytes_of (value_at r field)))
+    (fin.entries f)

@@ -17,14 +17,19 @@ use Rattle.gx_scan.specs.Within.{row_of}
 
 -- each data field is the first one of its name
 abbrev pub AreNamed : FileDef → Type 0
-AreNamed file = (i : ℕ) → i < length (data_fields file) → (is_field (data_fields file) (get_or (data_fields file) i no_field).name ≡ true) × (first_in (data_fields file) (get_or (data_fields file) i no_field).name ≡ i)
+AreNamed file = (i : ℕ) → i < length (data_fields file) →
+    (is_field (data_fields file) (get_or (data_fields file) i no_field).name ≡ true) ×
+    (first_in (data_fields file) (get_or (data_fields file) i no_field).name ≡ i)
 
 -- whether the key bytes of a record's field are inside the span, and it meets the conditions
 abbrev pub is_found_by : ℕ → Span → List Cond → Row → Bool
-is_found_by field span conds r = is_inside span.lo span.hi (bytes_of (value_at r field)) && meets_conds conds r
+is_found_by field span conds r = is_inside span.lo span.hi
+    (bytes_of (value_at r field)) && meets_conds conds r
 
--- Added were the file's records whose field is within the span and that meet the conditions, each once and in some order.
-pub record AreAddedWhere (field : ℕ) (span : Span) (conds : List Cond) (f : File) (before now : List Row) : Type 0 where
+-- Added were the file's records whose field is within the span and that meet the conditions, each
+-- once and in some order.
+pub record AreAddedWhere (field : ℕ) (span : Span) (conds : List Cond) (f : File)
+    (before now : List Row) : Type 0 where
   pub added : List Row
   pub appended : now ≡ before ++ added
   pub those : IsPermutation (filter (is_found_by field span conds) (fin.entries f)) added

@@ -14,8 +14,10 @@ use Rattle.gx_model.specs.Found.{meets_conds}
 abbrev pub is_within : Span → List Cond → Row → Bool
 is_within span conds r = is_inside span.lo span.hi (bytes_of r.0) && meets_conds conds r
 
--- Added were the file's records within the span that meet the conditions, each once and in some order.
-pub record AreAdded (span : Span) (conds : List Cond) (f : File) (before now : List Row) : Type 0 where
+-- Added were the file's records within the span that meet the conditions, each once and in some
+-- order.
+pub record AreAdded (span : Span) (conds : List Cond) (f : File)
+    (before now : List Row) : Type 0 where
   pub added : List Row
   pub appended : now ≡ before ++ added
   pub those : IsPermutation (filter (is_within span conds) (fin.entries f)) added

@@ -39,8 +39,8 @@ use gx_types::AnyMapping;
 use gx_values::{Kind, NoMemory, Rec, Span, Value, Values};
 use std::alloc::{AllocError, Global};
 
-/// The values of the record at a key, but for the key, where there is one, by the span of the key. With
-/// no entry in the first column there is no record, and the others aren't asked.
+/// The values of the record at a key, but for the key, where there is one, by the span of the key.
+/// With no entry in the first column there is no record, and the others aren't asked.
 pub(crate) fn values_by_columns<B: Leaves>(
     alloc: Global,
     file: &FileDef,
@@ -217,8 +217,9 @@ fn entries_of_each<B: Leaves>(
     Ok(columns)
 }
 
-// Appends the records that have these entries in their columns and meet the conditions, in the order of
-// the entries, and answers whether each entry of the first column is that of a record of the file.
+// Appends the records that have these entries in their columns and meet the conditions, in the
+// order of the entries, and answers whether each entry of the first column is that of a record of
+// the file.
 fn add_rows_of_columns(
     alloc: Global,
     file: &FileDef,
@@ -254,8 +255,8 @@ fn add_rows_of_columns(
     Ok(true)
 }
 
-// Appends the bytes of the values of the record with this key, whose entries have this index, and answers
-// whether each column has one.
+// Appends the bytes of the values of the record with this key, whose entries have this index, and
+// answers whether each column has one.
 fn push_columns(
     places: &[Place],
     columns: &[Entries],

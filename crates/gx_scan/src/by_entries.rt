@@ -1,4 +1,5 @@
-// Finding by entries: where records stand whole in leaves, conditions are tested on the bytes of entries.
+// Finding by entries: where records stand whole in leaves, conditions are tested on the bytes of
+// entries.
 ghost use Rattle.std.specs.Prelude.{◌≡◌, ◌≤◌, ◌+◌, ◌*◌, ◌∷◌, ◌++◌, [], ℕ, length, filter, OnOk};
 ghost use Rattle.std.specs.List.{AllByRecursion};
 ghost use Rattle.gx_values.specs.Values.{Fits};
@@ -28,8 +29,8 @@ use gx_types::AnyMapping;
 use gx_values::{Span, Value};
 use std::alloc::Global;
 
-/// In so many leaves an entry is looked for as fast as the node puts a record together. Of more leaves, the
-/// node asks those alone that may have the key.
+/// In so many leaves an entry is looked for as fast as the node puts a record together. Of more
+/// leaves, the node asks those alone that may have the key.
 pub(crate) const FEW_PLACES: usize = 3;
 
 /// What is used again where one key after another is looked up.
@@ -51,9 +52,9 @@ impl KeyProbe {
     }
 }
 
-/// Appends the records of the file within the span that meet the conditions, in the order of the places,
-/// which are those of the node. The entries are a buffer: what stood there is gone, and nothing is said of
-/// what is left.
+/// Appends the records of the file within the span that meet the conditions, in the order of the
+/// places, which are those of the node. The entries are a buffer: what stood there is gone, and
+/// nothing is said of what is left.
 pub(crate) fn add_by_entries<B: Leaves>(
     alloc: Global,
     file: &FileDef,
@@ -75,7 +76,8 @@ pub(crate) fn add_by_entries<B: Leaves>(
         IsInternal file.now (tree_of node.now) (B.working leaves.old) f →
         HaveAtMost most (tree_of node.now) f → OnOk result
         (B.work leaves.new
-        ≤ B.work leaves.old + (length (leaves_of (tree_of node.now)) + length (rows_inside span.now f) * most)) }
+        ≤ B.work leaves.old + (length (leaves_of (tree_of node.now)) + length
+        (rows_inside span.now f) * most)) }
     ensures front { Extends rows.old.items rows.new.items }
     ensures fit { AllByRecursion (IsRowOf file.now) rows.old.items →
         AllByRecursion (IsRowOf file.now) rows.new.items }
@@ -158,7 +160,8 @@ fn add_at<B: Leaves>(
         IsInternal file.now (tree_of node.now) (B.working leaves.old) f → OnOk result
         (B.work leaves.new
         ≤ B.work leaves.old
-        + (1 + length (filter (is_key_inside span.now) (rows_at (tree_of node.now) place.now.leaf f)))) }
+        + (1 + length (filter (is_key_inside span.now)
+        (rows_at (tree_of node.now) place.now.leaf f)))) }
     ensures front { Extends rows.old.items rows.new.items }
     ensures fit { AllByRecursion (IsRowOf file.now) rows.old.items →
         AllByRecursion (IsRowOf file.now) rows.new.items }

@@ -31,14 +31,14 @@ use gx_types::AnyMapping;
 use gx_values::{Name, Span, Values};
 use std::alloc::Global;
 
-/// Appends the records of the file whose value of an indexed data field, of this number, is within the
-/// span, and that meet the conditions, in any order. No record is read but those that the index gives. It
-/// takes a step for each leaf and each of these records, one for each leaf besides, and two for each leaf
-/// entry of these records.
+/// Appends the records of the file whose value of an indexed data field, of this number, is within
+/// the span, and that meet the conditions, in any order. No record is read but those that the index
+/// gives. It takes a step for each leaf and each of these records, one for each leaf besides, and
+/// two for each leaf entry of these records.
 ///
-/// After an error `rows` may have more at its end. `Damaged`: some leaf's stored form isn't whole, or the
-/// leaves hold no file, which is said of block 0. `Fault`: the count of faults rose; with any other answer
-/// it stays. `NoMemory`: there was none.
+/// After an error `rows` may have more at its end. `Damaged`: some leaf's stored form isn't whole,
+/// or the leaves hold no file, which is said of block 0. `Fault`: the count of faults rose; with
+/// any other answer it stays. `NoMemory`: there was none.
 pub fn rows_where<B: Leaves>(
     alloc: Global,
     file: &FileDef,
@@ -54,7 +54,8 @@ pub fn rows_where<B: Leaves>(
     requires named { AreNamed file.now }
     requires past_key { 0 < field }
     requires in_file { field < length file.now.fields }
-    requires indexed { is_indexed any_rule (tree_of node.now) (field_at file.now field).name ≡ true }
+    requires indexed { is_indexed any_rule (tree_of node.now) (field_at file.now field).name
+        ≡ true }
     requires span { IsValueSpan (field_at file.now field).kind span.now }
     ensures rows { (f : FileMap) → B.whole leaves.old →
         IsInternal file.now (tree_of node.now) (B.working leaves.old) f →
@@ -63,7 +64,8 @@ pub fn rows_where<B: Leaves>(
         IsInternal file.now (tree_of node.now) (B.working leaves.old) f →
         HaveAtMost most (tree_of node.now) f → OnOk result
         (B.work leaves.new
-        ≤ B.work leaves.old + ((length (rows_with field span.now f) + 1) * length (leaves_of (tree_of node.now))
+        ≤ B.work leaves.old + ((length (rows_with field span.now f) + 1) * length
+        (leaves_of (tree_of node.now))
         + 2 * (length (rows_with field span.now f) * most))) }
     ensures reads { ReadsMaps B.View
         (B.whole leaves.old × HasFile file.now (tree_of node.now) (B.working leaves.old))
@@ -131,8 +133,8 @@ fn add_by_keys<B: Leaves>(
     Ok(())
 }
 
-// Appends the record at a key, where there is one and it meets the conditions. Where records stand whole
-// in few leaves, the conditions are tested on the bytes of its entry.
+// Appends the record at a key, where there is one and it meets the conditions. Where records stand
+// whole in few leaves, the conditions are tested on the bytes of its entry.
 fn add_by_key<B: Leaves>(
     alloc: Global,
     file: &FileDef,

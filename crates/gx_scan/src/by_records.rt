@@ -24,7 +24,8 @@ use gx_types::AnyMapping;
 use gx_values::{Rec, Span, Value, meets};
 use std::alloc::{AllocError, Global};
 
-/// Appends the records of the file within the span that meet the conditions, in the order of their keys.
+/// Appends the records of the file within the span that meet the conditions, in the order of their
+/// keys.
 pub(crate) fn add_by_records<B: Leaves>(
     alloc: Global,
     file: &FileDef,
@@ -44,7 +45,8 @@ pub(crate) fn add_by_records<B: Leaves>(
         IsInternal file.now (tree_of node.now) (B.working leaves.old) f →
         HaveAtMost most (tree_of node.now) f → OnOk result
         (B.work leaves.new
-        ≤ B.work leaves.old + (length (leaves_of (tree_of node.now)) + length (rows_inside span.now f) * most)) }
+        ≤ B.work leaves.old + (length (leaves_of (tree_of node.now)) + length
+        (rows_inside span.now f) * most)) }
     ensures front { Extends rows.old.items rows.new.items }
     ensures reads { ReadsMaps B.View
         (B.whole leaves.old × HasFile file.now (tree_of node.now) (B.working leaves.old))

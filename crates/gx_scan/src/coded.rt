@@ -1,5 +1,5 @@
-// The records of a file among the entries of a leaf where some data fields stand by their codes. Only
-// the values of a record that meets the conditions are decoded.
+// The records of a file among the entries of a leaf where some data fields stand by their codes.
+// Only the values of a record that meets the conditions are decoded.
 ghost use Rattle.std.specs.Prelude.{◌≡◌, ◌++◌, List, map, filter, true, Option, Some, option_map, IfOk, IfSome};
 ghost use Rattle.std.specs.List.{AllByRecursion};
 ghost use Rattle.gx_values.specs.Values.{AreFit};
@@ -24,9 +24,9 @@ use gx_schema::FileDef;
 use gx_values::{NoMemory, Values, read_value_key};
 use std::alloc::Global;
 
-/// Appends the records of the entries of a place that meet the conditions, in the order of the entries, and
-/// answers whether each entry looked at was that of a record of the file; one that a condition rules out
-/// is read no further. `NoMemory`: there was none for the records.
+/// Appends the records of the entries of a place that meet the conditions, in the order of the
+/// entries, and answers whether each entry looked at was that of a record of the file; one that a
+/// condition rules out is read no further. `NoMemory`: there was none for the records.
 pub(crate) fn add_rows_at(
     alloc: Global,
     file: &FileDef,
@@ -109,8 +109,8 @@ fn coded_row(
     Ok(Some(Row { key, values }))
 }
 
-/// The values of the one record of a place that has an entry among these, if there is one. `None`: the
-/// entry is that of no record. `NoMemory`: there was none for the values.
+/// The values of the one record of a place that has an entry among these, if there is one. `None`:
+/// the entry is that of no record. `NoMemory`: there was none for the values.
 pub(crate) fn values_at_place(
     alloc: Global,
     file: &FileDef,

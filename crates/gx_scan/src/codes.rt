@@ -6,8 +6,8 @@ use gx_values::{Code, NoMemory};
 use std::alloc::Global;
 use std::marker::Model;
 
-/// Of each data field, from the first on, its code if it has one, seen as a list. Those past the last have
-/// none.
+/// Of each data field, from the first on, its code if it has one, seen as a list. Those past the
+/// last have none.
 #[derive(Debug, Drop)]
 pub struct Codes(pub Vec<Option<Code>>);
 

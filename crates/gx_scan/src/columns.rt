@@ -14,9 +14,9 @@ use gx_types::AnyMapping;
 use gx_values::NoMemory;
 use std::alloc::Global;
 
-/// The place of each data field of the records of a file's node, in the order of the fields. `None`: no
-/// transposition splits the records, or a column isn't whole in one leaf. `NoMemory`: there was none
-/// for the places.
+/// The place of each data field of the records of a file's node, in the order of the fields.
+/// `None`: no transposition splits the records, or a column isn't whole in one leaf. `NoMemory`:
+/// there was none for the places.
 pub(crate) fn columns_of(
     alloc: Global,
     node: &Node<AnyMapping>,

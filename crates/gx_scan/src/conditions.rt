@@ -1,5 +1,5 @@
-// Conditions tested on the bytes of an entry where some data fields stand by their codes. Only the values
-// that are tested are decoded.
+// Conditions tested on the bytes of an entry where some data fields stand by their codes. Only the
+// values that are tested are decoded.
 ghost use Rattle.std.specs.Prelude.{◌≡◌, List, pos, slice_index_or, Some, IfOk};
 ghost use Rattle.gx_values.specs.declared.values.Value.{Value as FieldValue};
 ghost use Rattle.gx_values.specs.declared.values.Value.TheVariants as value;
@@ -23,8 +23,8 @@ use gx_schema::FileDef;
 use gx_values::{Code, Field, Kind, NoMemory};
 use std::alloc::Global;
 
-/// Whether the record of an entry of a place meets every condition. `None`: the entry is that of no record.
-/// `NoMemory`: there was none to decode a value.
+/// Whether the record of an entry of a place meets every condition. `None`: the entry is that of no
+/// record. `NoMemory`: there was none to decode a value.
 pub(crate) fn is_chosen(
     alloc: Global,
     file: &FileDef,
@@ -81,8 +81,8 @@ fn meets_key(kind: Kind, cond: &Cond, key: &[u8]) -> Option<bool>
     Some(meets(key_value(kind, key)?, cond))
 }
 
-// Whether the value of one of these fields, counted from 0, meets the condition, and 0 where there are
-// fewer. `None`: the body is that of no values of the fields.
+// Whether the value of one of these fields, counted from 0, meets the condition, and 0 where there
+// are fewer. `None`: the body is that of no values of the fields.
 fn meets_data(
     alloc: Global,
     fields: &[Field],

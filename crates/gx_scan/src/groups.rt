@@ -73,8 +73,8 @@ pub(crate) fn plain_groups_of(
     }
 }
 
-/// The one place of a node's records. `None`: they don't stand whole in one leaf. `NoMemory`: there was
-/// none for its codes.
+/// The one place of a node's records. `None`: they don't stand whole in one leaf. `NoMemory`: there
+/// was none for its codes.
 pub(crate) fn only_place(alloc: Global, node: &Node<AnyMapping>) -> Result<Option<Place>, NoMemory>
     requires valid { IsValid any_rule (tree_of node.now) }
     requires plain { AreKeyFields (tree_form any_rule (tree_of node.now)).fields }

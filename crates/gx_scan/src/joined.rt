@@ -319,7 +319,8 @@ fn push_as_it_is<'a>(
     Ok(Some(more))
 }
 
-/// The body of the defaults of the fields outside the first group. `NoMemory`: there was none for it.
+/// The body of the defaults of the fields outside the first group. `NoMemory`: there was none for
+/// it.
 pub(crate) fn default_body(
     alloc: Global,
     fields: &[Field],

@@ -1,5 +1,5 @@
-//! Finding: the records of a file within a span that meet conditions, and the record at a key, in the
-//! leaves of the file's node.
+//! Finding: the records of a file within a span that meet conditions, and the record at a key, in
+//! the leaves of the file's node.
 #![tactic(auto)]
 
 mod both;

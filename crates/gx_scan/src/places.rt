@@ -20,8 +20,8 @@ use std::alloc::Global;
 pub struct Place {
     /// the number of the leaf
     pub leaf: u32,
-    /// how many lengths stand before the values in a body: one for each layer `actual` above the leaf but
-    /// one
+    /// how many lengths stand before the values in a body: one for each layer `actual` above the
+    /// leaf but one
     pub lengths: u32,
     /// which data fields stand by their codes
     pub codes: Codes,
@@ -36,9 +36,9 @@ pub struct Above {
     pub codes: Codes,
 }
 
-/// The places of the records of a file's node: the leaves that they are gathered from, each once. `None`:
-/// they are more than `most`, or some layer splits its records, or codes a value that isn't in a body.
-/// `NoMemory`: there was none for the places.
+/// The places of the records of a file's node: the leaves that they are gathered from, each once.
+/// `None`: they are more than `most`, or some layer splits its records, or codes a value that isn't
+/// in a body. `NoMemory`: there was none for the places.
 pub(crate) fn places_of(
     alloc: Global,
     node: &Node<AnyMapping>,
@@ -61,8 +61,8 @@ pub(crate) fn places_of(
     }
 }
 
-/// The one leaf that the records of a file's node are gathered from. `None`: there are more, or some layer
-/// codes a value that isn't in a body. `NoMemory`: there was none for the codes.
+/// The one leaf that the records of a file's node are gathered from. `None`: there are more, or
+/// some layer codes a value that isn't in a body. `NoMemory`: there was none for the codes.
 pub(crate) fn place_of(alloc: Global, node: &Node<AnyMapping>) -> Result<Option<Place>, NoMemory>
     requires valid { IsValid any_rule (tree_of node.now) }
     requires plain { AreKeyFields (tree_form any_rule (tree_of node.now)).fields }
@@ -135,8 +135,8 @@ fn place_below(
     }
 }
 
-// The places of a node below others, and whether each of its records stands whole in one place, and the
-// places aren't more than `most`.
+// The places of a node below others, and whether each of its records stands whole in one place, and
+// the places aren't more than `most`.
 fn add_places(
     alloc: Global,
     node: &Node<AnyMapping>,
@@ -183,8 +183,8 @@ fn add_places(
     }
 }
 
-// What is changed above the data children of a layer. `None`: it splits its records, or codes a value that
-// can't be told apart below.
+// What is changed above the data children of a layer. `None`: it splits its records, or codes a
+// value that can't be told apart below.
 fn passed_on(alloc: Global, mapping: &AnyMapping, above: &Above) -> Result<Option<Above>, NoMemory>
     ensures { IfOk result (λ passed. IfSome passed
         (λ b. PassesOn (any_rule mapping.now) above.now.layers above.now.codes b.layers b.codes)) }

@@ -39,7 +39,8 @@ pub(crate) fn data_fields(file: &FileDef) -> &[Field]
     &file.fields.0[1..]
 }
 
-/// Makes this the span of one key. It is written where it stands: to move a span is to copy two buffers.
+/// Makes this the span of one key. It is written where it stands: to move a span is to copy two
+/// buffers.
 pub(crate) fn set_key(span: &mut Span, key: &Value)
     requires { length (bytes_of key.now) ≤ MAX_KEY_LEN }
     ensures lo { span.new.lo ≡ bytes_of key.now }
@@ -49,9 +50,9 @@ pub(crate) fn set_key(span: &mut Span, key: &Value)
     span.hi.set_value(key);
 }
 
-/// The record with this key, where there is one. Where a segment splits the records in two leaves, or a
-/// transposition puts each field in a leaf of its own, it is made of the bytes of its entries. It takes a step for each leaf, and one for each leaf entry of
-/// the record.
+/// The record with this key, where there is one. Where a segment splits the records in two leaves,
+/// or a transposition puts each field in a leaf of its own, it is made of the bytes of its entries.
+/// It takes a step for each leaf, and one for each leaf entry of the record.
 pub fn find_record<B: Leaves>(
     alloc: Global,
     file: &FileDef,

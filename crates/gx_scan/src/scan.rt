@@ -1,5 +1,5 @@
-// The records of a file among the entries of its leaf that meet conditions: the conditions are tested on
-// the bytes of an entry, and only a record that meets them all is made.
+// The records of a file among the entries of its leaf that meet conditions: the conditions are
+// tested on the bytes of an entry, and only a record that meets them all is made.
 ghost use Rattle.std.specs.Prelude.{◌≡◌, ◌<◌, ◌≤◌, ◌++◌, [], List, ℕ, ℤ, pos, suc, length, map, filter, slice_index_or, true, Some, IfOk, IfSome, IsSomeAnd};
 ghost use Rattle.std.specs.Int.{w64};
 ghost use Rattle.std.specs.Int.RustNames.{FitsSigned};
@@ -29,10 +29,10 @@ use gx_values::{Field, Kind, NoMemory, Op, Value, Values, read_value_key};
 use std::alloc::Global;
 use std::cmp::Ordering;
 
-/// Appends the records of entries that meet the conditions, in the order of the entries, and answers whether
-/// each entry looked at was that of a record of the file; one that a condition rules out is read no
-/// further. So many lengths stand before the values in each body. `NoMemory`: there was none for the
-/// records.
+/// Appends the records of entries that meet the conditions, in the order of the entries, and
+/// answers whether each entry looked at was that of a record of the file; one that a condition
+/// rules out is read no further. So many lengths stand before the values in each body. `NoMemory`:
+/// there was none for the records.
 pub(crate) fn add_chosen_rows(
     alloc: Global,
     file: &FileDef,
@@ -100,8 +100,8 @@ pub(crate) fn read_row(
     Ok(Some(Row { key, values }))
 }
 
-// The values of the record whose entry has this body, where so many lengths stand before them. `None`: it is
-// that of no record.
+// The values of the record whose entry has this body, where so many lengths stand before them.
+// `None`: it is that of no record.
 pub(crate) fn plain_values(
     alloc: Global,
     file: &FileDef,
@@ -183,8 +183,8 @@ pub(crate) fn compare(value: ValueRef<'_>, bound: &Value) -> Ordering
     }
 }
 
-// The value of a field of the record of an entry, the key being field 0, and 0 where the file has no such
-// field. `None`: the entry is that of no record.
+// The value of a field of the record of an entry, the key being field 0, and 0 where the file has
+// no such field. `None`: the entry is that of no record.
 fn field_value<'a>(
     file: &FileDef,
     field: u16,

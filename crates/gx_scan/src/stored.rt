@@ -22,8 +22,8 @@ use gx_encode::{unpack, unrle};
 use gx_values::{Code, Field, Kind, NoMemory, Octets, Value, Values};
 use std::alloc::Global;
 
-/// The values of these fields whose body this is, where some stand by their codes. `None`: it is the
-/// body of no values that fit. `NoMemory`: there was none for the values.
+/// The values of these fields whose body this is, where some stand by their codes. `None`: it is
+/// the body of no values that fit. `NoMemory`: there was none for the values.
 pub(crate) fn read_stored(
     alloc: Global,
     fields: &[Field],
@@ -76,8 +76,8 @@ pub(crate) fn split_stored(
     }
 }
 
-/// The value of the kind for which this stands. `None`: there is none. `NoMemory`: there was none for
-/// it.
+/// The value of the kind for which this stands. `None`: there is none. `NoMemory`: there was none
+/// for it.
 pub(crate) fn read_front(
     alloc: Global,
     kind: Kind,
@@ -94,8 +94,8 @@ pub(crate) fn read_front(
     }
 }
 
-/// The value of the kind for which this stands by its code. `None`: there is none. `NoMemory`: there
-/// was none for it.
+/// The value of the kind for which this stands by its code. `None`: there is none. `NoMemory`:
+/// there was none for it.
 pub(crate) fn decoded(
     alloc: Global,
     kind: Kind,

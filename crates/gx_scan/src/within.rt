@@ -32,14 +32,14 @@ use gx_values::{KeyBuf, Span};
 use std::alloc::Global;
 
 /// Appends the records of the file within the span that meet the conditions, in any order. Where
-/// each record stands whole in one leaf, or a segment splits it in two, or a transposition puts each
-/// field in a leaf of its own, the conditions are tested on the bytes of leaf entries, and no other record is made, but for a single key that may stand in
-/// one of many leaves. It takes a step for each leaf, and one for each leaf entry of a record within
-/// the span.
+/// each record stands whole in one leaf, or a segment splits it in two, or a transposition puts
+/// each field in a leaf of its own, the conditions are tested on the bytes of leaf entries, and no
+/// other record is made, but for a single key that may stand in one of many leaves. It takes a step
+/// for each leaf, and one for each leaf entry of a record within the span.
 ///
-/// After an error `rows` may have more at its end. `Damaged`: some leaf's stored form isn't whole, or
-/// the leaves hold no file, which is said of block 0. `Fault`: the count of faults rose; with any
-/// other answer it stays. `NoMemory`: there was none.
+/// After an error `rows` may have more at its end. `Damaged`: some leaf's stored form isn't whole,
+/// or the leaves hold no file, which is said of block 0. `Fault`: the count of faults rose; with
+/// any other answer it stays. `NoMemory`: there was none.
 pub fn rows_within<B: Leaves>(
     alloc: Global,
     file: &FileDef,
@@ -59,7 +59,8 @@ pub fn rows_within<B: Leaves>(
         IsInternal file.now (tree_of node.now) (B.working leaves.old) f →
         HaveAtMost most (tree_of node.now) f → OnOk result
         (B.work leaves.new
-        ≤ B.work leaves.old + (length (leaves_of (tree_of node.now)) + length (rows_inside span.now f) * most)) }
+        ≤ B.work leaves.old + (length (leaves_of (tree_of node.now)) + length
+        (rows_inside span.now f) * most)) }
     ensures front { Extends rows.old.items rows.new.items }
     ensures reads { ReadsMaps B.View
         (B.whole leaves.old × HasFile file.now (tree_of node.now) (B.working leaves.old))
