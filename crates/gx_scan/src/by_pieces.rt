@@ -1,5 +1,5 @@
-// Finding by pieces: where a layer cuts the bytes of each record into pieces, the entries of a record
-// in the one leaf are joined.
+// Finding by pieces: where a layer cuts the bytes of each record into pieces, the entries of a
+// record in the one leaf are joined.
 ghost use Rattle.std.specs.Prelude.{◌≡◌, ◌≤◌, ◌+◌, ◌*◌, ℕ, length, OnOk};
 ghost use Rattle.std.specs.List.{AllByRecursion};
 ghost use Rattle.gx_values.specs.Values.{Fits};
