@@ -79,8 +79,8 @@ one_kid [] a one read = absurd (omega (arith, one))
 one_kid (x ∷ []) a one read = ap (λ (n : Node AnyMapping). kid (tree_of n) no_kids) (sym read)
 one_kid (x ∷ y ∷ ns) a one read = absurd (omega (arith, one))
 
-module _ (node : Node AnyMapping) (l : LayerNode AnyMapping) (a : Actual) (is : node ≡ nodes.Layer l)
-    (outer : l.mapping ≡ any.Actual a) (valid : IsValid any_rule (tree_of node)) where
+module _ (node : Node AnyMapping) (l : LayerNode AnyMapping) (a : Actual)
+    (is : node ≡ nodes.Layer l) (outer : l.mapping ≡ any.Actual a) (valid : IsValid any_rule (tree_of node)) where
   outer_rule : any_rule l.mapping ≡ actual_rule a.form
   outer_rule = ap any_rule outer
 
@@ -237,8 +237,8 @@ module _ (k : Kind) (key : IsKeyKind k) where
       (numbers_after v j (suc j) p ps fit less next, numbers_ascend v (suc j) ps fit next)
 
 -- the key of an entry of a piece begins with that of the record
-piece_key : (key : List ℕ) (j : ℕ) (ps : List (List ℕ)) (e : Pair) → In e (numbered_entries key j ps)
-    → (number : List ℕ) × (e.0 ≡ key ++ number)
+piece_key : (key : List ℕ) (j : ℕ) (ps : List (List ℕ)) (e : Pair)
+    → In e (numbered_entries key j ps) → (number : List ℕ) × (e.0 ≡ key ++ number)
 piece_key key j [] e h = absurd h
 piece_key key j (p ∷ ps) e (inl is) =
     (bytes_of (value.Int (pos j)), ap (λ (y : Pair). y.0) is)

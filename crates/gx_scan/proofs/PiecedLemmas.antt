@@ -30,7 +30,8 @@ less_or_more (suc m) (suc n) = elim (less_or_more m n) [
 ]
 
 -- the entries from an index on begin with the pieces of these bytes, from number j on
-pub record AreAhead (size : ℕ) (key : List ℕ) (j : ℕ) (whole : List ℕ) (more es : List Entry) : Type 0
+pub record AreAhead (size : ℕ) (key : List ℕ) (j : ℕ) (whole : List ℕ)
+    (more es : List Entry) : Type 0
   where
     pub ahead : es ≡ map entry_of (numbered_entries key j (pieces size whole)) ++ more
 

@@ -168,8 +168,8 @@ fn push_pieces(
 ) -> Result<Option<usize>, AllocError>
     requires { 0 < size }
     ensures joined { (whole : List ℕ) (more : List TheEntry) →
-        drop at entries.now ≡ map entry_of (numbered_entries key.now 0 (pieces size whole))
-        ++ more →
+        drop at entries.now
+        ≡ map entry_of (numbered_entries key.now 0 (pieces size whole)) ++ more →
         IfOk result (λ found. IsSomeAnd found (λ last. (drop (last + 1) entries.now ≡ more)
         × (bytes.new.items ≡ bytes.old.items ++ whole))) }
     ensures within { IfOk result

@@ -48,7 +48,8 @@ returns-in_default-2-clause-chosen c = λ r more fit ahead.
     (ahead ∙ ap (λ (k : List ℕ).
     map entry_of (numbered_entries k 0 (pieces c.args.size (body_of r.1))) ++ more) (sym key)) in
     absurd (subst (λ o. IsSomeAnd o (IsJoined c.args.entries.now more
-    c.push_pieces.new.bytes.items (c.clear.new.self.items ++ body_of r.1))) c.in_default-2.is joined)
+    c.push_pieces.new.bytes.items (c.clear.new.self.items ++ body_of r.1)))
+    c.in_default-2.is joined)
 
 pub returns-clause-chosen : goal.returns-clause-chosen
 returns-clause-chosen c = λ r more fit ahead.
