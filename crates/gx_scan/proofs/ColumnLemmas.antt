@@ -1,23 +1,22 @@
 -- The entries of records whose data fields stand each alone in a leaf.
-use Rattle.std.proofs.Common.{[], ◌≡◌, ℕ, zero, suc, ◌+◌, ◌*◌, ◌<◌, ◌≤◌, List, ◌∷◌, ◌++◌, ◌⊎◌, length, length-append, take, get_or, map, cond, Bool, true, false, nat_eq, Option, None, Some, inl, inr, refl, sym, ap, subst, ◌∙◌, arith}
-use Rattle.std.specs.Prelude.{filter, slice_get}
+use Rattle.std.proofs.Common.{[], ◌≡◌, ℕ, zero, suc, ◌+◌, ◌*◌, ◌<◌, ◌≤◌, List, ◌∷◌, ◌++◌, ◌⊎◌, length, length-append, get_or, map, cond, false, nat_eq, Option, None, Some, inl, inr, refl, sym, ap, subst, ◌∙◌, arith}
+use Rattle.std.specs.Prelude.{slice_get}
 use Rattle.std.specs.FinMap as fin
 use Rattle.std.specs.List.{AllByRecursion, flat_map, sum_by}
 use Rattle.std.specs.Option.{option_map}
 use Rattle.std.specs.declared.cmp.Ordering.TheVariants.{Less}
 use Rattle.std.proofs.Math.Nat.{mul-le-mul_right}
 use Rattle.std.proofs.lemmas.Bool.{eqb-true, eq-eqb}
-use Rattle.std.proofs.lemmas.List.{length-map, get_or-map, take_more}
+use Rattle.std.proofs.lemmas.List.{length-map, get_or-map}
 use Rattle.std.proofs.lemmas.List.Sorted.{IsPermutation-refl}
 use Rattle.std.proofs.lemmas.List.Sums.{sum_by-cons}
-use Rattle.gx_values.specs.declared.values.Code.{Code}
 use Rattle.gx_values.specs.declared.values.Value.{Value}
 use Rattle.gx_values.specs.declared.records.Field.{Field}
 use Rattle.gx_values.specs.declared.records.Form.{Form}
 use Rattle.gx_values.specs.declared.records.Rec.{Rec}
 use Rattle.gx_values.specs.declared.keys.Span.{Span}
 use Rattle.gx_values.specs.Values.{value_cmp, Fits, AreFit}
-use Rattle.gx_values.specs.Keys.{bytes_of, IsKeyKind, AreKeyFields}
+use Rattle.gx_values.specs.Keys.{bytes_of}
 use Rattle.gx_values.proofs.OrderLemmas.{value_cmp_same}
 use Rattle.gx_schema.specs.declared.schema.FileDef.{FileDef}
 use Rattle.gx_schema.specs.Lookups.{key_kind, data_fields}
@@ -34,7 +33,7 @@ use Rattle.gx_stack.specs.Internal.{IsUnion, parts_for, child_records, AreIntern
 use Rattle.gx_stack.specs.Internal.{IsInternal as IsHeld}
 use Rattle.gx_stack.proofs.Children.{union_from_internal}
 use Rattle.gx_gather.proofs.Lists.{in_left, in_right, in_map, from_map, in_filter, all_at, all_of, in_contains, some_same, none_some}
-use Rattle.gx_gather.proofs.Orders.{Ascends, ascends_filter}
+use Rattle.gx_gather.proofs.Orders.{Ascends}
 use Rattle.gx_types.specs.declared.any.AnyMapping.{AnyMapping}
 use Rattle.gx_types.specs.Any.{any_rule}
 use Rattle.gx_model.specs.States.{File, Row, IsRowOf}

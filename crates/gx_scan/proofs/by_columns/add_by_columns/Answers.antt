@@ -1,4 +1,4 @@
-use Rattle.std.proofs.Common.{◌∙◌, List, filter, length, sym, ap, subst, refl, arith}
+use Rattle.std.proofs.Common.{◌∙◌, filter, length, sym, subst, refl, arith}
 use Rattle.std.proofs.lemmas.Bool.{true≢false}
 use Rattle.std.proofs.lemmas.List.Sorted.{IsPermutation-refl}
 use Rattle.std.specs.FinMap as fin

@@ -1,4 +1,4 @@
-use Rattle.std.proofs.Common.{◌≡◌, ◌++◌, ◌∙◌, [], List, refl, sym, ap, append-nil, append_assoc, arith}
+use Rattle.std.proofs.Common.{◌++◌, ◌∙◌, [], List, refl, sym, ap, append-nil, append_assoc, arith}
 use Rattle.std.specs.Prelude.{filter}
 use Rattle.std.proofs.lemmas.Bool.{true≢false}
 use Rattle.gx_actual.specs.Bodies.{body_of}

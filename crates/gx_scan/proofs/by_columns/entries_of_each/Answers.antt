@@ -1,15 +1,13 @@
-use Rattle.std.proofs.Common.{◌≡◌, ◌<◌, ◌+◌, ◌++◌, ◌∙◌, ◌∷◌, [], List, length, map, take, get_or, refl, sym, ap, subst, arith, length-append}
+use Rattle.std.proofs.Common.{◌≡◌, ◌<◌, ◌++◌, ◌∙◌, ◌∷◌, [], List, length, map, take, get_or, refl, sym, ap, subst, arith, length-append}
 use Rattle.std.specs.List.{sum_by}
-use Rattle.std.proofs.lemmas.List.{map-append, take_all, take_more}
+use Rattle.std.proofs.lemmas.List.{map-append, take_more}
 use Rattle.std.proofs.lemmas.List.Sums.{sum_by_push}
 use Rattle.gx_ports.specs.declared.leaves.Entry.{Entry}
 use Rattle.gx_ports.specs.LeafMaps.{LeafMap, selected, map_at}
 use Rattle.gx_ports.proofs.CallLemmas.{reads_itself, reads_joined}
 use Rattle.gx_gather.proofs.Lists.{in_read}
-use Rattle.gx_stack.proofs.PassLemmas.{reads_given_after}
 use Rattle.gx_scan.specs.declared.places.Place.{Place}
 use Rattle.gx_scan.proofs.StepLemmas.{counted_most}
-use Rattle.gx_scan.proofs.ColumnSteps.{reads_passed}
 use Rattle.gx_scan.proofs.by_columns.entries_of_each.Goals as goal
 
 pub entries_at-requires : goal.entries_at-requires

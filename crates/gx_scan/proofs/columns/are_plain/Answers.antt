@@ -1,4 +1,4 @@
-use Rattle.std.proofs.Common.{◌≡◌, ◌∙◌, [], inl, inr, sym, ap, subst, arith}
+use Rattle.std.proofs.Common.{◌∙◌, inl, inr, sym, ap, subst, arith}
 use Rattle.std.proofs.lemmas.List.{take_all}
 use Rattle.gx_gather.proofs.Lists.{in_more}
 use Rattle.gx_scan.specs.declared.places.Place.{Place}

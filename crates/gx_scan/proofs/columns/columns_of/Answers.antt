@@ -1,9 +1,8 @@
-use Rattle.std.proofs.Common.{◌≡◌, ◌<◌, ◌∷◌, [], List, sym, subst, arith}
+use Rattle.std.proofs.Common.{◌<◌, ◌∷◌, [], sym, subst, arith}
 use Rattle.std.specs.Prelude.{IfSome}
 use Rattle.gx_stack.specs.Seen.{tree_of}
 use Rattle.gx_stack.specs.Tree.{no_kids}
 use Rattle.gx_types.specs.Any.{any_rule}
-use Rattle.gx_scan.specs.declared.places.Place.{Place}
 use Rattle.gx_scan.specs.Columns.{ArePlacesOfKids}
 use Rattle.gx_scan.specs.Entries.{ArePlaces}
 use Rattle.gx_scan.proofs.ColumnSteps.{kid_there, kid_valid, places_next, columns_made}
