@@ -20,12 +20,12 @@ module _ {S L : Type 0} (g : Ghosts S) (rule : L → LinkRule)
     (held : L → Link → List LeafMap → Type 0) (s : StoredLink L) (old new : S)
     (refusal : File → File → Link → Option Refusal) (after : Link → Link)
     (owner : Link → Option Value) where
-  pub change_stopped : {why : Stop} (result : Result (Option Refused) Stop)
+  pub change_stopped : (why : Stop) (result : Result (Option Refused) Stop)
       → IsErrAnd result (λ stop. stop ≡ why)
       → ReadsMaps g (g.whole old × HaveLink rule held s (g.working old)) old new result
       → ChangesLink g rule held s old new result refusal after owner
-  change_stopped (Ok x) err reads = absurd err
-  change_stopped (Err stop) err reads = record {
+  change_stopped why (Ok x) err reads = absurd err
+  change_stopped why (Err stop) err reads = record {
     refused = λ owners members link whole are. tt;
     changed = λ owners members link whole are. tt;
     keeps = reads_keep g reads.reads;

@@ -73,9 +73,9 @@ module _ (owners members : File) (link : Link) (owner member : Value) where
   pub not_both : (both : Bool)
       → both ≡ is_some (fin.get owners owner) && is_some (fin.get members member) → both ≡ false
       → Some no_record ≡ connect_refusal owners members link owner member
-  not_both both both_are no =
+  not_both both both_are none =
       let records : is_some (fin.get owners owner) && is_some (fin.get members member) ≡ false =
-      sym both_are ∙ no in
+      sym both_are ∙ none in
       let refused : connect_refusal owners members link owner member ≡ Some no_record =
       λ i. first_refusal ((not (records i), no_record)
       ∷ (is_some (fin.get link member), has_owner)
@@ -87,9 +87,9 @@ module _ (owners members : File) (link : Link) (owner member : Value) where
       → both ≡ is_some (fin.get owners owner) && is_some (fin.get members member) → both ≡ true
       → has ≡ is_some (fin.get link member) → has ≡ true
       → Some has_owner ≡ connect_refusal owners members link owner member
-  not_free both has both_are yes has_is owned =
+  not_free both has both_are are has_is owned =
       let records : is_some (fin.get owners owner) && is_some (fin.get members member) ≡ true =
-      sym both_are ∙ yes in
+      sym both_are ∙ are in
       let found : is_some (fin.get link member) ≡ true = sym has_is ∙ owned in
       let refused : connect_refusal owners members link owner member ≡ Some has_owner =
       λ i. first_refusal ((not (records i), no_record) ∷ (found i, has_owner)

@@ -8,13 +8,11 @@ use Rattle.gx_ports.specs.LeafMaps.{LeafMap}
 use Rattle.gx_ports.specs.Calls.{ReadsMaps}
 use Rattle.gx_stack.proofs.PassLemmas.{Passes}
 use Rattle.gx_model.specs.States.{File}
-use Rattle.gx_scan.specs.Files.{HasFile}
 use Rattle.gx_links.specs.Links.{Link}
 use Rattle.gx_links.specs.Linksets.{LinkRule, HasLink}
-use Rattle.gx_pairs.specs.declared.stored.StoredFile.{StoredFile}
 use Rattle.gx_pairs.specs.declared.stored.StoredLink.{StoredLink}
-use Rattle.gx_pairs.specs.Stored.{file_of, node_tree, HaveLink}
-use Rattle.gx_pairs.specs.Search.{LooksInFile, ReadsLink, LooksInLink, ReadsLinkedFiles, FindsMembers}
+use Rattle.gx_pairs.specs.Stored.{HaveLink}
+use Rattle.gx_pairs.specs.Search.{ReadsLink, LooksInLink, ReadsLinkedFiles, FindsMembers}
 
 -- calls that passed, and an answer
 pub reads_passed : {S T : Type 0} (g : Ghosts S) {sound : Type 0} {old new : S} (x : T)
@@ -33,62 +31,50 @@ reads_passed g x passed = record {
 }
 
 -- nothing is said of what is in an answer that is none
-pub if_stopped : {T : Type 0} {why : Stop} (result : Result T Stop) (P : T → Type 0)
+pub if_stopped : {T : Type 0} (why : Stop) (result : Result T Stop) (P : T → Type 0)
     → IsErrAnd result (λ stop. stop ≡ why) → IfOk result P
-if_stopped (Ok x) P err = absurd err
-if_stopped (Err stop) P err = tt
-
-pub file_stopped : {S T : Type 0} (g : Ghosts S) (s : StoredFile) (old new : S)
-    (Is : File → T → Type 0) {why : Stop} (result : Result T Stop)
-    → IsErrAnd result (λ stop. stop ≡ why)
-    → ReadsMaps g (g.whole old × HasFile (file_of s) (node_tree s) (g.working old)) old new result
-    → LooksInFile g s old new result Is
-file_stopped g s old new Is (Ok x) err reads = absurd err
-file_stopped g s old new Is (Err stop) err reads = record {
-  found = λ f whole is. tt;
-  steps = λ f most whole is few. tt;
-  reads = reads;
-}
+if_stopped why (Ok x) P err = absurd err
+if_stopped why (Err stop) P err = tt
 
 module _ {S L : Type 0} (g : Ghosts S) (rule : L → LinkRule)
     (held : L → Link → List LeafMap → Type 0) where
-  pub link_stopped : {T : Type 0} (l : L) (old new : S) (Is : Link → T → Type 0) {why : Stop}
+  pub link_stopped : {T : Type 0} (l : L) (old new : S) (Is : Link → T → Type 0) (why : Stop)
       (result : Result T Stop) → IsErrAnd result (λ stop. stop ≡ why)
       → ReadsMaps g (g.whole old × HasLink (rule l) (held l) (g.working old)) old new result
       → ReadsLink g rule held l old new result Is
-  link_stopped l old new Is (Ok x) err reads = absurd err
-  link_stopped l old new Is (Err stop) err reads = record {
+  link_stopped l old new Is why (Ok x) err reads = absurd err
+  link_stopped l old new Is why (Err stop) err reads = record {
     found = λ link whole is held. tt;
     reads = reads;
   }
 
   pub looks_stopped : {T : Type 0} (l : L) (old new : S) (Is : Link → T → Type 0) (looks : ℕ)
-      {why : Stop} (result : Result T Stop) → IsErrAnd result (λ stop. stop ≡ why)
+      (why : Stop) (result : Result T Stop) → IsErrAnd result (λ stop. stop ≡ why)
       → ReadsMaps g (g.whole old × HasLink (rule l) (held l) (g.working old)) old new result
       → LooksInLink g rule held l old new result Is looks
-  looks_stopped l old new Is looks (Ok x) err reads = absurd err
-  looks_stopped l old new Is looks (Err stop) err reads = record {
+  looks_stopped l old new Is looks why (Ok x) err reads = absurd err
+  looks_stopped l old new Is looks why (Err stop) err reads = record {
     answer = record { found = λ link whole is held. tt; reads = reads };
     steps = λ link most whole is held few. tt;
   }
 
   module _ (s : StoredLink L) (old new : S) where
-    pub linked_stopped : {T : Type 0} (Is : File → File → Link → T → Type 0) {why : Stop}
+    pub linked_stopped : {T : Type 0} (Is : File → File → Link → T → Type 0) (why : Stop)
         (result : Result T Stop) → IsErrAnd result (λ stop. stop ≡ why)
         → ReadsMaps g (g.whole old × HaveLink rule held s (g.working old)) old new result
         → ReadsLinkedFiles g rule held s old new result Is
-    linked_stopped Is (Ok x) err reads = absurd err
-    linked_stopped Is (Err stop) err reads = record {
+    linked_stopped Is why (Ok x) err reads = absurd err
+    linked_stopped Is why (Err stop) err reads = record {
       found = λ owners members link whole are. tt;
       reads = reads;
     }
 
     pub finds_stopped : (owner : Value) (Are : File → Link → Type 0) (looks : File → Link → ℕ)
-        {why : Stop} (result : Result Bool Stop) → IsErrAnd result (λ stop. stop ≡ why)
+        (why : Stop) (result : Result Bool Stop) → IsErrAnd result (λ stop. stop ≡ why)
         → ReadsMaps g (g.whole old × HaveLink rule held s (g.working old)) old new result
         → FindsMembers g rule held s owner old new result Are looks
-    finds_stopped owner Are looks (Ok x) err reads = absurd err
-    finds_stopped owner Are looks (Err stop) err reads = record {
+    finds_stopped owner Are looks why (Ok x) err reads = absurd err
+    finds_stopped owner Are looks why (Err stop) err reads = record {
       there = λ owners members link whole are. tt;
       those = λ owners members link whole are. tt;
       steps = λ owners members link most whole are few_o few_m few_l. tt;

@@ -14,7 +14,7 @@ use Rattle.gx_pairs.proofs.changes.connect_pair.Goals as goal
 
 pub returns-in_err-has_both : goal.returns-in_err-has_both
 returns-in_err-has_both g c =
-    change_stopped g.B.View g.L.Linkset.rule g.L.Linkset.held c.args.stored.now _ _ _ _ _
+    change_stopped g.B.View g.L.Linkset.rule g.L.Linkset.held c.args.stored.now _ _ _ _ _ _
     c.from_residual.result c.from_residual.ensures.1
     (reads_given g.B.View c.from_residual.result c.from_residual.ensures.1 (λ h. h)
     c.in_err-has_both.ensures.reads)
@@ -41,7 +41,7 @@ returns-in_err-has_owner g c =
     let s = c.args.stored.now in
     let passed = read_passes b c.in_ok-has_both.ensures.reads in
     let given = c.from_residual-in_err-has_owner.ensures.1 in
-    change_stopped b rule held s _ _ _ _ _ c.from_residual-in_err-has_owner.result given
+    change_stopped b rule held s _ _ _ _ _ _ c.from_residual-in_err-has_owner.result given
     (reads_given_after b c.from_residual-in_err-has_owner.result given passed
     (λ h. (
       passed.whole h.0,
@@ -79,8 +79,8 @@ returns-in_err-connect g c =
     let result = c.from_residual-in_err-connect.result in
     let given = c.from_residual-in_err-connect.ensures.1 in
     record {
-      refused = λ owners members link whole are. if_stopped result _ given;
-      changed = λ owners members link whole are. if_stopped result _ given;
+      refused = λ owners members link whole are. if_stopped _ result _ given;
+      changed = λ owners members link whole are. if_stopped _ result _ given;
       keeps = keeps_joined b (reads_keep b passed.reads) c.in_err-connect.ensures.keeps;
       ends = ends_given_after b result given passed
           (λ h. (

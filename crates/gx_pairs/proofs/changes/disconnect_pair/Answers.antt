@@ -13,7 +13,7 @@ use Rattle.gx_pairs.proofs.changes.disconnect_pair.Goals as goal
 
 pub returns-in_err-owner : goal.returns-in_err-owner
 returns-in_err-owner g c =
-    change_stopped g.B.View g.L.Linkset.rule g.L.Linkset.held c.args.stored.now _ _ _ _ _
+    change_stopped g.B.View g.L.Linkset.rule g.L.Linkset.held c.args.stored.now _ _ _ _ _ _
     c.from_residual.result c.from_residual.ensures.1
     (reads_given g.B.View c.from_residual.result c.from_residual.ensures.1 (λ h. h)
     c.in_err-owner.ensures.read.reads)
@@ -44,8 +44,8 @@ returns-in_err-disconnect_from g c =
     let result = c.from_residual-in_err-disconnect_from.result in
     let given = c.from_residual-in_err-disconnect_from.ensures.1 in
     record {
-      refused = λ owners members link whole are. if_stopped result _ given;
-      changed = λ owners members link whole are. if_stopped result _ given;
+      refused = λ owners members link whole are. if_stopped _ result _ given;
+      changed = λ owners members link whole are. if_stopped _ result _ given;
       keeps = keeps_joined b (reads_keep b passed.reads) c.in_err-disconnect_from.ensures.keeps;
       ends = ends_given_after b result given passed
           (λ h. (

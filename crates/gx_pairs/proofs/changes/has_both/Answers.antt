@@ -15,7 +15,7 @@ returns-in_err-has_record g c =
     let rule = g.L.Linkset.rule in
     let held = g.L.Linkset.held in
     let s = c.args.stored.now in
-    linked_stopped g.B.View rule held s _ _ _ c.from_residual.result c.from_residual.ensures.1
+    linked_stopped g.B.View rule held s _ _ _ _ c.from_residual.result c.from_residual.ensures.1
     (reads_given g.B.View c.from_residual.result c.from_residual.ensures.1
     (λ h. (h.0, owners_there rule held s _ h.1)) c.in_err-has_record.ensures.reads)
 

@@ -10,7 +10,7 @@ returns-in_err-has_record-clause-read g c =
     let rule = g.L.Linkset.rule in
     let held = g.L.Linkset.held in
     let s = c.args.stored.now in
-    linked_stopped g.B.View rule held s _ _ _ c.from_residual.result c.from_residual.ensures.1
+    linked_stopped g.B.View rule held s _ _ _ _ c.from_residual.result c.from_residual.ensures.1
     (reads_given g.B.View c.from_residual.result c.from_residual.ensures.1
     (λ h. (h.0, members_there rule held s _ h.1)) c.in_err-has_record.ensures.reads)
 
@@ -29,7 +29,7 @@ returns-in_err-owner-clause-read g c =
     let new = b.working c.has_record.new.leaves in
     let first = c.in_ok-has_record.ensures.reads in
     let given = c.from_residual-in_err-owner.ensures.1 in
-    linked_stopped b rule held s _ _ _ c.from_residual-in_err-owner.result given
+    linked_stopped b rule held s _ _ _ _ c.from_residual-in_err-owner.result given
     (reads_given_after b c.from_residual-in_err-owner.result given (read_passes b first)
     (λ h. (
       first.ends.whole h.0,

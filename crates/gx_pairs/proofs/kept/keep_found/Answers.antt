@@ -8,7 +8,7 @@ use Rattle.gx_pairs.proofs.kept.keep_found.Goals as goal
 
 pub returns-in_err-members : goal.returns-in_err-members
 returns-in_err-members g c =
-    looks_stopped g.B.View g.L.Linkset.rule g.L.Linkset.held c.args.linkset.now _ _ _ 1
+    looks_stopped g.B.View g.L.Linkset.rule g.L.Linkset.held c.args.linkset.now _ _ _ 1 _
     c.from_residual.result c.from_residual.ensures.1
     (reads_given g.B.View c.from_residual.result c.from_residual.ensures.1 (λ h. h)
     c.in_err-members.ensures.reads)

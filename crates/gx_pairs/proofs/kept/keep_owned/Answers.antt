@@ -44,7 +44,7 @@ returns-in_err-is_owned g c =
     let held = g.L.Linkset.held in
     let l = c.args.linkset.now in
     let inv = c.loop-row.invariant in
-    looks_stopped g.B.View g.L.Linkset.rule held l _ _ _ (length c.args.rows.items)
+    looks_stopped g.B.View g.L.Linkset.rule held l _ _ _ (length c.args.rows.items) _
     c.from_residual.result c.from_residual.ensures.1
     (reads_given_after g.B.View c.from_residual.result c.from_residual.ensures.1
     (record { reads = inv.reads; whole = inv.whole; counted = inv.counted })

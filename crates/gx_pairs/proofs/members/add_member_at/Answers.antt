@@ -23,7 +23,7 @@ returns-in_err-has_record g c =
     let rule = g.L.Linkset.rule in
     let held = g.L.Linkset.held in
     let s = c.args.stored.now in
-    finds_stopped g.B.View rule held s _ _ _ _ _ c.from_residual.result c.from_residual.ensures.1
+    finds_stopped g.B.View rule held s _ _ _ _ _ _ c.from_residual.result c.from_residual.ensures.1
     (reads_given g.B.View c.from_residual.result c.from_residual.ensures.1
     (λ h. (h.0, owners_there rule held s _ h.1)) c.in_err-has_record.ensures.reads)
 
@@ -48,7 +48,7 @@ returns-in_err-add_record g c =
     let s = c.args.stored.now in
     let first = c.in_ok-has_record.ensures.reads in
     let given = c.from_residual-in_err-add_record.ensures.1 in
-    finds_stopped b rule held s _ _ _ _ _ c.from_residual-in_err-add_record.result given
+    finds_stopped b rule held s _ _ _ _ _ _ c.from_residual-in_err-add_record.result given
     (reads_given_after b c.from_residual-in_err-add_record.result given (read_passes b first)
     (λ h. (
       first.ends.whole h.0,
@@ -79,7 +79,7 @@ returns-in_err-rows g c =
     let second = c.in_ok-add_record.ensures.looks.reads in
     let passed = passes_joined b (read_passes b first) (read_passes b second) in
     let given = c.from_residual-in_err-rows.ensures.1 in
-    finds_stopped b rule held s _ _ _ _ _ c.from_residual-in_err-rows.result given
+    finds_stopped b rule held s _ _ _ _ _ _ c.from_residual-in_err-rows.result given
     (reads_given_after b c.from_residual-in_err-rows.result given passed
     (λ h. (
       passed.whole h.0,

@@ -15,7 +15,7 @@ use Rattle.gx_pairs.proofs.members.add_members.Goals as goal
 
 pub returns-in_err-has_record : goal.returns-in_err-has_record
 returns-in_err-has_record g c =
-    finds_stopped g.B.View g.L.Linkset.rule g.L.Linkset.held c.args.stored.now _ _ _ _ _
+    finds_stopped g.B.View g.L.Linkset.rule g.L.Linkset.held c.args.stored.now _ _ _ _ _ _
     c.from_residual.result c.from_residual.ensures.1
     (reads_given g.B.View c.from_residual.result c.from_residual.ensures.1
     (λ h. (h.0, (h.1.0, h.1.3.owners))) c.in_err-has_record.ensures.reads)
@@ -47,7 +47,7 @@ returns-in_err-members g c =
     let owner = c.in_ok-has_record.ensures.reads in
     let held = g.L.Linkset.held c.args.stored.now.linkset in
     let given = c.from_residual-in_err-members.ensures.1 in
-    finds_stopped g.B.View g.L.Linkset.rule g.L.Linkset.held c.args.stored.now _ _ _ _ _
+    finds_stopped g.B.View g.L.Linkset.rule g.L.Linkset.held c.args.stored.now _ _ _ _ _ _
     c.from_residual-in_err-members.result given
     (reads_given_after g.B.View c.from_residual-in_err-members.result given
     (read_passes g.B.View owner)
@@ -68,7 +68,7 @@ returns-in_err-add_records g c =
     let them = c.in_ok-members.ensures in
     let passed = passes_joined b (read_passes b owner) (read_passes b them.reads) in
     let given = c.from_residual-in_err-add_records.ensures.1 in
-    finds_stopped b g.L.Linkset.rule g.L.Linkset.held s _ _ _ _ _
+    finds_stopped b g.L.Linkset.rule g.L.Linkset.held s _ _ _ _ _ _
     c.from_residual-in_err-add_records.result given
     (reads_given_after b c.from_residual-in_err-add_records.result given passed
     (λ sound.
