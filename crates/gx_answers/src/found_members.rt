@@ -1,16 +1,14 @@
 // The members of an owner that a `find` gives.
-ghost use Rattle.std.specs.Prelude.{◌≡◌, ◌^◌, ◌<◌, ◌≤◌, ◌+◌, [], ℕ, true, Some, length, filter, is_some, IfOk, OnOk};
+ghost use Rattle.std.specs.Prelude.{◌≡◌, ◌^◌, ◌<◌, ◌+◌, ◌*◌, [], Some, length, filter};
 ghost use Rattle.std.specs.FinMap as fin;
 ghost use Rattle.std.specs.List.{AllByRecursion};
 ghost use Rattle.gx_values.specs.Values.{Fits};
 ghost use Rattle.gx_schema.specs.Lookups.{key_kind};
 ghost use Rattle.gx_commands.specs.Commands.{IsCondOf};
-ghost use Rattle.gx_ports.specs.Calls.{ReadsMaps};
-ghost use Rattle.gx_model.specs.States.{File as FileMap, Link as LinkMap};
-ghost use Rattle.gx_scan.specs.Steps.{HaveAtMost};
-ghost use Rattle.gx_pairs.specs.Stored.{file_of, node_tree, IsStoredLink, AreLinked, HaveLink, OwnersHaveAtMost};
+ghost use Rattle.gx_pairs.specs.Stored.{file_of, node_tree, IsStoredLink};
+ghost use Rattle.gx_pairs.specs.Search.{FindsMembers};
 ghost use Rattle.gx_pairs.specs.Members.{is_member_of, AreMembersOf};
-ghost use Rattle.gx_finds.specs.Looked.{plan_for, step_bound};
+ghost use Rattle.gx_finds.specs.Looked.{plan_for};
 ghost use Rattle.gx_answers.specs.Work.{meets_plan};
 ghost use Rattle.gx_answers.specs.Queries.{key_number};
 
@@ -39,26 +37,12 @@ pub(crate) fn add_found_members<B: Leaves, L: Linkset>(
     requires few { length find.now.conds < 2 ^ 16 }
     requires of { find.now.of ≡ Some of.now }
     requires none { rows.old.items ≡ [] }
-    ensures there { (owners members : FileMap) (link : LinkMap) → B.whole leaves.old →
-        AreLinked L.rule L.held stored.now (B.working leaves.old) owners members link →
-        IfOk result (λ there. there ≡ is_some (fin.get owners of.now.owner)) }
-    ensures those { (owners members : FileMap) (link : LinkMap) → B.whole leaves.old →
-        AreLinked L.rule L.held stored.now (B.working leaves.old) owners members link →
-        IfOk result (λ there. there ≡ true →
-        AreMembersOf members link of.now.owner find.now.conds rows.new.items) }
-    ensures steps { (owners members : FileMap) (link : LinkMap) (most : ℕ) → B.whole leaves.old →
-        AreLinked L.rule L.held stored.now (B.working leaves.old) owners members link →
-        HaveAtMost most (node_tree stored.now.owners) owners →
-        HaveAtMost most (node_tree stored.now.members) members →
-        OwnersHaveAtMost most (L.rule stored.now.linkset) link → OnOk result
-        (B.work leaves.new
-        ≤ B.work leaves.old + step_bound
-        (length (filter (meets_plan (is_member_of link of.now.owner) find.now
+    ensures { FindsMembers B.View L.rule L.held stored.now of.now.owner leaves.old leaves.new
+        result
+        (λ members link. AreMembersOf members link of.now.owner find.now.conds rows.new.items)
+        (λ members link. 2 * (length (filter (meets_plan (is_member_of link of.now.owner) find.now
         (plan_for (node_tree stored.now.members) (file_of stored.now.members) find.now))
-        (fin.entries members))) most (length (B.working leaves.old))) }
-    ensures reads { ReadsMaps B.View
-        (B.whole leaves.old × HaveLink L.rule L.held stored.now (B.working leaves.old))
-        leaves.old leaves.new result }
+        (fin.entries members)) + 1)) }
 {
     let conds = find.conds.0.as_slice();
     let indexed = indexed_fields(alloc, stored.members.file, stored.members.node)?;

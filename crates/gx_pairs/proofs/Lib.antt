@@ -1,2 +1,4 @@
 pub mod LinkedLemmas
+mod ChangeLemmas
+mod SearchLemmas
 pub mod MemberLemmas

@@ -42,6 +42,10 @@ pub looked_up : {A B : Type 0} (f : A → B) (o : Option A) (found : Option B) �
 looked_up f None found is none there = true≢false (sym there)
 looked_up f (Some x) found is none there = none_some (f x) (sym none ∙ is)
 
+pub no_value : {A : Type 0} (o : Option A) → is_some o ≡ false → o ≡ None
+no_value None e = refl
+no_value (Some x) e = absurd (true≢false e)
+
 -- ---- why a pair isn't connected
 
 -- a member without an owner can be connected, where the owner has room
@@ -65,6 +69,33 @@ module _ (owners members : File) (link : Link) (owner member : Value) where
   as_many : length (members_of link owner) ≡ length (pairs_of link owner)
   as_many = length-map (pairs_of link owner) (λ pair. pair.0)
 
+  -- one of the two is no record
+  pub not_both : (both : Bool)
+      → both ≡ is_some (fin.get owners owner) && is_some (fin.get members member) → both ≡ false
+      → Some no_record ≡ connect_refusal owners members link owner member
+  not_both both both_are none =
+      let records : is_some (fin.get owners owner) && is_some (fin.get members member) ≡ false =
+      sym both_are ∙ none in
+      let refused : connect_refusal owners members link owner member ≡ Some no_record =
+      λ i. first_refusal ((not (records i), no_record)
+      ∷ (is_some (fin.get link member), has_owner)
+      ∷ (nat_le most_members (length (pairs_of link owner)), too_many_members) ∷ []) in
+      sym refused
+
+  -- both are records, and the member has an owner
+  pub not_free : (both has : Bool)
+      → both ≡ is_some (fin.get owners owner) && is_some (fin.get members member) → both ≡ true
+      → has ≡ is_some (fin.get link member) → has ≡ true
+      → Some has_owner ≡ connect_refusal owners members link owner member
+  not_free both has both_are are has_is owned =
+      let records : is_some (fin.get owners owner) && is_some (fin.get members member) ≡ true =
+      sym both_are ∙ are in
+      let found : is_some (fin.get link member) ≡ true = sym has_is ∙ owned in
+      let refused : connect_refusal owners members link owner member ≡ Some has_owner =
+      λ i. first_refusal ((not (records i), no_record) ∷ (found i, has_owner)
+      ∷ (nat_le most_members (length (pairs_of link owner)), too_many_members) ∷ []) in
+      sym refused
+
   abbrev for_room : Bool → Option Refusal
   for_room full = if full then Some too_many_members else None
 
@@ -77,11 +108,7 @@ module _ (owners members : File) (link : Link) (owner member : Value) where
         λ i. first_refusal ((not (records i), no_record) ∷ (owned i, has_owner) ∷ (nat_le most_members (length (pairs_of link owner)), too_many_members) ∷ [])
 
     is_free : fin.get link member ≡ None
-    is_free = go (fin.get link member) (sym has_is ∙ no)
-      where
-        go : (o : Option Value) → is_some o ≡ false → o ≡ None
-        go None e = refl
-        go (Some o) e = absurd (true≢false e)
+    is_free = no_value (fin.get link member) (sym has_is ∙ no)
 
     may_connect : HasRoom link owner → connect_refusal owners members link owner member ≡ None
     may_connect room = for_room_alone ∙ ap for_room (ap (nat_le most_members) (sym as_many) ∙ below_most (length (members_of link owner)) room)

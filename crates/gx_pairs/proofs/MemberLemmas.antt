@@ -175,7 +175,9 @@ row_kept test kept now rest r passes is =
 pub row_dropped : (test : Row → Bool) (kept rest : List Row) (r : Row) → test r ≡ false → kept ++ filter test rest ≡ kept ++ filter test (r ∷ rest)
 row_dropped test kept rest r fails = ap (λ b. kept ++ cond b (r ∷ filter test rest) (filter test rest)) (sym fails)
 
-pub row_steps : (rest : List Row) (r : Row) (left : List Row) (cost before now after all : ℕ) → left ≡ r ∷ rest → now + length left * cost ≤ before + all * cost → after ≤ now + cost → after + length rest * cost ≤ before + all * cost
+pub row_steps : (rest : List Row) (r : Row) (left : List Row) (cost before now after all : ℕ)
+    → left ≡ r ∷ rest → now + length left * cost ≤ before + all * cost → after ≤ now + 1 * cost
+    → after + length rest * cost ≤ before + all * cost
 row_steps rest r left cost before now after all is so_far next =
     let many : length left ≡ length rest + 1 = omega (arith, ap length is) in
     let product : length left * cost ≡ (length rest + 1) * cost = ap (λ n. n * cost) many in
@@ -193,6 +195,12 @@ some_kept g test (x ∷ xs) = go (test x) (some_kept g test xs)
 
 pub some_member : (link : Link) (owner : Value) (members : List Value) → members ≡ members_of link owner → not (length members == 0) ≡ has_member link owner
 some_member link owner members those = ap (λ (ms : List Value). not (length ms == 0)) those ∙ some_kept (λ (pair : Value × Value). pair.0) (λ pair. is_same pair.1 owner) (fin.entries link)
+
+-- of no rows all are kept
+pub none_kept : (test : Row → Bool) (rows : List Row) → (length rows == 0) ≡ true
+    → rows ≡ filter test rows
+none_kept test [] e = refl
+none_kept test (r ∷ rows) e = absurd (true≢false (sym e ∙ eqb-suc-zero (length rows)))
 
 pub above_none : (n : ℕ) → (n == 0) ≡ false → 0 < n
 above_none zero e = absurd (true≢false e)
@@ -214,13 +222,16 @@ member_steps leaves most own_leaves link_leaves leaves_each rounds entries many 
     subst (λ n. after ≤ before + 2 * (n + 1) * (most + leaves)) same (omega (arith, own, walk, reads, small, one, two, three))
 
 -- of one round over the leaves
-pub round_steps : (rounds link_leaves leaves entries most before after : ℕ) → rounds ≤ 1 → link_leaves ≤ leaves → entries ≤ most → after ≤ before + (rounds * link_leaves + entries) → after ≤ before + (most + leaves)
+pub round_steps : (rounds link_leaves leaves entries most before after : ℕ) → rounds ≤ 1
+    → link_leaves ≤ leaves → entries ≤ most → after ≤ before + (rounds * link_leaves + entries)
+    → after ≤ before + 1 * (most + leaves)
 round_steps rounds link_leaves leaves entries most before after one few small steps =
     let walk : rounds * link_leaves ≤ 1 * leaves = mul-le-mul one few in
     omega (arith, walk, small, steps)
 
 -- where there is a row, what one look-up takes is at most what one for each takes
-pub once_at_least : (many cost before after : ℕ) → 0 < many → after ≤ before + cost → after ≤ before + many * cost
+pub once_at_least : (many cost before after : ℕ) → 0 < many → after ≤ before + 1 * cost
+    → after ≤ before + many * cost
 once_at_least many cost before after some steps =
     let least : 1 * cost ≤ many * cost = mul-le-mul some (omega arith) in
     omega (arith, least, steps)

@@ -1,4 +1,5 @@
 pub mod Stored
+pub mod Search
 pub mod Changes
 pub mod Owners
 pub mod Members

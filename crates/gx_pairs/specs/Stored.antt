@@ -27,6 +27,13 @@ pub record IsStoredFile (s : StoredFile) (leaves : ℕ) : Type 0 where
   pub tree : IsTreeFor (file_of s) (node_tree s) leaves
   pub storable : IsStorable (file_of s)
 
+-- the linkset is valid, and its leaves are some of so many
+pub record IsStoredLinkset {L : Type 0} (rule : L → LinkRule) (is_valid : L → Type 0) (linkset : L)
+    (leaves : ℕ) : Type 0 where
+  pub valid : is_valid linkset
+  pub below : (n : ℕ) → In n (rule linkset).leaves → n < leaves
+  pub few : length (rule linkset).leaves ≤ leaves
+
 -- both files are stored, and so is the link between them, in leaves of its own
 pub record IsStoredLink {L : Type 0} (rule : L → LinkRule) (is_valid : L → Type 0)
     (s : StoredLink L) (leaves : ℕ) : Type 0 where
@@ -34,9 +41,7 @@ pub record IsStoredLink {L : Type 0} (rule : L → LinkRule) (is_valid : L → T
   pub members : IsStoredFile s.members leaves
   pub owner_kind : (rule s.linkset).owner ≡ key_kind (file_of s.owners)
   pub member_kind : (rule s.linkset).member ≡ key_kind (file_of s.members)
-  pub valid : is_valid s.linkset
-  pub below : (n : ℕ) → In n (rule s.linkset).leaves → n < leaves
-  pub few : length (rule s.linkset).leaves ≤ leaves
+  pub linkset : IsStoredLinkset rule is_valid s.linkset leaves
   pub owners_apart : (n : ℕ) → In n (leaves_of (node_tree s.owners)) → In n (rule s.linkset).leaves
       → ⊥
   pub members_apart : (n : ℕ) → In n (leaves_of (node_tree s.members))

@@ -1,16 +1,11 @@
 // Connecting a member to an owner, and taking it away.
-ghost use Rattle.std.specs.Prelude.{◌≡◌, ◌+◌, ◌&&◌, ℕ, length, IfOk, IsErrOf, Option, is_some, if◌then◌else◌};
-ghost use Rattle.std.specs.Option.{option_map};
+ghost use Rattle.std.specs.Prelude.{◌≡◌, ◌&&◌, length, IfOk, Option, is_some};
 ghost use Rattle.std.specs.FinMap as fin;
-ghost use Rattle.gx_values.specs.declared.values.Value.{Value as FieldValue};
 ghost use Rattle.gx_values.specs.Values.{Fits};
 ghost use Rattle.gx_schema.specs.Lookups.{key_kind};
-ghost use Rattle.gx_ports.specs.LeafMaps.{entry_count, IsCrowdedBy};
-ghost use Rattle.gx_ports.specs.Calls.{Keeps, Ends, ReadsMaps};
-ghost use Rattle.gx_model.specs.States.{File as FileMap, Link as LinkMap};
-ghost use Rattle.gx_links.specs.Links.{members_of};
-ghost use Rattle.gx_pairs.specs.Stored.{file_of, IsStoredLink, AreLinked, HaveLink, IsRelinked};
-ghost use Rattle.gx_pairs.specs.Changes.{refusal_for, refusal_in, connect_refusal, disconnect_refusal};
+ghost use Rattle.gx_pairs.specs.Stored.{file_of, IsStoredLink};
+ghost use Rattle.gx_pairs.specs.Search.{ReadsLinkedFiles};
+ghost use Rattle.gx_pairs.specs.Changes.{refusal_in, connect_refusal, disconnect_refusal, ChangesLink};
 
 use crate::owners::has_owner;
 use crate::refused::Refused;
@@ -34,26 +29,10 @@ pub fn connect_pair<B: Leaves, L: Linkset>(
     requires stored { IsStoredLink L.rule L.valid stored.now (length (B.working leaves.old)) }
     requires owner { Fits (key_kind (file_of stored.now.owners)) owner.now }
     requires member { Fits (key_kind (file_of stored.now.members)) member.now }
-    ensures refused { (owners members : FileMap) (link : LinkMap) → B.whole leaves.old →
-        AreLinked L.rule L.held stored.now (B.working leaves.old) owners members link → IfOk result
-        (λ why. option_map refusal_for why
-        ≡ connect_refusal owners members link owner.now member.now) }
-    ensures connected { (owners members : FileMap) (link : LinkMap) → B.whole leaves.old →
-        AreLinked L.rule L.held stored.now (B.working leaves.old) owners members link → IfOk result
-        (λ why. IsRelinked L.rule L.held stored.now (B.working leaves.old) (B.working leaves.new)
-        (if is_some why then link else fin.insert link member.now owner.now)) }
-    ensures keeps { Keeps B.View leaves.old leaves.new }
-    ensures ends { Ends B.View
-        (B.whole leaves.old × HaveLink L.rule L.held stored.now (B.working leaves.old))
-        leaves.old leaves.new result }
-    ensures block { (n : ℕ) → IsErrOf result (Stop.Damaged n) → B.whole leaves.old → n ≡ 0 }
-    ensures full { (owners members : FileMap) (link : LinkMap) → B.whole leaves.old →
-        AreLinked L.rule L.held stored.now (B.working leaves.old) owners members link →
-        IsErrOf result Stop.Full →
-        (connect_refusal owners members link owner.now member.now ≡ Option.None)
-        × IsCrowdedBy (B.limit leaves.old)
-        (entry_count (B.working leaves.old) + length ((L.rule stored.now.linkset).entries owner.now
-        (members_of (fin.insert link member.now owner.now) owner.now))) }
+    ensures { ChangesLink B.View L.rule L.held stored.now leaves.old leaves.new result
+        (λ owners members link. connect_refusal owners members link owner.now member.now)
+        (λ link. fin.insert link member.now owner.now)
+        (λ link. Option.Some owner.now) }
 {
     if !has_both(alloc, stored, owner, member, leaves)? {
         return Ok(Some(Refused::NoRecord));
@@ -79,25 +58,10 @@ pub fn disconnect_pair<B: Leaves, L: Linkset>(
 ) -> Result<Option<Refused>, Stop>
     requires stored { IsStoredLink L.rule L.valid stored.now (length (B.working leaves.old)) }
     requires member { Fits (key_kind (file_of stored.now.members)) member.now }
-    ensures refused { (owners members : FileMap) (link : LinkMap) → B.whole leaves.old →
-        AreLinked L.rule L.held stored.now (B.working leaves.old) owners members link → IfOk result
-        (λ why. option_map refusal_for why ≡ disconnect_refusal members link member.now) }
-    ensures disconnected { (owners members : FileMap) (link : LinkMap) → B.whole leaves.old →
-        AreLinked L.rule L.held stored.now (B.working leaves.old) owners members link → IfOk result
-        (λ why. IsRelinked L.rule L.held stored.now (B.working leaves.old) (B.working leaves.new)
-        (if is_some why then link else fin.remove link member.now)) }
-    ensures keeps { Keeps B.View leaves.old leaves.new }
-    ensures ends { Ends B.View
-        (B.whole leaves.old × HaveLink L.rule L.held stored.now (B.working leaves.old))
-        leaves.old leaves.new result }
-    ensures block { (n : ℕ) → IsErrOf result (Stop.Damaged n) → B.whole leaves.old → n ≡ 0 }
-    ensures full { (owners members : FileMap) (link : LinkMap) → B.whole leaves.old →
-        AreLinked L.rule L.held stored.now (B.working leaves.old) owners members link →
-        IsErrOf result Stop.Full → (owner : FieldValue)
-        × (disconnect_refusal members link member.now ≡ Option.None)
-        × (fin.get link member.now ≡ Option.Some owner) × IsCrowdedBy (B.limit leaves.old)
-        (entry_count (B.working leaves.old) + length ((L.rule stored.now.linkset).entries owner
-        (members_of (fin.remove link member.now) owner))) }
+    ensures { ChangesLink B.View L.rule L.held stored.now leaves.old leaves.new result
+        (λ owners members link. disconnect_refusal members link member.now)
+        (λ link. fin.remove link member.now)
+        (λ link. fin.get link member.now) }
 {
     let owner = match owner_to_leave(alloc, stored, member, leaves)? {
         Ok(owner) => owner,
@@ -120,12 +84,9 @@ fn has_both<B: Leaves, L: Linkset>(
     requires stored { IsStoredLink L.rule L.valid stored.now (length (B.working leaves.old)) }
     requires owner { Fits (key_kind (file_of stored.now.owners)) owner.now }
     requires member { Fits (key_kind (file_of stored.now.members)) member.now }
-    ensures found { (owners members : FileMap) (link : LinkMap) → B.whole leaves.old →
-        AreLinked L.rule L.held stored.now (B.working leaves.old) owners members link → IfOk result
-        (λ both. both ≡ is_some (fin.get owners owner.now) && is_some (fin.get members member.now)) }
-    ensures reads { ReadsMaps B.View
-        (B.whole leaves.old × HaveLink L.rule L.held stored.now (B.working leaves.old))
-        leaves.old leaves.new result }
+    ensures { ReadsLinkedFiles B.View L.rule L.held stored.now leaves.old leaves.new result
+        (λ owners members link both. both
+        ≡ is_some (fin.get owners owner.now) && is_some (fin.get members member.now)) }
 {
     if !has_record(alloc, &stored.owners, owner, leaves)? {
         return Ok(false);
@@ -142,16 +103,11 @@ fn owner_to_leave<B: Leaves, L: Linkset>(
 ) -> Result<Result<Value, Refused>, Stop>
     requires stored { IsStoredLink L.rule L.valid stored.now (length (B.working leaves.old)) }
     requires member { Fits (key_kind (file_of stored.now.members)) member.now }
-    ensures refused { (owners members : FileMap) (link : LinkMap) → B.whole leaves.old →
-        AreLinked L.rule L.held stored.now (B.working leaves.old) owners members link → IfOk result
-        (λ owned. refusal_in owned ≡ disconnect_refusal members link member.now) }
-    ensures that { (owners members : FileMap) (link : LinkMap) → B.whole leaves.old →
-        AreLinked L.rule L.held stored.now (B.working leaves.old) owners members link → IfOk result
-        (λ owned. IfOk owned (λ owner. fin.get link member.now ≡ Option.Some owner)) }
+    ensures read { ReadsLinkedFiles B.View L.rule L.held stored.now leaves.old leaves.new result
+        (λ owners members link owned.
+        (refusal_in owned ≡ disconnect_refusal members link member.now)
+        × IfOk owned (λ owner. fin.get link member.now ≡ Option.Some owner)) }
     ensures fits { IfOk result (λ owned. IfOk owned (Fits (L.rule stored.now.linkset).owner)) }
-    ensures reads { ReadsMaps B.View
-        (B.whole leaves.old × HaveLink L.rule L.held stored.now (B.working leaves.old))
-        leaves.old leaves.new result }
 {
     if !has_record(alloc, &stored.members, member, leaves)? {
         return Ok(Err(Refused::NoRecord));

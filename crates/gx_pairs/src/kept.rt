@@ -1,15 +1,12 @@
 // Those of some rows that are members of an owner.
-ghost use Rattle.std.specs.Prelude.{◌≡◌, ◌≤◌, ◌<◌, ◌+◌, ◌*◌, ℕ, length, filter, IfOk, OnOk, true, false};
+ghost use Rattle.std.specs.Prelude.{◌≡◌, length, filter, true, false};
 ghost use Rattle.std.specs.FinMap as fin;
 ghost use Rattle.std.specs.List.{AllByRecursion, list_any};
 ghost use Rattle.gx_values.specs.Values.{Fits};
-ghost use Rattle.gx_ports.specs.Calls.{ReadsMaps};
-ghost use Rattle.gx_mapping.specs.Rule.{In};
-ghost use Rattle.gx_model.specs.States.{Link as LinkMap, is_same};
+ghost use Rattle.gx_model.specs.States.{is_same};
 ghost use Rattle.gx_model.specs.Found.{is_owner};
-ghost use Rattle.gx_links.specs.Links.{IsLink};
-ghost use Rattle.gx_links.specs.Linksets.{HasLink};
-ghost use Rattle.gx_pairs.specs.Stored.{OwnersHaveAtMost};
+ghost use Rattle.gx_pairs.specs.Stored.{IsStoredLinkset};
+ghost use Rattle.gx_pairs.specs.Search.{LooksInLink};
 ghost use Rattle.gx_pairs.specs.Members.{is_member_of};
 
 use gx_links::Linkset;
@@ -27,26 +24,12 @@ pub fn keep_members<B: Leaves, L: Linkset>(
     leaves: &mut B,
     rows: Vec<Row>,
 ) -> Result<Vec<Row>, Stop>
-    requires valid { L.valid linkset.now }
-    requires below { (n : ℕ) → In n (L.rule linkset.now).leaves →
-        n < length (B.working leaves.old) }
-    requires few { length (L.rule linkset.now).leaves ≤ length (B.working leaves.old) }
+    requires stored { IsStoredLinkset L.rule L.valid linkset.now (length (B.working leaves.old)) }
     requires owner { Fits (L.rule linkset.now).owner owner.now }
     requires members { AllByRecursion (λ r. Fits (L.rule linkset.now).member r.0) rows.items }
-    ensures those { (link : LinkMap) → B.whole leaves.old →
-        IsLink (L.rule linkset.now).owner (L.rule linkset.now).member link →
-        L.held linkset.now link (B.working leaves.old) →
-        IfOk result (λ kept. kept.items ≡ filter (is_member_of link owner.now) rows.items) }
-    ensures steps { (link : LinkMap) (most : ℕ) → B.whole leaves.old →
-        IsLink (L.rule linkset.now).owner (L.rule linkset.now).member link →
-        L.held linkset.now link (B.working leaves.old) →
-        OwnersHaveAtMost most (L.rule linkset.now) link → OnOk result
-        (B.work leaves.new
-        ≤ B.work leaves.old + length rows.items * (most + length (B.working leaves.old))) }
-    ensures reads { ReadsMaps B.View
-        (B.whole leaves.old
-        × HasLink (L.rule linkset.now) (L.held linkset.now) (B.working leaves.old))
-        leaves.old leaves.new result }
+    ensures { LooksInLink B.View L.rule L.held linkset.now leaves.old leaves.new result
+        (λ link kept. kept.items ≡ filter (is_member_of link owner.now) rows.items)
+        (length rows.items) }
 {
     if rows.is_empty() {
         return Ok(rows);
@@ -66,26 +49,12 @@ fn keep_owned<B: Leaves, L: Linkset>(
     rows: Vec<Row>,
     leaves: &mut B,
 ) -> Result<Vec<Row>, Stop>
-    requires valid { L.valid linkset.now }
-    requires below { (n : ℕ) → In n (L.rule linkset.now).leaves →
-        n < length (B.working leaves.old) }
-    requires few { length (L.rule linkset.now).leaves ≤ length (B.working leaves.old) }
+    requires stored { IsStoredLinkset L.rule L.valid linkset.now (length (B.working leaves.old)) }
     requires finds { (L.rule linkset.now).finds ≡ true }
     requires members { AllByRecursion (λ r. Fits (L.rule linkset.now).member r.0) rows.items }
-    ensures those { (link : LinkMap) → B.whole leaves.old →
-        IsLink (L.rule linkset.now).owner (L.rule linkset.now).member link →
-        L.held linkset.now link (B.working leaves.old) →
-        IfOk result (λ kept. kept.items ≡ filter (is_member_of link owner.now) rows.items) }
-    ensures steps { (link : LinkMap) (most : ℕ) → B.whole leaves.old →
-        IsLink (L.rule linkset.now).owner (L.rule linkset.now).member link →
-        L.held linkset.now link (B.working leaves.old) →
-        OwnersHaveAtMost most (L.rule linkset.now) link → OnOk result
-        (B.work leaves.new
-        ≤ B.work leaves.old + length rows.items * (most + length (B.working leaves.old))) }
-    ensures reads { ReadsMaps B.View
-        (B.whole leaves.old
-        × HasLink (L.rule linkset.now) (L.held linkset.now) (B.working leaves.old))
-        leaves.old leaves.new result }
+    ensures { LooksInLink B.View L.rule L.held linkset.now leaves.old leaves.new result
+        (λ link kept. kept.items ≡ filter (is_member_of link owner.now) rows.items)
+        (length rows.items) }
 {
     let mut kept = Vec::new(alloc);
     for row in rows {
@@ -104,25 +73,12 @@ fn is_owned<B: Leaves, L: Linkset>(
     member: &Value,
     leaves: &mut B,
 ) -> Result<bool, Stop>
-    requires valid { L.valid linkset.now }
-    requires below { (n : ℕ) → In n (L.rule linkset.now).leaves →
-        n < length (B.working leaves.old) }
-    requires few { length (L.rule linkset.now).leaves ≤ length (B.working leaves.old) }
+    requires stored { IsStoredLinkset L.rule L.valid linkset.now (length (B.working leaves.old)) }
     requires finds { (L.rule linkset.now).finds ≡ true }
     requires member { Fits (L.rule linkset.now).member member.now }
-    ensures found { (link : LinkMap) → B.whole leaves.old →
-        IsLink (L.rule linkset.now).owner (L.rule linkset.now).member link →
-        L.held linkset.now link (B.working leaves.old) →
-        IfOk result (λ owned. owned ≡ is_owner owner.now (fin.get link member.now)) }
-    ensures steps { (link : LinkMap) (most : ℕ) → B.whole leaves.old →
-        IsLink (L.rule linkset.now).owner (L.rule linkset.now).member link →
-        L.held linkset.now link (B.working leaves.old) →
-        OwnersHaveAtMost most (L.rule linkset.now) link → OnOk result
-        (B.work leaves.new ≤ B.work leaves.old + (most + length (B.working leaves.old))) }
-    ensures reads { ReadsMaps B.View
-        (B.whole leaves.old
-        × HasLink (L.rule linkset.now) (L.held linkset.now) (B.working leaves.old))
-        leaves.old leaves.new result }
+    ensures { LooksInLink B.View L.rule L.held linkset.now leaves.old leaves.new result
+        (λ link owned. owned ≡ is_owner owner.now (fin.get link member.now))
+        1 }
 {
     match linkset.owner(alloc, leaves, member)? {
         Some(found) => Ok(compare(&found, owner).is_eq()),
@@ -138,25 +94,12 @@ fn keep_found<B: Leaves, L: Linkset>(
     rows: Vec<Row>,
     leaves: &mut B,
 ) -> Result<Vec<Row>, Stop>
-    requires valid { L.valid linkset.now }
-    requires below { (n : ℕ) → In n (L.rule linkset.now).leaves →
-        n < length (B.working leaves.old) }
-    requires few { length (L.rule linkset.now).leaves ≤ length (B.working leaves.old) }
+    requires stored { IsStoredLinkset L.rule L.valid linkset.now (length (B.working leaves.old)) }
     requires finds { (L.rule linkset.now).finds ≡ false }
     requires owner { Fits (L.rule linkset.now).owner owner.now }
-    ensures those { (link : LinkMap) → B.whole leaves.old →
-        IsLink (L.rule linkset.now).owner (L.rule linkset.now).member link →
-        L.held linkset.now link (B.working leaves.old) →
-        IfOk result (λ kept. kept.items ≡ filter (is_member_of link owner.now) rows.items) }
-    ensures steps { (link : LinkMap) (most : ℕ) → B.whole leaves.old →
-        IsLink (L.rule linkset.now).owner (L.rule linkset.now).member link →
-        L.held linkset.now link (B.working leaves.old) →
-        OwnersHaveAtMost most (L.rule linkset.now) link → OnOk result
-        (B.work leaves.new ≤ B.work leaves.old + (most + length (B.working leaves.old))) }
-    ensures reads { ReadsMaps B.View
-        (B.whole leaves.old
-        × HasLink (L.rule linkset.now) (L.held linkset.now) (B.working leaves.old))
-        leaves.old leaves.new result }
+    ensures { LooksInLink B.View L.rule L.held linkset.now leaves.old leaves.new result
+        (λ link kept. kept.items ≡ filter (is_member_of link owner.now) rows.items)
+        1 }
 {
     let mut members = Values(Vec::new(alloc));
     linkset.members(alloc, leaves, owner, &mut members)?;

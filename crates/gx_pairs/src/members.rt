@@ -1,5 +1,5 @@
 // The members of an owner.
-ghost use Rattle.std.specs.Prelude.{◌≡◌, ◌≤◌, ◌<◌, ◌+◌, ◌*◌, ◌++◌, [], ℕ, length, filter, flat_map, IfOk, OnOk, is_some, true, false};
+ghost use Rattle.std.specs.Prelude.{◌≡◌, ◌≤◌, ◌+◌, ◌*◌, ◌++◌, [], ℕ, length, filter, flat_map, OnOk, is_some};
 ghost use Rattle.std.specs.FinMap as fin;
 ghost use Rattle.std.specs.List.{AllByRecursion};
 ghost use Rattle.gx_values.specs.declared.values.Value.{Value as FieldValue};
@@ -7,14 +7,13 @@ ghost use Rattle.gx_values.specs.Values.{Fits};
 ghost use Rattle.gx_schema.specs.Lookups.{key_kind};
 ghost use Rattle.gx_ports.specs.Calls.{ReadsMaps};
 ghost use Rattle.gx_mapping.specs.Rule.{In};
-ghost use Rattle.gx_model.specs.States.{File as FileMap, Link as LinkMap};
+ghost use Rattle.gx_model.specs.States.{File as FileMap};
 ghost use Rattle.gx_model.specs.Found.{meets_conds};
 ghost use Rattle.gx_stack.specs.Tree.{leaves_of};
-ghost use Rattle.gx_scan.specs.Files.{IsInternal, HasFile};
+ghost use Rattle.gx_scan.specs.Files.{IsInternal};
 ghost use Rattle.gx_scan.specs.Steps.{HaveAtMost};
-ghost use Rattle.gx_links.specs.Links.{IsLink};
-ghost use Rattle.gx_links.specs.Linksets.{HasLink};
-ghost use Rattle.gx_pairs.specs.Stored.{file_of, node_tree, IsStoredFile, IsStoredLink, AreLinked, HaveLink, OwnersHaveAtMost};
+ghost use Rattle.gx_pairs.specs.Stored.{file_of, node_tree, IsStoredFile, IsStoredLinkset, IsStoredLink};
+ghost use Rattle.gx_pairs.specs.Search.{LooksInFile, ReadsLink, FindsMembers};
 ghost use Rattle.gx_pairs.specs.Members.{is_member_of, AreMembersOf, member_rows, has_member, rows_at, HaveRecords};
 
 use crate::kept::keep_members;
@@ -43,24 +42,9 @@ pub fn add_members<B: Leaves, L: Linkset>(
     requires stored { IsStoredLink L.rule L.valid stored.now (length (B.working leaves.old)) }
     requires owner { Fits (key_kind (file_of stored.now.owners)) owner.now }
     requires none { rows.old.items ≡ [] }
-    ensures there { (owners members : FileMap) (link : LinkMap) → B.whole leaves.old →
-        AreLinked L.rule L.held stored.now (B.working leaves.old) owners members link →
-        IfOk result (λ there. there ≡ is_some (fin.get owners owner.now)) }
-    ensures those { (owners members : FileMap) (link : LinkMap) → B.whole leaves.old →
-        AreLinked L.rule L.held stored.now (B.working leaves.old) owners members link →
-        IfOk result (λ there. there ≡ true →
-        AreMembersOf members link owner.now conds.now rows.new.items) }
-    ensures steps { (owners members : FileMap) (link : LinkMap) (most : ℕ) → B.whole leaves.old →
-        AreLinked L.rule L.held stored.now (B.working leaves.old) owners members link →
-        HaveAtMost most (node_tree stored.now.owners) owners →
-        HaveAtMost most (node_tree stored.now.members) members →
-        OwnersHaveAtMost most (L.rule stored.now.linkset) link → OnOk result
-        (B.work leaves.new
-        ≤ B.work leaves.old + 2 * (length (member_rows members link owner.now) + 1)
-        * (most + length (B.working leaves.old))) }
-    ensures reads { ReadsMaps B.View
-        (B.whole leaves.old × HaveLink L.rule L.held stored.now (B.working leaves.old))
-        leaves.old leaves.new result }
+    ensures { FindsMembers B.View L.rule L.held stored.now owner.now leaves.old leaves.new result
+        (λ members link. AreMembersOf members link owner.now conds.now rows.new.items)
+        (λ members link. 2 * (length (member_rows members link owner.now) + 1)) }
 {
     if !has_record(alloc, &stored.owners, owner, leaves)? {
         return Ok(false);
@@ -89,26 +73,11 @@ pub fn add_member_at<B: Leaves, L: Linkset>(
     requires owner { Fits (key_kind (file_of stored.now.owners)) owner.now }
     requires key { Fits (key_kind (file_of stored.now.members)) key.now }
     requires none { rows.old.items ≡ [] }
-    ensures there { (owners members : FileMap) (link : LinkMap) → B.whole leaves.old →
-        AreLinked L.rule L.held stored.now (B.working leaves.old) owners members link →
-        IfOk result (λ there. there ≡ is_some (fin.get owners owner.now)) }
-    ensures those { (owners members : FileMap) (link : LinkMap) → B.whole leaves.old →
-        AreLinked L.rule L.held stored.now (B.working leaves.old) owners members link →
-        IfOk result (λ there. there ≡ true → rows.new.items
+    ensures { FindsMembers B.View L.rule L.held stored.now owner.now leaves.old leaves.new result
+        (λ members link. rows.new.items
         ≡ filter (is_member_of link owner.now)
-        (filter (meets_conds conds.now) (rows_at members key.now))) }
-    ensures steps { (owners members : FileMap) (link : LinkMap) (most : ℕ) → B.whole leaves.old →
-        AreLinked L.rule L.held stored.now (B.working leaves.old) owners members link →
-        HaveAtMost most (node_tree stored.now.owners) owners →
-        HaveAtMost most (node_tree stored.now.members) members →
-        OwnersHaveAtMost most (L.rule stored.now.linkset) link → OnOk result
-        (B.work leaves.new
-        ≤ B.work leaves.old
-        + (length (filter (meets_conds conds.now) (rows_at members key.now)) + 2)
-        * (most + length (B.working leaves.old))) }
-    ensures reads { ReadsMaps B.View
-        (B.whole leaves.old × HaveLink L.rule L.held stored.now (B.working leaves.old))
-        leaves.old leaves.new result }
+        (filter (meets_conds conds.now) (rows_at members key.now)))
+        (λ members link. length (filter (meets_conds conds.now) (rows_at members key.now)) + 2) }
 {
     if !has_record(alloc, &stored.owners, owner, leaves)? {
         return Ok(false);
@@ -163,25 +132,13 @@ fn add_record<B: Leaves>(
 ) -> Result<bool, Stop>
     requires stored { IsStoredFile stored.now (length (B.working leaves.old)) }
     requires fit { Fits (key_kind (file_of stored.now)) key.now }
-    ensures there { (f : FileMap) → B.whole leaves.old →
-        IsInternal (file_of stored.now) (node_tree stored.now) (B.working leaves.old) f →
-        IfOk result (λ there. there ≡ is_some (fin.get f key.now)) }
-    ensures rows { (f : FileMap) → B.whole leaves.old →
-        IsInternal (file_of stored.now) (node_tree stored.now) (B.working leaves.old) f →
-        OnOk result (rows.new.items
-        ≡ rows.old.items ++ filter (meets_conds conds.now) (rows_at f key.now)) }
+    ensures looks { LooksInFile B.View stored.now leaves.old leaves.new result
+        (λ f there. (there ≡ is_some (fin.get f key.now))
+        × (rows.new.items
+        ≡ rows.old.items ++ filter (meets_conds conds.now) (rows_at f key.now))) }
     ensures fit { OnOk result
         (AllByRecursion (λ r. Fits (key_kind (file_of stored.now)) r.0) rows.old.items →
         AllByRecursion (λ r. Fits (key_kind (file_of stored.now)) r.0) rows.new.items) }
-    ensures steps { (f : FileMap) (most : ℕ) → B.whole leaves.old →
-        IsInternal (file_of stored.now) (node_tree stored.now) (B.working leaves.old) f →
-        HaveAtMost most (node_tree stored.now) f → OnOk result
-        (B.work leaves.new
-        ≤ B.work leaves.old + (length (leaves_of (node_tree stored.now)) + most)) }
-    ensures reads { ReadsMaps B.View
-        (B.whole leaves.old
-        × HasFile (file_of stored.now) (node_tree stored.now) (B.working leaves.old))
-        leaves.old leaves.new result }
 {
     let Some(values) = find_values(alloc, stored.file, stored.node, key, leaves)? else {
         return Ok(false);
@@ -201,18 +158,10 @@ pub fn has_members<B: Leaves, L: Linkset>(
     owner: &Value,
     leaves: &mut B,
 ) -> Result<bool, Stop>
-    requires valid { L.valid linkset.now }
-    requires below { (n : ℕ) → In n (L.rule linkset.now).leaves →
-        n < length (B.working leaves.old) }
+    requires stored { IsStoredLinkset L.rule L.valid linkset.now (length (B.working leaves.old)) }
     requires owner { Fits (L.rule linkset.now).owner owner.now }
-    ensures found { (link : LinkMap) → B.whole leaves.old →
-        IsLink (L.rule linkset.now).owner (L.rule linkset.now).member link →
-        L.held linkset.now link (B.working leaves.old) →
-        IfOk result (λ has. has ≡ has_member link owner.now) }
-    ensures reads { ReadsMaps B.View
-        (B.whole leaves.old
-        × HasLink (L.rule linkset.now) (L.held linkset.now) (B.working leaves.old))
-        leaves.old leaves.new result }
+    ensures { ReadsLink B.View L.rule L.held linkset.now leaves.old leaves.new result
+        (λ link has. has ≡ has_member link owner.now) }
 {
     let mut members = Values(Vec::new(alloc));
     linkset.members(alloc, leaves, owner, &mut members)?;

@@ -1,14 +1,10 @@
 // A link between two files, as it is stored, and the records at its ends.
-ghost use Rattle.std.specs.Prelude.{◌≡◌, ◌≤◌, ◌+◌, ℕ, length, IfOk, OnOk, is_some};
+ghost use Rattle.std.specs.Prelude.{◌≡◌, length, is_some};
 ghost use Rattle.std.specs.FinMap as fin;
 ghost use Rattle.gx_values.specs.Values.{Fits};
 ghost use Rattle.gx_schema.specs.Lookups.{key_kind};
-ghost use Rattle.gx_ports.specs.Calls.{ReadsMaps};
-ghost use Rattle.gx_stack.specs.Tree.{leaves_of};
-ghost use Rattle.gx_model.specs.States.{File as FileMap};
-ghost use Rattle.gx_scan.specs.Files.{IsInternal, HasFile};
-ghost use Rattle.gx_scan.specs.Steps.{HaveAtMost};
-ghost use Rattle.gx_pairs.specs.Stored.{file_of, node_tree, IsStoredFile};
+ghost use Rattle.gx_pairs.specs.Stored.{file_of, IsStoredFile};
+ghost use Rattle.gx_pairs.specs.Search.{LooksInFile};
 
 use gx_ports::{Leaves, Stop};
 use gx_scan::find_values;
@@ -47,18 +43,8 @@ pub(crate) fn has_record<B: Leaves>(
 ) -> Result<bool, Stop>
     requires stored { IsStoredFile stored.now (length (B.working leaves.old)) }
     requires key { Fits (key_kind (file_of stored.now)) key.now }
-    ensures found { (f : FileMap) → B.whole leaves.old →
-        IsInternal (file_of stored.now) (node_tree stored.now) (B.working leaves.old) f →
-        IfOk result (λ has. has ≡ is_some (fin.get f key.now)) }
-    ensures steps { (f : FileMap) (most : ℕ) → B.whole leaves.old →
-        IsInternal (file_of stored.now) (node_tree stored.now) (B.working leaves.old) f →
-        HaveAtMost most (node_tree stored.now) f → OnOk result
-        (B.work leaves.new
-        ≤ B.work leaves.old + (length (leaves_of (node_tree stored.now)) + most)) }
-    ensures reads { ReadsMaps B.View
-        (B.whole leaves.old
-        × HasFile (file_of stored.now) (node_tree stored.now) (B.working leaves.old))
-        leaves.old leaves.new result }
+    ensures { LooksInFile B.View stored.now leaves.old leaves.new result
+        (λ f has. has ≡ is_some (fin.get f key.now)) }
 {
     Ok(find_values(alloc, stored.file, stored.node, key, leaves)?.is_some())
 }

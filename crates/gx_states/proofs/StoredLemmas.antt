@@ -61,9 +61,12 @@ module _ {L : Type 0} (rule : L → LinkRule) (held : L → Link → List LeafMa
     members = stored_file_is schema built leaves (link_at schema i).member x.members for (for.storable.links i lt).member is.member_file is.member_tree;
     owner_kind = ap (λ r. r.owner) is.rule_is ∙ ap key_kind (sym is.owner_file);
     member_kind = ap (λ r. r.member) is.rule_is ∙ ap key_kind (sym is.member_file);
-    valid = is.valid_is;
-    below = λ n h. for.link_nodes.below i n lt (subst (λ r. In n r.leaves) is.rule_is h);
-    few = subst (λ r. length r.leaves ≤ leaves) (sym is.rule_is) (few_leaves schema built.files built.links leaves i for.link_nodes lt);
+    linkset = record {
+      valid = is.valid_is;
+      below = λ n h. for.link_nodes.below i n lt (subst (λ r. In n r.leaves) is.rule_is h);
+      few = subst (λ r. length r.leaves ≤ leaves) (sym is.rule_is)
+          (few_leaves schema built.files built.links leaves i for.link_nodes lt);
+    };
     owners_apart = λ n h k. for.link_nodes.file_apart (link_at schema i).owner i n (for.storable.links i lt).owner lt (subst (λ (t : Tree AnyMapping). In n (leaves_of t)) is.owner_tree h) (subst (λ r. In n r.leaves) is.rule_is k);
     members_apart = λ n h k. for.link_nodes.file_apart (link_at schema i).member i n (for.storable.links i lt).member lt (subst (λ (t : Tree AnyMapping). In n (leaves_of t)) is.member_tree h) (subst (λ r. In n r.leaves) is.rule_is k);
   }

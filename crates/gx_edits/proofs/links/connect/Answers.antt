@@ -1,7 +1,13 @@
-use Rattle.std.proofs.Common.{length, sym, subst, refl}
+use Rattle.std.proofs.Common.{length, ◌+◌, sym, subst, refl}
+use Rattle.std.specs.FinMap as fin
+use Rattle.gx_values.specs.declared.values.Value.{Value}
 use Rattle.gx_values.specs.Values.{Fits}
 use Rattle.gx_schema.specs.declared.schema.FileDef.{FileDef}
 use Rattle.gx_schema.specs.Lookups.{key_kind}
+use Rattle.gx_ports.specs.LeafMaps.{entry_count, IsCrowdedBy}
+use Rattle.gx_gather.proofs.Lists.{some_same}
+use Rattle.gx_links.specs.Links.{members_of}
+use Rattle.gx_model.specs.States.{link_in}
 use Rattle.gx_linksets.specs.Any.{any_link_rule, IsHeldBy, IsValidLinkset}
 use Rattle.gx_scan.proofs.CallLemmas.{ok_both, ends_so}
 use Rattle.gx_states.proofs.StoredLemmas.{is_stored, is_linked_in, have_link}
@@ -35,12 +41,18 @@ returns g c =
     record {
       edit = λ s known whole are.
           let linked = is_linked_in any_link_rule IsHeldBy IsValidLinkset schema built _ i x c.requires.ready lt is old s are in
-          ok_both c.connect_pair.result _ _ _ (pair.refused _ _ _ whole linked) (pair.connected _ _ _ whole linked)
+          ok_both c.connect_pair.result _ _ _ (pair.refused _ _ _ whole linked)
+          (pair.changed _ _ _ whole linked)
           (λ why refused relinked. connect_edit any_link_rule IsHeldBy IsValidLinkset schema built _ i x c.requires.ready lt is old _ s c.args.owner.now c.args.member.now why are refused relinked);
       full = λ s known whole are stops.
           let linked = is_linked_in any_link_rule IsHeldBy IsValidLinkset schema built _ i x c.requires.ready lt is old s are in
           let full = pair.full _ _ _ whole linked stops in
-          connect_full any_link_rule IsHeldBy IsValidLinkset schema built _ i x c.requires.ready lt is _ _ s c.args.owner.now c.args.member.now are.valid full.0 full.1;
+          let joined = fin.insert (link_in s i) c.args.member.now c.args.owner.now in
+          let crowded = subst (λ (o : Value). IsCrowdedBy (b.limit c.args.leaves.now)
+          (entry_count old + length ((any_link_rule x.linkset).entries o (members_of joined o))))
+          (sym (some_same c.args.owner.now full.1 full.2)) full.3 in
+          connect_full any_link_rule IsHeldBy IsValidLinkset schema built _ i x c.requires.ready lt
+          is _ _ s c.args.owner.now c.args.member.now are.valid full.0 crowded;
       bringing = λ stops. refl;
       accepted = λ s known whole are stops.
           (pair.full _ _ _ whole (is_linked_in any_link_rule IsHeldBy IsValidLinkset schema built _ i x c.requires.ready lt is old s are) stops).0;

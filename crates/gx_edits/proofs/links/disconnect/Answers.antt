@@ -32,15 +32,19 @@ returns g c =
     record {
       edit = λ s known whole are.
           let linked = is_linked_in any_link_rule IsHeldBy IsValidLinkset schema built _ i x c.requires.ready lt is old s are in
-          ok_both c.disconnect_pair.result _ _ _ (pair.refused _ _ _ whole linked) (pair.disconnected _ _ _ whole linked)
+          ok_both c.disconnect_pair.result _ _ _ (pair.refused _ _ _ whole linked)
+          (pair.changed _ _ _ whole linked)
           (λ why refused relinked. disconnect_edit any_link_rule IsHeldBy IsValidLinkset schema built _ i x c.requires.ready lt is old _ s c.args.member.now why are refused relinked);
       full = λ s known whole are stops.
           let linked = is_linked_in any_link_rule IsHeldBy IsValidLinkset schema built _ i x c.requires.ready lt is old s are in
           let full = pair.full _ _ _ whole linked stops in
-          disconnect_full any_link_rule IsHeldBy IsValidLinkset schema built _ i x c.requires.ready lt is _ _ s full.0 c.args.member.now are.valid full.1 full.3;
+          disconnect_full any_link_rule IsHeldBy IsValidLinkset schema built _ i x c.requires.ready
+          lt is _ _ s full.1 c.args.member.now are.valid full.0 full.3;
       bringing = λ stops. refl;
       accepted = λ s known whole are stops.
-          (pair.full _ _ _ whole (is_linked_in any_link_rule IsHeldBy IsValidLinkset schema built _ i x c.requires.ready lt is old s are) stops).1;
+          let linked = is_linked_in any_link_rule IsHeldBy IsValidLinkset schema built _ i x
+          c.requires.ready lt is old s are in
+          (pair.full _ _ _ whole linked stops).0;
       keeps = pair.keeps;
       ends = ends_so b _ _ _ _ _ (λ sound. (sound.0, have_link any_link_rule IsHeldBy IsValidLinkset schema built _ i x c.requires.ready lt is old sound.1)) pair.ends;
       block = pair.block;

@@ -1,10 +1,11 @@
-use Rattle.std.proofs.Common.{◌≡◌, ◌∙◌, ◌<◌, List, false, length, refl, sym, ap, subst}
+use Rattle.std.proofs.Common.{◌≡◌, ◌∙◌, List, false, length, refl, sym, ap, subst}
 use Rattle.std.specs.Prelude.{◌&&◌, ◌==◌, is_some}
 use Rattle.std.specs.FinMap as fin
 use Rattle.gx_schema.specs.Lookups.{link_at}
 use Rattle.gx_ports.specs.LeafMaps.{LeafMap}
 use Rattle.gx_ports.proofs.CallLemmas.{reads_itself}
 use Rattle.gx_linksets.specs.Any.{any_link_rule, IsHeldBy, IsValidLinkset}
+use Rattle.gx_pairs.specs.Stored.{IsStoredLinkset}
 use Rattle.gx_pairs.specs.Members.{has_member}
 use Rattle.gx_stack.proofs.PassLemmas.{Passes, passes, reads_given, reads_given_after}
 use Rattle.gx_pairs.proofs.LinkedLemmas.{link_there, linked_still, have_still}
@@ -15,9 +16,11 @@ use Rattle.gx_edits.proofs.RelinkLemmas.{end_as_member, end_as_owner}
 use Rattle.gx_edits.proofs.links.is_end_of.Goals.{else-def-file-via-then-def-file+in_ok-has_owner+else-branch, else-def-file-via-else-def-file}
 use Rattle.gx_edits.proofs.links.is_end_of.Goals as goal
 
-pub has_owner-requires-clause-below : goal.has_owner-requires-clause-below
-has_owner-requires-clause-below g c =
-    (is_stored any_link_rule IsHeldBy IsValidLinkset c.args.schema.now c.args.built.now _ c.args.link c.stored_link-stored.result c.requires.ready c.requires.link c.stored_link-stored.ensures).below
+pub has_owner-requires-clause-stored : goal.has_owner-requires-clause-stored
+has_owner-requires-clause-stored g c =
+    (is_stored any_link_rule IsHeldBy IsValidLinkset c.args.schema.now c.args.built.now _
+    c.args.link c.stored_link-stored.result c.requires.ready c.requires.link
+    c.stored_link-stored.ensures).linkset
 
 pub returns-in_err-has_owner-clause-reads : goal.returns-in_err-has_owner-clause-reads
 returns-in_err-has_owner-clause-reads g c =
@@ -35,15 +38,18 @@ returns-then-branch-clause-found g c = λ s whole are.
     end_as_member c.link_def-def.result.now (link_at schema i) link c.args.file c.args.key.now c.in_ok-has_owner.field-0 c.link_def-def.ensures c.if-branch.true
     (found ∙ sym (ap (λ b. b && is_some (fin.get link c.args.key.now)) (same_number c.link_def-def.result.now.member c.args.file c.if-def-file.true)))
 
-pub has_members-requires-clause-below : goal.has_members-requires-clause-below
-has_members-requires-clause-below g c = λ n h.
+pub has_members-requires-clause-stored : goal.has_members-requires-clause-stored
+has_members-requires-clause-stored g c =
     let b = g.B.View in
     let passed : Passes b c.args.leaves.now c.else-def-file.leaves = elim c.else-def-file.branch [
       | else-def-file-via-then-def-file+in_ok-has_owner+else-branch w ↦ subst (λ s. Passes b c.args.leaves.now s) (sym w.leaves-is) (passes b w.has_owner.ensures.reads.reads w.in_ok-has_owner.ensures.reads.ends)
       | else-def-file-via-else-def-file w ↦ subst (λ s. Passes b c.args.leaves.now s) (sym w.leaves-is) (record { reads = reads_itself b c.args.leaves.now; whole = λ h. h; counted = refl })
     ] in
-    subst (λ (maps : List LeafMap). n < length maps) (sym passed.reads.working)
-    ((is_stored any_link_rule IsHeldBy IsValidLinkset c.args.schema.now c.args.built.now _ c.args.link c.stored_link-stored.result c.requires.ready c.requires.link c.stored_link-stored.ensures).below n h)
+    subst (λ (maps : List LeafMap). IsStoredLinkset any_link_rule IsValidLinkset
+    c.stored_link-stored.result.linkset (length maps)) (sym passed.reads.working)
+    (is_stored any_link_rule IsHeldBy IsValidLinkset c.args.schema.now c.args.built.now _
+    c.args.link c.stored_link-stored.result c.requires.ready c.requires.link
+    c.stored_link-stored.ensures).linkset
 
 pub returns-in_err-has_members-clause-reads : goal.returns-in_err-has_members-clause-reads
 returns-in_err-has_members-clause-reads g c =

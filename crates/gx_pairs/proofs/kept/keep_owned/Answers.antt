@@ -1,7 +1,8 @@
-use Rattle.std.proofs.Common.{rules, ◌≡◌, ◌≤◌, ◌<◌, ◌∙◌, ◌+◌, ◌*◌, ◌++◌, ◌∷◌, List, length, true, false, inr, refl, sym, ap, subst, arith}
+use Rattle.std.proofs.Common.{rules, ◌≡◌, ◌≤◌, ◌∙◌, ◌+◌, ◌*◌, ◌++◌, ◌∷◌, List, length, true, false, inr, refl, sym, ap, subst, arith}
 use Rattle.std.specs.Prelude.{filter}
 use Rattle.std.specs.FinMap as fin
 use Rattle.std.specs.Vec.Iter.{into_iter_items}
+use Rattle.std.proofs.lemmas.Grind.{common_steps}
 use Rattle.gx_values.specs.declared.values.Value.{Value}
 use Rattle.gx_values.specs.Values.{Fits}
 use Rattle.gx_ports.specs.LeafMaps.{LeafMap}
@@ -11,8 +12,10 @@ use Rattle.gx_mapping.specs.Rule.{In}
 use Rattle.gx_model.specs.States.{Row}
 use Rattle.gx_model.specs.Found.{is_owner}
 use Rattle.gx_stack.proofs.PassLemmas.{reads_given_after}
+use Rattle.gx_pairs.specs.Stored.{IsStoredLinkset}
 use Rattle.gx_pairs.specs.Members.{is_member_of}
 use Rattle.gx_pairs.proofs.MemberLemmas.{row_kept, row_dropped, row_steps}
+use Rattle.gx_pairs.proofs.SearchLemmas.{reads_passed, looks_stopped}
 use Rattle.gx_pairs.proofs.kept.keep_owned.Goals as goal
 
 pub loop-row-init : goal.loop-row-init
@@ -31,16 +34,29 @@ loop-row-init g c =
       counted = refl;
     }
 
-pub is_owned-requires-clause-below : goal.is_owned-requires-clause-below
-is_owned-requires-clause-below g c = λ n h. subst (λ (maps : List LeafMap). n < length maps) (sym c.loop-row.invariant.reads.working) (c.requires.below n h)
+pub is_owned-requires-clause-stored : goal.is_owned-requires-clause-stored
+is_owned-requires-clause-stored g c =
+    subst (λ (maps : List LeafMap). IsStoredLinkset g.L.Linkset.rule g.L.Linkset.valid
+    c.args.linkset.now (length maps)) (sym c.loop-row.invariant.reads.working) c.requires.stored
 
-pub returns-in_err-is_owned-clause-reads : goal.returns-in_err-is_owned-clause-reads
-returns-in_err-is_owned-clause-reads g c =
+pub returns-in_err-is_owned : goal.returns-in_err-is_owned
+returns-in_err-is_owned g c =
+    let held = g.L.Linkset.held in
+    let l = c.args.linkset.now in
     let inv = c.loop-row.invariant in
-    reads_given_after g.B.View c.from_residual.result c.from_residual.ensures.1
+    looks_stopped g.B.View g.L.Linkset.rule held l _ _ _ (length c.args.rows.items) _
+    c.from_residual.result c.from_residual.ensures.1
+    (reads_given_after g.B.View c.from_residual.result c.from_residual.ensures.1
     (record { reads = inv.reads; whole = inv.whole; counted = inv.counted })
-    (λ sound. (inv.whole sound.0, (sound.1.0, sound.1.1, subst (λ (maps : List LeafMap). g.L.Linkset.held c.args.linkset.now sound.1.0 maps) (sym inv.reads.working) sound.1.2)))
-    c.in_err-is_owned.ensures.reads
+    (λ sound. (
+      inv.whole sound.0,
+      (
+        sound.1.0,
+        sound.1.1,
+        subst (λ (maps : List LeafMap). held l sound.1.0 maps) (sym inv.reads.working) sound.1.2,
+      ),
+    ))
+    c.in_err-is_owned.ensures.answer.reads)
 
 pub loop-row-preserved-in-Continue-branch-2 : goal.loop-row-preserved-in-Continue-branch-2
 loop-row-preserved-in-Continue-branch-2 g c =
@@ -57,16 +73,18 @@ loop-row-preserved-in-Continue-branch-2 g c =
       fit = λ q h. inv.fit q (subst (In q) (sym steps) (inr h));
       those = λ link whole is h.
           let test = is_member_of link c.args.owner.now in
-          let found = e.found link (inv.whole whole) is (subst (held link) (sym inv.reads.working) h) in
+          let found = e.answer.found link (inv.whole whole) is
+          (subst (held link) (sym inv.reads.working) h) in
           let owned : test r ≡ true = ap (λ (k : Value). is_owner c.args.owner.now (fin.get link k)) (sym key) ∙ sym found ∙ c.if-branch.true in
           row_kept test c.loop-row.kept.items _ rest r owned c.in_ok-push.ensures.items ∙ ap (λ (l : List Row). c.loop-row.kept.items ++ filter test l) (sym steps) ∙ inv.those link whole is h;
       steps = λ link most whole is h few.
           let now = e.steps link most (inv.whole whole) is (subst (held link) (sym inv.reads.working) h) few in
           row_steps rest r (into_iter_items c.loop-row.row-iterator) (most + length (b.working c.args.leaves.now)) _ (b.work c.loop-row.leaves) (b.work c.is_owned.new.leaves) (length c.args.rows.items) steps (inv.steps link most whole is h few)
-          (subst (λ (maps : List LeafMap). b.work c.is_owned.new.leaves ≤ b.work c.loop-row.leaves + (most + length maps)) inv.reads.working now);
-      reads = reads_joined b inv.reads e.reads.reads;
-      whole = λ h. e.reads.ends.whole (inv.whole h);
-      counted = e.reads.ends.counted refl ∙ inv.counted;
+          (subst (λ (maps : List LeafMap). b.work c.is_owned.new.leaves
+          ≤ b.work c.loop-row.leaves + 1 * (most + length maps)) inv.reads.working now);
+      reads = reads_joined b inv.reads e.answer.reads.reads;
+      whole = λ h. e.answer.reads.ends.whole (inv.whole h);
+      counted = e.answer.reads.ends.counted refl ∙ inv.counted;
     }
 
 pub loop-row-preserved : goal.loop-row-preserved
@@ -84,17 +102,28 @@ loop-row-preserved g c =
       fit = λ q h. inv.fit q (subst (In q) (sym steps) (inr h));
       those = λ link whole is h.
           let test = is_member_of link c.args.owner.now in
-          let found = e.found link (inv.whole whole) is (subst (held link) (sym inv.reads.working) h) in
+          let found = e.answer.found link (inv.whole whole) is
+          (subst (held link) (sym inv.reads.working) h) in
           let other : test r ≡ false = ap (λ (k : Value). is_owner c.args.owner.now (fin.get link k)) (sym key) ∙ sym found ∙ c.if-branch.false in
           row_dropped test c.loop-row.kept.items rest r other ∙ ap (λ (l : List Row). c.loop-row.kept.items ++ filter test l) (sym steps) ∙ inv.those link whole is h;
       steps = λ link most whole is h few.
           let now = e.steps link most (inv.whole whole) is (subst (held link) (sym inv.reads.working) h) few in
           row_steps rest r (into_iter_items c.loop-row.row-iterator) (most + length (b.working c.args.leaves.now)) _ (b.work c.loop-row.leaves) (b.work c.is_owned.new.leaves) (length c.args.rows.items) steps (inv.steps link most whole is h few)
-          (subst (λ (maps : List LeafMap). b.work c.is_owned.new.leaves ≤ b.work c.loop-row.leaves + (most + length maps)) inv.reads.working now);
-      reads = reads_joined b inv.reads e.reads.reads;
-      whole = λ h. e.reads.ends.whole (inv.whole h);
-      counted = e.reads.ends.counted refl ∙ inv.counted;
+          (subst (λ (maps : List LeafMap). b.work c.is_owned.new.leaves
+          ≤ b.work c.loop-row.leaves + 1 * (most + length maps)) inv.reads.working now);
+      reads = reads_joined b inv.reads e.answer.reads.reads;
+      whole = λ h. e.answer.reads.ends.whole (inv.whole h);
+      counted = e.answer.reads.ends.counted refl ∙ inv.counted;
     }
 
-pub returns-clause-steps : goal.returns-clause-steps
-returns-clause-steps g c = λ link most whole is held few. omega (arith, c.loop-row.invariant.steps link most whole is held few)
+pub returns : goal.returns
+returns g c =
+    let inv = c.loop-row.invariant in
+    record {
+      answer = record {
+        found = λ link whole is held. grind (arith, common_steps, inv.those link whole is held);
+        reads = reads_passed g.B.View _
+            (record { reads = inv.reads; whole = inv.whole; counted = inv.counted });
+      };
+      steps = λ link most whole is held few. omega (arith, inv.steps link most whole is held few);
+    }

@@ -40,14 +40,18 @@ loop-key-preserved g c =
     let inv = c.loop-key.invariant in
     let e = c.in_ok-add_record.ensures in record {
       rows = λ f whole is.
-          let now = e.rows f (inv.whole whole) (subst (λ (maps : List LeafMap). IsInternal (file_of s) (node_tree s) maps f) (sym inv.reads.working) is) in
+          let at = subst (λ (maps : List LeafMap). IsInternal (file_of s) (node_tree s) maps f)
+          (sym inv.reads.working) is in
+          let now = (e.looks.found f (inv.whole whole) at).1 in
           next_row f (meets_conds c.args.conds.now) keys i key _ _ _ c.key-item.is c.loop-key-test.true now (inv.rows f whole is);
       steps = λ f most whole is few.
-          let now = e.steps f most (inv.whole whole) (subst (λ (maps : List LeafMap). IsInternal (file_of s) (node_tree s) maps f) (sym inv.reads.working) is) few in
+          let at = subst (λ (maps : List LeafMap). IsInternal (file_of s) (node_tree s) maps f)
+          (sym inv.reads.working) is in
+          let now = e.looks.steps f most (inv.whole whole) at few in
           taken_more keys i (length (leaves_of (node_tree s)) + most) _ _ _ c.loop-key-test.true (inv.steps f most whole is few) now;
-      reads = reads_joined g.B.View inv.reads e.reads.reads;
-      whole = λ h. e.reads.ends.whole (inv.whole h);
-      counted = e.reads.ends.counted refl ∙ inv.counted;
+      reads = reads_joined g.B.View inv.reads e.looks.reads.reads;
+      whole = λ h. e.looks.reads.ends.whole (inv.whole h);
+      counted = e.looks.reads.ends.counted refl ∙ inv.counted;
     }
 
 pub returns-then-not-branch-clause-reads : goal.returns-then-not-branch-clause-reads
@@ -55,10 +59,10 @@ returns-then-not-branch-clause-reads g c =
     let inv = c.loop-key.invariant in
     let e = c.in_ok-add_record.ensures in
     record {
-      reads = reads_joined g.B.View inv.reads e.reads.reads;
+      reads = reads_joined g.B.View inv.reads e.looks.reads.reads;
       ends = record {
         whole = search rules;
-        later = omega (arith, inv.counted, e.reads.ends.counted refl);
+        later = omega (arith, inv.counted, e.looks.reads.ends.counted refl);
         fault = search rules;
         counted = search rules;
         damaged = λ block is sound.
@@ -68,7 +72,8 @@ returns-then-not-branch-clause-reads g c =
             let f = sound.1.0 in
             let at = subst (λ (maps : List LeafMap). IsInternal (file_of s) (node_tree s) maps f) (sym inv.reads.working) sound.1.1 in
             let there = sound.1.2 key (in_read keys c.loop-key.key-index key c.key-item.is c.loop-key-test.true) in
-            true≢false (sym there ∙ sym (e.there f (inv.whole sound.0) at) ∙ c.if-not-branch.true);
+            let answer = (e.looks.found f (inv.whole sound.0) at).0 in
+            true≢false (sym there ∙ sym answer ∙ c.if-not-branch.true);
       };
       block = search rules;
       not_full = search rules;
@@ -81,7 +86,7 @@ returns-in_err-add_record-clause-reads g c =
     reads_given_after g.B.View c.from_residual.result c.from_residual.ensures.1
     (record { reads = inv.reads; whole = inv.whole; counted = inv.counted })
     (λ sound. (inv.whole sound.0, (sound.1.0, subst (λ (maps : List LeafMap). IsInternal (file_of s) (node_tree s) maps sound.1.0) (sym inv.reads.working) sound.1.1)))
-    c.in_err-add_record.ensures.reads
+    c.in_err-add_record.ensures.looks.reads
 
 pub returns-clause-rows : goal.returns-clause-rows
 returns-clause-rows g c = λ f whole is.

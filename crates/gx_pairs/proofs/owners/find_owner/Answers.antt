@@ -4,20 +4,34 @@ use Rattle.gx_ports.specs.LeafMaps.{LeafMap}
 use Rattle.gx_scan.specs.Files.{IsInternal}
 use Rattle.gx_stack.proofs.PassLemmas.{passes_joined, read_passes, reads_given, reads_given_after}
 use Rattle.gx_pairs.specs.Stored.{file_of, node_tree}
-use Rattle.gx_pairs.proofs.LinkedLemmas.{looked_up, owners_there, members_there, link_there, have_still}
+use Rattle.gx_pairs.proofs.LinkedLemmas.{no_value, looked_up, owners_there, members_there, link_there, have_still}
+use Rattle.gx_pairs.proofs.SearchLemmas.{reads_passed, linked_stopped}
 use Rattle.gx_pairs.proofs.owners.find_owner.Goals as goal
 
-pub returns-in_err-has_record-clause-reads : goal.returns-in_err-has_record-clause-reads
-returns-in_err-has_record-clause-reads g c =
-    let maps = g.B.View.working c.args.leaves.now in
-    reads_given g.B.View c.from_residual.result c.from_residual.ensures.1
-    (λ h. (h.0, members_there g.L.Linkset.rule g.L.Linkset.held c.args.stored.now maps h.1)) c.in_err-has_record.ensures.reads
+pub returns-in_err-has_record : goal.returns-in_err-has_record
+returns-in_err-has_record g c =
+    let rule = g.L.Linkset.rule in
+    let held = g.L.Linkset.held in
+    let s = c.args.stored.now in
+    linked_stopped g.B.View rule held s _ _ _ _ c.from_residual.result c.from_residual.ensures.1
+    (reads_given g.B.View c.from_residual.result c.from_residual.ensures.1
+    (λ h. (h.0, members_there rule held s _ h.1)) c.in_err-has_record.ensures.reads)
+
+pub returns-then-not-branch : goal.returns-then-not-branch
+returns-then-not-branch g c = record {
+  found = λ owners members link whole are.
+      no_value (fin.get members c.args.member.now)
+      (sym (c.in_ok-has_record.ensures.found members whole are.members) ∙ c.if-not-branch.true);
+  reads = reads_passed g.B.View _ (read_passes g.B.View c.in_ok-has_record.ensures.reads);
+}
 
 pub owner-requires-clause-below : goal.owner-requires-clause-below
-owner-requires-clause-below g c = λ n h. subst (λ (maps : List LeafMap). n < length maps) (sym c.has_record.ensures.reads.reads.working) (c.requires.stored.below n h)
+owner-requires-clause-below g c = λ n h.
+    subst (λ (maps : List LeafMap). n < length maps) (sym c.has_record.ensures.reads.reads.working)
+    (c.requires.stored.linkset.below n h)
 
-pub returns-in_err-owner-clause-reads : goal.returns-in_err-owner-clause-reads
-returns-in_err-owner-clause-reads g c =
+pub returns-in_err-owner : goal.returns-in_err-owner
+returns-in_err-owner g c =
     let b = g.B.View in
     let rule = g.L.Linkset.rule in
     let held = g.L.Linkset.held in
@@ -25,12 +39,17 @@ returns-in_err-owner-clause-reads g c =
     let old = b.working c.args.leaves.now in
     let new = b.working c.has_record.new.leaves in
     let first = c.in_ok-has_record.ensures.reads in
-    reads_given_after b c.from_residual-in_err-owner.result c.from_residual-in_err-owner.ensures.1 (read_passes b first)
-    (λ h. (first.ends.whole h.0, link_there rule held s new (have_still rule held s old new first.reads.working h.1)))
-    c.in_err-owner.ensures.reads
+    let given = c.from_residual-in_err-owner.ensures.1 in
+    linked_stopped b rule held s _ _ _ _ c.from_residual-in_err-owner.result given
+    (reads_given_after b c.from_residual-in_err-owner.result given (read_passes b first)
+    (λ h. (
+      first.ends.whole h.0,
+      link_there rule held s new (have_still rule held s old new first.reads.working h.1),
+    ))
+    c.in_err-owner.ensures.reads)
 
-pub returns-in_err-record-clause-reads : goal.returns-in_err-record-clause-reads
-returns-in_err-record-clause-reads g c =
+pub returns-in_err-record : goal.returns-in_err-record
+returns-in_err-record g c =
     let b = g.B.View in
     let rule = g.L.Linkset.rule in
     let held = g.L.Linkset.held in
@@ -39,13 +58,18 @@ returns-in_err-record-clause-reads g c =
     let new = b.working c.owner.new.leaves in
     let first = c.in_ok-has_record.ensures.reads in
     let passed = passes_joined b (read_passes b first) (read_passes b c.in_ok-owner.ensures.reads) in
-    reads_given_after b c.from_residual-in_err-record.result c.from_residual-in_err-record.ensures.1 passed
-    (λ h. (passed.whole h.0, owners_there rule held s new (have_still rule held s old new passed.reads.working h.1)))
-    c.in_err-record.ensures.reads
+    let given = c.from_residual-in_err-record.ensures.1 in
+    linked_stopped b rule held s _ _ _ _ c.from_residual-in_err-record.result given
+    (reads_given_after b c.from_residual-in_err-record.result given passed
+    (λ h. (
+      passed.whole h.0,
+      owners_there rule held s new (have_still rule held s old new passed.reads.working h.1),
+    ))
+    c.in_err-record.ensures.reads)
 
 -- the owner of a pair is a record
-pub returns-clause-reads : goal.returns-clause-reads
-returns-clause-reads g c =
+pub returns : goal.returns
+returns g c =
     let b = g.B.View in
     let s = c.args.stored.now in
     let first = c.in_ok-has_record.ensures.reads in
@@ -54,23 +78,30 @@ returns-clause-reads g c =
     let before = passes_joined b (read_passes b first) (read_passes b second.reads) in
     let passed = passes_joined b before (read_passes b third) in
     record {
-      reads = passed.reads;
-      ends = record {
-        whole = search rules;
-        later = omega (arith, passed.counted);
-        fault = search rules;
-        counted = λ none. passed.counted;
-        damaged = λ block is sound.
-            let owners = sound.1.0 in
-            let link = sound.1.2 in
-            let linked = sound.1.3 in
-            let held = subst (g.L.Linkset.held s.linkset link) (sym first.reads.working) linked.link in
-            let owned = second.found.that (first.ends.whole sound.0) link linked.is_link held in
-            let there = (linked.there c.args.member.now c.in-Some.owner (sym owned ∙ c.in-Some.is)).1 in
-            let at = subst (λ (maps : List LeafMap). IsInternal (file_of s.owners) (node_tree s.owners) maps owners) (sym before.reads.working) linked.owners in
-            let found = c.in_ok-record.ensures.found owners (before.whole sound.0) at in
-            looked_up _ (fin.get owners c.in-Some.owner) c.in_ok-record.field-0 found c.in-None.is there;
+      found = λ owners members link whole are. tt;
+      reads = record {
+        reads = passed.reads;
+        ends = record {
+          whole = search rules;
+          later = omega (arith, passed.counted);
+          fault = search rules;
+          counted = λ none. passed.counted;
+          damaged = λ block is sound.
+              let owners = sound.1.0 in
+              let link = sound.1.2 in
+              let linked = sound.1.3 in
+              let held = subst (g.L.Linkset.held s.linkset link) (sym first.reads.working)
+              linked.link in
+              let owned = second.found.that (first.ends.whole sound.0) link linked.is_link held in
+              let there = (linked.there c.args.member.now c.in-Some.owner
+              (sym owned ∙ c.in-Some.is)).1 in
+              let at = subst (λ (maps : List LeafMap). IsInternal (file_of s.owners)
+              (node_tree s.owners) maps owners) (sym before.reads.working) linked.owners in
+              let found = c.in_ok-record.ensures.found owners (before.whole sound.0) at in
+              looked_up _ (fin.get owners c.in-Some.owner) c.in_ok-record.field-0 found
+              c.in-None.is there;
+        };
+        block = search rules;
+        not_full = search rules;
       };
-      block = search rules;
-      not_full = search rules;
     }
