@@ -1,9 +1,7 @@
 -- The words of a request.
 use Rattle.std.proofs.Common.{◌≡◌, ℕ, ◌<◌, ◌≤◌, ◌^◌, List, [], ◌∷◌, length, get_or, map, Bool, true, false, Option, Some, None, ℤ, pos, refl, sym, ap, subst, ◌∙◌, arith}
-use Rattle.std.specs.Prelude.{IfSome, ◌≢◌, ◌==◌, ◌&&◌, nat_lt, neg_ℤ, if◌then◌else◌, codes, String, string_bytes}
-use Rattle.std.specs.List.{list_all}
+use Rattle.std.specs.Prelude.{IfSome, ◌≢◌, nat_lt, neg_ℤ, if◌then◌else◌, String, string_bytes}
 use Rattle.std.proofs.lemmas.Bool.Decides.{nat_tests}
-use Rattle.gx_tokens.specs.Lexemes.{is_digit}
 use Rattle.gx_tokens.specs.Numbers.{are_digits, digits_value, is_number, number_value, signed_in_range, signed_number}
 use Rattle.gx_requests.specs.Words.{Action, checking, trying, explaining, making, running, inspecting, working, request_words, has_sign, IsCount, IsRecordCount, NoCounts, IsCounted}
 

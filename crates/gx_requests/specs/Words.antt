@@ -96,6 +96,14 @@ abbrev pub IsCountedOfOne : Action → Type 0
 IsCountedOfOne (working device blocks records) = IsCounted (working device blocks records)
 IsCountedOfOne a = ⊥
 
+-- the words ask for this of two texts of these names
+abbrev pub AskOfTwo : List ℕ → List ℕ → List (List ℕ) → Action → Type 0
+AskOfTwo schema equation words a = IsCountedOfTwo a × (words ≡ request_words a schema equation)
+
+-- they ask for it of an equation of this name alone
+abbrev pub AskOfOne : List ℕ → List (List ℕ) → Action → Type 0
+AskOfOne equation words a = IsCountedOfOne a × (words ≡ request_words a [] equation)
+
 -- the words are this request
 abbrev pub IsRequest : List (List ℕ) → Request → Type 0
 IsRequest words (request.Check schema equation) =

@@ -1,11 +1,8 @@
 // What a request without a device is prepared from.
-ghost use Rattle.std.specs.Prelude.{◌≡◌, ◌≤◌, false, IsTrue, IfOk, IfErr, IsErrOf};
-ghost use Rattle.gx_device.specs.Content.{SameContent};
-ghost use Rattle.gx_device.specs.Faults.{Rose};
-ghost use Rattle.gx_requests.specs.Words.{Action, request_words, IsCountedOfTwo};
+ghost use Rattle.std.specs.Prelude.{IsTrue, IfOk};
+ghost use Rattle.gx_requests.specs.Words.{AskOfTwo};
 ghost use Rattle.gx_requests.specs.Checked.{IsChecked, IsBuiltFor, IsPrepared, CanPlay};
-ghost use Rattle.gx_play.specs.Endings.{is_fault};
-ghost use Rattle.gx_requests.specs.Requests.{IsUnprepared};
+ghost use Rattle.gx_requests.specs.Fetched.{Fetches, Prepares};
 
 use crate::reading::{Checked, read_texts};
 use gx_device::Machine;
@@ -24,18 +21,11 @@ pub fn prepare_nodes<'a, M: Machine>(
     equation: &'a str,
     machine: &mut M,
 ) -> Result<(Schema, Built), Ending<'a>>
-    ensures prepared { IsTrue M.tells → (a : Action) → IsCountedOfTwo a → IfOk result
-        (IsPrepared (request_words a schema.now equation.now)
-        (M.content machine.old).aside.texts a) }
+    ensures prepared { IsTrue M.tells →
+        Prepares (AskOfTwo schema.now equation.now) IsPrepared (M.content machine.old).aside.texts
+        (M.faults machine.old) (M.faults machine.new) result }
     ensures can_play { IfOk result CanPlay }
-    ensures unprepared { IsTrue M.tells → (a : Action) → IsCountedOfTwo a → IfErr result
-        (IsUnprepared (request_words a schema.now equation.now)
-        (M.content machine.old).aside.texts (M.faults machine.old) (M.faults machine.new)) }
-    ensures fault { IsErrOf result Ending.Fault →
-        Rose (M.faults machine.old) (M.faults machine.new) }
-    ensures counted { is_fault result ≡ false → M.faults machine.new ≡ M.faults machine.old }
-    ensures later { M.faults machine.old ≤ M.faults machine.new }
-    ensures content { SameContent (M.content machine.old) (M.content machine.new) }
+    ensures fetches { Fetches M.content M.faults machine.old machine.new result }
 {
     let checked = read_texts(alloc, schema, equation, machine)?;
     Ok(build_nodes(alloc, checked)?)

@@ -1,15 +1,13 @@
 // What a request on a device is prepared from, and why its device isn't had.
-ghost use Rattle.std.specs.Prelude.{◌≡◌, ◌≤◌, List, [], ℕ, false, IsTrue, IfOk, IfErr, IsErrOf};
-ghost use Rattle.gx_device.specs.Content.{SameContent};
-ghost use Rattle.gx_device.specs.Faults.{Rose};
+ghost use Rattle.std.specs.Prelude.{◌≡◌, IsTrue, IfOk};
 ghost use Rattle.gx_schema.specs.Grammar.{IsSchemaText};
 ghost use Rattle.gx_schema.specs.Rules.{IsSchema};
 ghost use Rattle.gx_schema.specs.WellFormed.{IsWellFormed};
 ghost use Rattle.gx_work.specs.Schema.{schema_lines};
-ghost use Rattle.gx_requests.specs.Words.{Action, request_words, IsCountedOfTwo, IsCountedOfOne};
+ghost use Rattle.gx_requests.specs.Words.{AskOfTwo, AskOfOne};
 ghost use Rattle.gx_requests.specs.Checked.{IsChecked, IsStoredOf, IsStoredFor, IsStored};
-ghost use Rattle.gx_play.specs.Endings.{is_fault, unopened_ending};
-ghost use Rattle.gx_requests.specs.Requests.{IsUnprepared};
+ghost use Rattle.gx_requests.specs.Fetched.{Fetches, Prepares};
+ghost use Rattle.gx_play.specs.Endings.{unopened_ending};
 
 use crate::reading::{Checked, read_equation_text, read_texts};
 use gx_device::Machine;
@@ -43,18 +41,11 @@ pub fn prepare_stored<'a, M: Machine>(
     equation: &'a str,
     machine: &mut M,
 ) -> Result<Stored, Ending<'a>>
-    ensures ready { IsTrue M.tells → (a : Action) → IsCountedOfTwo a → IfOk result
-        (IsStoredFor (request_words a schema.now equation.now)
-        (M.content machine.old).aside.texts a) }
+    ensures prepared { IsTrue M.tells →
+        Prepares (AskOfTwo schema.now equation.now) IsStoredFor (M.content machine.old).aside.texts
+        (M.faults machine.old) (M.faults machine.new) result }
     ensures stored { IfOk result IsStored }
-    ensures unprepared { IsTrue M.tells → (a : Action) → IsCountedOfTwo a → IfErr result
-        (IsUnprepared (request_words a schema.now equation.now)
-        (M.content machine.old).aside.texts (M.faults machine.old) (M.faults machine.new)) }
-    ensures fault { IsErrOf result Ending.Fault →
-        Rose (M.faults machine.old) (M.faults machine.new) }
-    ensures counted { is_fault result ≡ false → M.faults machine.new ≡ M.faults machine.old }
-    ensures later { M.faults machine.old ≤ M.faults machine.new }
-    ensures content { SameContent (M.content machine.old) (M.content machine.new) }
+    ensures fetches { Fetches M.content M.faults machine.old machine.new result }
 {
     let checked = read_texts(alloc, schema, equation, machine)?;
     Ok(build_stored(alloc, checked)?)
@@ -72,19 +63,12 @@ pub fn prepare_under<'a, M: Machine>(
     requires means { IsSchemaText schema_lines schema }
     requires rules { IsSchema schema }
     requires well_formed { IsWellFormed schema }
-    ensures ready { IsTrue M.tells → (a : Action) → IsCountedOfOne a → IfOk result
-        (IsStoredFor (request_words a [] equation.now)
-        (M.content machine.old).aside.texts a) }
+    ensures prepared { IsTrue M.tells →
+        Prepares (AskOfOne equation.now) IsStoredFor (M.content machine.old).aside.texts
+        (M.faults machine.old) (M.faults machine.new) result }
     ensures stored { IfOk result IsStored }
     ensures schema { IfOk result (λ x. x.schema ≡ schema) }
-    ensures unprepared { IsTrue M.tells → (a : Action) → IsCountedOfOne a → IfErr result
-        (IsUnprepared (request_words a [] equation.now)
-        (M.content machine.old).aside.texts (M.faults machine.old) (M.faults machine.new)) }
-    ensures fault { IsErrOf result Ending.Fault →
-        Rose (M.faults machine.old) (M.faults machine.new) }
-    ensures counted { is_fault result ≡ false → M.faults machine.new ≡ M.faults machine.old }
-    ensures later { M.faults machine.old ≤ M.faults machine.new }
-    ensures content { SameContent (M.content machine.old) (M.content machine.new) }
+    ensures fetches { Fetches M.content M.faults machine.old machine.new result }
 {
     let checked = read_equation_text(alloc, schema, equation, machine)?;
     Ok(build_stored(alloc, checked)?)

@@ -1,7 +1,5 @@
 // Reading the two texts of a request, up to what the checker says of them.
-ghost use Rattle.std.specs.Prelude.{◌≡◌, ◌≤◌, ◌<◌, length, [], List, ℕ, false, IsTrue, IfOk, IfErr, IsErrOf};
-ghost use Rattle.gx_device.specs.Content.{SameContent};
-ghost use Rattle.gx_device.specs.Faults.{Rose};
+ghost use Rattle.std.specs.Prelude.{◌≡◌, ◌≤◌, ◌<◌, length, List, ℕ, IsTrue, IfOk, IfErr, IsErrOf};
 ghost use Rattle.gx_schema.specs.Grammar.{IsSchemaText};
 ghost use Rattle.gx_schema.specs.Rules.{IsSchema};
 ghost use Rattle.gx_schema.specs.WellFormed.{IsWellFormed};
@@ -9,12 +7,12 @@ ghost use Rattle.gx_equation.specs.Grammar.{Means};
 ghost use Rattle.gx_equation.specs.Printing.{AreWritten};
 ghost use Rattle.gx_equation.specs.Seen.{definitions_of};
 ghost use Rattle.gx_typing.specs.Typed.{IsTyped, leaves, typing_with};
-ghost use Rattle.gx_requests.specs.Words.{Action, request_words, IsCountedOfTwo, IsCountedOfOne};
+ghost use Rattle.gx_requests.specs.Words.{AskOfTwo, AskOfOne};
 ghost use Rattle.gx_requests.specs.Lengths.{text_length};
 ghost use Rattle.gx_work.specs.Schema.{schema_lines};
 ghost use Rattle.gx_requests.specs.Checked.{IsUnread, IsUnreadEquation, IsUntyped, IsChecked, IsAcceptedAs, AreChecked};
-ghost use Rattle.gx_play.specs.Endings.{is_fault};
-ghost use Rattle.gx_requests.specs.Requests.{AreUnchecked, IsUnprepared, equation_of, text_limit};
+ghost use Rattle.gx_requests.specs.Fetched.{Fetches, Prepares};
+ghost use Rattle.gx_requests.specs.Requests.{AreUnchecked, equation_of, text_limit};
 
 use crate::texts::{TEXT_LIMIT, fetch_text};
 use gx_device::Machine;
@@ -46,18 +44,11 @@ pub fn read_texts<'a, M: Machine>(
     equation: &'a str,
     machine: &mut M,
 ) -> Result<Checked, Ending<'a>>
-    ensures accepted { IsTrue M.tells → (a : Action) → IsCountedOfTwo a → IfOk result
-        (IsAcceptedAs (request_words a schema.now equation.now)
-        (M.content machine.old).aside.texts a) }
+    ensures accepted { IsTrue M.tells →
+        Prepares (AskOfTwo schema.now equation.now) IsAcceptedAs (M.content machine.old).aside.texts
+        (M.faults machine.old) (M.faults machine.new) result }
     ensures checked { IfOk result IsChecked }
-    ensures unaccepted { IsTrue M.tells → (a : Action) → IsCountedOfTwo a → IfErr result
-        (IsUnprepared (request_words a schema.now equation.now)
-        (M.content machine.old).aside.texts (M.faults machine.old) (M.faults machine.new)) }
-    ensures fault { IsErrOf result Ending.Fault →
-        Rose (M.faults machine.old) (M.faults machine.new) }
-    ensures counted { is_fault result ≡ false → M.faults machine.new ≡ M.faults machine.old }
-    ensures later { M.faults machine.old ≤ M.faults machine.new }
-    ensures content { SameContent (M.content machine.old) (M.content machine.new) }
+    ensures fetches { Fetches M.content M.faults machine.old machine.new result }
 {
     let schema_text = fetch_text(alloc, schema, machine)?;
     let equation_text = fetch_text(alloc, equation, machine)?;
@@ -75,19 +66,12 @@ pub fn read_equation_text<'a, M: Machine>(
     requires means { IsSchemaText schema_lines schema }
     requires rules { IsSchema schema }
     requires well_formed { IsWellFormed schema }
-    ensures accepted { IsTrue M.tells → (a : Action) → IsCountedOfOne a → IfOk result
-        (IsAcceptedAs (request_words a [] equation.now)
-        (M.content machine.old).aside.texts a) }
+    ensures accepted { IsTrue M.tells →
+        Prepares (AskOfOne equation.now) IsAcceptedAs (M.content machine.old).aside.texts
+        (M.faults machine.old) (M.faults machine.new) result }
     ensures checked { IfOk result IsChecked }
     ensures schema { IfOk result (λ c. c.schema ≡ schema) }
-    ensures unaccepted { IsTrue M.tells → (a : Action) → IsCountedOfOne a → IfErr result
-        (IsUnprepared (request_words a [] equation.now)
-        (M.content machine.old).aside.texts (M.faults machine.old) (M.faults machine.new)) }
-    ensures fault { IsErrOf result Ending.Fault →
-        Rose (M.faults machine.old) (M.faults machine.new) }
-    ensures counted { is_fault result ≡ false → M.faults machine.new ≡ M.faults machine.old }
-    ensures later { M.faults machine.old ≤ M.faults machine.new }
-    ensures content { SameContent (M.content machine.old) (M.content machine.new) }
+    ensures fetches { Fetches M.content M.faults machine.old machine.new result }
 {
     let equation_text = fetch_text(alloc, equation, machine)?;
     check_equation(alloc, schema, &equation_text)

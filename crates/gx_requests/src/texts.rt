@@ -1,9 +1,7 @@
 // Fetching the texts that the words name.
-ghost use Rattle.std.specs.Prelude.{◌≡◌, ◌≤◌, false, length, IsTrue, IfOk, IfErr, IsErrOf, Some};
-ghost use Rattle.gx_device.specs.Content.{SameContent};
-ghost use Rattle.gx_device.specs.Faults.{Rose};
-ghost use Rattle.gx_play.specs.Endings.{is_fault};
+ghost use Rattle.std.specs.Prelude.{◌≤◌, length, IsTrue, IfOk, IfErr};
 ghost use Rattle.gx_requests.specs.Requests.{IsText, IsUnfetched, text_limit};
+ghost use Rattle.gx_requests.specs.Fetched.{Fetches};
 
 use gx_device::{FetchStop, Machine};
 use gx_play::Ending;
@@ -25,11 +23,7 @@ pub fn fetch_text<'a, M: Machine>(
     ensures unfetched { IfErr result
         (IsUnfetched M.tells (M.content machine.old).aside.texts (M.faults machine.old)
         (M.faults machine.new) name.now) }
-    ensures fault { IsErrOf result Ending.Fault →
-        Rose (M.faults machine.old) (M.faults machine.new) }
-    ensures counted { is_fault result ≡ false → M.faults machine.new ≡ M.faults machine.old }
-    ensures later { M.faults machine.old ≤ M.faults machine.new }
-    ensures content { SameContent (M.content machine.old) (M.content machine.new) }
+    ensures fetches { Fetches M.content M.faults machine.old machine.new result }
 {
     match machine.fetch(alloc, name, TEXT_LIMIT) {
         Ok(text) => Ok(text),

@@ -28,27 +28,27 @@ use std::alloc::Global;
 /// tells its content, to which no device is attached where the words name one:
 ///
 /// - `Done`: of `check`, exactly the line of the accepted equation's leaves was said; of `make`,
-/// exactly   the line of the device that was made. Of `try` and `run`, exactly the answers of the
-/// play of the   whole script were said, and the script was heard to its end. `try` plays it on an
-/// empty database,   `run` on the state that the device holds. Of `explain`, exactly the plans of
-/// the script's `find`   lines were said, and the script was heard to its end; a transaction may be
-/// open there. Of `inspect`,   exactly the lines of the leaves, files and links of a valid state
-/// were said that the device held,   and then `sound`. Of `work`, exactly the summary of the
-/// workload was said, which was played to its   end on a device that is new.
+///   exactly the line of the device that was made. Of `try` and `run`, exactly the answers of the
+///   play of the whole script were said, and the script was heard to its end. `try` plays it on an
+///   empty database, `run` on the state that the device holds. Of `explain`, exactly the plans of
+///   the script's `find` lines were said, and the script was heard to its end; a transaction may be
+///   open there. Of `inspect`, exactly the lines of the leaves, files and links of a valid state
+///   were said that the device held, and then `sound`. Of `work`, exactly the summary of the
+///   workload was said, which was played to its end on a device that is new.
 /// - `Script`: a line ends the play, or the plans. Exactly the answers or plans up to it were said,
-/// and   then the line that says where and why.
+///   and then the line that says where and why.
 /// - `Refused`: the request is refused for the first reason in the order of the words, the texts,
-/// the   schema, the equation, its types, and the length of the texts. The line of that reason was
-/// said, and   nothing else.
+///   the schema, the equation, its types, and the length of the texts. The line of that reason was
+///   said, and nothing else.
 /// - `Full`: the pages may be too few for the command of a line, which changes records or links,
-/// isn't   refused and is no `delete`, or is a `reorganize`. Exactly the answers of the lines
-/// before it were   said, and then `stopped: full`; of `work` that line alone.
+///   isn't refused and is no `delete`, or is a `reorganize`. Exactly the answers of the lines
+///   before it were said, and then `stopped: full`; of `work` that line alone.
 /// - `Device`: the device isn't what was asked for. Its line was said, and nothing else; that of
-/// damage,   which is found while the script is played, was said last, behind what was said before.
-/// It comes only   of a device that is there, with its size, a database and the same texts, and
-/// that holds no state.   `inspect` finds it exactly there.
+///   damage, which is found while the script is played, was said last, behind what was said before.
+///   It comes only of a device that is there, with its size, a database and the same texts, and
+///   that holds no state. `inspect` finds it exactly there.
 /// - `Memory`: there was no memory. Exactly the answers or plans of the script's first lines were
-/// said,   perhaps of none, and then `stopped: memory`.
+///   said, perhaps of none, and then `stopped: memory`.
 /// - `Outside`: a front was said of what one of the others says.
 ///
 /// After `Done` of `make` an empty database of the texts is on the device of that name, which

@@ -1,37 +1,66 @@
-use Rattle.std.proofs.Common.{refl, sym, subst, List, ℕ}
-use Rattle.gx_requests.specs.Requests.{IsText, IsAsked}
-use Rattle.gx_requests.specs.Words.{request_words}
-use Rattle.gx_requests.proofs.RequestLemmas.{all_accepted, all_unaccepted, two_counted, two_there}
+use Rattle.std.proofs.Common.{◌≡◌, refl, sym, subst, ap, Bool, false, List, ℕ}
+use Rattle.std.specs.Prelude.{IsTrue}
+use Rattle.gx_device.specs.Content.{Aside, Texts}
+use Rattle.gx_play.specs.declared.ending.Ending.{Ending}
+use Rattle.gx_requests.specs.Checked.{IsAcceptedAs}
+use Rattle.gx_requests.specs.Requests.{IsNamed, IsText, IsUnfetched, IsUnprepared}
+use Rattle.gx_requests.specs.Words.{AskOfTwo}
+use Rattle.gx_requests.proofs.RequestLemmas.{all_checked, asked_of_two, equation_named}
+use Rattle.gx_requests.proofs.RequestLemmas.{passed_on, schema_named, unfetched}
 use Rattle.gx_requests.proofs.reading.read_texts.Goals as goal
 
-pub returns-clause-accepted : goal.returns-clause-accepted
-returns-clause-accepted g c = λ told a counted.
-    let texts = (g.M.Device.content c.args.machine.now).aside.texts in
-    let words = request_words a c.args.schema.now c.args.equation.now in
-    let asked : IsAsked words texts a c.deref.result.now c.deref-2.result.now = record {
-      schema_name = c.args.schema.now;
-      equation_name = c.args.equation.now;
-      words_are = refl;
-      counted = two_counted a counted;
-      schema_there = two_there a texts c.args.schema.now c.deref.result.now counted (subst (λ (text : List ℕ). IsText texts c.args.schema.now text) (sym c.deref.ensures.value) (c.in_ok-schema_text.ensures.text told));
-      equation_there =
-          subst (λ (text : List ℕ). IsText texts c.args.equation.now text) (sym c.deref-2.ensures.value)
-          (subst (λ aside. IsText aside.texts c.args.equation.now c.in_ok-equation_text.equation_text.items) c.in_ok-schema_text.ensures.content.aside (c.in_ok-equation_text.ensures.text told));
-    } in
-    all_accepted words texts a c.deref.result.now c.deref-2.result.now c.check_texts.result asked c.check_texts.ensures.accepted
+-- why it wasn't fetched after another text was
+unfetched_then : (tells : Bool) (words : List (List ℕ)) (texts left : Texts)
+    (before between now : ℕ) (name : List ℕ) (why : Ending) → IsTrue tells
+    → IsNamed words texts name → left ≡ texts → between ≡ before
+    → IsUnfetched tells left between now name why → IsUnprepared words texts before now why
+unfetched_then tells words texts left before between now name why told named same counted is =
+    unfetched tells words texts before now name why told named
+    (subst (λ (b : ℕ). IsUnfetched tells texts b now name why) counted
+    (subst (λ (t : Texts). IsUnfetched tells t between now name why) same is))
 
-pub returns-clause-unaccepted : goal.returns-clause-unaccepted
-returns-clause-unaccepted g c = λ told a counted.
+pub returns-clause-accepted : goal.returns-clause-accepted
+returns-clause-accepted g c = λ told.
     let texts = (g.M.Device.content c.args.machine.now).aside.texts in
-    let words = request_words a c.args.schema.now c.args.equation.now in
-    let asked : IsAsked words texts a c.deref.result.now c.deref-2.result.now = record {
-      schema_name = c.args.schema.now;
-      equation_name = c.args.equation.now;
-      words_are = refl;
-      counted = two_counted a counted;
-      schema_there = two_there a texts c.args.schema.now c.deref.result.now counted (subst (λ (text : List ℕ). IsText texts c.args.schema.now text) (sym c.deref.ensures.value) (c.in_ok-schema_text.ensures.text told));
-      equation_there =
-          subst (λ (text : List ℕ). IsText texts c.args.equation.now text) (sym c.deref-2.ensures.value)
-          (subst (λ aside. IsText aside.texts c.args.equation.now c.in_ok-equation_text.equation_text.items) c.in_ok-schema_text.ensures.content.aside (c.in_ok-equation_text.ensures.text told));
-    } in
-    all_unaccepted words texts _ _ a c.deref.result.now c.deref-2.result.now c.check_texts.result asked c.check_texts.ensures.unaccepted
+    let schema = c.args.schema.now in
+    let equation = c.args.equation.now in
+    let first : IsText texts schema c.deref.result.now =
+    subst (λ (text : List ℕ). IsText texts schema text) (sym c.deref.ensures.value)
+    (c.in_ok-schema_text.ensures.text told) in
+    let second : IsText texts equation c.deref-2.result.now =
+    subst (λ (text : List ℕ). IsText texts equation text) (sym c.deref-2.ensures.value)
+    (subst (λ aside. IsText aside.texts equation c.in_ok-equation_text.equation_text.items)
+    c.in_ok-schema_text.ensures.fetches.same.aside
+    (c.in_ok-equation_text.ensures.text told)) in
+    all_checked (AskOfTwo schema equation) texts _ _ c.deref.result.now c.deref-2.result.now
+    c.check_texts.result
+    (λ words a asks. asked_of_two words texts a schema equation c.deref.result.now
+    c.deref-2.result.now asks first second)
+    c.check_texts.ensures.accepted c.check_texts.ensures.unaccepted
+
+pub returns-in_err-schema_text-clause-accepted : goal.returns-in_err-schema_text-clause-accepted
+returns-in_err-schema_text-clause-accepted g c = λ told.
+    let texts = (g.M.Device.content c.args.machine.now).aside.texts in
+    let schema = c.args.schema.now in
+    let equation = c.args.equation.now in
+    let why = c.in_err-schema_text.field-0.0 in
+    passed_on (AskOfTwo schema equation) IsAcceptedAs texts _ _ why c.from_residual.result
+    (λ words a asks. unfetched g.M.Device.tells words texts _ _ schema why told
+    (schema_named texts schema equation words a asks) c.in_err-schema_text.ensures.unfetched)
+    c.from_residual.ensures.1
+
+pub returns-in_err-equation_text-clause-accepted : goal.returns-in_err-equation_text-clause-accepted
+returns-in_err-equation_text-clause-accepted g c = λ told.
+    let texts = (g.M.Device.content c.args.machine.now).aside.texts in
+    let schema = c.args.schema.now in
+    let equation = c.args.equation.now in
+    let why = c.in_err-equation_text.field-0.0 in
+    let fetched = c.in_ok-schema_text.ensures.fetches in
+    passed_on (AskOfTwo schema equation) IsAcceptedAs texts _ _ why
+    c.from_residual-in_err-equation_text.result
+    (λ words a asks. unfetched_then g.M.Device.tells words texts _ _ _ _ equation why told
+    (equation_named texts schema equation words a asks
+    (c.in_ok-schema_text.schema_text.items, c.in_ok-schema_text.ensures.text told))
+    (ap (λ (aside : Aside). aside.texts) fetched.same.aside)
+    (fetched.failures.counted (refl {a = false})) c.in_err-equation_text.ensures.unfetched)
+    c.from_residual-in_err-equation_text.ensures.1

@@ -1,7 +1,5 @@
-use Rattle.std.proofs.Common.{rules, ap, subst, sym, ◌∙◌, Some, None, true, false, arith, ℕ, ◌<◌, ◌^◌, ℤ, pos, ◌≡◌, ◌≢◌, IfSome, to_z, of_z, w64, SFits}
+use Rattle.std.proofs.Common.{rules, subst, arith, ℕ, ◌<◌, ◌^◌, ℤ, pos, ◌≡◌, ◌≢◌, IfSome, to_z, of_z, w64, SFits}
 use Rattle.std.proofs.Math.Facts.{to_z-of_z}
-use Rattle.gx_tokens.specs.Numbers.{signed_number}
-use Rattle.gx_requests.specs.Words.{has_sign}
 use Rattle.gx_requests.proofs.WordLemmas.{counted, no_count, other_count}
 use Rattle.gx_requests.proofs.words.block_count.Goals as goal
 
