@@ -1,7 +1,6 @@
 // Leaves that are examined whole.
-ghost use Rattle.std.specs.Prelude.{◌≡◌, ◌≤◌, ◌<◌, ℕ, List, false, length, IsTrue, IsErrOf};
+ghost use Rattle.std.specs.Prelude.{◌≡◌, ◌<◌, ℕ, List, length, IsTrue};
 ghost use Rattle.gx_device.specs.Content.{Silent};
-ghost use Rattle.gx_device.specs.Faults.{Rose};
 ghost use Rattle.gx_ports.specs.Calls.{Reads};
 ghost use Rattle.gx_leaves.specs.Paged.{pages_of, places_in, working_of, kept_of, head_of, IsWhole, WasWhole};
 ghost use Rattle.gx_leaves.specs.Places.{specs_of};
@@ -10,7 +9,7 @@ ghost use Rattle.gx_pages.specs.View.{journal_of};
 ghost use Rattle.gx_store.specs.Device.{IsHeadOf, IsSettled, ReadAlike};
 ghost use Rattle.gx_store.specs.Store.{machine_of};
 ghost use Rattle.gx_states.specs.Internal.{AreFor};
-ghost use Rattle.gx_play.specs.Endings.{is_fault};
+ghost use Rattle.gx_requests.specs.Fetched.{CountsFault};
 ghost use Rattle.gx_operations.specs.Examined.{IsExamined};
 
 use gx_audit::audit;
@@ -44,10 +43,7 @@ pub fn examine_store<'a, M: Machine + Drop>(
     ensures untouched { IsTrue M.tells → IsSteady (journal_of (pages_of store)) → ¬ IsWhole store →
         ReadAlike (M.content (machine_of store)).now.blocks (M.content result.1).now.blocks }
     ensures silent { Silent (M.content (machine_of store)) (M.content result.1) }
-    ensures fault { IsErrOf result.0 Ending.Fault →
-        Rose (M.faults (machine_of store)) (M.faults result.1) }
-    ensures counted { is_fault result.0 ≡ false → M.faults result.1 ≡ M.faults (machine_of store) }
-    ensures later { M.faults (machine_of store) ≤ M.faults result.1 }
+    ensures failures { CountsFault (M.faults (machine_of store)) (M.faults result.1) result.0 }
 {
     let mut store = store;
     let found = examine(alloc, &schema, &built, &mut store);
@@ -71,9 +67,7 @@ fn examine<'a, B: Leaves>(
     ensures steady { IsTrue B.tells → B.steady leaves.old → ¬ B.whole leaves.old →
         B.steady leaves.new }
     ensures reads { Reads B.View leaves.old leaves.new }
-    ensures fault { IsErrOf result Ending.Fault → Rose (B.faults leaves.old) (B.faults leaves.new) }
-    ensures counted { is_fault result ≡ false → B.faults leaves.new ≡ B.faults leaves.old }
-    ensures later { B.faults leaves.old ≤ B.faults leaves.new }
+    ensures failures { CountsFault (B.faults leaves.old) (B.faults leaves.new) result }
 {
     let mut text = Octets(Vec::new(alloc));
     match audit(alloc, schema, built, leaves, &mut text) {

@@ -1,6 +1,5 @@
 // A script that is played over leaves: those of a device, or in memory.
-ghost use Rattle.std.specs.Prelude.{◌≡◌, ◌≤◌, List, ℕ, [], Ok, Some, false, length, IsTrue, IfErr, IsErrOf, None};
-ghost use Rattle.gx_device.specs.Faults.{Rose};
+ghost use Rattle.std.specs.Prelude.{◌≡◌, List, ℕ, [], Ok, Some, length, IsTrue, IfErr, None};
 ghost use Rattle.gx_device.specs.Quiet.{IsPrefix};
 ghost use Rattle.gx_ports.specs.LeafMaps.{LeafMap};
 ghost use Rattle.gx_schema.specs.WellFormed.{IsWellFormed};
@@ -13,8 +12,9 @@ ghost use Rattle.gx_pages.specs.View.{journal_of};
 ghost use Rattle.gx_store.specs.Store.{HoldsMaps, machine_of};
 ghost use Rattle.gx_model.specs.States.{State, empty_state};
 ghost use Rattle.gx_states.specs.Internal.{AreInternal, AreFor};
-ghost use Rattle.gx_play.specs.Endings.{IsPlayEnding, is_fault};
+ghost use Rattle.gx_play.specs.Endings.{IsPlayEnding};
 ghost use Rattle.gx_play.specs.Plays.{IsPlayedAs};
+ghost use Rattle.gx_requests.specs.Fetched.{CountsFault};
 ghost use Rattle.gx_operations.specs.Settled.{IsSettledIn};
 
 use gx_device::Machine;
@@ -51,10 +51,7 @@ pub fn play_stored<'a, M: Machine + Drop>(
         IsPrefix (M.content (machine_of store)).now.said (M.content result.1).now.said }
     ensures shelf { (M.content result.1).now.shelf ≡ (M.content (machine_of store)).now.shelf }
     ensures ending { IfErr result.0 IsPlayEnding }
-    ensures fault { IsErrOf result.0 Ending.Fault →
-        Rose (M.faults (machine_of store)) (M.faults result.1) }
-    ensures counted { is_fault result.0 ≡ false → M.faults result.1 ≡ M.faults (machine_of store) }
-    ensures later { M.faults (machine_of store) ≤ M.faults result.1 }
+    ensures failures { CountsFault (M.faults (machine_of store)) (M.faults result.1) result.0 }
 {
     let (played, store) = play_over(alloc, schema, built, store);
     (played, close(store))
@@ -76,10 +73,8 @@ pub fn play_script<'a, M: Machine + Drop>(
         result.0 }
     ensures heard { IsTrue M.tells → result.0 ≡ Ok tt → (M.content result.1).script ≡ [] }
     ensures shelf { (M.content result.1).now.shelf ≡ (M.content machine).now.shelf }
-    ensures fault { IsErrOf result.0 Ending.Fault → Rose (M.faults machine) (M.faults result.1) }
     ensures ending { IfErr result.0 IsPlayEnding }
-    ensures counted { is_fault result.0 ≡ false → M.faults result.1 ≡ M.faults machine }
-    ensures later { M.faults machine ≤ M.faults result.1 }
+    ensures failures { CountsFault (M.faults machine) (M.faults result.1) result.0 }
 {
     let count = built.specs.0.len() as u32;
     match PlainLeaves::make(alloc, machine, count) {

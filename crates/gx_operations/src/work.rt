@@ -1,13 +1,12 @@
 // A device that is made, and the workload that is played on it.
-ghost use Rattle.std.specs.Prelude.{◌≡◌, ◌≤◌, false, length, replicate, IsTrue, IsErrOf};
+ghost use Rattle.std.specs.Prelude.{◌≡◌, ◌≤◌, length, replicate, IsTrue};
 ghost use Rattle.std.specs.FinMap.{empty};
 ghost use Rattle.gx_device.specs.Content.{Silent};
-ghost use Rattle.gx_device.specs.Faults.{Rose};
 ghost use Rattle.gx_work.specs.Schema.{work_schema};
 ghost use Rattle.gx_store.specs.Device.{Reopens};
 ghost use Rattle.gx_store.specs.Store.{CanAttach, Attaches, KeepsDevice};
 ghost use Rattle.gx_requests.specs.Checked.{IsStored};
-ghost use Rattle.gx_play.specs.Endings.{is_fault};
+ghost use Rattle.gx_requests.specs.Fetched.{CountsFault};
 ghost use Rattle.gx_operations.specs.Working.{IsPlayedOn, IsWorking};
 
 use gx_device::Machine;
@@ -41,9 +40,7 @@ pub fn make_and_play<'a, M: Machine + Drop>(
         KeepsDevice device.now (M.content machine) (M.content result.1) }
     ensures attaches { CanAttach M.tells (M.content machine) →
         Attaches device.now (M.content machine) (M.content result.1) }
-    ensures fault { IsErrOf result.0 Ending.Fault → Rose (M.faults machine) (M.faults result.1) }
-    ensures counted { is_fault result.0 ≡ false → M.faults result.1 ≡ M.faults machine }
-    ensures later { M.faults machine ≤ M.faults result.1 }
+    ensures failures { CountsFault (M.faults machine) (M.faults result.1) result.0 }
 {
     let Stored {
         schema,
@@ -92,9 +89,7 @@ fn play_made<'a, M: Machine + Drop>(
     ensures count { IsTrue M.tells →
         length (M.content result.1).now.blocks ≡ length (M.content machine).now.blocks }
     ensures silent { Silent (M.content machine) (M.content result.1) }
-    ensures fault { IsErrOf result.0 Ending.Fault → Rose (M.faults machine) (M.faults result.1) }
-    ensures counted { is_fault result.0 ≡ false → M.faults result.1 ≡ M.faults machine }
-    ensures later { M.faults machine ≤ M.faults result.1 }
+    ensures failures { CountsFault (M.faults machine) (M.faults result.1) result.0 }
 {
     let Stored {
         schema,

@@ -1,8 +1,7 @@
 // The request to check two texts.
-ghost use Rattle.std.specs.Prelude.{◌≡◌, ◌≢◌, ◌≤◌, IsTrue};
-ghost use Rattle.gx_device.specs.Faults.{Rose};
+ghost use Rattle.std.specs.Prelude.{◌≡◌, IsTrue};
 ghost use Rattle.gx_requests.specs.Words.{checking, request_words};
-ghost use Rattle.gx_top.specs.Tries.{IsOutcome, IsAsDue};
+ghost use Rattle.gx_top.specs.Tries.{IsOutcome, IsAsDue, CountsOutside};
 
 use gx_device::Machine;
 use gx_play::{Ending, Status, end, summarize};
@@ -18,9 +17,7 @@ pub fn check<M: Machine>(alloc: Global, schema: &str, equation: &str, machine: &
     ensures due { IsTrue M.tells →
         IsAsDue (request_words checking schema.now equation.now) (M.content machine.old) result }
     ensures shelf { (M.content machine.new).now.shelf ≡ (M.content machine.old).now.shelf }
-    ensures outside { result ≡ Status.Outside → Rose (M.faults machine.old) (M.faults machine.new) }
-    ensures counted { result ≢ Status.Outside → M.faults machine.new ≡ M.faults machine.old }
-    ensures later { M.faults machine.old ≤ M.faults machine.new }
+    ensures failures { CountsOutside (M.faults machine.old) (M.faults machine.new) result }
 {
     match read_texts(alloc, schema, equation, machine) {
         Ok(checked) => {

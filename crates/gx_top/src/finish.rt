@@ -4,6 +4,7 @@ ghost use Rattle.gx_device.specs.Faults.{Rose};
 ghost use Rattle.gx_play.specs.Say.{OnlySays, SameDevices};
 ghost use Rattle.gx_play.specs.Endings.{IsFinished, is_fault};
 ghost use Rattle.gx_top.specs.Found.{IsTold};
+ghost use Rattle.gx_top.specs.Tries.{CountsOutside};
 
 use gx_device::{Failed, Machine};
 use gx_play::{Ending, Status, end, say_all};
@@ -51,12 +52,9 @@ pub fn tell<M: Machine>(alloc: Global, found: Result<Octets, Ending<'_>>, machin
 fn say_text<M: Machine>(text: &Octets, machine: &mut M) -> Status
     ensures told { IsTrue M.tells →
         IsTold (Ok text.now) (M.content machine.old) (M.content machine.new) result }
-    ensures outside { result ≡ Status.Outside →
-        Rose (M.faults machine.old) (M.faults machine.new) }
     ensures rest { OnlySays (M.content machine.old) (M.content machine.new) }
     ensures devices { SameDevices (M.content machine.old) (M.content machine.new) }
-    ensures counted { result ≢ Status.Outside → M.faults machine.new ≡ M.faults machine.old }
-    ensures later { M.faults machine.old ≤ M.faults machine.new }
+    ensures failures { CountsOutside (M.faults machine.old) (M.faults machine.new) result }
 {
     match say_all(machine, text.as_slice()) {
         Ok(()) => Status::Done,

@@ -1,10 +1,9 @@
 // The request to make a device with an empty database.
-ghost use Rattle.std.specs.Prelude.{◌≡◌, ◌≢◌, ◌≤◌, List, ℕ};
-ghost use Rattle.gx_device.specs.Faults.{Rose};
+ghost use Rattle.std.specs.Prelude.{List, ℕ};
 ghost use Rattle.gx_store.specs.Store.{CanAttach};
 ghost use Rattle.gx_requests.specs.Words.{IsCount, making, request_words};
 ghost use Rattle.gx_top.specs.Made.{LeavesMade};
-ghost use Rattle.gx_top.specs.Tries.{IsOutcome, IsAsDue};
+ghost use Rattle.gx_top.specs.Tries.{IsOutcome, IsAsDue, CountsOutside};
 
 use gx_device::Machine;
 use gx_operations::make_stored;
@@ -37,9 +36,7 @@ pub fn make_database<M: Machine + Drop>(
         IsCount digits blocks →
         LeavesMade (request_words (making device.now digits) schema.now equation.now) device.now
         (M.content machine) (M.content result.1) result.0 }
-    ensures outside { result.0 ≡ Status.Outside → Rose (M.faults machine) (M.faults result.1) }
-    ensures counted { result.0 ≢ Status.Outside → M.faults result.1 ≡ M.faults machine }
-    ensures later { M.faults machine ≤ M.faults result.1 }
+    ensures failures { CountsOutside (M.faults machine) (M.faults result.1) result.0 }
 {
     let mut machine = machine;
     match prepare_stored(alloc, schema, equation, &mut machine) {

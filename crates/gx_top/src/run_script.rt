@@ -1,6 +1,4 @@
 // The request to play a script on a device.
-ghost use Rattle.std.specs.Prelude.{◌≡◌, ◌≢◌, ◌≤◌};
-ghost use Rattle.gx_device.specs.Faults.{Rose};
 ghost use Rattle.gx_store.specs.Store.{CanAttach};
 ghost use Rattle.gx_requests.specs.Words.{running, request_words};
 ghost use Rattle.gx_requests.specs.Checked.{IsStored};
@@ -41,9 +39,7 @@ pub fn run_script<M: Machine + Drop>(
     ensures left { CanAttach M.tells (M.content machine) →
         LeavesRun (request_words (running device.now) schema.now equation.now) device.now
         (M.content machine) (M.content result.1) result.0 }
-    ensures outside { result.0 ≡ Status.Outside → Rose (M.faults machine) (M.faults result.1) }
-    ensures counted { result.0 ≢ Status.Outside → M.faults result.1 ≡ M.faults machine }
-    ensures later { M.faults machine ≤ M.faults result.1 }
+    ensures failures { CountsOutside (M.faults machine) (M.faults result.1) result.0 }
 {
     let mut machine = machine;
     match prepare_stored(alloc, schema, equation, &mut machine) {

@@ -1,8 +1,7 @@
 // The request to play a script under two texts.
-ghost use Rattle.std.specs.Prelude.{◌≡◌, ◌≢◌, ◌≤◌, Ok, IsTrue};
-ghost use Rattle.gx_device.specs.Faults.{Rose};
+ghost use Rattle.std.specs.Prelude.{◌≡◌, IsTrue};
 ghost use Rattle.gx_requests.specs.Words.{trying, request_words};
-ghost use Rattle.gx_top.specs.Tries.{IsOutcome, IsAsDue};
+ghost use Rattle.gx_top.specs.Tries.{IsOutcome, IsAsDue, CountsOutside};
 
 use crate::finish::finish;
 use gx_device::Machine;
@@ -25,9 +24,7 @@ pub fn try_script<M: Machine + Drop>(
     ensures due { IsTrue M.tells →
         IsAsDue (request_words trying schema.now equation.now) (M.content machine) result.0 }
     ensures shelf { (M.content result.1).now.shelf ≡ (M.content machine).now.shelf }
-    ensures outside { result.0 ≡ Status.Outside → Rose (M.faults machine) (M.faults result.1) }
-    ensures counted { result.0 ≢ Status.Outside → M.faults result.1 ≡ M.faults machine }
-    ensures later { M.faults machine ≤ M.faults result.1 }
+    ensures failures { CountsOutside (M.faults machine) (M.faults result.1) result.0 }
 {
     let mut machine = machine;
     match prepare_nodes(alloc, schema, equation, &mut machine) {

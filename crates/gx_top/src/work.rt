@@ -1,13 +1,10 @@
 // The request to play the workload on a device that is made.
-ghost use Rattle.std.specs.Prelude.{◌≡◌, ◌≢◌, ◌≤◌, ◌<◌, ℕ, List, [], false, IsTrue, IfOk, IfErr, IsErrOf};
-ghost use Rattle.gx_device.specs.Content.{SameContent};
-ghost use Rattle.gx_device.specs.Faults.{Rose};
+ghost use Rattle.std.specs.Prelude.{◌≡◌, ◌≤◌, ℕ, List, [], IsTrue, IfOk};
 ghost use Rattle.gx_work.specs.Schema.{work_schema};
 ghost use Rattle.gx_store.specs.Store.{CanAttach};
-ghost use Rattle.gx_requests.specs.Words.{Action, working, request_words, IsCount, IsRecordCount, IsCountedOfOne};
+ghost use Rattle.gx_requests.specs.Words.{working, request_words, AskOfOne, IsCount, IsRecordCount};
 ghost use Rattle.gx_requests.specs.Checked.{IsStored, IsStoredFor};
-ghost use Rattle.gx_requests.specs.Requests.{IsUnprepared};
-ghost use Rattle.gx_play.specs.Endings.{is_fault};
+ghost use Rattle.gx_requests.specs.Fetched.{Fetches, Prepares};
 ghost use Rattle.gx_top.specs.Worked.{LeavesWorked};
 ghost use Rattle.gx_top.specs.Tries.{IsOutcome, IsAsDue, CountsOutside};
 ghost use Rattle.gx_top.specs.Fulfilled.{Fulfils};
@@ -47,9 +44,7 @@ pub fn work<M: Machine + Drop>(
         IsCount digits blocks → IsRecordCount number records →
         LeavesWorked (request_words (working device.now digits number) [] equation.now) device.now
         (M.content machine) (M.content result.1) result.0 }
-    ensures outside { result.0 ≡ Status.Outside → Rose (M.faults machine) (M.faults result.1) }
-    ensures counted { result.0 ≢ Status.Outside → M.faults result.1 ≡ M.faults machine }
-    ensures later { M.faults machine ≤ M.faults result.1 }
+    ensures failures { CountsOutside (M.faults machine) (M.faults result.1) result.0 }
 {
     let mut machine = machine;
     match prepare_work(alloc, equation, &mut machine) {
@@ -67,19 +62,12 @@ fn prepare_work<'a, M: Machine>(
     equation: &'a str,
     machine: &mut M,
 ) -> Result<Stored, Ending<'a>>
-    ensures ready { IsTrue M.tells → (a : Action) → IsCountedOfOne a → IfOk result
-        (IsStoredFor (request_words a [] equation.now)
-        (M.content machine.old).aside.texts a) }
+    ensures prepared { IsTrue M.tells →
+        Prepares (AskOfOne equation.now) IsStoredFor (M.content machine.old).aside.texts
+        (M.faults machine.old) (M.faults machine.new) result }
     ensures stored { IfOk result IsStored }
     ensures schema { IfOk result (λ x. x.schema ≡ work_schema) }
-    ensures unprepared { IsTrue M.tells → (a : Action) → IsCountedOfOne a → IfErr result
-        (IsUnprepared (request_words a [] equation.now)
-        (M.content machine.old).aside.texts (M.faults machine.old) (M.faults machine.new)) }
-    ensures fault { IsErrOf result Ending.Fault →
-        Rose (M.faults machine.old) (M.faults machine.new) }
-    ensures counted { is_fault result ≡ false → M.faults machine.new ≡ M.faults machine.old }
-    ensures later { M.faults machine.old ≤ M.faults machine.new }
-    ensures content { SameContent (M.content machine.old) (M.content machine.new) }
+    ensures fetches { Fetches M.content M.faults machine.old machine.new result }
 {
     let schema = schema(alloc)?;
     prepare_under(alloc, schema, equation, machine)

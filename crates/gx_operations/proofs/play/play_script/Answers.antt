@@ -36,22 +36,31 @@ returns-in-Ok-clause-heard g c = λ told e.
       kept_whole_is = tt;
     }) e
 
-pub returns-in-Ok-clause-fault : goal.returns-in-Ok-clause-fault
-returns-in-Ok-clause-fault g c = λ e.
-    subst (λ m. Rose (g.M.Device.faults c.args.machine) (g.M.Device.faults m)) (sym c.into_device.ensures)
-    (subst (λ m. Rose (g.M.Device.faults m) (g.M.Device.faults c.play_over-leaves.result.1.device)) c.in-Ok.ensures.device (c.play_over-leaves.ensures.fault e))
+pub returns-in-Ok-clause-failures : goal.returns-in-Ok-clause-failures
+returns-in-Ok-clause-failures g c =
+    let left = c.play_over-leaves.result.1.device in
+    record {
+      fault = λ e.
+          subst (λ m. Rose (g.M.Device.faults c.args.machine) (g.M.Device.faults m))
+          (sym c.into_device.ensures)
+          (subst (λ m. Rose (g.M.Device.faults m) (g.M.Device.faults left)) c.in-Ok.ensures.device
+          (c.play_over-leaves.ensures.fault e));
+      counted = λ e.
+          ap g.M.Device.faults c.into_device.ensures ∙ c.play_over-leaves.ensures.counted e
+          ∙ ap g.M.Device.faults c.in-Ok.ensures.device;
+      later = omega (
+        arith,
+        c.play_over-leaves.ensures.later,
+        ap g.M.Device.faults c.into_device.ensures,
+        ap g.M.Device.faults c.in-Ok.ensures.device,
+      );
+    }
 
 pub returns-in-Ok-clause-shelf : goal.returns-in-Ok-clause-shelf
 returns-in-Ok-clause-shelf g c =
     ap (λ m. (g.M.Device.content m).now.shelf) c.into_device.ensures
     ∙ c.play_over-leaves.ensures.shelf
     ∙ ap (λ m. (g.M.Device.content m).now.shelf) c.in-Ok.ensures.device
-
-pub returns-in-Ok-clause-counted : goal.returns-in-Ok-clause-counted
-returns-in-Ok-clause-counted g c = λ e. ap g.M.Device.faults c.into_device.ensures ∙ c.play_over-leaves.ensures.counted e ∙ ap g.M.Device.faults c.in-Ok.ensures.device
-
-pub returns-in-Ok-clause-later : goal.returns-in-Ok-clause-later
-returns-in-Ok-clause-later g c = omega (arith, c.play_over-leaves.ensures.later, ap g.M.Device.faults c.into_device.ensures, ap g.M.Device.faults c.in-Ok.ensures.device)
 
 pub returns-clause-answered : goal.returns-clause-answered
 returns-clause-answered g c = λ told. unheard c.args.schema c.args.built None (empty_state c.args.schema) (λ s. Unit {0}) _ _ _ 0 0 ending.NoMemory (ap (λ m. (g.M.Device.content m).now.said) (search rules)) tt tt

@@ -1,4 +1,4 @@
-use Rattle.std.proofs.Common.{ap, ◌∙◌}
+use Rattle.std.proofs.Common.{ap, refl, ◌∙◌}
 use Rattle.gx_requests.specs.Words.{checking, request_words}
 use Rattle.gx_requests.proofs.RequestLemmas.{summary}
 use Rattle.gx_top.proofs.EndLemmas.{unprepared_end, unprepared_due, check_end, check_due}
@@ -8,8 +8,8 @@ pub returns-in-Ok-clause-said : goal.returns-in-Ok-clause-said
 returns-in-Ok-clause-said g c = λ told.
     let words = request_words checking c.args.schema.now c.args.equation.now in
     check_end words (g.M.Device.content c.args.machine.now) (g.M.Device.content c.read_texts.new.machine) (g.M.Device.content c.end.new.machine) c.summarize-summary.result c.end.result
-    (summary words _ c.in-Ok.checked c.summarize-summary.result (c.in-Ok.ensures.accepted told checking tt) c.summarize-summary.ensures)
-    (ap (λ n. n.said) c.in-Ok.ensures.content.now) c.in-Ok.ensures.content.script
+    (summary words _ c.in-Ok.checked c.summarize-summary.result ((c.in-Ok.ensures.accepted told).ready words checking (tt, refl)) c.summarize-summary.ensures)
+    (ap (λ n. n.said) c.in-Ok.ensures.fetches.same.now) c.in-Ok.ensures.fetches.same.script
     (record {
       status_is = c.end.ensures.status;
       said = c.end.ensures.said told;
@@ -24,7 +24,7 @@ pub returns-in-Ok-clause-due : goal.returns-in-Ok-clause-due
 returns-in-Ok-clause-due g c = λ told.
     let words = request_words checking c.args.schema.now c.args.equation.now in
     check_due words (g.M.Device.content c.args.machine.now) (g.M.Device.content c.read_texts.new.machine) (g.M.Device.content c.end.new.machine) c.summarize-summary.result c.end.result
-    (summary words _ c.in-Ok.checked c.summarize-summary.result (c.in-Ok.ensures.accepted told checking tt) c.summarize-summary.ensures)
+    (summary words _ c.in-Ok.checked c.summarize-summary.result ((c.in-Ok.ensures.accepted told).ready words checking (tt, refl)) c.summarize-summary.ensures)
     (record {
       status_is = c.end.ensures.status;
       said = c.end.ensures.said told;
@@ -39,7 +39,7 @@ pub returns-in-Err-clause-said : goal.returns-in-Err-clause-said
 returns-in-Err-clause-said g c = λ told.
     let words = request_words checking c.args.schema.now c.args.equation.now in
     unprepared_end words (g.M.Device.content c.args.machine.now) (g.M.Device.content c.read_texts.new.machine) (g.M.Device.content c.end-in-Err.new.machine) _ _ c.in-Err.ending c.end-in-Err.result
-    (c.in-Err.ensures.unaccepted told checking tt) c.in-Err.ensures.content c.end-in-Err.ensures.devices
+    ((c.in-Err.ensures.accepted told).unprepared words checking (tt, refl)) c.in-Err.ensures.fetches.same c.end-in-Err.ensures.devices
     (record {
       status_is = c.end-in-Err.ensures.status;
       said = c.end-in-Err.ensures.said told;
@@ -54,7 +54,7 @@ pub returns-in-Err-clause-due : goal.returns-in-Err-clause-due
 returns-in-Err-clause-due g c = λ told.
     let words = request_words checking c.args.schema.now c.args.equation.now in
     unprepared_due words (g.M.Device.content c.args.machine.now) (g.M.Device.content c.read_texts.new.machine) (g.M.Device.content c.end-in-Err.new.machine) _ _ c.in-Err.ending c.end-in-Err.result
-    (c.in-Err.ensures.unaccepted told checking tt)
+    ((c.in-Err.ensures.accepted told).unprepared words checking (tt, refl))
     (record {
       status_is = c.end-in-Err.ensures.status;
       said = c.end-in-Err.ensures.said told;
@@ -66,7 +66,7 @@ returns-in-Err-clause-due g c = λ told.
     })
 
 pub returns-in-Ok-clause-shelf : goal.returns-in-Ok-clause-shelf
-returns-in-Ok-clause-shelf g c = c.end.ensures.devices.shelf ∙ ap (λ n. n.shelf) c.in-Ok.ensures.content.now
+returns-in-Ok-clause-shelf g c = c.end.ensures.devices.shelf ∙ ap (λ n. n.shelf) c.in-Ok.ensures.fetches.same.now
 
 pub returns-in-Err-clause-shelf : goal.returns-in-Err-clause-shelf
-returns-in-Err-clause-shelf g c = c.end-in-Err.ensures.devices.shelf ∙ ap (λ n. n.shelf) c.in-Err.ensures.content.now
+returns-in-Err-clause-shelf g c = c.end-in-Err.ensures.devices.shelf ∙ ap (λ n. n.shelf) c.in-Err.ensures.fetches.same.now

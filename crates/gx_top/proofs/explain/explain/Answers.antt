@@ -1,4 +1,4 @@
-use Rattle.std.proofs.Common.{ap, ◌∙◌}
+use Rattle.std.proofs.Common.{ap, refl, ◌∙◌}
 use Rattle.gx_requests.specs.Words.{explaining, request_words}
 use Rattle.gx_top.proofs.EndLemmas.{unprepared_end, unprepared_due}
 use Rattle.gx_top.proofs.ExplainRequestLemmas.{explained_by, explain_end, explain_due}
@@ -10,7 +10,7 @@ returns-in-Ok-clause-said g c = λ told.
     let content = g.M.Device.content in
     explain_end words (content c.args.machine.now) (content c.explain_script.new.machine) c.explain_script.result
     (explained_by words (content c.args.machine.now) (content c.prepare_nodes.new.machine) (content c.explain_script.new.machine) c.explain_script.result _ c.in-Ok.schema c.in-Ok.built c.in-Ok.schema-is c.in-Ok.built-is
-    (c.in-Ok.ensures.prepared told explaining tt) c.in-Ok.ensures.content.script (ap (λ n. n.said) c.in-Ok.ensures.content.now) (c.explain_script.ensures.said told))
+    ((c.in-Ok.ensures.prepared told).ready words explaining (tt, refl)) c.in-Ok.ensures.fetches.same.script (ap (λ n. n.said) c.in-Ok.ensures.fetches.same.now) (c.explain_script.ensures.said told))
     (c.explain_script.ensures.heard told)
 
 pub returns-in-Ok-clause-due : goal.returns-in-Ok-clause-due
@@ -19,13 +19,13 @@ returns-in-Ok-clause-due g c = λ told.
     let content = g.M.Device.content in
     explain_due words (content c.args.machine.now) (content c.explain_script.new.machine) c.explain_script.result
     (explained_by words (content c.args.machine.now) (content c.prepare_nodes.new.machine) (content c.explain_script.new.machine) c.explain_script.result _ c.in-Ok.schema c.in-Ok.built c.in-Ok.schema-is c.in-Ok.built-is
-    (c.in-Ok.ensures.prepared told explaining tt) c.in-Ok.ensures.content.script (ap (λ n. n.said) c.in-Ok.ensures.content.now) (c.explain_script.ensures.said told))
+    ((c.in-Ok.ensures.prepared told).ready words explaining (tt, refl)) c.in-Ok.ensures.fetches.same.script (ap (λ n. n.said) c.in-Ok.ensures.fetches.same.now) (c.explain_script.ensures.said told))
 
 pub returns-in-Err-clause-said : goal.returns-in-Err-clause-said
 returns-in-Err-clause-said g c = λ told.
     let words = request_words explaining c.args.schema.now c.args.equation.now in
     unprepared_end words (g.M.Device.content c.args.machine.now) (g.M.Device.content c.prepare_nodes.new.machine) (g.M.Device.content c.end.new.machine) _ _ c.in-Err.ending c.end.result
-    (c.in-Err.ensures.unprepared told explaining tt) c.in-Err.ensures.content c.end.ensures.devices
+    ((c.in-Err.ensures.prepared told).unprepared words explaining (tt, refl)) c.in-Err.ensures.fetches.same c.end.ensures.devices
     (record {
       status_is = c.end.ensures.status;
       said = c.end.ensures.said told;
@@ -40,7 +40,7 @@ pub returns-in-Err-clause-due : goal.returns-in-Err-clause-due
 returns-in-Err-clause-due g c = λ told.
     let words = request_words explaining c.args.schema.now c.args.equation.now in
     unprepared_due words (g.M.Device.content c.args.machine.now) (g.M.Device.content c.prepare_nodes.new.machine) (g.M.Device.content c.end.new.machine) _ _ c.in-Err.ending c.end.result
-    (c.in-Err.ensures.unprepared told explaining tt)
+    ((c.in-Err.ensures.prepared told).unprepared words explaining (tt, refl))
     (record {
       status_is = c.end.ensures.status;
       said = c.end.ensures.said told;
@@ -52,7 +52,7 @@ returns-in-Err-clause-due g c = λ told.
     })
 
 pub returns-in-Ok-clause-shelf : goal.returns-in-Ok-clause-shelf
-returns-in-Ok-clause-shelf g c = c.explain_script.ensures.shelf ∙ ap (λ n. n.shelf) c.in-Ok.ensures.content.now
+returns-in-Ok-clause-shelf g c = c.explain_script.ensures.shelf ∙ ap (λ n. n.shelf) c.in-Ok.ensures.fetches.same.now
 
 pub returns-in-Err-clause-shelf : goal.returns-in-Err-clause-shelf
-returns-in-Err-clause-shelf g c = c.end.ensures.devices.shelf ∙ ap (λ n. n.shelf) c.in-Err.ensures.content.now
+returns-in-Err-clause-shelf g c = c.end.ensures.devices.shelf ∙ ap (λ n. n.shelf) c.in-Err.ensures.fetches.same.now

@@ -1,4 +1,4 @@
-use Rattle.std.proofs.Common.{ap, ◌∙◌}
+use Rattle.std.proofs.Common.{ap, refl, ◌∙◌}
 use Rattle.gx_store.specs.Store.{CanAttach}
 use Rattle.gx_requests.specs.Words.{making, request_words}
 use Rattle.gx_top.proofs.EndLemmas.{unprepared_end, unprepared_due, unhad_end}
@@ -11,15 +11,15 @@ returns-in-Ok-clause-said g c = λ can digits counted.
     let old = g.M.Device.content c.args.machine in
     let mid = g.M.Device.content c.prepare_stored.new.machine in
     let after = g.M.Device.content c.make_stored-machine.result.1 in
-    let free : CanAttach g.M.Device.tells mid = record { told = can.told; free = ap (λ n. n.shelf.name) c.in-Ok.ensures.content.now ∙ can.free } in
+    let free : CanAttach g.M.Device.tells mid = record { told = can.told; free = ap (λ n. n.shelf.name) c.in-Ok.ensures.fetches.same.now ∙ can.free } in
     unhad_end words old after (g.M.Device.content c.end-status.new.machine) c.make_stored-machine.result.0 c.end-status.result
-    (unhad words c.args.device.now digits c.args.blocks c.in-Ok.stored old mid after after (c.in-Ok.ensures.ready can.told (making c.args.device.now digits) (_, counted)) counted c.in-Ok.ensures.content.now c.make_stored-machine.result.0 (c.make_stored-machine.ensures.made free))
-    ((c.make_stored-machine.ensures.attaches free).said ∙ ap (λ n. n.said) c.in-Ok.ensures.content.now)
-    ((c.make_stored-machine.ensures.attaches free).script ∙ c.in-Ok.ensures.content.script)
+    (unhad words c.args.device.now digits c.args.blocks c.in-Ok.stored old mid after after ((c.in-Ok.ensures.prepared can.told).ready words (making c.args.device.now digits) ((_, counted), refl)) counted c.in-Ok.ensures.fetches.same.now c.make_stored-machine.result.0 (c.make_stored-machine.ensures.made free))
+    ((c.make_stored-machine.ensures.attaches free).said ∙ ap (λ n. n.said) c.in-Ok.ensures.fetches.same.now)
+    ((c.make_stored-machine.ensures.attaches free).script ∙ c.in-Ok.ensures.fetches.same.script)
     (λ other t task. absurd (not_played words old.aside.texts c.args.blocks t
-    (to_make words old.aside.texts c.args.device.now digits c.args.blocks c.in-Ok.stored (c.in-Ok.ensures.ready can.told (making c.args.device.now digits) (_, counted)) counted) task))
+    (to_make words old.aside.texts c.args.device.now digits c.args.blocks c.in-Ok.stored ((c.in-Ok.ensures.prepared can.told).ready words (making c.args.device.now digits) ((_, counted), refl)) counted) task))
     (λ t task. absurd (not_played words old.aside.texts c.args.blocks t
-    (to_make words old.aside.texts c.args.device.now digits c.args.blocks c.in-Ok.stored (c.in-Ok.ensures.ready can.told (making c.args.device.now digits) (_, counted)) counted) task))
+    (to_make words old.aside.texts c.args.device.now digits c.args.blocks c.in-Ok.stored ((c.in-Ok.ensures.prepared can.told).ready words (making c.args.device.now digits) ((_, counted), refl)) counted) task))
     (record {
       status_is = c.end-status.ensures.status;
       said = c.end-status.ensures.said can.told;
@@ -36,8 +36,8 @@ returns-in-Ok-clause-due g c = λ can digits counted.
     let old = g.M.Device.content c.args.machine in
     let mid = g.M.Device.content c.prepare_stored.new.machine in
     let after = g.M.Device.content c.make_stored-machine.result.1 in
-    let free : CanAttach g.M.Device.tells mid = record { told = can.told; free = ap (λ n. n.shelf.name) c.in-Ok.ensures.content.now ∙ can.free } in
-    made_due words c.args.device.now digits c.args.blocks c.in-Ok.stored old mid after (g.M.Device.content c.end-status.new.machine) (c.in-Ok.ensures.ready can.told (making c.args.device.now digits) (_, counted)) counted c.in-Ok.ensures.content.now c.make_stored-machine.result.0 c.end-status.result
+    let free : CanAttach g.M.Device.tells mid = record { told = can.told; free = ap (λ n. n.shelf.name) c.in-Ok.ensures.fetches.same.now ∙ can.free } in
+    made_due words c.args.device.now digits c.args.blocks c.in-Ok.stored old mid after (g.M.Device.content c.end-status.new.machine) ((c.in-Ok.ensures.prepared can.told).ready words (making c.args.device.now digits) ((_, counted), refl)) counted c.in-Ok.ensures.fetches.same.now c.make_stored-machine.result.0 c.end-status.result
     (c.make_stored-machine.ensures.made free)
     (record {
       status_is = c.end-status.ensures.status;
@@ -55,8 +55,8 @@ returns-in-Ok-clause-left g c = λ can digits counted.
     let old = g.M.Device.content c.args.machine in
     let mid = g.M.Device.content c.prepare_stored.new.machine in
     let after = g.M.Device.content c.make_stored-machine.result.1 in
-    let free : CanAttach g.M.Device.tells mid = record { told = can.told; free = ap (λ n. n.shelf.name) c.in-Ok.ensures.content.now ∙ can.free } in
-    made_left words c.args.device.now digits c.args.blocks c.in-Ok.stored old mid after (g.M.Device.content c.end-status.new.machine) (c.in-Ok.ensures.ready can.told (making c.args.device.now digits) (_, counted)) counted c.in-Ok.ensures.content.now c.make_stored-machine.result.0 c.end-status.result
+    let free : CanAttach g.M.Device.tells mid = record { told = can.told; free = ap (λ n. n.shelf.name) c.in-Ok.ensures.fetches.same.now ∙ can.free } in
+    made_left words c.args.device.now digits c.args.blocks c.in-Ok.stored old mid after (g.M.Device.content c.end-status.new.machine) ((c.in-Ok.ensures.prepared can.told).ready words (making c.args.device.now digits) ((_, counted), refl)) counted c.in-Ok.ensures.fetches.same.now c.make_stored-machine.result.0 c.end-status.result
     c.in-Ok.ensures.stored (c.make_stored-machine.ensures.made free) (c.make_stored-machine.ensures.attaches free) (c.make_stored-machine.ensures.there free) (c.make_stored-machine.ensures.left free) c.end-status.ensures.devices
     (record {
       status_is = c.end-status.ensures.status;
@@ -72,7 +72,7 @@ pub returns-in-Err-clause-said : goal.returns-in-Err-clause-said
 returns-in-Err-clause-said g c = λ can digits counted.
     let words = request_words (making c.args.device.now digits) c.args.schema.now c.args.equation.now in
     unprepared_end words (g.M.Device.content c.args.machine) (g.M.Device.content c.prepare_stored.new.machine) (g.M.Device.content c.end-status-in-Err.new.machine) _ _ c.in-Err.ending c.end-status-in-Err.result
-    (c.in-Err.ensures.unprepared can.told (making c.args.device.now digits) (_, counted)) c.in-Err.ensures.content c.end-status-in-Err.ensures.devices
+    ((c.in-Err.ensures.prepared can.told).unprepared words (making c.args.device.now digits) ((_, counted), refl)) c.in-Err.ensures.fetches.same c.end-status-in-Err.ensures.devices
     (record {
       status_is = c.end-status-in-Err.ensures.status;
       said = c.end-status-in-Err.ensures.said can.told;
@@ -87,7 +87,7 @@ pub returns-in-Err-clause-due : goal.returns-in-Err-clause-due
 returns-in-Err-clause-due g c = λ can digits counted.
     let words = request_words (making c.args.device.now digits) c.args.schema.now c.args.equation.now in
     unprepared_due words (g.M.Device.content c.args.machine) (g.M.Device.content c.prepare_stored.new.machine) (g.M.Device.content c.end-status-in-Err.new.machine) _ _ c.in-Err.ending c.end-status-in-Err.result
-    (c.in-Err.ensures.unprepared can.told (making c.args.device.now digits) (_, counted))
+    ((c.in-Err.ensures.prepared can.told).unprepared words (making c.args.device.now digits) ((_, counted), refl))
     (record {
       status_is = c.end-status-in-Err.ensures.status;
       said = c.end-status-in-Err.ensures.said can.told;
@@ -102,7 +102,7 @@ pub returns-in-Err-clause-left : goal.returns-in-Err-clause-left
 returns-in-Err-clause-left g c = λ can digits counted.
     let words = request_words (making c.args.device.now digits) c.args.schema.now c.args.equation.now in
     unprepared_left words c.args.device.now (g.M.Device.content c.args.machine) (g.M.Device.content c.prepare_stored.new.machine) (g.M.Device.content c.end-status-in-Err.new.machine) _ _ c.in-Err.ending c.end-status-in-Err.result
-    (c.in-Err.ensures.unprepared can.told (making c.args.device.now digits) (_, counted)) c.in-Err.ensures.content.now c.end-status-in-Err.ensures.devices
+    ((c.in-Err.ensures.prepared can.told).unprepared words (making c.args.device.now digits) ((_, counted), refl)) c.in-Err.ensures.fetches.same.now c.end-status-in-Err.ensures.devices
     (record {
       status_is = c.end-status-in-Err.ensures.status;
       said = c.end-status-in-Err.ensures.said can.told;

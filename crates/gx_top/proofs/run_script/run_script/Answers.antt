@@ -1,4 +1,4 @@
-use Rattle.std.proofs.Common.{ap, ◌∙◌}
+use Rattle.std.proofs.Common.{ap, refl, ◌∙◌}
 use Rattle.gx_store.specs.Store.{CanAttach}
 use Rattle.gx_requests.specs.Words.{running, request_words}
 use Rattle.gx_top.proofs.EndLemmas.{unprepared_end, unprepared_due}
@@ -9,21 +9,21 @@ pub returns-in-Ok-clause-said : goal.returns-in-Ok-clause-said
 returns-in-Ok-clause-said g c = λ can.
     let words = request_words (running c.args.device.now) c.args.schema.now c.args.equation.now in
     let mid = g.M.Device.content c.prepare_stored.new.machine in
-    let free : CanAttach g.M.Device.tells mid = record { told = can.told; free = ap (λ n. n.shelf.name) c.in-Ok.ensures.content.now ∙ can.free } in
-    (c.run_stored.ensures.fulfilled free words (g.M.Device.content c.args.machine) c.in-Ok.ensures.content (c.in-Ok.ensures.ready can.told (running c.args.device.now) tt)).said
+    let free : CanAttach g.M.Device.tells mid = record { told = can.told; free = ap (λ n. n.shelf.name) c.in-Ok.ensures.fetches.same.now ∙ can.free } in
+    (c.run_stored.ensures.fulfilled free words (g.M.Device.content c.args.machine) c.in-Ok.ensures.fetches.same ((c.in-Ok.ensures.prepared can.told).ready words (running c.args.device.now) (tt, refl))).said
 
 pub returns-in-Ok-clause-due : goal.returns-in-Ok-clause-due
 returns-in-Ok-clause-due g c = λ can.
     let words = request_words (running c.args.device.now) c.args.schema.now c.args.equation.now in
     let mid = g.M.Device.content c.prepare_stored.new.machine in
-    let free : CanAttach g.M.Device.tells mid = record { told = can.told; free = ap (λ n. n.shelf.name) c.in-Ok.ensures.content.now ∙ can.free } in
-    (c.run_stored.ensures.fulfilled free words (g.M.Device.content c.args.machine) c.in-Ok.ensures.content (c.in-Ok.ensures.ready can.told (running c.args.device.now) tt)).due
+    let free : CanAttach g.M.Device.tells mid = record { told = can.told; free = ap (λ n. n.shelf.name) c.in-Ok.ensures.fetches.same.now ∙ can.free } in
+    (c.run_stored.ensures.fulfilled free words (g.M.Device.content c.args.machine) c.in-Ok.ensures.fetches.same ((c.in-Ok.ensures.prepared can.told).ready words (running c.args.device.now) (tt, refl))).due
 
 pub returns-in-Err-clause-said : goal.returns-in-Err-clause-said
 returns-in-Err-clause-said g c = λ can.
     let words = request_words (running c.args.device.now) c.args.schema.now c.args.equation.now in
     unprepared_end words (g.M.Device.content c.args.machine) (g.M.Device.content c.prepare_stored.new.machine) (g.M.Device.content c.end-status.new.machine) _ _ c.in-Err.ending c.end-status.result
-    (c.in-Err.ensures.unprepared can.told (running c.args.device.now) tt) c.in-Err.ensures.content c.end-status.ensures.devices
+    ((c.in-Err.ensures.prepared can.told).unprepared words (running c.args.device.now) (tt, refl)) c.in-Err.ensures.fetches.same c.end-status.ensures.devices
     (record {
       status_is = c.end-status.ensures.status;
       said = c.end-status.ensures.said can.told;
@@ -38,7 +38,7 @@ pub returns-in-Err-clause-due : goal.returns-in-Err-clause-due
 returns-in-Err-clause-due g c = λ can.
     let words = request_words (running c.args.device.now) c.args.schema.now c.args.equation.now in
     unprepared_due words (g.M.Device.content c.args.machine) (g.M.Device.content c.prepare_stored.new.machine) (g.M.Device.content c.end-status.new.machine) _ _ c.in-Err.ending c.end-status.result
-    (c.in-Err.ensures.unprepared can.told (running c.args.device.now) tt)
+    ((c.in-Err.ensures.prepared can.told).unprepared words (running c.args.device.now) (tt, refl))
     (record {
       status_is = c.end-status.ensures.status;
       said = c.end-status.ensures.said can.told;
@@ -53,9 +53,9 @@ pub returns-in-Ok-clause-left : goal.returns-in-Ok-clause-left
 returns-in-Ok-clause-left g c = λ can.
     let words = request_words (running c.args.device.now) c.args.schema.now c.args.equation.now in
     let mid = g.M.Device.content c.prepare_stored.new.machine in
-    let free : CanAttach g.M.Device.tells mid = record { told = can.told; free = ap (λ n. n.shelf.name) c.in-Ok.ensures.content.now ∙ can.free } in
-    (c.run_stored.ensures.fulfilled free words (g.M.Device.content c.args.machine) c.in-Ok.ensures.content (c.in-Ok.ensures.ready can.told (running c.args.device.now) tt)).left
+    let free : CanAttach g.M.Device.tells mid = record { told = can.told; free = ap (λ n. n.shelf.name) c.in-Ok.ensures.fetches.same.now ∙ can.free } in
+    (c.run_stored.ensures.fulfilled free words (g.M.Device.content c.args.machine) c.in-Ok.ensures.fetches.same ((c.in-Ok.ensures.prepared can.told).ready words (running c.args.device.now) (tt, refl))).left
 
 pub returns-in-Err-clause-left : goal.returns-in-Err-clause-left
 returns-in-Err-clause-left g c = λ can.
-    unprepared_ran (request_words (running c.args.device.now) c.args.schema.now c.args.equation.now) c.args.device.now (g.M.Device.content c.args.machine) (g.M.Device.content c.prepare_stored.new.machine) (g.M.Device.content c.end-status.new.machine) c.end-status.result c.in-Err.ensures.content.now c.end-status.ensures.devices
+    unprepared_ran (request_words (running c.args.device.now) c.args.schema.now c.args.equation.now) c.args.device.now (g.M.Device.content c.args.machine) (g.M.Device.content c.prepare_stored.new.machine) (g.M.Device.content c.end-status.new.machine) c.end-status.result c.in-Err.ensures.fetches.same.now c.end-status.ensures.devices
