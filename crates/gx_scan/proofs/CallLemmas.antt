@@ -1,9 +1,14 @@
 -- How calls end, told of other answers and of other states that are sound.
-use Rattle.std.proofs.Common.{Result, Ok, Err}
+use Rattle.std.proofs.Common.{◌∙◌, ◌++◌, List, Result, Ok, Err, sym, ap, subst, append_assoc}
 use Rattle.std.specs.Prelude.{IfOk, OnOk}
-use Rattle.gx_ports.specs.Calls.{Ends}
+use Rattle.gx_schema.specs.declared.schema.FileDef.{FileDef}
+use Rattle.gx_ports.specs.Calls.{Ends, Reads}
+use Rattle.gx_ports.specs.LeafMaps.{LeafMap, Extends}
 use Rattle.gx_ports.specs.declared.stop.Stop.{Stop}
 use Rattle.gx_ports.specs.declared.view.View.{Ghosts}
+use Rattle.gx_stack.specs.Tree.{Tree}
+use Rattle.gx_types.specs.declared.any.AnyMapping.{AnyMapping}
+use Rattle.gx_scan.specs.Files.{IsInternal, HasFile}
 
 pub ok_both : {A E : Type 0} (r : Result A E) (P Q R : A → Type 0) → IfOk r P → IfOk r Q → ((x : A) → P x → Q x → R x) → IfOk r R
 ok_both (Ok x) P Q R p q more = more x p q
@@ -36,3 +41,20 @@ ends_now g sound old new x y ends = record {
   counted = ends.counted;
   damaged = λ block e. absurd cc;
 }
+
+-- whole leaves that hold a file are so after a call that kept their maps
+pub sound_after : {S : Type 0} (g : Ghosts S) (file : FileDef) (t : Tree AnyMapping) (old new : S)
+    → Reads g old new → (g.whole old → g.whole new)
+    → g.whole old × HasFile file t (g.working old) → g.whole new × HasFile file t (g.working new)
+sound_after g file t old new reads whole sound =
+    let held = subst (λ (maps : List LeafMap). IsInternal file t maps sound.1.0) (sym reads.working)
+    sound.1.1 in
+    (whole sound.0, (sound.1.0, held))
+
+-- the front of a list is the front of what follows from it
+pub extends_further : {A : Type 0} (xs ys zs : List A) → Extends xs ys → Extends ys zs → Extends xs
+    zs
+extends_further {A} xs ys zs front more = (
+  front.0 ++ more.0,
+  more.1 ∙ ap (λ (l : List A). l ++ more.0) front.1 ∙ append_assoc xs front.0 more.0,
+)

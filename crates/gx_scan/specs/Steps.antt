@@ -1,5 +1,5 @@
 -- How many steps a search of a file's leaves takes.
-use Rattle.std.specs.Prelude.{ℕ, ◌≤◌, Bool, List, length, filter}
+use Rattle.std.specs.Prelude.{ℕ, ◌+◌, ◌*◌, ◌≤◌, Bool, List, length, filter}
 use Rattle.std.specs.FinMap as fin
 use Rattle.gx_values.specs.declared.keys.Span.{Span}
 use Rattle.gx_values.specs.Keys.{bytes_of, is_inside}
@@ -27,3 +27,14 @@ rows_inside span f = filter (is_key_inside span) (fin.entries f)
 abbrev pub rows_with : ℕ → Span → File → List Row
 rows_with field span f = filter (λ r. is_inside span.lo span.hi (bytes_of (value_at r field)))
     (fin.entries f)
+
+-- ---- bounds, of so many records found, entries of a record and leaves
+
+-- a step for each leaf, and one for each entry of these records
+abbrev pub span_bound : (count most leaves : ℕ) → ℕ
+span_bound count most leaves = leaves + count * most
+
+-- by an index: a step for each leaf and each of these records, one for each leaf besides, and two
+-- for each entry of these records
+abbrev pub index_bound : (count most leaves : ℕ) → ℕ
+index_bound count most leaves = (count + 1) * leaves + 2 * (count * most)

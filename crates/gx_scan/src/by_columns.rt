@@ -1,28 +1,24 @@
 // Finding by columns: where a transposition puts each data field of a record in a leaf of its own,
 // the record has one entry in each of these leaves, under its key.
-ghost use Rattle.std.specs.Prelude.{◌≡◌, ◌<◌, ◌≤◌, ◌+◌, ◌*◌, ◌++◌, ◌∷◌, [], ℕ, List, length, map, filter, true, Some, slice_get, get_or, IfOk, IfSome, IsSomeAnd, OnOk};
+ghost use Rattle.std.specs.Prelude.{◌≡◌, ◌<◌, ◌≤◌, ◌+◌, ◌++◌, ◌∷◌, [], ℕ, List, length, map, true, Some, slice_get, get_or, IfOk, IfSome, IsSomeAnd, OnOk};
 ghost use Rattle.std.specs.List.{AllByRecursion, sum_by};
 ghost use Rattle.gx_values.specs.declared.values.Value.{Value as FieldValue};
 ghost use Rattle.gx_values.specs.Values.{Fits};
 ghost use Rattle.gx_values.specs.Keys.{bytes_of};
 ghost use Rattle.gx_schema.specs.Lookups.{key_kind, data_fields};
 ghost use Rattle.gx_ports.specs.Calls.{ReadsMaps};
-ghost use Rattle.gx_ports.specs.LeafMaps.{Extends, entry_of, selected, map_at, counted};
+ghost use Rattle.gx_ports.specs.LeafMaps.{entry_of, selected, map_at, counted};
 ghost use Rattle.gx_mapping.specs.Rule.{In};
 ghost use Rattle.gx_actual.specs.Bodies.{body_of, IsShort};
 ghost use Rattle.gx_split.specs.Forms.{no_value};
-ghost use Rattle.gx_stack.specs.Tree.{leaves_of};
 ghost use Rattle.gx_stack.specs.Seen.{tree_of};
-ghost use Rattle.gx_model.specs.States.{File as FileMap, Row as TheRow, IsRowOf};
-ghost use Rattle.gx_model.specs.Found.{meets_conds};
+ghost use Rattle.gx_model.specs.States.{Row as TheRow, IsRowOf};
 ghost use Rattle.gx_scan.specs.declared.places.Place.{Place as ThePlace};
-ghost use Rattle.gx_scan.specs.Files.{IsInternal, HasFile, IsStorable, IsTreeFor};
+ghost use Rattle.gx_scan.specs.Files.{IsStorable, IsTreeFor};
 ghost use Rattle.gx_scan.specs.Entries.{entry_of_row};
 ghost use Rattle.gx_scan.specs.Stored.{HaveCodes};
 ghost use Rattle.gx_scan.specs.Columns.{AreColumns, ArePlainColumns, AreColumnEntries, column_entry};
-ghost use Rattle.gx_scan.specs.Within.{AreAdded};
-ghost use Rattle.gx_scan.specs.Search.{FindsValues, FindsRecord};
-ghost use Rattle.gx_scan.specs.Steps.{HaveAtMost, rows_inside};
+ghost use Rattle.gx_scan.specs.Search.{IsSpanOf, FindsValues, FindsRecord, AddsWithin, AddsChosen};
 
 use crate::by_groups::{entries_at, record_of};
 use crate::joined::{PLAIN_ROOM, add_met};
@@ -54,8 +50,7 @@ pub(crate) fn values_by_columns<B: Leaves>(
     requires tree { IsTreeFor file.now (tree_of node.now) (length (B.working leaves.old)) }
     requires storable { IsStorable file.now }
     requires key { Fits (key_kind file.now) key.now }
-    requires lo { span.now.lo ≡ bytes_of key.now }
-    requires hi { span.now.hi ≡ bytes_of key.now }
+    requires span { IsSpanOf key.now span.now }
     ensures { FindsValues B.View file.now (tree_of node.now) key.now leaves.old leaves.new result }
 {
     let (_, _) = (node, key);
@@ -94,8 +89,7 @@ pub(crate) fn record_by_columns<B: Leaves>(
     requires tree { IsTreeFor file.now (tree_of node.now) (length (B.working leaves.old)) }
     requires storable { IsStorable file.now }
     requires key { Fits (key_kind file.now) key.now }
-    requires lo { span.now.lo ≡ bytes_of key.now }
-    requires hi { span.now.hi ≡ bytes_of key.now }
+    requires span { IsSpanOf key.now span.now }
     ensures { FindsRecord B.View file.now (tree_of node.now) key.now leaves.old leaves.new result }
 {
     let found = values_by_columns(alloc, file, node, places, key, span, leaves)?;
@@ -168,21 +162,10 @@ pub(crate) fn add_by_columns<B: Leaves>(
     requires plain { ArePlainColumns places.now }
     requires tree { IsTreeFor file.now (tree_of node.now) (length (B.working leaves.old)) }
     requires storable { IsStorable file.now }
-    ensures rows { (f : FileMap) → B.whole leaves.old →
-        IsInternal file.now (tree_of node.now) (B.working leaves.old) f →
-        OnOk result (AreAdded span.now conds.now f rows.old.items rows.new.items) }
-    ensures steps { (f : FileMap) (most : ℕ) → B.whole leaves.old →
-        IsInternal file.now (tree_of node.now) (B.working leaves.old) f →
-        HaveAtMost most (tree_of node.now) f → OnOk result
-        (B.work leaves.new
-        ≤ B.work leaves.old
-        + (length (leaves_of (tree_of node.now)) + length (rows_inside span.now f) * most)) }
-    ensures front { Extends rows.old.items rows.new.items }
+    ensures adds { AddsWithin B.View file.now (tree_of node.now) span.now conds.now leaves.old
+        leaves.new rows.old.items rows.new.items result }
     ensures fit { AllByRecursion (IsRowOf file.now) rows.old.items →
         AllByRecursion (IsRowOf file.now) rows.new.items }
-    ensures reads { ReadsMaps B.View
-        (B.whole leaves.old × HasFile file.now (tree_of node.now) (B.working leaves.old))
-        leaves.old leaves.new result }
 {
     let _node = node;
     let columns = entries_of_each(alloc, places, span, leaves)?;
@@ -233,12 +216,10 @@ fn add_rows_of_columns(
     requires some { 0 < length places.now }
     requires long { length places.now ≡ length (data_fields file.now) }
     requires many { length columns.now ≡ length places.now }
-    ensures chosen { (rs : List TheRow) → AllByRecursion (IsRowOf file.now) rs →
-        AreColumnEntries places.now columns.now rs → IfOk result (λ all. (all ≡ true)
-        × (rows.new.items ≡ rows.old.items ++ filter (meets_conds conds.now) rs)) }
-    ensures front { Extends rows.old.items rows.new.items }
-    ensures fit { AllByRecursion (IsRowOf file.now) rows.old.items →
-        AllByRecursion (IsRowOf file.now) rows.new.items }
+    ensures { AddsChosen file.now
+        (λ rs. AllByRecursion (IsRowOf file.now) rs
+        × AreColumnEntries places.now columns.now rs)
+        conds.now rows.old.items rows.new.items result }
 {
     let first = &columns[0];
     let mut body = Vec::with_capacity(alloc, PLAIN_ROOM)?;

@@ -1,20 +1,18 @@
 // Finding by entries: where records stand whole in leaves, conditions are tested on the bytes of
 // entries.
-ghost use Rattle.std.specs.Prelude.{◌≡◌, ◌≤◌, ◌+◌, ◌*◌, ◌∷◌, ◌++◌, [], ℕ, length, filter, OnOk};
+ghost use Rattle.std.specs.Prelude.{◌≡◌, ◌≤◌, ◌+◌, ◌∷◌, ◌++◌, [], length, filter, OnOk};
 ghost use Rattle.std.specs.List.{AllByRecursion};
 ghost use Rattle.gx_values.specs.Values.{Fits};
 ghost use Rattle.gx_schema.specs.Lookups.{key_kind};
 ghost use Rattle.gx_ports.specs.Calls.{ReadsMaps};
 ghost use Rattle.gx_ports.specs.LeafMaps.{Extends};
-ghost use Rattle.gx_stack.specs.Tree.{leaves_of};
 ghost use Rattle.gx_stack.specs.Seen.{tree_of};
 ghost use Rattle.gx_model.specs.States.{File as FileMap, IsRowOf};
-ghost use Rattle.gx_model.specs.Found.{meets_conds};
 ghost use Rattle.gx_scan.specs.Files.{IsInternal, HasFile, IsStorable, IsTreeFor};
 ghost use Rattle.gx_scan.specs.Entries.{ArePlaces, IsPlaceOf, rows_at};
-ghost use Rattle.gx_scan.specs.Within.{is_within, AreAdded};
-ghost use Rattle.gx_scan.specs.Where.{rows_at_key};
-ghost use Rattle.gx_scan.specs.Steps.{HaveAtMost, is_key_inside, rows_inside};
+ghost use Rattle.gx_scan.specs.Within.{is_within};
+ghost use Rattle.gx_scan.specs.Steps.{is_key_inside};
+ghost use Rattle.gx_scan.specs.Search.{AddsWithin, AddsAtKey};
 
 use crate::coded::add_rows_at;
 use crate::places::Place;
@@ -69,21 +67,10 @@ pub(crate) fn add_by_entries<B: Leaves>(
     requires places { ArePlaces 0 (tree_of node.now) places.now }
     requires tree { IsTreeFor file.now (tree_of node.now) (length (B.working leaves.old)) }
     requires storable { IsStorable file.now }
-    ensures rows { (f : FileMap) → B.whole leaves.old →
-        IsInternal file.now (tree_of node.now) (B.working leaves.old) f →
-        OnOk result (AreAdded span.now conds.now f rows.old.items rows.new.items) }
-    ensures steps { (f : FileMap) (most : ℕ) → B.whole leaves.old →
-        IsInternal file.now (tree_of node.now) (B.working leaves.old) f →
-        HaveAtMost most (tree_of node.now) f → OnOk result
-        (B.work leaves.new
-        ≤ B.work leaves.old + (length (leaves_of (tree_of node.now)) + length
-        (rows_inside span.now f) * most)) }
-    ensures front { Extends rows.old.items rows.new.items }
+    ensures adds { AddsWithin B.View file.now (tree_of node.now) span.now conds.now leaves.old
+        leaves.new rows.old.items rows.new.items result }
     ensures fit { AllByRecursion (IsRowOf file.now) rows.old.items →
         AllByRecursion (IsRowOf file.now) rows.new.items }
-    ensures reads { ReadsMaps B.View
-        (B.whole leaves.old × HasFile file.now (tree_of node.now) (B.working leaves.old))
-        leaves.old leaves.new result }
 {
     for place in places {
         add_at(alloc, file, node, place, span, conds, leaves, entries, rows)?;
@@ -107,20 +94,10 @@ pub(crate) fn add_at_key<B: Leaves>(
     requires tree { IsTreeFor file.now (tree_of node.now) (length (B.working leaves.old)) }
     requires storable { IsStorable file.now }
     requires key { Fits (key_kind file.now) key.now }
-    ensures rows { (f : FileMap) → B.whole leaves.old →
-        IsInternal file.now (tree_of node.now) (B.working leaves.old) f → OnOk result
-        (rows.new.items
-        ≡ rows.old.items ++ filter (meets_conds conds.now) (rows_at_key f (key.now ∷ []))) }
-    ensures steps { (f : FileMap) (most : ℕ) → B.whole leaves.old →
-        IsInternal file.now (tree_of node.now) (B.working leaves.old) f →
-        HaveAtMost most (tree_of node.now) f → OnOk result
-        (B.work leaves.new
-        ≤ B.work leaves.old + (length (leaves_of (tree_of node.now)) + most)) }
+    ensures adds { AddsAtKey B.View file.now (tree_of node.now) (key.now ∷ []) conds.now leaves.old
+        leaves.new rows.old.items rows.new.items result }
     ensures fit { AllByRecursion (IsRowOf file.now) rows.old.items →
         AllByRecursion (IsRowOf file.now) rows.new.items }
-    ensures reads { ReadsMaps B.View
-        (B.whole leaves.old × HasFile file.now (tree_of node.now) (B.working leaves.old))
-        leaves.old leaves.new result }
 {
     set_key(&mut probe.span, key);
     add_by_entries(

@@ -1,20 +1,16 @@
 // Finding by two groups: where a segment splits records in two leaves, the entries of both are
 // joined by their keys.
-ghost use Rattle.std.specs.Prelude.{◌≡◌, ◌<◌, ◌≤◌, ◌+◌, ◌*◌, ℕ, length, IfOk, OnOk};
+ghost use Rattle.std.specs.Prelude.{◌≡◌, ◌<◌, ◌+◌, length, IfOk};
 ghost use Rattle.std.specs.List.{AllByRecursion};
 ghost use Rattle.gx_values.specs.Values.{Fits, IsSized};
-ghost use Rattle.gx_values.specs.Keys.{bytes_of};
 ghost use Rattle.gx_schema.specs.Lookups.{key_kind};
 ghost use Rattle.gx_ports.specs.Calls.{ReadsMaps};
-ghost use Rattle.gx_ports.specs.LeafMaps.{Extends, selected, map_at, counted};
-ghost use Rattle.gx_stack.specs.Tree.{leaves_of};
+ghost use Rattle.gx_ports.specs.LeafMaps.{selected, map_at, counted};
 ghost use Rattle.gx_stack.specs.Seen.{tree_of};
-ghost use Rattle.gx_model.specs.States.{File as FileMap, IsRowOf};
-ghost use Rattle.gx_scan.specs.Files.{rec_of, IsInternal, HasFile, IsStorable, IsTreeFor};
+ghost use Rattle.gx_model.specs.States.{IsRowOf};
+ghost use Rattle.gx_scan.specs.Files.{rec_of, IsStorable, IsTreeFor};
 ghost use Rattle.gx_scan.specs.Groups.{AreGroups, ArePlain};
-ghost use Rattle.gx_scan.specs.Within.{AreAdded};
-ghost use Rattle.gx_scan.specs.Search.{FindsValues, FindsRecord};
-ghost use Rattle.gx_scan.specs.Steps.{HaveAtMost, rows_inside};
+ghost use Rattle.gx_scan.specs.Search.{IsSpanOf, FindsValues, FindsRecord, AddsWithin};
 
 use crate::both::values_of_both;
 use crate::groups::Groups;
@@ -46,21 +42,10 @@ pub(crate) fn add_by_groups<B: Leaves>(
     requires plain { ArePlain groups.now }
     requires tree { IsTreeFor file.now (tree_of node.now) (length (B.working leaves.old)) }
     requires storable { IsStorable file.now }
-    ensures rows { (f : FileMap) → B.whole leaves.old →
-        IsInternal file.now (tree_of node.now) (B.working leaves.old) f →
-        OnOk result (AreAdded span.now conds.now f rows.old.items rows.new.items) }
-    ensures steps { (f : FileMap) (most : ℕ) → B.whole leaves.old →
-        IsInternal file.now (tree_of node.now) (B.working leaves.old) f →
-        HaveAtMost most (tree_of node.now) f → OnOk result
-        (B.work leaves.new
-        ≤ B.work leaves.old
-        + (length (leaves_of (tree_of node.now)) + length (rows_inside span.now f) * most)) }
-    ensures front { Extends rows.old.items rows.new.items }
+    ensures adds { AddsWithin B.View file.now (tree_of node.now) span.now conds.now leaves.old
+        leaves.new rows.old.items rows.new.items result }
     ensures fit { AllByRecursion (IsRowOf file.now) rows.old.items →
         AllByRecursion (IsRowOf file.now) rows.new.items }
-    ensures reads { ReadsMaps B.View
-        (B.whole leaves.old × HasFile file.now (tree_of node.now) (B.working leaves.old))
-        leaves.old leaves.new result }
 {
     let _node = node;
     let firsts = entries_at(alloc, &groups.first, span, leaves)?;
@@ -86,8 +71,7 @@ pub(crate) fn values_by_groups<B: Leaves>(
     requires tree { IsTreeFor file.now (tree_of node.now) (length (B.working leaves.old)) }
     requires storable { IsStorable file.now }
     requires key { Fits (key_kind file.now) key.now }
-    requires lo { span.now.lo ≡ bytes_of key.now }
-    requires hi { span.now.hi ≡ bytes_of key.now }
+    requires span { IsSpanOf key.now span.now }
     ensures { FindsValues B.View file.now (tree_of node.now) key.now leaves.old leaves.new result }
 {
     let _key = key;
@@ -117,8 +101,7 @@ pub(crate) fn record_by_groups<B: Leaves>(
     requires tree { IsTreeFor file.now (tree_of node.now) (length (B.working leaves.old)) }
     requires storable { IsStorable file.now }
     requires key { Fits (key_kind file.now) key.now }
-    requires lo { span.now.lo ≡ bytes_of key.now }
-    requires hi { span.now.hi ≡ bytes_of key.now }
+    requires span { IsSpanOf key.now span.now }
     ensures { FindsRecord B.View file.now (tree_of node.now) key.now leaves.old leaves.new result }
 {
     let found = values_by_groups(alloc, file, node, groups, key, span, leaves)?;

@@ -1,22 +1,18 @@
 // Finding by an index: it gives the keys of records, and each record there is tested.
-ghost use Rattle.std.specs.Prelude.{◌≡◌, ◌++◌, ◌<◌, ◌≤◌, ◌+◌, ◌*◌, ℕ, List, true, length, filter, flat_map, IfSome, OnOk};
+ghost use Rattle.std.specs.Prelude.{◌≡◌, ◌<◌, List, true, length, IfSome};
 ghost use Rattle.gx_values.specs.Values.{AreFit};
 ghost use Rattle.gx_values.specs.Spans.{IsValueSpan};
 ghost use Rattle.gx_values.specs.declared.values.Value.{Value as FieldValue};
 ghost use Rattle.gx_schema.specs.Lookups.{field_at};
-ghost use Rattle.gx_ports.specs.Calls.{ReadsMaps};
 ghost use Rattle.gx_mapping.specs.Rule.{In};
-ghost use Rattle.gx_stack.specs.Tree.{leaves_of};
 ghost use Rattle.gx_stack.specs.Seen.{tree_of};
 ghost use Rattle.gx_stack.specs.Indexed.{is_indexed};
 ghost use Rattle.gx_types.specs.Any.{any_rule};
 ghost use Rattle.gx_typing.specs.Dues.{file_form};
-ghost use Rattle.gx_model.specs.States.{File as FileMap};
-ghost use Rattle.gx_model.specs.Found.{meets_conds};
-ghost use Rattle.gx_scan.specs.Files.{IsInternal, HasFile, IsStorable, IsTreeFor};
+ghost use Rattle.gx_scan.specs.Files.{IsStorable, IsTreeFor};
 ghost use Rattle.gx_scan.specs.Entries.{ArePlaces};
-ghost use Rattle.gx_scan.specs.Where.{AreNamed, AreAddedWhere, rows_at_key};
-ghost use Rattle.gx_scan.specs.Steps.{HaveAtMost, rows_with};
+ghost use Rattle.gx_scan.specs.Where.{AreNamed};
+ghost use Rattle.gx_scan.specs.Search.{AddsWhere, AddsAtKey, AddsAtKeys};
 
 use crate::by_entries::{FEW_PLACES, KeyProbe, add_at_key};
 use crate::by_records::{into_row, meets_all};
@@ -57,19 +53,8 @@ pub fn rows_where<B: Leaves>(
     requires indexed { is_indexed any_rule (tree_of node.now) (field_at file.now field).name
         ≡ true }
     requires span { IsValueSpan (field_at file.now field).kind span.now }
-    ensures rows { (f : FileMap) → B.whole leaves.old →
-        IsInternal file.now (tree_of node.now) (B.working leaves.old) f →
-        OnOk result (AreAddedWhere field span.now conds.now f rows.old.items rows.new.items) }
-    ensures steps { (f : FileMap) (most : ℕ) → B.whole leaves.old →
-        IsInternal file.now (tree_of node.now) (B.working leaves.old) f →
-        HaveAtMost most (tree_of node.now) f → OnOk result
-        (B.work leaves.new
-        ≤ B.work leaves.old + ((length (rows_with field span.now f) + 1) * length
-        (leaves_of (tree_of node.now))
-        + 2 * (length (rows_with field span.now f) * most))) }
-    ensures reads { ReadsMaps B.View
-        (B.whole leaves.old × HasFile file.now (tree_of node.now) (B.working leaves.old))
-        leaves.old leaves.new result }
+    ensures { AddsWhere B.View file.now (tree_of node.now) field span.now conds.now leaves.old
+        leaves.new rows.old.items rows.new.items result }
 {
     let places = places_of(alloc, node, FEW_PLACES)?;
     let name = field_name(file, field);
@@ -111,18 +96,8 @@ fn add_by_keys<B: Leaves>(
     requires storable { IsStorable file.now }
     requires fit { (key : List FieldValue) → In key keys.now →
         AreFit (file_form file.now).keys key }
-    ensures rows { (f : FileMap) → B.whole leaves.old →
-        IsInternal file.now (tree_of node.now) (B.working leaves.old) f → OnOk result
-        (rows.new.items
-        ≡ rows.old.items ++ filter (meets_conds conds.now) (flat_map (rows_at_key f) keys.now)) }
-    ensures steps { (f : FileMap) (most : ℕ) → B.whole leaves.old →
-        IsInternal file.now (tree_of node.now) (B.working leaves.old) f →
-        HaveAtMost most (tree_of node.now) f → OnOk result
-        (B.work leaves.new
-        ≤ B.work leaves.old + length keys.now * (length (leaves_of (tree_of node.now)) + most)) }
-    ensures reads { ReadsMaps B.View
-        (B.whole leaves.old × HasFile file.now (tree_of node.now) (B.working leaves.old))
-        leaves.old leaves.new result }
+    ensures { AddsAtKeys B.View file.now (tree_of node.now) keys.now conds.now leaves.old leaves.new
+        rows.old.items rows.new.items result }
 {
     let mut probe = KeyProbe::new(alloc);
     for key in keys {
@@ -150,18 +125,8 @@ fn add_by_key<B: Leaves>(
     requires places { IfSome places (λ ps. ArePlaces 0 (tree_of node.now) ps.now) }
     requires storable { IsStorable file.now }
     requires fit { AreFit (file_form file.now).keys key.now }
-    ensures rows { (f : FileMap) → B.whole leaves.old →
-        IsInternal file.now (tree_of node.now) (B.working leaves.old) f → OnOk result
-        (rows.new.items
-        ≡ rows.old.items ++ filter (meets_conds conds.now) (rows_at_key f key.now)) }
-    ensures steps { (f : FileMap) (most : ℕ) → B.whole leaves.old →
-        IsInternal file.now (tree_of node.now) (B.working leaves.old) f →
-        HaveAtMost most (tree_of node.now) f → OnOk result
-        (B.work leaves.new
-        ≤ B.work leaves.old + (length (leaves_of (tree_of node.now)) + most)) }
-    ensures reads { ReadsMaps B.View
-        (B.whole leaves.old × HasFile file.now (tree_of node.now) (B.working leaves.old))
-        leaves.old leaves.new result }
+    ensures { AddsAtKey B.View file.now (tree_of node.now) key.now conds.now leaves.old leaves.new
+        rows.old.items rows.new.items result }
 {
     let Some(key) = key.0.first() else {
         unreachable!()

@@ -2,7 +2,6 @@
 ghost use Rattle.std.specs.Prelude.{◌≡◌, ◌∷◌, [], Option, length, option_map, IfSome};
 ghost use Rattle.std.specs.List.{AllByRecursion};
 ghost use Rattle.gx_values.specs.Values.{Fits, AreFit};
-ghost use Rattle.gx_values.specs.Keys.{bytes_of};
 ghost use Rattle.gx_schema.specs.Lookups.{key_kind, data_fields};
 ghost use Rattle.gx_schema.specs.declared.schema.FileDef.{FileDef as TheFile};
 ghost use Rattle.gx_stack.specs.Seen.{tree_of};
@@ -10,7 +9,7 @@ ghost use Rattle.gx_model.specs.States.{Row as TheRow, IsRowOf};
 ghost use Rattle.gx_scan.specs.Files.{IsStorable, IsTreeFor};
 ghost use Rattle.gx_scan.specs.Entries.{ArePlaces};
 ghost use Rattle.gx_scan.specs.Records.{list_of_one};
-ghost use Rattle.gx_scan.specs.Search.{FindsValues};
+ghost use Rattle.gx_scan.specs.Search.{IsSpanOf, FindsValues};
 
 use crate::by_columns::values_by_columns;
 use crate::by_entries::{FEW_PLACES, add_by_entries};
@@ -71,8 +70,7 @@ fn values_in<B: Leaves>(
     requires tree { IsTreeFor file.now (tree_of node.now) (length (B.working leaves.old)) }
     requires storable { IsStorable file.now }
     requires key { Fits (key_kind file.now) key.now }
-    requires lo { span.now.lo ≡ bytes_of key.now }
-    requires hi { span.now.hi ≡ bytes_of key.now }
+    requires span { IsSpanOf key.now span.now }
     ensures { FindsValues B.View file.now (tree_of node.now) key.now leaves.old leaves.new result }
 {
     if let Some(groups) = groups_of(alloc, node)? {
@@ -107,8 +105,7 @@ fn values_at<B: Leaves>(
     requires tree { IsTreeFor file.now (tree_of node.now) (length (B.working leaves.old)) }
     requires storable { IsStorable file.now }
     requires key { Fits (key_kind file.now) key.now }
-    requires lo { span.now.lo ≡ bytes_of key.now }
-    requires hi { span.now.hi ≡ bytes_of key.now }
+    requires span { IsSpanOf key.now span.now }
     ensures { FindsValues B.View file.now (tree_of node.now) key.now leaves.old leaves.new result }
 {
     let _key = key;
@@ -135,8 +132,7 @@ fn values_by_entry<B: Leaves>(
     requires tree { IsTreeFor file.now (tree_of node.now) (length (B.working leaves.old)) }
     requires storable { IsStorable file.now }
     requires key { Fits (key_kind file.now) key.now }
-    requires lo { span.now.lo ≡ bytes_of key.now }
-    requires hi { span.now.hi ≡ bytes_of key.now }
+    requires span { IsSpanOf key.now span.now }
     ensures { FindsValues B.View file.now (tree_of node.now) key.now leaves.old leaves.new result }
 {
     let _key = key;
@@ -179,8 +175,7 @@ fn values_by_record<B: Leaves>(
     requires tree { IsTreeFor file.now (tree_of node.now) (length (B.working leaves.old)) }
     requires storable { IsStorable file.now }
     requires key { Fits (key_kind file.now) key.now }
-    requires lo { span.now.lo ≡ bytes_of key.now }
-    requires hi { span.now.hi ≡ bytes_of key.now }
+    requires span { IsSpanOf key.now span.now }
     ensures { FindsValues B.View file.now (tree_of node.now) key.now leaves.old leaves.new result }
 {
     match record_inside(alloc, file, node, key, span, leaves)? {

@@ -1,22 +1,16 @@
 // Finding by pieces: where a layer cuts the bytes of each record into pieces, the entries of a
 // record in the one leaf are joined.
-ghost use Rattle.std.specs.Prelude.{◌≡◌, ◌≤◌, ◌+◌, ◌*◌, ℕ, length, OnOk};
+ghost use Rattle.std.specs.Prelude.{length};
 ghost use Rattle.std.specs.List.{AllByRecursion};
 ghost use Rattle.gx_values.specs.Values.{Fits};
-ghost use Rattle.gx_values.specs.Keys.{bytes_of};
 ghost use Rattle.gx_schema.specs.Lookups.{key_kind};
-ghost use Rattle.gx_ports.specs.Calls.{ReadsMaps};
-ghost use Rattle.gx_ports.specs.LeafMaps.{Extends};
 ghost use Rattle.gx_stack.specs.Selected.{IsKeySpan};
-ghost use Rattle.gx_stack.specs.Tree.{leaves_of};
 ghost use Rattle.gx_stack.specs.Seen.{tree_of};
 ghost use Rattle.gx_typing.specs.Dues.{file_form};
-ghost use Rattle.gx_model.specs.States.{File as FileMap, IsRowOf};
-ghost use Rattle.gx_scan.specs.Files.{IsInternal, HasFile, IsStorable, IsTreeFor};
+ghost use Rattle.gx_model.specs.States.{IsRowOf};
+ghost use Rattle.gx_scan.specs.Files.{IsStorable, IsTreeFor};
 ghost use Rattle.gx_scan.specs.Pieces.{ArePieces};
-ghost use Rattle.gx_scan.specs.Within.{AreAdded};
-ghost use Rattle.gx_scan.specs.Search.{FindsValues, FindsRecord};
-ghost use Rattle.gx_scan.specs.Steps.{HaveAtMost, rows_inside};
+ghost use Rattle.gx_scan.specs.Search.{IsSpanOf, FindsValues, FindsRecord, AddsWithin};
 
 use crate::by_groups::record_of;
 use crate::pieced::{add_pieced_rows, values_of_pieces};
@@ -47,21 +41,10 @@ pub(crate) fn add_by_pieces<B: Leaves>(
     requires tree { IsTreeFor file.now (tree_of node.now) (length (B.working leaves.old)) }
     requires storable { IsStorable file.now }
     requires span { IsKeySpan (file_form file.now) span.now }
-    ensures rows { (f : FileMap) → B.whole leaves.old →
-        IsInternal file.now (tree_of node.now) (B.working leaves.old) f →
-        OnOk result (AreAdded span.now conds.now f rows.old.items rows.new.items) }
-    ensures steps { (f : FileMap) (most : ℕ) → B.whole leaves.old →
-        IsInternal file.now (tree_of node.now) (B.working leaves.old) f →
-        HaveAtMost most (tree_of node.now) f → OnOk result
-        (B.work leaves.new
-        ≤ B.work leaves.old
-        + (length (leaves_of (tree_of node.now)) + length (rows_inside span.now f) * most)) }
-    ensures front { Extends rows.old.items rows.new.items }
+    ensures adds { AddsWithin B.View file.now (tree_of node.now) span.now conds.now leaves.old
+        leaves.new rows.old.items rows.new.items result }
     ensures fit { AllByRecursion (IsRowOf file.now) rows.old.items →
         AllByRecursion (IsRowOf file.now) rows.new.items }
-    ensures reads { ReadsMaps B.View
-        (B.whole leaves.old × HasFile file.now (tree_of node.now) (B.working leaves.old))
-        leaves.old leaves.new result }
 {
     let _node = node;
     let mut entries = Entries::new(alloc);
@@ -87,8 +70,7 @@ pub(crate) fn values_by_pieces<B: Leaves>(
     requires tree { IsTreeFor file.now (tree_of node.now) (length (B.working leaves.old)) }
     requires storable { IsStorable file.now }
     requires key { Fits (key_kind file.now) key.now }
-    requires lo { span.now.lo ≡ bytes_of key.now }
-    requires hi { span.now.hi ≡ bytes_of key.now }
+    requires span { IsSpanOf key.now span.now }
     ensures { FindsValues B.View file.now (tree_of node.now) key.now leaves.old leaves.new result }
 {
     let (_, _) = (node, key);
@@ -114,8 +96,7 @@ pub(crate) fn record_by_pieces<B: Leaves>(
     requires tree { IsTreeFor file.now (tree_of node.now) (length (B.working leaves.old)) }
     requires storable { IsStorable file.now }
     requires key { Fits (key_kind file.now) key.now }
-    requires lo { span.now.lo ≡ bytes_of key.now }
-    requires hi { span.now.hi ≡ bytes_of key.now }
+    requires span { IsSpanOf key.now span.now }
     ensures { FindsRecord B.View file.now (tree_of node.now) key.now leaves.old leaves.new result }
 {
     let found = values_by_pieces(alloc, file, node, pieces, key, span, leaves)?;

@@ -1,18 +1,15 @@
 // Finding by records: a node gives those within a span, and the ones that meet conditions are kept.
-ghost use Rattle.std.specs.Prelude.{◌≡◌, ◌<◌, ◌≤◌, ◌+◌, ◌*◌, ◌++◌, ℕ, length, map, filter, OnOk};
+ghost use Rattle.std.specs.Prelude.{◌≡◌, ◌<◌, ◌++◌, length, map, filter, OnOk};
 ghost use Rattle.gx_values.specs.declared.records.Rec.{Rec as Record};
-ghost use Rattle.gx_ports.specs.Calls.{ReadsMaps};
 ghost use Rattle.gx_ports.specs.LeafMaps.{Extends};
 ghost use Rattle.gx_mapping.specs.Rule.{In, IsOf};
 ghost use Rattle.gx_stack.specs.Selected.{IsKeySpan};
-ghost use Rattle.gx_stack.specs.Tree.{leaves_of};
 ghost use Rattle.gx_stack.specs.Seen.{tree_of};
 ghost use Rattle.gx_typing.specs.Dues.{file_form};
-ghost use Rattle.gx_model.specs.States.{File as FileMap};
 ghost use Rattle.gx_model.specs.Found.{meets_cond, meets_conds};
-ghost use Rattle.gx_scan.specs.Files.{IsInternal, HasFile, IsStorable, IsTreeFor};
-ghost use Rattle.gx_scan.specs.Within.{row_of, AreAdded};
-ghost use Rattle.gx_scan.specs.Steps.{HaveAtMost, rows_inside};
+ghost use Rattle.gx_scan.specs.Files.{IsStorable, IsTreeFor};
+ghost use Rattle.gx_scan.specs.Within.{row_of};
+ghost use Rattle.gx_scan.specs.Search.{AddsWithin};
 
 use gx_commands::Cond;
 use gx_gather::Recs;
@@ -38,19 +35,8 @@ pub(crate) fn add_by_records<B: Leaves>(
     requires tree { IsTreeFor file.now (tree_of node.now) (length (B.working leaves.old)) }
     requires storable { IsStorable file.now }
     requires span { IsKeySpan (file_form file.now) span.now }
-    ensures rows { (f : FileMap) → B.whole leaves.old →
-        IsInternal file.now (tree_of node.now) (B.working leaves.old) f →
-        OnOk result (AreAdded span.now conds.now f rows.old.items rows.new.items) }
-    ensures steps { (f : FileMap) (most : ℕ) → B.whole leaves.old →
-        IsInternal file.now (tree_of node.now) (B.working leaves.old) f →
-        HaveAtMost most (tree_of node.now) f → OnOk result
-        (B.work leaves.new
-        ≤ B.work leaves.old + (length (leaves_of (tree_of node.now)) + length
-        (rows_inside span.now f) * most)) }
-    ensures front { Extends rows.old.items rows.new.items }
-    ensures reads { ReadsMaps B.View
-        (B.whole leaves.old × HasFile file.now (tree_of node.now) (B.working leaves.old))
-        leaves.old leaves.new result }
+    ensures { AddsWithin B.View file.now (tree_of node.now) span.now conds.now leaves.old leaves.new
+        rows.old.items rows.new.items result }
 {
     let mut found = Recs::new(alloc);
     node.select(alloc, leaves, span, &mut found)?;

@@ -1,16 +1,16 @@
 // The records of a file among the entries of a leaf where some data fields stand by their codes.
 // Only the values of a record that meets the conditions are decoded.
-ghost use Rattle.std.specs.Prelude.{◌≡◌, ◌++◌, List, map, filter, true, Option, Some, option_map, IfOk, IfSome};
+ghost use Rattle.std.specs.Prelude.{◌≡◌, map, Option, Some, option_map, IfOk, IfSome};
 ghost use Rattle.std.specs.List.{AllByRecursion};
 ghost use Rattle.gx_values.specs.Values.{AreFit};
 ghost use Rattle.gx_values.specs.Keys.{bytes_of};
-ghost use Rattle.gx_ports.specs.LeafMaps.{entry_of, Extends};
+ghost use Rattle.gx_ports.specs.LeafMaps.{entry_of};
 ghost use Rattle.gx_schema.specs.Lookups.{data_fields};
 ghost use Rattle.gx_model.specs.States.{Row as TheRow, IsRowOf};
-ghost use Rattle.gx_model.specs.Found.{meets_conds};
 ghost use Rattle.gx_scan.specs.Files.{IsStorable};
 ghost use Rattle.gx_scan.specs.Entries.{entry_of_row, IsStoredRow};
 ghost use Rattle.gx_scan.specs.Records.{list_of_one};
+ghost use Rattle.gx_scan.specs.Search.{AddsChosen};
 
 use crate::conditions::is_chosen;
 use crate::places::Place;
@@ -36,13 +36,11 @@ pub(crate) fn add_rows_at(
     rows: &mut Vec<Row>,
 ) -> Result<bool, NoMemory>
     requires { IsStorable file.now }
-    ensures chosen { (rs : List TheRow) → AllByRecursion (IsStoredRow file.now place.now.codes) rs →
-        entries.now ≡ map (λ r. entry_of (entry_of_row place.now.lengths place.now.codes r)) rs →
-        IfOk result (λ all. (all ≡ true)
-        × (rows.new.items ≡ rows.old.items ++ filter (meets_conds conds.now) rs)) }
-    ensures front { Extends rows.old.items rows.new.items }
-    ensures fit { AllByRecursion (IsRowOf file.now) rows.old.items →
-        AllByRecursion (IsRowOf file.now) rows.new.items }
+    ensures { AddsChosen file.now
+        (λ rs. AllByRecursion (IsStoredRow file.now place.now.codes) rs
+        × (entries.now ≡ map
+        (λ r. entry_of (entry_of_row place.now.lengths place.now.codes r)) rs))
+        conds.now rows.old.items rows.new.items result }
 {
     if place.codes.is_empty() {
         add_chosen_rows(alloc, file, place.lengths, conds, entries, rows)
@@ -60,13 +58,11 @@ fn add_coded_rows(
     rows: &mut Vec<Row>,
 ) -> Result<bool, NoMemory>
     requires { IsStorable file.now }
-    ensures chosen { (rs : List TheRow) → AllByRecursion (IsStoredRow file.now place.now.codes) rs →
-        entries.now ≡ map (λ r. entry_of (entry_of_row place.now.lengths place.now.codes r)) rs →
-        IfOk result (λ all. (all ≡ true)
-        × (rows.new.items ≡ rows.old.items ++ filter (meets_conds conds.now) rs)) }
-    ensures front { Extends rows.old.items rows.new.items }
-    ensures fit { AllByRecursion (IsRowOf file.now) rows.old.items →
-        AllByRecursion (IsRowOf file.now) rows.new.items }
+    ensures { AddsChosen file.now
+        (λ rs. AllByRecursion (IsStoredRow file.now place.now.codes) rs
+        × (entries.now ≡ map
+        (λ r. entry_of (entry_of_row place.now.lengths place.now.codes r)) rs))
+        conds.now rows.old.items rows.new.items result }
 {
     for index in 0..entries.len() {
         let entry = entries.entry(index);

@@ -1,6 +1,6 @@
 // The records of a file whose two groups of data fields stand in entries of two leaves. Conditions
 // on the first group are tested on its bytes; the bodies of both are joined for what is left.
-ghost use Rattle.std.specs.Prelude.{◌≡◌, ◌≢◌, ◌≤◌, ◌++◌, ◌∷◌, [], List, ℕ, Bool, length, map, filter, not, drop, true, false, pos, slice_index_or, if◌then◌else◌, IfOk, IfSome, IsSomeAnd};
+ghost use Rattle.std.specs.Prelude.{◌≡◌, ◌≢◌, ◌++◌, ◌∷◌, [], List, ℕ, length, map, filter, not, drop, true, false, pos, slice_index_or, if◌then◌else◌, IfOk, IfSome, IsSomeAnd};
 ghost use Rattle.std.specs.List.{AllByRecursion};
 ghost use Rattle.std.specs.List.Sorted.{IsStrictlySortedBy};
 ghost use Rattle.gx_values.specs.declared.values.Value.{Value as FieldValue};
@@ -16,6 +16,7 @@ ghost use Rattle.gx_model.specs.Found.{value_at, meets_conds};
 ghost use Rattle.gx_scan.specs.Files.{IsStorable};
 ghost use Rattle.gx_scan.specs.Groups.{has_others, first_entry, other_entry};
 ghost use Rattle.gx_scan.specs.Scan.{value_of};
+ghost use Rattle.gx_scan.specs.Search.{AddsChosen};
 
 use crate::groups::Groups;
 use crate::records::data_fields;
@@ -46,16 +47,13 @@ pub(crate) fn add_joined_rows(
 ) -> Result<bool, NoMemory>
     requires storable { IsStorable file.now }
     requires long { length groups.now.mask.now ≡ length (data_fields file.now) }
-    ensures chosen { (rs : List TheRow) → AllByRecursion (IsRowOf file.now) rs →
-        IsStrictlySortedBy (λ a b. value_cmp a.0 b.0) rs →
-        firsts.now ≡ map (λ r. entry_of (first_entry groups.now r)) rs →
-        others.now ≡ map (λ r. entry_of (other_entry groups.now r))
-        (filter (has_others groups.now.mask.now (data_fields file.now)) rs) →
-        IfOk result (λ all. (all ≡ true)
-        × (rows.new.items ≡ rows.old.items ++ filter (meets_conds conds.now) rs)) }
-    ensures front { Extends rows.old.items rows.new.items }
-    ensures fit { AllByRecursion (IsRowOf file.now) rows.old.items →
-        AllByRecursion (IsRowOf file.now) rows.new.items }
+    ensures { AddsChosen file.now
+        (λ rs. AllByRecursion (IsRowOf file.now) rs
+        × IsStrictlySortedBy (λ a b. value_cmp a.0 b.0) rs
+        × (firsts.now ≡ map (λ r. entry_of (first_entry groups.now r)) rs)
+        × (others.now ≡ map (λ r. entry_of (other_entry groups.now r))
+        (filter (has_others groups.now.mask.now (data_fields file.now)) rs)))
+        conds.now rows.old.items rows.new.items result }
 {
     let defaults = default_body(alloc, data_fields(file), groups.mask)?;
     let mut plain = Vec::with_capacity(alloc, PLAIN_ROOM)?;

@@ -14,6 +14,7 @@ ghost use Rattle.gx_model.specs.Found.{meets_conds};
 ghost use Rattle.gx_scan.specs.Files.{IsStorable};
 ghost use Rattle.gx_scan.specs.Pieces.{numbered_entries, piece_entries};
 ghost use Rattle.gx_scan.specs.Records.{list_of_one};
+ghost use Rattle.gx_scan.specs.Search.{AddsChosen};
 
 use crate::joined::{PLAIN_ROOM, add_met};
 use crate::scan::{HALF, read_values};
@@ -38,13 +39,10 @@ pub(crate) fn add_pieced_rows(
 ) -> Result<bool, NoMemory>
     requires storable { IsStorable file.now }
     requires some { 0 < size }
-    ensures chosen { (rs : List TheRow) → AllByRecursion (IsRowOf file.now) rs →
-        entries.now ≡ map entry_of (flat_map (piece_entries size) rs) →
-        IfOk result (λ all. (all ≡ true)
-        × (rows.new.items ≡ rows.old.items ++ filter (meets_conds conds.now) rs)) }
-    ensures front { Extends rows.old.items rows.new.items }
-    ensures fit { AllByRecursion (IsRowOf file.now) rows.old.items →
-        AllByRecursion (IsRowOf file.now) rows.new.items }
+    ensures { AddsChosen file.now
+        (λ rs. AllByRecursion (IsRowOf file.now) rs
+        × (entries.now ≡ map entry_of (flat_map (piece_entries size) rs)))
+        conds.now rows.old.items rows.new.items result }
 {
     let mut bytes = Vec::with_capacity(alloc, PLAIN_ROOM)?;
     let mut at = 0;

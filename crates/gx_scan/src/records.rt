@@ -10,7 +10,7 @@ ghost use Rattle.gx_mapping.specs.Rule.{In, IsOf};
 ghost use Rattle.gx_stack.specs.Seen.{tree_of};
 ghost use Rattle.gx_scan.specs.Files.{IsStorable, IsTreeFor};
 ghost use Rattle.gx_scan.specs.Records.{list_of_one};
-ghost use Rattle.gx_scan.specs.Search.{FindsRecord};
+ghost use Rattle.gx_scan.specs.Search.{IsSpanOf, FindsRecord};
 
 use crate::by_columns::record_by_columns;
 use crate::by_groups::record_by_groups;
@@ -43,8 +43,7 @@ pub(crate) fn data_fields(file: &FileDef) -> &[Field]
 /// buffers.
 pub(crate) fn set_key(span: &mut Span, key: &Value)
     requires { length (bytes_of key.now) ≤ MAX_KEY_LEN }
-    ensures lo { span.new.lo ≡ bytes_of key.now }
-    ensures hi { span.new.hi ≡ bytes_of key.now }
+    ensures { IsSpanOf key.now span.new }
 {
     span.lo.set_value(key);
     span.hi.set_value(key);
@@ -83,8 +82,7 @@ fn record_in<B: Leaves>(
     requires tree { IsTreeFor file.now (tree_of node.now) (length (B.working leaves.old)) }
     requires storable { IsStorable file.now }
     requires key { Fits (key_kind file.now) key.now }
-    requires lo { span.now.lo ≡ bytes_of key.now }
-    requires hi { span.now.hi ≡ bytes_of key.now }
+    requires span { IsSpanOf key.now span.now }
     ensures { FindsRecord B.View file.now (tree_of node.now) key.now leaves.old leaves.new result }
 {
     if let Some(groups) = groups_of(alloc, node)? {
@@ -111,8 +109,7 @@ pub(crate) fn record_inside<B: Leaves>(
     requires tree { IsTreeFor file.now (tree_of node.now) (length (B.working leaves.old)) }
     requires storable { IsStorable file.now }
     requires key { Fits (key_kind file.now) key.now }
-    requires lo { span.now.lo ≡ bytes_of key.now }
-    requires hi { span.now.hi ≡ bytes_of key.now }
+    requires span { IsSpanOf key.now span.now }
     ensures { FindsRecord B.View file.now (tree_of node.now) key.now leaves.old leaves.new result }
 {
     let (_, _) = (file, key);

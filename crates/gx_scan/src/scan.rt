@@ -1,6 +1,6 @@
 // The records of a file among the entries of its leaf that meet conditions: the conditions are
 // tested on the bytes of an entry, and only a record that meets them all is made.
-ghost use Rattle.std.specs.Prelude.{◌≡◌, ◌<◌, ◌≤◌, ◌++◌, [], List, ℕ, ℤ, pos, suc, length, map, filter, slice_index_or, true, Some, IfOk, IfSome, IsSomeAnd};
+ghost use Rattle.std.specs.Prelude.{◌≡◌, ◌≤◌, ◌++◌, [], List, ℕ, ℤ, pos, suc, length, map, slice_index_or, Some, IfOk, IfSome, IsSomeAnd};
 ghost use Rattle.std.specs.Int.{w64};
 ghost use Rattle.std.specs.Int.RustNames.{FitsSigned};
 ghost use Rattle.std.specs.List.{AllByRecursion};
@@ -9,7 +9,7 @@ ghost use Rattle.gx_values.specs.declared.values.Value.{Value as FieldValue};
 ghost use Rattle.gx_values.specs.declared.values.Value.TheVariants as value;
 ghost use Rattle.gx_values.specs.Values.{Fits, AreFit, value_cmp, is_met};
 ghost use Rattle.gx_values.specs.Keys.{bytes_of, rank_of, IsKeyKind};
-ghost use Rattle.gx_ports.specs.LeafMaps.{entry_of, Extends};
+ghost use Rattle.gx_ports.specs.LeafMaps.{entry_of};
 ghost use Rattle.gx_actual.specs.Bodies.{field_bytes, body_of, IsShort, AreShort};
 ghost use Rattle.gx_model.specs.States.{Row as TheRow, IsRowOf};
 ghost use Rattle.gx_model.specs.Found.{value_at, meets_conds};
@@ -18,6 +18,7 @@ ghost use Rattle.gx_schema.specs.Lookups.{data_fields};
 ghost use Rattle.gx_stack.specs.Tree.{leaf_body};
 ghost use Rattle.gx_scan.specs.Entries.{entry_of_row, wrapped};
 ghost use Rattle.gx_scan.specs.Scan.{value_of};
+ghost use Rattle.gx_scan.specs.Search.{AddsChosen};
 
 use crate::records::data_fields;
 use gx_actual::read_body;
@@ -42,13 +43,10 @@ pub(crate) fn add_chosen_rows(
     rows: &mut Vec<Row>,
 ) -> Result<bool, NoMemory>
     requires { IsStorable file.now }
-    ensures chosen { (rs : List TheRow) → AllByRecursion (IsRowOf file.now) rs →
-        entries.now ≡ map (λ r. entry_of (entry_of_row lengths [] r)) rs → IfOk result
-        (λ all. (all ≡ true)
-        × (rows.new.items ≡ rows.old.items ++ filter (meets_conds conds.now) rs)) }
-    ensures front { Extends rows.old.items rows.new.items }
-    ensures fit { AllByRecursion (IsRowOf file.now) rows.old.items →
-        AllByRecursion (IsRowOf file.now) rows.new.items }
+    ensures { AddsChosen file.now
+        (λ rs. AllByRecursion (IsRowOf file.now) rs
+        × (entries.now ≡ map (λ r. entry_of (entry_of_row lengths [] r)) rs))
+        conds.now rows.old.items rows.new.items result }
 {
     for index in 0..entries.len() {
         let entry = entries.entry(index);

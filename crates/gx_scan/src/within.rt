@@ -1,17 +1,12 @@
 // The records of a file within a span that meet conditions.
-ghost use Rattle.std.specs.Prelude.{◌≡◌, ◌≤◌, ◌+◌, ◌*◌, ℕ, List, length, true, OnOk};
+ghost use Rattle.std.specs.Prelude.{◌≡◌, ℕ, List, length, true};
 ghost use Rattle.gx_values.specs.declared.records.Form.{Form as TheForm};
 ghost use Rattle.gx_values.specs.Keys.{is_inside};
-ghost use Rattle.gx_ports.specs.Calls.{ReadsMaps};
-ghost use Rattle.gx_ports.specs.LeafMaps.{Extends};
 ghost use Rattle.gx_stack.specs.Selected.{IsKeySpan};
-ghost use Rattle.gx_stack.specs.Tree.{leaves_of};
 ghost use Rattle.gx_stack.specs.Seen.{tree_of};
 ghost use Rattle.gx_typing.specs.Dues.{file_form};
-ghost use Rattle.gx_model.specs.States.{File as FileMap};
-ghost use Rattle.gx_scan.specs.Files.{IsInternal, HasFile, IsStorable, IsTreeFor};
-ghost use Rattle.gx_scan.specs.Within.{AreAdded};
-ghost use Rattle.gx_scan.specs.Steps.{HaveAtMost, rows_inside};
+ghost use Rattle.gx_scan.specs.Files.{IsStorable, IsTreeFor};
+ghost use Rattle.gx_scan.specs.Search.{AddsWithin};
 
 use crate::by_columns::add_by_columns;
 use crate::by_entries::{FEW_PLACES, add_by_entries};
@@ -52,19 +47,8 @@ pub fn rows_within<B: Leaves>(
     requires tree { IsTreeFor file.now (tree_of node.now) (length (B.working leaves.old)) }
     requires storable { IsStorable file.now }
     requires span { IsKeySpan (file_form file.now) span.now }
-    ensures rows { (f : FileMap) → B.whole leaves.old →
-        IsInternal file.now (tree_of node.now) (B.working leaves.old) f →
-        OnOk result (AreAdded span.now conds.now f rows.old.items rows.new.items) }
-    ensures steps { (f : FileMap) (most : ℕ) → B.whole leaves.old →
-        IsInternal file.now (tree_of node.now) (B.working leaves.old) f →
-        HaveAtMost most (tree_of node.now) f → OnOk result
-        (B.work leaves.new
-        ≤ B.work leaves.old + (length (leaves_of (tree_of node.now)) + length
-        (rows_inside span.now f) * most)) }
-    ensures front { Extends rows.old.items rows.new.items }
-    ensures reads { ReadsMaps B.View
-        (B.whole leaves.old × HasFile file.now (tree_of node.now) (B.working leaves.old))
-        leaves.old leaves.new result }
+    ensures { AddsWithin B.View file.now (tree_of node.now) span.now conds.now leaves.old leaves.new
+        rows.old.items rows.new.items result }
 {
     if let Some(groups) = plain_groups_of(alloc, node)? {
         return add_by_groups(alloc, file, node, &groups, span, conds, leaves, rows);

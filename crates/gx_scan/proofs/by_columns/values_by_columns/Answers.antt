@@ -77,17 +77,19 @@ returns-then-at-eq0 g c =
     let es = c.select_at.new.entries in
     record {
       found = λ f whole is. no_record file t ps _ maps f storable tree is are
-          key span c.requires.key c.requires.lo c.requires.hi i p lt item es _ inv.reads.working
+          key span c.requires.key c.requires.span.lo c.requires.span.hi i p lt item es _
+          inv.reads.working
           (selected.entries (inv.whole whole))
           (c.is_empty.ensures.0 c.if-is_empty.true);
       fits = tt;
       steps = λ f most whole is few. steps_key file t ps _ maps f storable tree is are
-          key span c.requires.key c.requires.lo c.requires.hi most (i + 1) _ _ few
+          key span c.requires.key c.requires.span.lo c.requires.span.hi most (i + 1) _ _ few
           (omega (arith, lt)) (omega (
             arith,
             inv.steps f whole is,
             counted_most _ _ _ _ selected.steps (many_found file t ps _ maps f storable tree is are
-                key span c.requires.key c.requires.lo c.requires.hi i p lt item es _ inv.reads.working
+                key span c.requires.key c.requires.span.lo c.requires.span.hi i p lt item es _
+                inv.reads.working
                 (selected.entries (inv.whole whole))),
           ));
       reads = reads_passed b _ (passes_joined b (record { reads = inv.reads; whole = inv.whole; counted = inv.counted })
@@ -129,7 +131,8 @@ returns-then-is_empty g c =
               arith,
               ap length (c.is_empty.ensures.0 c.if-is_empty.true),
               ap length (one_found file t ps _ maps f storable tree is are
-                  key span c.requires.key c.requires.lo c.requires.hi i p lt item es _ inv.reads.working
+                  key span c.requires.key c.requires.span.lo c.requires.span.hi i p lt item es _
+                  inv.reads.working
                   (selected.entries (inv.whole whole)) some.0 some.1),
             )
           ])
@@ -169,13 +172,14 @@ returns-in_default g c =
           let is = sound.1.1 in
           elim (found_cases (fin.get f key)) [
             | inl none ↦ some_record file t ps _ maps f storable tree is are
-                key span c.requires.key c.requires.lo c.requires.hi i p lt item es _ inv.reads.working
+                key span c.requires.key c.requires.span.lo c.requires.span.hi i p lt item es _
+                inv.reads.working
                 (selected.entries (inv.whole whole)) e c.entry.ensures none
             | inr some ↦ (
                 let vs = some.0 in
                 let found = some.1 in
                 let row = row_there file t ps _ maps f storable tree is are
-                key span c.requires.key c.requires.lo c.requires.hi vs found in
+                key span c.requires.key c.requires.span.lo c.requires.span.hi vs found in
                 let fit = row_fit file t ps _ maps f storable tree is are (key, vs) row in
                 let v = get_or vs i no_value in
                 let read = c.in_ok-value.ensures.read key v
@@ -183,7 +187,8 @@ returns-in_default g c =
                 c.index-fields-at.result same fit.1 c.loop-at-test.true c.index-fields-at.is)
                 (column_coded file t ps _ maps f storable tree is are i p lt item (key, vs) row)
                 (body_found file t ps _ maps f storable tree is are
-                key span c.requires.key c.requires.lo c.requires.hi i p lt item es _ inv.reads.working
+                key span c.requires.key c.requires.span.lo c.requires.span.hi i p lt item es _
+                inv.reads.working
                 (selected.entries (inv.whole whole)) vs found e c.entry.ensures) in
                 let nothing = c.in_default.is in
                 cc)
@@ -225,7 +230,7 @@ loop-at-preserved g c =
           c.in_ok-push.ensures.items;
       so_far = λ f whole is vs found.
           let row = row_there file t ps _ maps f storable tree is are
-          key span c.requires.key c.requires.lo c.requires.hi vs found in
+          key span c.requires.key c.requires.span.lo c.requires.span.hi vs found in
           let fit = row_fit file t ps _ maps f storable tree is are (key, vs) row in
           let v = get_or vs i no_value in
           let read = c.in_ok-value.ensures.read key v
@@ -233,7 +238,8 @@ loop-at-preserved g c =
           c.index-fields-at.result same fit.1 c.loop-at-test.true c.index-fields-at.is)
           (column_coded file t ps _ maps f storable tree is are i p lt item (key, vs) row)
           (body_found file t ps _ maps f storable tree is are
-          key span c.requires.key c.requires.lo c.requires.hi i p lt item es _ inv.reads.working
+          key span c.requires.key c.requires.span.lo c.requires.span.hi i p lt item es _
+          inv.reads.working
           (selected.entries (inv.whole whole)) vs found e c.entry.ensures) in
           let same : value ≡ v = some_same value v (sym c.in-Some.is ∙ read) in
           let within : i < length vs =
@@ -241,14 +247,16 @@ loop-at-preserved g c =
           c.in_ok-push.ensures.items ∙ (λ j. inv.so_far f whole is vs found j ++ same j ∷ [])
           ∙ sym (take_more vs i no_value within);
       none = λ f whole is none. absurd (some_record file t ps _ maps f storable tree is are
-          key span c.requires.key c.requires.lo c.requires.hi i p lt item es _ inv.reads.working
+          key span c.requires.key c.requires.span.lo c.requires.span.hi i p lt item es _
+          inv.reads.working
           (selected.entries (inv.whole whole))
           e c.entry.ensures none);
       steps = λ f whole is. omega (
         arith,
         inv.steps f whole is,
         counted_most _ _ _ _ selected.steps (many_found file t ps _ maps f storable tree is are
-            key span c.requires.key c.requires.lo c.requires.hi i p lt item es _ inv.reads.working
+            key span c.requires.key c.requires.span.lo c.requires.span.hi i p lt item es _
+            inv.reads.working
             (selected.entries (inv.whole whole))),
       );
       reads = reads_joined b inv.reads selected.reads.reads;
@@ -285,7 +293,7 @@ returns g c =
         | inr some ↦ (
             let vs = some.0 in
             let row = row_there file t ps _ maps f storable tree is are
-            key span c.requires.key c.requires.lo c.requires.hi vs some.1 in
+            key span c.requires.key c.requires.span.lo c.requires.span.hi vs some.1 in
             let fit = row_fit file t ps _ maps f storable tree is are (key, vs) row in
             ap Some (inv.so_far f whole is vs some.1 ∙ take_all i vs (omega (
               arith,
@@ -297,7 +305,7 @@ returns g c =
       fits = subst (λ fs. AreFit fs c.loop-at.values.items)
           (take_all i c.data_fields-fields.result.now c.loop-at-test.false ∙ same) inv.fit;
       steps = λ f most whole is few. steps_key file t ps _ maps f storable tree is are
-          key span c.requires.key c.requires.lo c.requires.hi most i _ _ few
+          key span c.requires.key c.requires.span.lo c.requires.span.hi most i _ _ few
           (omega (arith, many, ap length same)) (inv.steps f whole is);
       reads = reads_passed b _ (record { reads = inv.reads; whole = inv.whole; counted = inv.counted });
     }

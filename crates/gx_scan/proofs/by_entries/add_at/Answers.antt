@@ -35,7 +35,7 @@ returns-then-branch-clause-rows g c = λ f whole is.
     let fit = filter_fits (IsStoredRow file p.codes) inside (rows_at t p.leaf f)
     (rows_stored file t _ maps f c.requires.storable c.requires.tree is.fit p
     c.requires.place) in
-    (c.in_ok-add_rows_at.ensures.chosen (filter inside (rows_at t p.leaf f)) fit same).1
+    (c.in_ok-add_rows_at.ensures.chosen (filter inside (rows_at t p.leaf f)) (fit, same)).1
     ∙ ap (λ (l : List Row). c.args.rows.now.items ++ l) (filter_twice (meets_conds c.args.conds.now) inside (rows_at t p.leaf f))
 
 pub returns-else-branch-clause-reads : goal.returns-else-branch-clause-reads
@@ -63,8 +63,8 @@ returns-else-branch-clause-reads g c = record {
         let fit = filter_fits (IsStoredRow file p.codes) inside (rows_at t p.leaf f)
         (rows_stored file t _ maps f c.requires.storable c.requires.tree is.fit p
         c.requires.place) in
-        let all = (c.in_ok-add_rows_at.ensures.chosen (filter inside (rows_at t p.leaf f)) fit
-        same).0 in
+        let all = (c.in_ok-add_rows_at.ensures.chosen (filter inside (rows_at t p.leaf f))
+        (fit, same)).0 in
         true≢false (sym all ∙ c.if-branch.false);
   };
   block = search rules;

@@ -55,7 +55,8 @@ returns-in_default g c = record {
           c.new-entries.ensures (c.in_ok-select.ensures.ok sound.0) refl in
           let fit = filter_fits (IsStoredRow file p.codes) inside (rows_at t p.leaf f)
           (rows_stored file t _ maps f c.requires.storable c.requires.tree is.fit p at) in
-          let rows = rows_one file t _ maps f c.requires.storable c.requires.tree is p c.requires.place key span c.requires.key c.requires.lo c.requires.hi in
+          let rows = rows_one file t _ maps f c.requires.storable c.requires.tree is p
+          c.requires.place key span c.requires.key c.requires.span.lo c.requires.span.hi in
           let one = option_map (λ (vs : List Value). (key, vs)) (fin.get f key) in
           let found = c.in_ok-values.ensures.read one (subst (AllByRecursion (IsStoredRow file p.codes)) rows fit)
           (same ∙ ap (map (λ (r : Row). entry_of (entry_of_row p.lengths p.codes r))) rows) in
@@ -84,7 +85,8 @@ returns g c = record {
       c.new-entries.ensures (c.in_ok-select.ensures.ok whole) refl in
       let fit = filter_fits (IsStoredRow file p.codes) inside (rows_at t p.leaf f)
       (rows_stored file t _ maps f c.requires.storable c.requires.tree is.fit p at) in
-      let rows = rows_one file t _ maps f c.requires.storable c.requires.tree is p c.requires.place key span c.requires.key c.requires.lo c.requires.hi in
+      let rows = rows_one file t _ maps f c.requires.storable c.requires.tree is p c.requires.place
+      key span c.requires.key c.requires.span.lo c.requires.span.hi in
       let one = option_map (λ (vs : List Value). (key, vs)) (fin.get f key) in
       let found = c.in_ok-values.ensures.read one (subst (AllByRecursion (IsStoredRow file p.codes)) rows fit)
       (same ∙ ap (map (λ (r : Row). entry_of (entry_of_row p.lengths p.codes r))) rows) in
@@ -112,6 +114,7 @@ returns g c = record {
         ap length
             c.new-entries.ensures,
       )) in
-      steps_one file t _ maps f c.requires.storable c.requires.tree is p c.requires.place c.args.key.now span c.requires.key c.requires.lo c.requires.hi most _ _ few step;
+      steps_one file t _ maps f c.requires.storable c.requires.tree is p c.requires.place
+      c.args.key.now span c.requires.key c.requires.span.lo c.requires.span.hi most _ _ few step;
   reads = search rules;
 }

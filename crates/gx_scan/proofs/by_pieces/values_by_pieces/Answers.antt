@@ -37,9 +37,9 @@ returns-in_default g c = record {
       let f = sound.1.0 in
       let is = sound.1.1 in
       let fits = one_fits file t pieces _ maps f c.requires.storable c.requires.tree is
-      c.requires.pieces key span c.requires.key c.requires.lo c.requires.hi in
+      c.requires.pieces key span c.requires.key c.requires.span.lo c.requires.span.hi in
       let all = one_pieces file t pieces _ maps f c.requires.storable c.requires.tree is
-      c.requires.pieces key span c.requires.key c.requires.lo c.requires.hi
+      c.requires.pieces key span c.requires.key c.requires.span.lo c.requires.span.hi
       c.new-entries.result c.select.new.out c.new-entries.ensures
       (c.in_ok-select.ensures.ok sound.0) in
       let one = option_map (λ (vs : List Value). (key, vs)) (fin.get f key) in
@@ -59,9 +59,9 @@ returns g c = record {
       let span = c.args.span.now in
       let maps = g.B.View.working c.args.leaves.now in
       let fits = one_fits file t pieces _ maps f c.requires.storable c.requires.tree is
-      c.requires.pieces key span c.requires.key c.requires.lo c.requires.hi in
+      c.requires.pieces key span c.requires.key c.requires.span.lo c.requires.span.hi in
       let all = one_pieces file t pieces _ maps f c.requires.storable c.requires.tree is
-      c.requires.pieces key span c.requires.key c.requires.lo c.requires.hi
+      c.requires.pieces key span c.requires.key c.requires.span.lo c.requires.span.hi
       c.new-entries.result c.select.new.out c.new-entries.ensures
       (c.in_ok-select.ensures.ok whole) in
       let one = option_map (λ (vs : List Value). (key, vs)) (fin.get f key) in
@@ -72,7 +72,8 @@ returns g c = record {
   steps = λ f most whole is few.
       one_steps c.args.file.now (tree_of c.args.node.now) c.args.pieces.now _
       (g.B.View.working c.args.leaves.now) f c.requires.storable c.requires.tree is
-      c.requires.pieces c.args.key.now c.args.span.now c.requires.key c.requires.lo c.requires.hi
+      c.requires.pieces c.args.key.now c.args.span.now c.requires.key c.requires.span.lo
+      c.requires.span.hi
       c.new-entries.result c.select.new.out c.new-entries.ensures
       (c.in_ok-select.ensures.ok whole) most _ _ few c.in_ok-select.ensures.steps;
   reads = search rules;

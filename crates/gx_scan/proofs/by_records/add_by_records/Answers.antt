@@ -1,4 +1,4 @@
-use Rattle.std.proofs.Common.{◌∙◌, ◌++◌, List, map, filter, sym, ap, subst, arith}
+use Rattle.std.proofs.Common.{rules, ◌∙◌, ◌++◌, [], List, map, filter, sym, ap, subst, arith, append-nil}
 use Rattle.gx_values.specs.declared.records.Rec.{Rec}
 use Rattle.gx_mapping.specs.Rule.{In, IsOf}
 use Rattle.gx_stack.specs.Internal.{IsSet}
@@ -22,25 +22,44 @@ add_met-requires-clause-fit g c = λ r h.
     let all = found.appended ∙ ap (λ (before : List Rec). before ++ found.found) c.new-found.ensures in
     subst (λ form. IsOf form r) c.requires.tree.form (found.fit r (subst (In r) all h))
 
-pub returns-in_err-select-clause-reads : goal.returns-in_err-select-clause-reads
-returns-in_err-select-clause-reads g c =
-    reads_given g.B.View c.from_residual.result c.from_residual.ensures.1
-    (λ sound.
-    let f = sound.1.0 in
-    let set = subst (λ form. IsSet form (records_of f)) (sym c.requires.tree.form) (set_of c.args.file.now f c.requires.storable.keyed sound.1.1.fit) in
-    (sound.0, (records_of f, set, sound.1.1.held)))
-    c.in_err-select.ensures.reads
+pub returns-in_err-select : goal.returns-in_err-select
+returns-in_err-select g c = record {
+  rows = search rules;
+  steps = search rules;
+  front = ([], sym (append-nil c.args.rows.now.items));
+  reads =
+      reads_given g.B.View c.from_residual.result c.from_residual.ensures.1
+      (λ sound.
+      let f = sound.1.0 in
+      let set = subst (λ form. IsSet form (records_of f)) (sym c.requires.tree.form)
+      (set_of c.args.file.now f c.requires.storable.keyed sound.1.1.fit) in
+      (sound.0, (records_of f, set, sound.1.1.held)))
+      c.in_err-select.ensures.reads;
+}
 
-pub returns-clause-rows : goal.returns-clause-rows
-returns-clause-rows g c = λ f whole is.
-    let found = c.in_ok-select.ensures.found in
-    let set = subst (λ form. IsSet form (records_of f)) (sym c.requires.tree.form) (set_of c.args.file.now f c.requires.storable.keyed is.fit) in
-    let all = found.appended ∙ ap (λ (before : List Rec). before ++ found.found) c.new-found.ensures in
-    selected_added f c.args.span.now c.args.conds.now found.found c.args.rows.now.items _ (found.selected whole (records_of f) set is.held)
-    (c.in_ok-add_met.ensures.kept ∙ ap (λ (rs : List Rec). c.args.rows.now.items ++ filter (meets_conds c.args.conds.now) (map row_of rs)) all)
-
-pub returns-clause-steps : goal.returns-clause-steps
-returns-clause-steps g c = λ f most whole is few.
-    let found = c.in_ok-select.ensures.found in
-    let set = subst (λ form. IsSet form (records_of f)) (sym c.requires.tree.form) (set_of c.args.file.now f c.requires.storable.keyed is.fit) in
-    omega (arith, found.few_steps, inside_total (tree_of c.args.node.now) f c.args.span.now most found.found (found.selected whole (records_of f) set is.held) few)
+pub returns : goal.returns
+returns g c = record {
+  rows = λ f whole is.
+      let found = c.in_ok-select.ensures.found in
+      let set = subst (λ form. IsSet form (records_of f)) (sym c.requires.tree.form)
+      (set_of c.args.file.now f c.requires.storable.keyed is.fit) in
+      let all = found.appended ∙ ap (λ (before : List Rec). before ++ found.found)
+      c.new-found.ensures in
+      selected_added f c.args.span.now c.args.conds.now found.found c.args.rows.now.items _
+      (found.selected whole (records_of f) set is.held)
+      (c.in_ok-add_met.ensures.kept ∙ ap
+      (λ (rs : List Rec). c.args.rows.now.items
+      ++ filter (meets_conds c.args.conds.now) (map row_of rs)) all);
+  steps = λ f most whole is few.
+      let found = c.in_ok-select.ensures.found in
+      let set = subst (λ form. IsSet form (records_of f)) (sym c.requires.tree.form)
+      (set_of c.args.file.now f c.requires.storable.keyed is.fit) in
+      omega (
+        arith,
+        found.few_steps,
+        inside_total (tree_of c.args.node.now) f c.args.span.now most
+            found.found (found.selected whole (records_of f) set is.held) few,
+      );
+  front = c.in_ok-add_met.ensures.front;
+  reads = search rules;
+}

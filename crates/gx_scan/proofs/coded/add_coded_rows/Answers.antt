@@ -9,33 +9,45 @@ use Rattle.gx_scan.proofs.EntryLemmas.{all_more}
 use Rattle.gx_scan.proofs.ScanLemmas.{row_of, row_kept, row_left}
 use Rattle.gx_scan.proofs.coded.add_coded_rows.Goals as goal
 
-pub returns-in_default-clause-chosen : goal.returns-in_default-clause-chosen
-returns-in_default-clause-chosen c = λ rs all same.
-    let e : Entry =
-    record { key = c.entry-entry.result.key.now; body = c.entry-entry.result.body.now } in
-    let place = c.args.place.now in
-    let at = row_of (IsStoredRow c.args.file.now place.codes)
-    (entry_of_row place.lengths place.codes) rs c.args.entries.now c.loop-index.index e all same
-    c.entry-entry.ensures in
-    let key = ap (λ (x : Entry). x.key) at.is in
-    let body = ap (λ (x : Entry). x.body) at.is in
-    let tested = c.in_ok-found.ensures at.row at.fits key body in
-    let none = c.in_default.is in
-    cc
+pub returns-in_default : goal.returns-in_default
+returns-in_default c = record {
+  chosen = λ rs is.
+      let all = is.0 in
+      let same = is.1 in
+      let e : Entry =
+      record { key = c.entry-entry.result.key.now; body = c.entry-entry.result.body.now } in
+      let place = c.args.place.now in
+      let at = row_of (IsStoredRow c.args.file.now place.codes)
+      (entry_of_row place.lengths place.codes) rs c.args.entries.now c.loop-index.index e all same
+      c.entry-entry.ensures in
+      let key = ap (λ (x : Entry). x.key) at.is in
+      let body = ap (λ (x : Entry). x.body) at.is in
+      let tested = c.in_ok-found.ensures at.row at.fits key body in
+      let none = c.in_default.is in
+      cc;
+  front = c.loop-index.invariant.front;
+  fit = c.loop-index.invariant.fit;
+}
 
-pub returns-in_default-2-clause-chosen : goal.returns-in_default-2-clause-chosen
-returns-in_default-2-clause-chosen c = λ rs all same.
-    let e : Entry =
-    record { key = c.entry-entry.result.key.now; body = c.entry-entry.result.body.now } in
-    let place = c.args.place.now in
-    let at = row_of (IsStoredRow c.args.file.now place.codes)
-    (entry_of_row place.lengths place.codes) rs c.args.entries.now c.loop-index.index e all same
-    c.entry-entry.ensures in
-    let key = ap (λ (x : Entry). x.key) at.is in
-    let body = ap (λ (x : Entry). x.body) at.is in
-    let read = c.in_ok-row.ensures.read at.row at.fits key body in
-    let none = c.in_default-2.is in
-    cc
+pub returns-in_default-2 : goal.returns-in_default-2
+returns-in_default-2 c = record {
+  chosen = λ rs is.
+      let all = is.0 in
+      let same = is.1 in
+      let e : Entry =
+      record { key = c.entry-entry.result.key.now; body = c.entry-entry.result.body.now } in
+      let place = c.args.place.now in
+      let at = row_of (IsStoredRow c.args.file.now place.codes)
+      (entry_of_row place.lengths place.codes) rs c.args.entries.now c.loop-index.index e all same
+      c.entry-entry.ensures in
+      let key = ap (λ (x : Entry). x.key) at.is in
+      let body = ap (λ (x : Entry). x.body) at.is in
+      let read = c.in_ok-row.ensures.read at.row at.fits key body in
+      let none = c.in_default-2.is in
+      cc;
+  front = c.loop-index.invariant.front;
+  fit = c.loop-index.invariant.fit;
+}
 
 pub loop-index-preserved-then-not-is_chosen : goal.loop-index-preserved-then-not-is_chosen
 loop-index-preserved-then-not-is_chosen c = record {

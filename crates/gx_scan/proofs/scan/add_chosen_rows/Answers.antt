@@ -11,35 +11,59 @@ use Rattle.gx_scan.proofs.EntryLemmas.{all_more}
 use Rattle.gx_scan.proofs.ScanLemmas.{row_of, row_kept, row_left}
 use Rattle.gx_scan.proofs.scan.add_chosen_rows.Goals as goal
 
-pub returns-in_default-clause-chosen : goal.returns-in_default-clause-chosen
-returns-in_default-clause-chosen c rs all same =
-    let e : Entry =
-    record { key = c.entry-entry.result.key.now; body = c.entry-entry.result.body.now } in
-    let at = row_of (IsRowOf c.args.file.now) (entry_of_row c.args.lengths []) rs c.args.entries.now
-    c.loop-index.index e all same c.entry-entry.ensures in
-    absurd (subst (λ o. IsSomeAnd o (λ values. values.now ≡ body_of at.row.1)) c.in_default.is (c.behind_lengths.ensures (rec_of at.row) (ap (λ (x : Entry). x.body) at.is)))
+pub returns-in_default : goal.returns-in_default
+returns-in_default c = record {
+  chosen = λ rs is.
+      let all = is.0 in
+      let same = is.1 in
+      let e : Entry =
+      record { key = c.entry-entry.result.key.now; body = c.entry-entry.result.body.now } in
+      let at = row_of (IsRowOf c.args.file.now) (entry_of_row c.args.lengths []) rs
+      c.args.entries.now
+      c.loop-index.index e all same c.entry-entry.ensures in
+      absurd (subst (λ o. IsSomeAnd o (λ values. values.now ≡ body_of at.row.1)) c.in_default.is
+      (c.behind_lengths.ensures (rec_of at.row) (ap (λ (x : Entry). x.body) at.is)));
+  front = c.loop-index.invariant.front;
+  fit = c.loop-index.invariant.fit;
+}
 
-pub returns-in_default-meets_all-clause-chosen : goal.returns-in_default-meets_all-clause-chosen
-returns-in_default-meets_all-clause-chosen c rs all same =
-    let e : Entry =
-    record { key = c.entry-entry.result.key.now; body = c.entry-entry.result.body.now } in
-    let at = row_of (IsRowOf c.args.file.now) (entry_of_row c.args.lengths []) rs c.args.entries.now
-    c.loop-index.index e all same c.entry-entry.ensures in
-    let values = subst (λ o. IsSomeAnd o (λ values. values.now ≡ body_of at.row.1)) c.in-Some.is (c.behind_lengths.ensures (rec_of at.row) (ap (λ (x : Entry). x.body) at.is)) in
-    let tested = c.meets_all.ensures at.row at.fits (ap (λ (x : Entry). x.key) at.is) values in
-    let none = c.in_default-meets_all.is in
-    cc
+pub returns-in_default-meets_all : goal.returns-in_default-meets_all
+returns-in_default-meets_all c = record {
+  chosen = λ rs is.
+      let all = is.0 in
+      let same = is.1 in
+      let e : Entry =
+      record { key = c.entry-entry.result.key.now; body = c.entry-entry.result.body.now } in
+      let at = row_of (IsRowOf c.args.file.now) (entry_of_row c.args.lengths []) rs
+      c.args.entries.now
+      c.loop-index.index e all same c.entry-entry.ensures in
+      let values = subst (λ o. IsSomeAnd o (λ values. values.now ≡ body_of at.row.1)) c.in-Some.is
+      (c.behind_lengths.ensures (rec_of at.row) (ap (λ (x : Entry). x.body) at.is)) in
+      let tested = c.meets_all.ensures at.row at.fits (ap (λ (x : Entry). x.key) at.is) values in
+      let none = c.in_default-meets_all.is in
+      cc;
+  front = c.loop-index.invariant.front;
+  fit = c.loop-index.invariant.fit;
+}
 
-pub returns-in_default-2-clause-chosen : goal.returns-in_default-2-clause-chosen
-returns-in_default-2-clause-chosen c rs all same =
-    let e : Entry =
-    record { key = c.entry-entry.result.key.now; body = c.entry-entry.result.body.now } in
-    let at = row_of (IsRowOf c.args.file.now) (entry_of_row c.args.lengths []) rs c.args.entries.now
-    c.loop-index.index e all same c.entry-entry.ensures in
-    let values = subst (λ o. IsSomeAnd o (λ values. values.now ≡ body_of at.row.1)) c.in-Some.is (c.behind_lengths.ensures (rec_of at.row) (ap (λ (x : Entry). x.body) at.is)) in
-    let read = c.in_ok-row.ensures.read at.row at.fits (ap (λ (x : Entry). x.key) at.is) values in
-    let none = c.in_default-2.is in
-    cc
+pub returns-in_default-2 : goal.returns-in_default-2
+returns-in_default-2 c = record {
+  chosen = λ rs is.
+      let all = is.0 in
+      let same = is.1 in
+      let e : Entry =
+      record { key = c.entry-entry.result.key.now; body = c.entry-entry.result.body.now } in
+      let at = row_of (IsRowOf c.args.file.now) (entry_of_row c.args.lengths []) rs
+      c.args.entries.now
+      c.loop-index.index e all same c.entry-entry.ensures in
+      let values = subst (λ o. IsSomeAnd o (λ values. values.now ≡ body_of at.row.1)) c.in-Some.is
+      (c.behind_lengths.ensures (rec_of at.row) (ap (λ (x : Entry). x.body) at.is)) in
+      let read = c.in_ok-row.ensures.read at.row at.fits (ap (λ (x : Entry). x.key) at.is) values in
+      let none = c.in_default-2.is in
+      cc;
+  front = c.loop-index.invariant.front;
+  fit = c.loop-index.invariant.fit;
+}
 
 pub loop-index-preserved-then-not-is_chosen : goal.loop-index-preserved-then-not-is_chosen
 loop-index-preserved-then-not-is_chosen c = record {
@@ -48,7 +72,8 @@ loop-index-preserved-then-not-is_chosen c = record {
       record { key = c.entry-entry.result.key.now; body = c.entry-entry.result.body.now } in
       let at = row_of (IsRowOf c.args.file.now) (entry_of_row c.args.lengths []) rs
       c.args.entries.now c.loop-index.index e all same c.entry-entry.ensures in
-      let values = subst (λ o. IsSomeAnd o (λ values. values.now ≡ body_of at.row.1)) c.in-Some.is (c.behind_lengths.ensures (rec_of at.row) (ap (λ (x : Entry). x.body) at.is)) in
+      let values = subst (λ o. IsSomeAnd o (λ values. values.now ≡ body_of at.row.1)) c.in-Some.is
+      (c.behind_lengths.ensures (rec_of at.row) (ap (λ (x : Entry). x.body) at.is)) in
       let tested = c.meets_all.ensures at.row at.fits (ap (λ (x : Entry). x.key) at.is) values in
       let some = c.in-Some-meets_all.is in
       let chosen = c.if-not-is_chosen.true in
@@ -67,7 +92,8 @@ loop-index-preserved c = record {
       record { key = c.entry-entry.result.key.now; body = c.entry-entry.result.body.now } in
       let at = row_of (IsRowOf c.args.file.now) (entry_of_row c.args.lengths []) rs
       c.args.entries.now c.loop-index.index e all same c.entry-entry.ensures in
-      let values = subst (λ o. IsSomeAnd o (λ values. values.now ≡ body_of at.row.1)) c.in-Some.is (c.behind_lengths.ensures (rec_of at.row) (ap (λ (x : Entry). x.body) at.is)) in
+      let values = subst (λ o. IsSomeAnd o (λ values. values.now ≡ body_of at.row.1)) c.in-Some.is
+      (c.behind_lengths.ensures (rec_of at.row) (ap (λ (x : Entry). x.body) at.is)) in
       let tested = c.meets_all.ensures at.row at.fits (ap (λ (x : Entry). x.key) at.is) values in
       let some = c.in-Some-meets_all.is in
       let chosen = c.if-not-is_chosen.false in
