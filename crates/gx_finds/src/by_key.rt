@@ -1,19 +1,12 @@
 // Finding by the key.
-ghost use Rattle.std.specs.Prelude.{◌≡◌, ◌≢◌, ◌<◌, ◌≤◌, ◌+◌, ◌*◌, [], ℕ, length, filter, Some, slice_get, OnOk};
-ghost use Rattle.std.specs.FinMap as fin;
+ghost use Rattle.std.specs.Prelude.{◌≡◌, ◌≢◌, ◌<◌, [], length, Some, slice_get};
 ghost use Rattle.std.specs.List.{AllByRecursion};
-ghost use Rattle.std.specs.List.Sorted.{IsPermutation};
 ghost use Rattle.gx_values.specs.declared.values.Op.TheVariants as op;
 ghost use Rattle.gx_commands.specs.Commands.{IsCondOf};
-ghost use Rattle.gx_ports.specs.Calls.{ReadsMaps};
 ghost use Rattle.gx_mapping.specs.Rule.{In};
-ghost use Rattle.gx_stack.specs.Tree.{leaves_of};
 ghost use Rattle.gx_stack.specs.Seen.{tree_of};
-ghost use Rattle.gx_model.specs.States.{File as FileMap};
-ghost use Rattle.gx_model.specs.Found.{meets_conds};
-ghost use Rattle.gx_scan.specs.Files.{IsInternal, HasFile, IsStorable, IsTreeFor};
-ghost use Rattle.gx_scan.specs.Steps.{HaveAtMost};
-ghost use Rattle.gx_finds.specs.Looked.{rows_meeting};
+ghost use Rattle.gx_scan.specs.Files.{IsStorable, IsTreeFor};
+ghost use Rattle.gx_finds.specs.Looked.{key_bound, AddsFound};
 
 use crate::spans::span_of_conditions;
 use gx_commands::{Cond, Find};
@@ -52,18 +45,9 @@ pub(crate) fn add_by_key<B: Leaves>(
     requires key { cond.now.field ≡ 0 }
     requires op { cond.now.op ≢ op.Unequal }
     requires none { rows.old.items ≡ [] }
-    ensures those { (f : FileMap) → B.whole leaves.old →
-        IsInternal file.now (tree_of node.now) (B.working leaves.old) f → OnOk result
-        (IsPermutation (filter (meets_conds conds.now) (fin.entries f)) rows.new.items) }
-    ensures steps { (f : FileMap) (most : ℕ) → B.whole leaves.old →
-        IsInternal file.now (tree_of node.now) (B.working leaves.old) f →
-        HaveAtMost most (tree_of node.now) f → OnOk result
-        (B.work leaves.new
-        ≤ B.work leaves.old + (length (leaves_of (tree_of node.now))
-        + length (rows_meeting (Some cond.now) f) * most)) }
-    ensures reads { ReadsMaps B.View
-        (B.whole leaves.old × HasFile file.now (tree_of node.now) (B.working leaves.old))
-        leaves.old leaves.new result }
+    ensures { AddsFound B.View file.now (tree_of node.now) conds.now
+        (key_bound (tree_of node.now) cond.now) leaves.old leaves.new
+        rows.old.items rows.new.items result }
 {
     match span_of_conditions(file, cond.field, conds) {
         Some(span) => rows_within(alloc, file, node, &span, conds, leaves, rows),

@@ -1,11 +1,8 @@
 // The answer of a `find`.
-ghost use Rattle.std.specs.Prelude.{◌≡◌, ◌^◌, ◌<◌, ◌≤◌, ◌+◌, [], ℕ, length, filter, IfOk, OnOk};
-ghost use Rattle.std.specs.FinMap as fin;
+ghost use Rattle.std.specs.Prelude.{◌≡◌, ◌^◌, ◌<◌, ◌≤◌, ◌+◌, [], ℕ, length, IfOk, OnOk};
 ghost use Rattle.std.specs.List.{AllByRecursion};
-ghost use Rattle.std.specs.List.Sorted.{IsPermutation};
 ghost use Rattle.gx_commands.specs.Commands.{IsCondOf};
 ghost use Rattle.gx_ports.specs.Calls.{ReadsMaps};
-ghost use Rattle.gx_stack.specs.Tree.{leaves_of};
 ghost use Rattle.gx_stack.specs.Seen.{tree_of};
 ghost use Rattle.gx_model.specs.States.{File as FileMap};
 ghost use Rattle.gx_model.specs.Found.{meets_conds};
@@ -13,7 +10,7 @@ ghost use Rattle.gx_model.specs.Commands.{IsListText};
 ghost use Rattle.gx_scan.specs.Files.{IsInternal, HasFile, IsStorable, IsTreeFor};
 ghost use Rattle.gx_scan.specs.Where.{AreNamed};
 ghost use Rattle.gx_scan.specs.Steps.{HaveAtMost};
-ghost use Rattle.gx_finds.specs.Looked.{plan_for, condition_of, rows_meeting, step_bound};
+ghost use Rattle.gx_finds.specs.Looked.{plan_bound, AddsFound};
 
 use crate::by_index::{add_by_index, indexed_fields};
 use crate::by_key::{add_by_key, condition_at};
@@ -48,10 +45,7 @@ pub fn found_text<B: Leaves>(
         IsInternal file.now (tree_of node.now) (B.working leaves.old) f →
         HaveAtMost most (tree_of node.now) f → OnOk result
         (B.work leaves.new
-        ≤ B.work leaves.old + step_bound
-        (length (rows_meeting
-        (condition_of find.now (plan_for (tree_of node.now) file.now find.now)) f))
-        most (length (leaves_of (tree_of node.now)))) }
+        ≤ B.work leaves.old + plan_bound (tree_of node.now) file.now find.now f most) }
     ensures reads { ReadsMaps B.View
         (B.whole leaves.old × HasFile file.now (tree_of node.now) (B.working leaves.old))
         leaves.old leaves.new result }
@@ -78,20 +72,9 @@ fn add_found<B: Leaves>(
     requires conds { AllByRecursion (IsCondOf file.now) find.now.conds }
     requires few { length find.now.conds < 2 ^ 16 }
     requires none { rows.old.items ≡ [] }
-    ensures those { (f : FileMap) → B.whole leaves.old →
-        IsInternal file.now (tree_of node.now) (B.working leaves.old) f → OnOk result
-        (IsPermutation (filter (meets_conds find.now.conds) (fin.entries f)) rows.new.items) }
-    ensures steps { (f : FileMap) (most : ℕ) → B.whole leaves.old →
-        IsInternal file.now (tree_of node.now) (B.working leaves.old) f →
-        HaveAtMost most (tree_of node.now) f → OnOk result
-        (B.work leaves.new
-        ≤ B.work leaves.old + step_bound
-        (length (rows_meeting
-        (condition_of find.now (plan_for (tree_of node.now) file.now find.now)) f))
-        most (length (leaves_of (tree_of node.now)))) }
-    ensures reads { ReadsMaps B.View
-        (B.whole leaves.old × HasFile file.now (tree_of node.now) (B.working leaves.old))
-        leaves.old leaves.new result }
+    ensures { AddsFound B.View file.now (tree_of node.now) find.now.conds
+        (plan_bound (tree_of node.now) file.now find.now) leaves.old leaves.new
+        rows.old.items rows.new.items result }
 {
     let conds = find.conds.0.as_slice();
     let indexed = indexed_fields(alloc, file, node)?;

@@ -1,4 +1,4 @@
-use Rattle.std.proofs.Common.{◌∙◌, ℕ, ◌+◌, ◌*◌, ◌≤◌, Some, length, refl, sym, subst, arith}
+use Rattle.std.proofs.Common.{rules, ◌∙◌, ℕ, ◌+◌, ◌*◌, ◌≤◌, Some, [], length, refl, sym, subst, arith, append-nil}
 use Rattle.std.specs.Prelude.{filter}
 use Rattle.std.specs.FinMap as fin
 use Rattle.std.specs.List.Sorted.{IsPermutation}
@@ -33,41 +33,54 @@ rows_within-requires-clause-span g c =
     key_spanned c.args.file.now c.in-Some.span c.requires.storable.keyed
     (subst (λ (n : ℕ). IsValueSpan (field_at c.args.file.now n).kind c.in-Some.span) c.requires.key c.in-Some.ensures.whole)
 
-pub returns-in-Some-clause-those : goal.returns-in-Some-clause-those
-returns-in-Some-clause-those g c = λ f whole is.
-    let file = c.args.file.now in
-    let conds = c.args.conds.now in
-    let cond = c.args.cond.now in
-    let span = c.in-Some.span in
-    let before = c.args.rows.now.items in
-    let now = c.rows_within.new.rows.items in
-    let lt = (all_at (IsCondOf file) conds cond c.requires.fit c.requires.there).in_file in
-    ok_alone c.rows_within.result (AreAdded span conds f before now) (IsPermutation (filter (meets_conds conds) (fin.entries f)) now) (c.rows_within.ensures.rows f whole is)
-    (λ added. covered_added span conds f before now
-    (λ r h met. sym (key_inside span r cond.field c.requires.key) ∙ field_covered file cond.field conds span r lt c.in-Some.ensures.meets (all_at (IsRowOf file) (fin.entries f) r is.fit h) met) c.requires.none added)
+pub returns-in-Some : goal.returns-in-Some
+returns-in-Some g c = record {
+  rows = λ f whole is.
+      let file = c.args.file.now in
+      let conds = c.args.conds.now in
+      let cond = c.args.cond.now in
+      let span = c.in-Some.span in
+      let before = c.args.rows.now.items in
+      let now = c.rows_within.new.rows.items in
+      let lt = (all_at (IsCondOf file) conds cond c.requires.fit c.requires.there).in_file in
+      ok_alone c.rows_within.result (AreAdded span conds f before now)
+      (IsPermutation (filter (meets_conds conds) (fin.entries f)) now)
+      (c.rows_within.ensures.rows f whole is)
+      (λ added. covered_added span conds f before now
+      (λ r h met. sym (key_inside span r cond.field c.requires.key)
+      ∙ field_covered file cond.field conds span r lt c.in-Some.ensures.meets
+      (all_at (IsRowOf file) (fin.entries f) r is.fit h) met) c.requires.none added);
+  steps = λ f most whole is few.
+      let b = g.B.View in
+      let file = c.args.file.now in
+      let conds = c.args.conds.now in
+      let cond = c.args.cond.now in
+      let span = c.in-Some.span in
+      let leaves = length (leaves_of (tree_of c.args.node.now)) in
+      let before = b.work c.args.leaves.now in
+      let after = b.work c.rows_within.new.leaves in
+      let lt = (all_at (IsCondOf file) conds cond c.requires.fit c.requires.there).in_file in
+      ok_alone c.rows_within.result (after ≤ before + (leaves + length (rows_inside span f) * most))
+      (after ≤ before + (leaves + length (rows_meeting (Some cond) f) * most))
+      (c.rows_within.ensures.steps f most whole is few)
+      (key_steps (length (rows_meeting (Some cond) f)) most leaves before after
+      (length (rows_inside span f)) (keys_within file cond conds span f c.requires.there
+      c.requires.key c.requires.op lt c.in-Some.ensures.meets is.fit));
+  front = c.rows_within.ensures.front;
+  reads = c.rows_within.ensures.reads;
+}
 
-pub returns-in-None-clause-those : goal.returns-in-None-clause-those
-returns-in-None-clause-those g c = λ f whole is.
-    let file = c.args.file.now in
-    let conds = c.args.conds.now in
-    let cond = c.args.cond.now in
-    let lt = (all_at (IsCondOf file) conds cond c.requires.fit c.requires.there).in_file in
-    none_added (meets_conds conds) f c.args.rows.now.items
-    (λ r h. none_meets file cond.field conds r lt (c.in-None.ensures.nothing refl) (all_at (IsRowOf file) (fin.entries f) r is.fit h)) c.requires.none
-
-pub returns-in-Some-clause-steps : goal.returns-in-Some-clause-steps
-returns-in-Some-clause-steps g c = λ f most whole is few.
-    let b = g.B.View in
-    let file = c.args.file.now in
-    let conds = c.args.conds.now in
-    let cond = c.args.cond.now in
-    let span = c.in-Some.span in
-    let leaves = length (leaves_of (tree_of c.args.node.now)) in
-    let before = b.work c.args.leaves.now in
-    let after = b.work c.rows_within.new.leaves in
-    let lt = (all_at (IsCondOf file) conds cond c.requires.fit c.requires.there).in_file in
-    ok_alone c.rows_within.result (after ≤ before + (leaves + length (rows_inside span f) * most)) (after ≤ before + (leaves + length (rows_meeting (Some cond) f) * most)) (c.rows_within.ensures.steps f most whole is few)
-    (key_steps (length (rows_meeting (Some cond) f)) most leaves before after (length (rows_inside span f)) (keys_within file cond conds span f c.requires.there c.requires.key c.requires.op lt c.in-Some.ensures.meets is.fit))
-
-pub returns-in-None-clause-steps : goal.returns-in-None-clause-steps
-returns-in-None-clause-steps g c = λ f most whole is few. omega arith
+pub returns-in-None : goal.returns-in-None
+returns-in-None g c = record {
+  rows = λ f whole is.
+      let file = c.args.file.now in
+      let conds = c.args.conds.now in
+      let cond = c.args.cond.now in
+      let lt = (all_at (IsCondOf file) conds cond c.requires.fit c.requires.there).in_file in
+      none_added (meets_conds conds) f c.args.rows.now.items
+      (λ r h. none_meets file cond.field conds r lt (c.in-None.ensures.nothing refl)
+      (all_at (IsRowOf file) (fin.entries f) r is.fit h)) c.requires.none;
+  steps = λ f most whole is few. omega arith;
+  front = ([], sym (append-nil c.args.rows.now.items));
+  reads = search rules;
+}

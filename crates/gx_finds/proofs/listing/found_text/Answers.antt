@@ -5,7 +5,7 @@ use Rattle.gx_finds.proofs.listing.found_text.Goals as goal
 
 pub returns-clause-listed : goal.returns-clause-listed
 returns-clause-listed g c = λ f whole is.
-    let those = c.in_ok-add_found.ensures.those f whole is in
+    let those = c.in_ok-add_found.ensures.rows f whole is in
     record {
       rows = c.sort_rows.new.rows.items;
       listed = c.in_ok-sort_rows.ensures.listed f (meets_conds c.args.find.now.conds) those;
