@@ -18,9 +18,9 @@ ghost use Rattle.gx_scan.specs.Files.{IsStorable, IsTreeFor};
 ghost use Rattle.gx_scan.specs.Entries.{entry_of_row};
 ghost use Rattle.gx_scan.specs.Stored.{HaveCodes};
 ghost use Rattle.gx_scan.specs.Columns.{AreColumns, ArePlainColumns, AreColumnEntries, column_entry};
-ghost use Rattle.gx_scan.specs.Search.{IsSpanOf, FindsValues, FindsRecord, AddsWithin, AddsChosen};
+ghost use Rattle.gx_scan.specs.Search.{IsSpanOf, FindsValues, AddsWithin, AddsChosen};
 
-use crate::by_groups::{entries_at, record_of};
+use crate::by_groups::entries_at;
 use crate::joined::{PLAIN_ROOM, add_met};
 use crate::places::Place;
 use crate::records::{NO_BLOCK, data_fields};
@@ -32,7 +32,7 @@ use gx_rows::Row;
 use gx_schema::FileDef;
 use gx_stack::Node;
 use gx_types::AnyMapping;
-use gx_values::{Kind, NoMemory, Rec, Span, Value, Values};
+use gx_values::{Kind, NoMemory, Span, Value, Values};
 use std::alloc::{AllocError, Global};
 
 /// The values of the record at a key, but for the key, where there is one, by the span of the key.
@@ -73,30 +73,6 @@ pub(crate) fn values_by_columns<B: Leaves>(
         values.push(value)?;
     }
     Ok(Some(Values(values)))
-}
-
-/// The same of the record itself.
-pub(crate) fn record_by_columns<B: Leaves>(
-    alloc: Global,
-    file: &FileDef,
-    node: &Node<AnyMapping>,
-    places: &[Place],
-    key: &Value,
-    span: &Span,
-    leaves: &mut B,
-) -> Result<Option<Rec>, Stop>
-    requires columns { AreColumns (tree_of node.now) places.now }
-    requires tree { IsTreeFor file.now (tree_of node.now) (length (B.working leaves.old)) }
-    requires storable { IsStorable file.now }
-    requires key { Fits (key_kind file.now) key.now }
-    requires span { IsSpanOf key.now span.now }
-    ensures { FindsRecord B.View file.now (tree_of node.now) key.now leaves.old leaves.new result }
-{
-    let found = values_by_columns(alloc, file, node, places, key, span, leaves)?;
-    let Some(values) = found else {
-        return Ok(None);
-    };
-    Ok(Some(record_of(alloc, key, values)?))
 }
 
 // Puts the entries of a place within the span in the stead of what stood in the buffer.

@@ -2,15 +2,15 @@
 // joined by their keys.
 ghost use Rattle.std.specs.Prelude.{◌≡◌, ◌<◌, ◌+◌, length, IfOk};
 ghost use Rattle.std.specs.List.{AllByRecursion};
-ghost use Rattle.gx_values.specs.Values.{Fits, IsSized};
+ghost use Rattle.gx_values.specs.Values.{Fits};
 ghost use Rattle.gx_schema.specs.Lookups.{key_kind};
 ghost use Rattle.gx_ports.specs.Calls.{ReadsMaps};
 ghost use Rattle.gx_ports.specs.LeafMaps.{selected, map_at, counted};
 ghost use Rattle.gx_stack.specs.Seen.{tree_of};
 ghost use Rattle.gx_model.specs.States.{IsRowOf};
-ghost use Rattle.gx_scan.specs.Files.{rec_of, IsStorable, IsTreeFor};
+ghost use Rattle.gx_scan.specs.Files.{IsStorable, IsTreeFor};
 ghost use Rattle.gx_scan.specs.Groups.{AreGroups, ArePlain};
-ghost use Rattle.gx_scan.specs.Search.{IsSpanOf, FindsValues, FindsRecord, AddsWithin};
+ghost use Rattle.gx_scan.specs.Search.{IsSpanOf, FindsValues, AddsWithin};
 
 use crate::both::values_of_both;
 use crate::groups::Groups;
@@ -23,7 +23,7 @@ use gx_rows::Row;
 use gx_schema::FileDef;
 use gx_stack::Node;
 use gx_types::AnyMapping;
-use gx_values::{NoMemory, Rec, Span, Value, Values};
+use gx_values::{Span, Value, Values};
 use std::alloc::Global;
 
 /// Appends the records of the file within the span that meet the conditions, in the order of their
@@ -85,43 +85,6 @@ pub(crate) fn values_by_groups<B: Leaves>(
         return Err(Stop::Damaged(NO_BLOCK));
     };
     Ok(values)
-}
-
-/// The same of the record itself.
-pub(crate) fn record_by_groups<B: Leaves>(
-    alloc: Global,
-    file: &FileDef,
-    node: &Node<AnyMapping>,
-    groups: &Groups,
-    key: &Value,
-    span: &Span,
-    leaves: &mut B,
-) -> Result<Option<Rec>, Stop>
-    requires groups { AreGroups (tree_of node.now) groups.now }
-    requires tree { IsTreeFor file.now (tree_of node.now) (length (B.working leaves.old)) }
-    requires storable { IsStorable file.now }
-    requires key { Fits (key_kind file.now) key.now }
-    requires span { IsSpanOf key.now span.now }
-    ensures { FindsRecord B.View file.now (tree_of node.now) key.now leaves.old leaves.new result }
-{
-    let found = values_by_groups(alloc, file, node, groups, key, span, leaves)?;
-    let Some(values) = found else {
-        return Ok(None);
-    };
-    Ok(Some(record_of(alloc, key, values)?))
-}
-
-/// The record of a key and other values. `NoMemory`: there was none for the key.
-pub(crate) fn record_of(alloc: Global, key: &Value, values: Values) -> Result<Rec, NoMemory>
-    requires { IsSized key.now }
-    ensures { IfOk result (λ made. made ≡ rec_of (key.now, values)) }
-{
-    let mut keys = Vec::with_capacity(alloc, 1)?;
-    keys.push(key.copy(alloc)?)?;
-    Ok(Rec {
-        key: Values(keys),
-        fields: values,
-    })
 }
 
 /// The entries of a place within the span, in the order of their keys.

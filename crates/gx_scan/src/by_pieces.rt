@@ -10,9 +10,8 @@ ghost use Rattle.gx_typing.specs.Dues.{file_form};
 ghost use Rattle.gx_model.specs.States.{IsRowOf};
 ghost use Rattle.gx_scan.specs.Files.{IsStorable, IsTreeFor};
 ghost use Rattle.gx_scan.specs.Pieces.{ArePieces};
-ghost use Rattle.gx_scan.specs.Search.{IsSpanOf, FindsValues, FindsRecord, AddsWithin};
+ghost use Rattle.gx_scan.specs.Search.{IsSpanOf, FindsValues, AddsWithin};
 
-use crate::by_groups::record_of;
 use crate::pieced::{add_pieced_rows, values_of_pieces};
 use crate::pieces::Pieces;
 use crate::records::NO_BLOCK;
@@ -22,7 +21,7 @@ use gx_rows::Row;
 use gx_schema::FileDef;
 use gx_stack::Node;
 use gx_types::AnyMapping;
-use gx_values::{Rec, Span, Value, Values};
+use gx_values::{Span, Value, Values};
 use std::alloc::Global;
 
 /// Appends the records of the file within the span that meet the conditions, in the order of their
@@ -80,28 +79,4 @@ pub(crate) fn values_by_pieces<B: Leaves>(
         return Err(Stop::Damaged(NO_BLOCK));
     };
     Ok(values)
-}
-
-/// The same of the record itself.
-pub(crate) fn record_by_pieces<B: Leaves>(
-    alloc: Global,
-    file: &FileDef,
-    node: &Node<AnyMapping>,
-    pieces: &Pieces,
-    key: &Value,
-    span: &Span,
-    leaves: &mut B,
-) -> Result<Option<Rec>, Stop>
-    requires pieces { ArePieces (tree_of node.now) pieces.now }
-    requires tree { IsTreeFor file.now (tree_of node.now) (length (B.working leaves.old)) }
-    requires storable { IsStorable file.now }
-    requires key { Fits (key_kind file.now) key.now }
-    requires span { IsSpanOf key.now span.now }
-    ensures { FindsRecord B.View file.now (tree_of node.now) key.now leaves.old leaves.new result }
-{
-    let found = values_by_pieces(alloc, file, node, pieces, key, span, leaves)?;
-    let Some(values) = found else {
-        return Ok(None);
-    };
-    Ok(Some(record_of(alloc, key, values)?))
 }

@@ -1,20 +1,34 @@
+use Rattle.std.proofs.Common.{rules, ◌∙◌, List, Some, sym, ap, subst}
+use Rattle.std.specs.Prelude.{IfSome}
 use Rattle.std.specs.Option.{option_map}
+use Rattle.gx_values.specs.declared.values.Value.{Value}
+use Rattle.gx_values.specs.Values.{AreFit}
+use Rattle.gx_values.proofs.CopyLemmas.{fit_sized}
+use Rattle.gx_schema.specs.Lookups.{key_kind, data_fields}
 use Rattle.gx_mapping.specs.Rule.{IsOf}
-use Rattle.gx_stack.specs.Seen.{tree_of}
 use Rattle.gx_typing.specs.Dues.{file_form}
 use Rattle.gx_scan.specs.Files.{rec_of}
-use Rattle.gx_scan.proofs.SearchedLemmas.{finds_inside}
+use Rattle.gx_scan.proofs.FileLemmas.{row_fits}
 use Rattle.gx_scan.proofs.records.find_record.Goals as goal
 
-pub record_in-requires-clause-tree : goal.record_in-requires-clause-tree
-record_in-requires-clause-tree g c = c.searched_node-node.ensures.tree c.args.file.now _ c.requires.tree
+pub record_of-requires : goal.record_of-requires
+record_of-requires g c = fit_sized (key_kind c.args.file.now) c.args.key.now c.requires.key
 
 pub returns : goal.returns
 returns g c =
     let file = c.args.file.now in
     let key = c.args.key.now in
-    finds_inside g.B.View file key c.set_key.new.span c.requires.storable c.requires.key
-    c.set_key.ensures.lo c.set_key.ensures.hi (tree_of c.args.node.now)
-    (tree_of c.searched_node-node.result.now) c.searched_node-node.ensures _ c.requires.tree
-    (λ o. option_map (λ values. rec_of (key, values)) o) (IsOf (file_form file))
-    c.args.leaves.now c.record_in.new.leaves c.record_in.result c.record_in.ensures
+    let values = c.in-Some.values in
+    let made = c.in_ok-record_of.ensures in record {
+      found = λ f whole is.
+          let found = sym c.in-Some.is ∙ c.in_ok-values.ensures.found f whole is in
+          ap Some made
+          ∙ ap (option_map (λ (vs : List Value). rec_of (key, vs))) found;
+      fits = subst (IsOf (file_form file)) (sym made)
+          (row_fits file (key, values) c.requires.storable.keyed (
+            c.requires.key,
+            subst (λ o. IfSome o (AreFit (data_fields file))) c.in-Some.is c.in_ok-values.ensures.fits,
+          ));
+      steps = c.in_ok-values.ensures.steps;
+      reads = search rules;
+    }

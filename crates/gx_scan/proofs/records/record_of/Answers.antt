@@ -1,5 +1,5 @@
 use Rattle.std.proofs.Common.{◌∙◌, ◌++◌, ◌∷◌, []}
-use Rattle.gx_scan.proofs.by_groups.record_of.Goals as goal
+use Rattle.gx_scan.proofs.records.record_of.Goals as goal
 
 pub returns : goal.returns
 returns c =
