@@ -1,13 +1,13 @@
 // Finding by columns: where a transposition puts each data field of a record in a leaf of its own,
 // the record has one entry in each of these leaves, under its key.
-ghost use Rattle.std.specs.Prelude.{◌≡◌, ◌<◌, ◌≤◌, ◌+◌, ◌++◌, ◌∷◌, [], ℕ, List, length, map, true, Some, slice_get, get_or, IfOk, IfSome, IsSomeAnd, OnOk};
+ghost use Rattle.std.specs.Prelude.{◌≡◌, ◌<◌, ◌≤◌, ◌+◌, ◌++◌, ◌∷◌, [], ℕ, List, length, map, true, Some, slice_get, get_or, IfOk, IfSome, IsSomeAnd};
 ghost use Rattle.std.specs.List.{AllByRecursion, sum_by};
 ghost use Rattle.gx_values.specs.declared.values.Value.{Value as FieldValue};
 ghost use Rattle.gx_values.specs.Values.{Fits};
 ghost use Rattle.gx_values.specs.Keys.{bytes_of};
 ghost use Rattle.gx_schema.specs.Lookups.{key_kind, data_fields};
 ghost use Rattle.gx_ports.specs.Calls.{ReadsMaps};
-ghost use Rattle.gx_ports.specs.LeafMaps.{entry_of, selected, map_at, counted};
+ghost use Rattle.gx_ports.specs.LeafMaps.{entry_of, selected, map_at};
 ghost use Rattle.gx_mapping.specs.Rule.{In};
 ghost use Rattle.gx_actual.specs.Bodies.{body_of, IsShort};
 ghost use Rattle.gx_split.specs.Forms.{no_value};
@@ -20,8 +20,7 @@ ghost use Rattle.gx_scan.specs.Stored.{HaveCodes};
 ghost use Rattle.gx_scan.specs.Columns.{AreColumns, ArePlainColumns, AreColumnEntries, column_entry};
 ghost use Rattle.gx_scan.specs.Search.{IsSpanOf, FindsValues, AddsWithin, AddsChosen};
 
-use crate::by_groups::entries_at;
-use crate::joined::{PLAIN_ROOM, add_met};
+use crate::entries::{PLAIN_ROOM, add_met, entries_at, select_at};
 use crate::places::Place;
 use crate::records::{NO_BLOCK, data_fields};
 use crate::scan::behind_lengths;
@@ -73,27 +72,6 @@ pub(crate) fn values_by_columns<B: Leaves>(
         values.push(value)?;
     }
     Ok(Some(Values(values)))
-}
-
-// Puts the entries of a place within the span in the stead of what stood in the buffer.
-fn select_at<B: Leaves>(
-    alloc: Global,
-    place: &Place,
-    span: &Span,
-    leaves: &mut B,
-    entries: &mut Entries,
-) -> Result<(), Stop>
-    requires { place.now.leaf < length (B.working leaves.old) }
-    ensures entries { B.whole leaves.old → OnOk result
-        (entries.new
-        ≡ selected span.now.lo span.now.hi (map_at (B.working leaves.old) place.now.leaf)) }
-    ensures steps { OnOk result
-        (B.work leaves.new ≡ counted (B.work leaves.old) (1 + length entries.new)) }
-    ensures reads { ReadsMaps B.View (B.whole leaves.old) leaves.old leaves.new result }
-{
-    entries.clear();
-    leaves.select(alloc, place.leaf, span, entries)?;
-    Ok(())
 }
 
 // The value of a column whose entry has this body. `None`: it is that of no value of the kind.

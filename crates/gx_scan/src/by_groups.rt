@@ -1,11 +1,9 @@
 // Finding by two groups: where a segment splits records in two leaves, the entries of both are
 // joined by their keys.
-ghost use Rattle.std.specs.Prelude.{◌≡◌, ◌<◌, ◌+◌, length, IfOk};
+ghost use Rattle.std.specs.Prelude.{length};
 ghost use Rattle.std.specs.List.{AllByRecursion};
 ghost use Rattle.gx_values.specs.Values.{Fits};
 ghost use Rattle.gx_schema.specs.Lookups.{key_kind};
-ghost use Rattle.gx_ports.specs.Calls.{ReadsMaps};
-ghost use Rattle.gx_ports.specs.LeafMaps.{selected, map_at, counted};
 ghost use Rattle.gx_stack.specs.Seen.{tree_of};
 ghost use Rattle.gx_model.specs.States.{IsRowOf};
 ghost use Rattle.gx_scan.specs.Files.{IsStorable, IsTreeFor};
@@ -13,9 +11,9 @@ ghost use Rattle.gx_scan.specs.Groups.{AreGroups, ArePlain};
 ghost use Rattle.gx_scan.specs.Search.{IsSpanOf, FindsValues, AddsWithin};
 
 use crate::both::values_of_both;
+use crate::entries::entries_at;
 use crate::groups::Groups;
 use crate::joined::add_joined_rows;
-use crate::places::Place;
 use crate::records::NO_BLOCK;
 use gx_commands::Cond;
 use gx_ports::{Entries, Leaves, Stop};
@@ -85,23 +83,4 @@ pub(crate) fn values_by_groups<B: Leaves>(
         return Err(Stop::Damaged(NO_BLOCK));
     };
     Ok(values)
-}
-
-/// The entries of a place within the span, in the order of their keys.
-pub(crate) fn entries_at<B: Leaves>(
-    alloc: Global,
-    place: &Place,
-    span: &Span,
-    leaves: &mut B,
-) -> Result<Entries, Stop>
-    requires { place.now.leaf < length (B.working leaves.old) }
-    ensures entries { B.whole leaves.old → IfOk result (λ found. found
-        ≡ selected span.now.lo span.now.hi (map_at (B.working leaves.old) place.now.leaf)) }
-    ensures steps { IfOk result (λ found. B.work leaves.new
-        ≡ counted (B.work leaves.old) (1 + length found)) }
-    ensures reads { ReadsMaps B.View (B.whole leaves.old) leaves.old leaves.new result }
-{
-    let mut entries = Entries::new(alloc);
-    leaves.select(alloc, place.leaf, span, &mut entries)?;
-    Ok(entries)
 }

@@ -18,20 +18,16 @@ ghost use Rattle.gx_scan.specs.Groups.{has_others, first_entry, other_entry};
 ghost use Rattle.gx_scan.specs.Scan.{value_of};
 ghost use Rattle.gx_scan.specs.Search.{AddsChosen};
 
+use crate::entries::{PLAIN_ROOM, add_met};
 use crate::groups::Groups;
 use crate::records::data_fields;
-use crate::scan::{
-    ValueRef, behind_lengths, compare, holds, key_value, meets_all, read_row, split_value,
-};
+use crate::scan::{ValueRef, behind_lengths, compare, holds, key_value, split_value};
 use gx_commands::Cond;
 use gx_ports::Entries;
 use gx_rows::Row;
 use gx_schema::FileDef;
 use gx_values::{Field, Kind, NoMemory};
 use std::alloc::{AllocError, Global};
-
-/// Room for the body of a record of some short texts: most grow no further.
-pub(crate) const PLAIN_ROOM: usize = 128;
 
 /// Appends the records of the entries that meet the conditions, in the order of the entries, and
 /// answers whether each pair of entries looked at was that of a record of the file; one that a
@@ -141,37 +137,6 @@ fn add_joined(
         return Ok(false);
     }
     add_met(alloc, file, conds, key, plain.as_slice(), rows)
-}
-
-/// Appends the record with this key and these bytes of its values, if it meets the conditions, and
-/// answers whether it is one. `NoMemory`: there was none for the record.
-pub(crate) fn add_met(
-    alloc: Global,
-    file: &FileDef,
-    conds: &[Cond],
-    key: &[u8],
-    body: &[u8],
-    rows: &mut Vec<Row>,
-) -> Result<bool, NoMemory>
-    requires { IsStorable file.now }
-    ensures chosen { (r : TheRow) → IsRowOf file.now r → key.now ≡ bytes_of r.0 →
-        body.now ≡ body_of r.1 → IfOk result (λ is. (is ≡ true)
-        × (rows.new.items ≡ rows.old.items ++ filter (meets_conds conds.now) (r ∷ []))) }
-    ensures front { Extends rows.old.items rows.new.items }
-    ensures fit { AllByRecursion (IsRowOf file.now) rows.old.items →
-        AllByRecursion (IsRowOf file.now) rows.new.items }
-{
-    let Some(is_met) = meets_all(file, conds, key, body) else {
-        return Ok(false);
-    };
-    if !is_met {
-        return Ok(true);
-    }
-    let Some(row) = read_row(alloc, file, key, body)? else {
-        return Ok(false);
-    };
-    rows.push(row)?;
-    Ok(true)
 }
 
 // Whether the key or the first group of a record, by their bytes, fail a condition.

@@ -14,6 +14,7 @@ mod coded;
 mod codes;
 mod columns;
 mod conditions;
+mod entries;
 mod groups;
 mod joined;
 mod pieced;

@@ -16,7 +16,7 @@ ghost use Rattle.gx_scan.specs.Pieces.{numbered_entries, piece_entries};
 ghost use Rattle.gx_scan.specs.Records.{list_of_one};
 ghost use Rattle.gx_scan.specs.Search.{AddsChosen};
 
-use crate::joined::{PLAIN_ROOM, add_met};
+use crate::entries::{PLAIN_ROOM, add_met};
 use crate::scan::{HALF, read_values};
 use gx_commands::Cond;
 use gx_ports::Entries;
