@@ -7,7 +7,7 @@ use Rattle.std.specs.Ordering.{is_eq, eq_by_cmp}
 use Rattle.std.specs.declared.cmp.Ordering.TheVariants.{Less}
 use Rattle.std.specs.FinMap as fin
 use Rattle.std.proofs.Math.Nat.{mul-le-mul_right}
-use Rattle.std.proofs.lemmas.Bool.{true≢false}
+use Rattle.std.proofs.lemmas.Bool.{true≢false, false_from_ne_true}
 use Rattle.gx_values.specs.declared.values.Op.{Op}
 use Rattle.gx_values.specs.declared.values.Op.TheVariants as op
 use Rattle.gx_values.specs.declared.values.Value.{Value}
@@ -22,6 +22,7 @@ use Rattle.gx_commands.specs.declared.command.Find.{Find}
 use Rattle.gx_commands.specs.declared.command.Command.TheVariants as command
 use Rattle.gx_commands.specs.Commands.{IsCondOf}
 use Rattle.gx_ports.specs.LeafMaps.{LeafMap}
+use Rattle.gx_ports.proofs.KeyedLemmas.{first_of_both, second_of_both}
 use Rattle.gx_mapping.specs.Rule.{In}
 use Rattle.gx_stack.specs.Tree.{Tree, entries_of}
 use Rattle.gx_gather.proofs.Lists.{all_at, some_same, none_some}
@@ -40,7 +41,7 @@ use Rattle.gx_scan.specs.Files.{rec_of}
 use Rattle.gx_scan.specs.Records.{list_of_one}
 use Rattle.gx_scan.specs.Within.{row_of}
 use Rattle.gx_scan.specs.Steps.{HaveAtMost}
-use Rattle.gx_scan.proofs.FileLemmas.{no_bool, first_of_both, second_of_both, below_in, same_value, value_itself, value_cases, other_value}
+use Rattle.gx_scan.proofs.FileLemmas.{below_in, same_value, value_itself, value_cases, other_value}
 use Rattle.gx_scan.proofs.ListingLemmas.{same_filter, fewer_pass, filter_twice}
 use Rattle.gx_pairs.specs.declared.stored.StoredLink.{StoredLink}
 use Rattle.gx_pairs.specs.Stored.{node_tree, OwnersHaveAtMost}
@@ -60,7 +61,7 @@ use Rattle.gx_answers.proofs.WorkLemmas.{file_most, owned_most}
 none_left : (p : Row → Bool) (es : List Row) → ((r : Row) → In r es → p r ≡ true → ⊥) → filter p es ≡ []
 none_left p [] none = refl
 none_left p (r ∷ es) none = ap (λ b. cond b (r ∷ filter p es) (filter p es))
-    (no_bool (p r) (none r (inl refl))) ∙ none_left p es (λ s h. none s (inr h))
+    (false_from_ne_true (p r) (none r (inl refl))) ∙ none_left p es (λ s h. none s (inr h))
 
 abbrev one_row : Value → Option (List Value) → List Row
 one_row k None = []
@@ -92,7 +93,8 @@ found_at p k (r ∷ es) sorted keyed = elim (value_cases k r.0) [
   | inr ne ↦ (
       let there : fin.find value_cmp k (r ∷ es) ≡ fin.find value_cmp k es =
       ap (λ b. cond b (Some r.1) (fin.find value_cmp k es)) (other_value k r.0 ne) in
-      let fails : p r ≡ false = no_bool (p r) (λ passes. ne (sym (keyed r (inl refl) passes))) in
+      let fails : p r ≡ false =
+      false_from_ne_true (p r) (λ passes. ne (sym (keyed r (inl refl) passes))) in
       ap (λ b. cond b (r ∷ filter p es) (filter p es)) fails
       ∙ found_at p k es (second_of_both _ _ sorted) (λ s h. keyed s (inr h))
       ∙ ap (λ o. filter p (one_row k o)) (sym there))

@@ -31,6 +31,7 @@ use Rattle.gx_model.specs.Found.{value_at, meets_cond, meets_conds}
 use Rattle.gx_finds.specs.Spans.{has_span, is_on, meets_on, HoldsAllMet, is_from, is_up_to}
 use Rattle.gx_finds.proofs.PlannedLemmas.{one_met, value_kind}
 use Rattle.std.proofs.lemmas.Bool.{and_parts}
+use Rattle.std.proofs.Math.Bool.{and-true}
 
 -- ---- the lower end
 
@@ -176,10 +177,6 @@ both_whole kind first second result low high a b = record {
 abbrev met_by : Value → Cond → Bool
 met_by v c = is_met c.op (value_cmp v c.bound)
 
-and_true : (b : Bool) → (b && true) ≡ b
-and_true true = refl
-and_true false = refl
-
 -- what one more condition on the field adds
 more : (field : ℕ) (conds : List Cond) (i : ℕ) (c : Cond) (v : Value) (on : Bool) → c ≡ get_or conds i c → i < length conds → is_on field c ≡ on → meets_on field (take (i + 1) conds) v ≡ (meets_on field (take i conds) v && list_all (met_by v) (cond on (c ∷ []) []))
 more field conds i c v on read lt is =
@@ -188,10 +185,10 @@ more field conds i c v on read lt is =
     ∙ list_all-append (met_by v) before (cond on (c ∷ []) [])
 
 pub meets_more : (field : ℕ) (conds : List Cond) (i : ℕ) (c : Cond) (v : Value) → c ≡ get_or conds i c → i < length conds → is_on field c ≡ true → meets_on field (take (i + 1) conds) v ≡ (meets_on field (take i conds) v && is_met c.op (value_cmp v c.bound))
-meets_more field conds i c v read lt on = more field conds i c v true read lt on ∙ ap (λ (b : Bool). meets_on field (take i conds) v && b) (and_true (met_by v c))
+meets_more field conds i c v read lt on = more field conds i c v true read lt on ∙ ap (λ (b : Bool). meets_on field (take i conds) v && b) (and-true (met_by v c))
 
 pub meets_same : (field : ℕ) (conds : List Cond) (i : ℕ) (c : Cond) (v : Value) → c ≡ get_or conds i c → i < length conds → is_on field c ≡ false → meets_on field (take (i + 1) conds) v ≡ meets_on field (take i conds) v
-meets_same field conds i c v read lt off = more field conds i c v false read lt off ∙ and_true (meets_on field (take i conds) v)
+meets_same field conds i c v read lt off = more field conds i c v false read lt off ∙ and-true (meets_on field (take i conds) v)
 
 -- the field's value meets each of them
 pub on_met : (field : ℕ) (conds : List Cond) (c : Cond) (v : Value) → In c conds → is_on field c ≡ true → meets_on field conds v ≡ true → is_met c.op (value_cmp v c.bound) ≡ true

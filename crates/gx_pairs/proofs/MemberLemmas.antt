@@ -23,10 +23,11 @@ use Rattle.gx_model.specs.Found.{meets_conds, is_owner}
 use Rattle.gx_scan.specs.Files.{rec_of}
 use Rattle.gx_scan.specs.Records.{list_of_one}
 use Rattle.gx_scan.specs.Within.{row_of}
-use Rattle.gx_scan.proofs.FileLemmas.{first_of_both, second_of_both, below_in, find_in, in_find}
+use Rattle.gx_scan.proofs.FileLemmas.{below_in, find_in, in_find}
 use Rattle.gx_scan.proofs.ListingLemmas.{same_filter, filter_twice}
 use Rattle.gx_links.specs.Links.{Link, is_same, members_of}
 use Rattle.gx_links.proofs.MemberLemmas.{members_are, from_members, in_members, same_value, value_itself}
+use Rattle.gx_ports.proofs.KeyedLemmas.{first_of_both, second_of_both}
 use Rattle.gx_pairs.specs.Members.{is_member_of, is_chosen_of, AreMembersOf, member_rows, has_member, rows_at, AreThere}
 
 -- ---- rows in the order of their keys

@@ -1,12 +1,12 @@
 -- The entries of records whose data fields stand each alone in a leaf.
-use Rattle.std.proofs.Common.{[], ◌≡◌, ℕ, zero, suc, ◌+◌, ◌*◌, ◌<◌, ◌≤◌, List, ◌∷◌, ◌++◌, ◌⊎◌, length, length-append, get_or, map, cond, false, nat_eq, Option, None, Some, inl, inr, refl, sym, ap, subst, ◌∙◌, arith}
+use Rattle.std.proofs.Common.{[], ◌≡◌, ℕ, zero, suc, ◌+◌, ◌*◌, ◌<◌, ◌≤◌, List, ◌∷◌, ◌++◌, ◌⊎◌, length, length-append, get_or, map, cond, Option, None, Some, inl, inr, refl, sym, ap, subst, ◌∙◌, arith}
 use Rattle.std.specs.Prelude.{slice_get}
 use Rattle.std.specs.FinMap as fin
 use Rattle.std.specs.List.{AllByRecursion, flat_map, sum_by}
 use Rattle.std.specs.Option.{option_map}
 use Rattle.std.specs.declared.cmp.Ordering.TheVariants.{Less}
 use Rattle.std.proofs.Math.Nat.{mul-le-mul_right}
-use Rattle.std.proofs.lemmas.Bool.{eqb-true, eq-eqb}
+use Rattle.std.proofs.lemmas.Bool.{eq-eqb, ne_eqb}
 use Rattle.std.proofs.lemmas.List.{length-map, get_or-map}
 use Rattle.std.proofs.lemmas.List.Sorted.{IsPermutation-refl}
 use Rattle.std.proofs.lemmas.List.Sums.{sum_by-cons}
@@ -44,7 +44,7 @@ use Rattle.gx_scan.specs.Steps.{HaveAtMost, is_key_inside, rows_inside}
 use Rattle.gx_scan.specs.Entries.{ArePlaces, entry_of_row}
 use Rattle.gx_scan.specs.Stored.{HaveCodes}
 use Rattle.gx_scan.specs.Columns.{AreColumns, ArePlacesOfKids, AreColumnEntries, column_row, column_entry}
-use Rattle.gx_scan.proofs.FileLemmas.{no_bool, find_in, set_of}
+use Rattle.gx_scan.proofs.FileLemmas.{find_in, set_of}
 use Rattle.gx_scan.proofs.EntryLemmas.{filter_map, map_joined, span_entries}
 use Rattle.gx_scan.proofs.GroupLemmas.{alone_coded, alone_some, alone_entries}
 use Rattle.gx_scan.proofs.KeyLemmas.{one_at_key, row_found, steps_at_key}
@@ -136,9 +136,6 @@ place_at (p ∷ ps) (suc c) lt = place_at ps c (omega arith)
 
 -- ---- the records that go to a child
 
-other_number : (i c : ℕ) → (i ≡ c → ⊥) → nat_eq i c ≡ false
-other_number i c other = no_bool (nat_eq i c) (λ e. other (eqb-true i c e))
-
 abbrev column_rec : List Value → Value → Rec
 column_rec key v = record { key = key; fields = v ∷ [] }
 
@@ -147,7 +144,7 @@ no_part : (key : List Value) (i c : ℕ) (vs : List Value) → c < i
 no_part key i c [] lt = refl
 no_part key i c (v ∷ vs) lt =
     let rest = parts_for c (columns key (suc i) vs) in
-    ap (λ b. cond b (column_rec key v ∷ rest) rest) (other_number i c (λ e. omega (arith, lt, e)))
+    ap (λ b. cond b (column_rec key v ∷ rest) rest) (ne_eqb i c (λ e. omega (arith, lt, e)))
     ∙ no_part key (suc i) c vs (omega arith)
 
 part_at : (key : List Value) (i at c : ℕ) (vs : List Value) → c ≡ i + at → at < length vs
@@ -160,7 +157,7 @@ part_at key i zero c (v ∷ vs) is lt =
     ∙ ap (λ (l : List Rec). column_rec key v ∷ l) (no_part key (suc i) c vs (omega arith))
 part_at key i (suc at) c (v ∷ vs) is lt =
     let rest = parts_for c (columns key (suc i) vs) in
-    ap (λ b. cond b (column_rec key v ∷ rest) rest) (other_number i c (λ e. omega (arith, is, e)))
+    ap (λ b. cond b (column_rec key v ∷ rest) rest) (ne_eqb i c (λ e. omega (arith, is, e)))
     ∙ part_at key (suc i) at c vs (omega arith) (omega arith)
 
 column_records : (form : Form) (c : ℕ) (rs : List Row) → ((r : Row) → In r rs → c < length r.1)

@@ -1,14 +1,14 @@
 -- The records of a file as a set of records, and what a selection of them finds.
 use Rattle.std.proofs.Common.{[], ◌≡◌, ℕ, ◌<◌, List, ◌∷◌, ◌++◌, ◌⊎◌, length, take, get_or, cond, Bool, true, false, Option, Some, None, inl, inr, refl, sym, ap, subst, ◌∙◌, arith, append-nil, length-append}
-use Rattle.std.specs.Prelude.{T, ◌&&◌, ◌≢◌}
+use Rattle.std.specs.Prelude.{T, ◌≢◌}
 use Rattle.std.specs.Option.{option_map}
-use Rattle.std.specs.Ordering.{is_eq, is_lt, eq_by_cmp, ordering_reverse}
+use Rattle.std.specs.Ordering.{is_eq, eq_by_cmp, ordering_reverse}
 use Rattle.std.specs.declared.cmp.Ordering.{Ordering}
 use Rattle.std.specs.declared.cmp.Ordering.TheVariants.{Less, Equal, Greater}
 use Rattle.std.specs.Cmp.{IsTotalOrder, tied_itself}
 use Rattle.std.specs.FinMap as fin
 use Rattle.std.specs.FinMap.Entries.{below_all}
-use Rattle.std.proofs.lemmas.Bool.{true≢false}
+use Rattle.std.proofs.lemmas.Bool.{true≢false, false_from_ne_true}
 use Rattle.gx_values.specs.declared.values.Value.{Value}
 use Rattle.gx_values.specs.declared.records.Field.{Field}
 use Rattle.gx_values.specs.declared.records.Rec.{Rec}
@@ -22,27 +22,16 @@ use Rattle.gx_mapping.specs.Rule.{In, IsOf}
 use Rattle.gx_stack.specs.Internal.{IsSet}
 use Rattle.gx_gather.specs.Gather.{rec_cmp}
 use Rattle.gx_stack.specs.Selected.{IsKeySpan, IsSelection}
-use Rattle.gx_gather.proofs.Lists.{in_map, from_map, all_at, some_same, none_some}
+use Rattle.gx_stack.proofs.LeafRead.{is_less}
+use Rattle.gx_gather.proofs.Lists.{in_map, from_map, all_at, some_same, none_some, bool_cases}
 use Rattle.gx_gather.proofs.Orders.{Ascends, ascends, ascends_unique, rec_total}
 use Rattle.gx_typing.specs.Dues.{file_form}
 use Rattle.gx_model.specs.States.{File, Row, IsRowOf, IsFileOf}
 use Rattle.gx_scan.specs.Files.{rec_of, records_of}
+use Rattle.gx_ports.proofs.KeyedLemmas.{first_of_both, second_of_both}
 use Rattle.gx_scan.specs.Records.{record_at, list_of_one}
 
 -- ---- orders
-
-pub first_of_both : (a b : Bool) → T (a && b) → T a
-first_of_both true b p = tt
-first_of_both false b p = absurd p
-
-pub second_of_both : (a b : Bool) → T (a && b) → T b
-second_of_both true b p = p
-second_of_both false b p = absurd p
-
-pub is_less : (r : Ordering) → T (is_lt r) → r ≡ Less
-is_less Less e = refl
-is_less Equal e = absurd e
-is_less Greater e = absurd e
 
 is_equal : (r : Ordering) → is_eq r ≡ true → r ≡ Equal
 is_equal Less e = cc
@@ -55,16 +44,8 @@ same_value k q e = value_cmp_same k q (is_equal (value_cmp k q) e)
 pub value_itself : (k : Value) → eq_by_cmp value_cmp k k ≡ true
 value_itself k = ap is_eq (tied_itself value_cmp_total k)
 
-pub no_bool : (b : Bool) → (b ≡ true → ⊥) → b ≡ false
-no_bool true h = absurd (h refl)
-no_bool false h = refl
-
 pub other_value : (k q : Value) → k ≢ q → eq_by_cmp value_cmp k q ≡ false
-other_value k q ne = no_bool _ (λ e. ne (same_value k q e))
-
-bool_cases : (b : Bool) → (b ≡ true) ⊎ (b ≡ false)
-bool_cases true = inl refl
-bool_cases false = inr refl
+other_value k q ne = false_from_ne_true _ (λ e. ne (same_value k q e))
 
 pub value_cases : (k q : Value) → (k ≡ q) ⊎ (k ≢ q)
 value_cases k q = elim (bool_cases (eq_by_cmp value_cmp k q)) [

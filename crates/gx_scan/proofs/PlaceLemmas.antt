@@ -25,6 +25,7 @@ use Rattle.gx_values.proofs.OrderLemmas.{key_order}
 use Rattle.gx_schema.specs.declared.schema.FileDef.{FileDef}
 use Rattle.gx_schema.specs.Lookups.{key_kind}
 use Rattle.gx_ports.specs.LeafMaps.{LeafMap, map_at}
+use Rattle.gx_ports.proofs.KeyedLemmas.{first_of_both, second_of_both}
 use Rattle.gx_mapping.specs.declared.parts.Part.{Part}
 use Rattle.gx_mapping.specs.Rule.{Rule, In, IsOf}
 use Rattle.gx_stack.specs.declared.entries.LeafEntry.{LeafEntry}
@@ -44,6 +45,7 @@ use Rattle.gx_gather.proofs.Lists.{in_left, in_right, in_cases, in_map, from_map
 use Rattle.gx_gather.proofs.Orders.{Ascends, ascends_filter, ascends_unique}
 use Rattle.gx_stack.proofs.Seen.{seen_layer, seen_leaf, layer_form, count_kids, child_there, child_valid, kid_entries_at}
 use Rattle.gx_stack.proofs.Unique.{entry_leaf, kid_leaf}
+use Rattle.gx_stack.proofs.LeafRead.{is_less}
 use Rattle.gx_types.specs.declared.any.AnyMapping.{AnyMapping}
 use Rattle.gx_types.specs.declared.any.AnyMapping.TheVariants as any
 use Rattle.gx_types.specs.Passing.{PassesOne, PassesWhole}
@@ -54,7 +56,7 @@ use Rattle.gx_scan.specs.declared.places.Above.{Above}
 use Rattle.gx_scan.specs.Files.{rec_of, records_of, IsStorable, IsTreeFor}
 use Rattle.gx_scan.specs.Stored.{stored_values, stored_rec, HaveCodes, IsWithCode}
 use Rattle.gx_scan.specs.Entries.{wrapped, below, entry_of_row, IsStoredRow, IsPassed, PassesOn, data_leaves, kids_data, IsAlone, ArePlaces, ArePlacesBelow, IsPlaceOf, first_leaf, leaf_of, rows_at}
-use Rattle.gx_scan.proofs.FileLemmas.{first_of_both, second_of_both, is_less, find_in, in_find, set_of}
+use Rattle.gx_scan.proofs.FileLemmas.{find_in, in_find, set_of}
 
 abbrev pub number : Place → ℕ
 number p = p.leaf

@@ -18,6 +18,7 @@ use Rattle.gx_schema.specs.Lookups.{key_kind}
 use Rattle.gx_ports.specs.declared.stop.Stop.{Stop}
 use Rattle.gx_ports.specs.declared.view.View.{Ghosts}
 use Rattle.gx_ports.specs.LeafMaps.{LeafMap}
+use Rattle.gx_ports.proofs.KeyedLemmas.{first_of_both, second_of_both}
 use Rattle.gx_mapping.specs.declared.parts.Part.{Part}
 use Rattle.gx_mapping.specs.Rule.{In, IsOf}
 use Rattle.gx_mapping.specs.Searched.{IsAlone}
@@ -41,7 +42,7 @@ use Rattle.gx_scan.specs.Files.{rec_of, records_of, IsStorable, IsTreeFor}
 use Rattle.gx_scan.specs.Files as files
 use Rattle.gx_scan.specs.Search.{Finds}
 use Rattle.gx_scan.specs.Searched.{IsPart, HasInside}
-use Rattle.gx_scan.proofs.FileLemmas.{first_of_both, second_of_both, inside_key, row_fits, same_value, value_itself}
+use Rattle.gx_scan.proofs.FileLemmas.{inside_key, row_fits, same_value, value_itself}
 
 -- ---- a tree itself, and one below another
 

@@ -1,11 +1,12 @@
 -- The steps of searches, counted by records.
-use Rattle.std.proofs.Common.{[], ◌≡◌, ℕ, ◌+◌, ◌*◌, ◌<◌, ◌≤◌, List, ◌∷◌, length, map, take, Bool, true, false, Option, Some, None, inl, inr, refl, sym, ap, subst, ◌∙◌, arith}
-use Rattle.std.specs.Prelude.{filter, flat_map, ◌&&◌}
+use Rattle.std.proofs.Common.{[], ◌≡◌, ℕ, ◌+◌, ◌*◌, ◌<◌, ◌≤◌, List, ◌∷◌, length, map, take, Option, Some, None, inl, inr, refl, sym, ap, subst, ◌∙◌, arith}
+use Rattle.std.specs.Prelude.{filter, flat_map}
 use Rattle.std.specs.FinMap as fin
 use Rattle.std.proofs.Math.Nat.{mul-le-mul_right}
 use Rattle.std.proofs.lemmas.List.{length-map, length-take}
 use Rattle.std.proofs.lemmas.List.Sorted.{length_permutation}
 use Rattle.std.proofs.lemmas.List.Sums.{sum_by-cons}
+use Rattle.std.proofs.Math.Bool.{and-true}
 use Rattle.gx_values.specs.declared.values.Value.{Value}
 use Rattle.gx_values.specs.declared.records.Form.{Form}
 use Rattle.gx_values.specs.declared.records.Rec.{Rec}
@@ -79,17 +80,13 @@ whole_most file t f most places (r ∷ rs) are form keyed fit few there =
 
 -- ---- the records that an index finds
 
-and_true : (b : Bool) → (b && true) ≡ b
-and_true true = refl
-and_true false = refl
-
 -- the index gives a key for each record with its field inside the span
 pub keys_many : (file : FileDef) (t : Tree AnyMapping) (field : ℕ) (span : Span) (f : File) (before steps : ℕ) (keys : List (List Value)) → tree_form any_rule t ≡ file_form file → IsNamed file field → IsFileOf file f → AreKeysOf any_rule t (field_at file field).name span (records_of f) before steps keys → length keys ≡ length (rows_with field span f)
 keys_many file t field span f before steps keys form named fit are =
     let now = filter (meets_conds []) (flat_map (rows_at_key f) keys) in
     let where_is = found_where file t field span [] f before steps keys [] now form named fit are refl in
     let rows : now ≡ map row_of are.recs = filter_true (flat_map (rows_at_key f) keys) ∙ ap (flat_map (rows_at_key f)) are.same ∙ rows_found f are.recs (λ r h. (are.sound r h).0) in
-    let all : filter (is_found_by field span []) (fin.entries f) ≡ rows_with field span f = same_filter (is_found_by field span []) _ (fin.entries f) (λ r h. and_true (is_inside span.lo span.hi (bytes_of (value_at r field)))) in
+    let all : filter (is_found_by field span []) (fin.entries f) ≡ rows_with field span f = same_filter (is_found_by field span []) _ (fin.entries f) (λ r h. and-true (is_inside span.lo span.hi (bytes_of (value_at r field)))) in
     ap length are.same ∙ length-map are.recs (λ (r : Rec). r.key) ∙ sym (length-map are.recs row_of) ∙ ap length (sym rows) ∙ ap length where_is.appended
     ∙ length_permutation (filter (is_found_by field span []) (fin.entries f)) where_is.added where_is.those ∙ ap length all
 

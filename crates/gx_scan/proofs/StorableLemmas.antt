@@ -10,25 +10,15 @@ use Rattle.gx_values.specs.declared.values.Kind.TheVariants as kind
 use Rattle.gx_values.specs.declared.records.Field.{Field}
 use Rattle.gx_values.specs.Keys.{width_of, IsKeyKind, AreKeyFields}
 use Rattle.gx_schema.specs.declared.schema.FileDef.{FileDef}
-use Rattle.gx_schema.specs.Lookups.{no_file, no_field}
+use Rattle.gx_schema.specs.Lookups.{no_field}
 use Rattle.gx_schema.specs.Names.{has_field}
 use Rattle.gx_mapping.specs.Rule.{is_field, first_in}
-use Rattle.gx_schema.specs.Rules.{IsKind, AreFields, AreFiles}
+use Rattle.gx_schema.specs.Rules.{IsKind, AreFields}
+use Rattle.gx_schema.proofs.WellFormedLaws.{HasRules}
 use Rattle.gx_actual.specs.Bodies.{IsShort, AreShort}
 use Rattle.gx_ports.specs.declared.leaves.TheConstants.{MAX_KEY_LEN}
 use Rattle.gx_scan.specs.Files.{IsStorable}
 use Rattle.gx_scan.specs.Where.{AreNamed}
-
--- ---- each file
-
-pub record HasRules (f : FileDef) : Type 0 where
-  pub some : 0 < length f.fields
-  pub fields : AreFields [] f.fields
-
-pub rules_at : (before fs : List FileDef) (i : ℕ) → AreFiles before fs → i < length fs → HasRules (get_or fs i no_file)
-rules_at before [] i are lt = absurd (omega arith)
-rules_at before (f ∷ fs) zero are lt = record { some = are.0.some; fields = are.0.fields }
-rules_at before (f ∷ fs) (suc i) are lt = rules_at (before ++ f ∷ []) fs i are.1 (omega arith)
 
 -- ---- records that can be stored
 

@@ -14,6 +14,7 @@ use Rattle.gx_schema.specs.declared.schema.LinkDef.{LinkDef}
 use Rattle.gx_schema.specs.declared.schema.Schema.{Schema}
 use Rattle.gx_schema.specs.Lookups.{no_field, no_link, file_at, link_at, key_kind}
 use Rattle.gx_schema.specs.Rules.{IsKind, AreFields, AreLinks, IsSchema}
+use Rattle.gx_schema.proofs.WellFormedLaws.{rules_at}
 use Rattle.gx_ports.specs.LeafMaps.{map_at}
 use Rattle.gx_mapping.specs.declared.parts.Part.{Part}
 use Rattle.gx_stack.specs.Tree.{Tree, IsValid}
@@ -30,7 +31,7 @@ use Rattle.gx_links.specs.Rows.{node_rows}
 use Rattle.gx_linksets.specs.Stored.{IsStorableLink, rows_of, IsHeldAt}
 use Rattle.gx_model.specs.States.{Link, State, IsRowOf, IsLinkOf, file_in, link_in, is_same, most_members, empty_state}
 use Rattle.gx_scan.specs.Files.{rec_of, records_of, IsInternal}
-use Rattle.gx_scan.proofs.StorableLemmas.{rules_at, file_stored, file_named}
+use Rattle.gx_scan.proofs.StorableLemmas.{file_stored, file_named}
 use Rattle.gx_states.specs.Internal.{AreInternal, AreStorable, AreFor}
 use Rattle.gx_states.proofs.LinkLemmas.{kids_of_none}
 
