@@ -185,10 +185,12 @@ more field conds i c v on read lt is =
     ∙ list_all-append (met_by v) before (cond on (c ∷ []) [])
 
 pub meets_more : (field : ℕ) (conds : List Cond) (i : ℕ) (c : Cond) (v : Value) → c ≡ get_or conds i c → i < length conds → is_on field c ≡ true → meets_on field (take (i + 1) conds) v ≡ (meets_on field (take i conds) v && is_met c.op (value_cmp v c.bound))
-meets_more field conds i c v read lt on = more field conds i c v true read lt on ∙ ap (λ (b : Bool). meets_on field (take i conds) v && b) (and-true (met_by v c))
+meets_more field conds i c v read lt on = more field conds i c v true read lt on ∙ ap (λ (b : Bool).
+    meets_on field (take i conds) v && b) (and-true (met_by v c))
 
 pub meets_same : (field : ℕ) (conds : List Cond) (i : ℕ) (c : Cond) (v : Value) → c ≡ get_or conds i c → i < length conds → is_on field c ≡ false → meets_on field (take (i + 1) conds) v ≡ meets_on field (take i conds) v
-meets_same field conds i c v read lt off = more field conds i c v false read lt off ∙ and-true (meets_on field (take i conds) v)
+meets_same field conds i c v read lt off = more field conds i c v false read lt off ∙ and-true
+    (meets_on field (take i conds) v)
 
 -- the field's value meets each of them
 pub on_met : (field : ℕ) (conds : List Cond) (c : Cond) (v : Value) → In c conds → is_on field c ≡ true → meets_on field conds v ≡ true → is_met c.op (value_cmp v c.bound) ≡ true

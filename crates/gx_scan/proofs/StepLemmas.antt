@@ -86,7 +86,9 @@ keys_many file t field span f before steps keys form named fit are =
     let now = filter (meets_conds []) (flat_map (rows_at_key f) keys) in
     let where_is = found_where file t field span [] f before steps keys [] now form named fit are refl in
     let rows : now ≡ map row_of are.recs = filter_true (flat_map (rows_at_key f) keys) ∙ ap (flat_map (rows_at_key f)) are.same ∙ rows_found f are.recs (λ r h. (are.sound r h).0) in
-    let all : filter (is_found_by field span []) (fin.entries f) ≡ rows_with field span f = same_filter (is_found_by field span []) _ (fin.entries f) (λ r h. and-true (is_inside span.lo span.hi (bytes_of (value_at r field)))) in
+    let all : filter (is_found_by field span []) (fin.entries f) ≡ rows_with field span f =
+    same_filter (is_found_by field span []) _ (fin.entries f) (λ r h. and-true (is_inside span.lo
+    span.hi (bytes_of (value_at r field)))) in
     ap length are.same ∙ length-map are.recs (λ (r : Rec). r.key) ∙ sym (length-map are.recs row_of) ∙ ap length (sym rows) ∙ ap length where_is.appended
     ∙ length_permutation (filter (is_found_by field span []) (fin.entries f)) where_is.added where_is.those ∙ ap length all
 

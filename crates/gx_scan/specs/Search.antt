@@ -6,9 +6,9 @@ use Rattle.gx_values.specs.declared.values.Value.{Value}
 use Rattle.gx_values.specs.declared.records.Rec.{Rec}
 use Rattle.gx_values.specs.declared.keys.Span.{Span}
 use Rattle.gx_values.specs.Keys.{bytes_of}
-use Rattle.gx_values.specs.Values.{AreFit}
+use Rattle.gx_values.specs.Values.{Fits, AreFit}
 use Rattle.gx_schema.specs.declared.schema.FileDef.{FileDef}
-use Rattle.gx_schema.specs.Lookups.{data_fields}
+use Rattle.gx_schema.specs.Lookups.{key_kind, data_fields}
 use Rattle.gx_commands.specs.declared.command.Cond.{Cond}
 use Rattle.gx_ports.specs.declared.stop.Stop.{Stop}
 use Rattle.gx_ports.specs.declared.view.View.{Ghosts}
@@ -20,7 +20,7 @@ use Rattle.gx_types.specs.declared.any.AnyMapping.{AnyMapping}
 use Rattle.gx_typing.specs.Dues.{file_form}
 use Rattle.gx_model.specs.States.{File, Row, IsRowOf}
 use Rattle.gx_model.specs.Found.{meets_conds}
-use Rattle.gx_scan.specs.Files.{IsInternal, HasFile}
+use Rattle.gx_scan.specs.Files.{IsInternal, HasFile, IsStorable, IsTreeFor}
 use Rattle.gx_scan.specs.Records.{record_at}
 use Rattle.gx_scan.specs.Steps.{HaveAtMost, rows_inside, rows_with, span_bound, index_bound}
 use Rattle.gx_scan.specs.Within.{AreAdded}
@@ -32,6 +32,14 @@ use Rattle.gx_scan.specs.Where.{AreAddedWhere, rows_at_key}
 pub record IsSpanOf (key : Value) (span : Span) : Type 0 where
   pub lo : span.lo ≡ bytes_of key
   pub hi : span.hi ≡ bytes_of key
+
+-- the tree can hold the file, whose keys are of the kind of the key; the span is that of the key
+pub record IsKeySearch (file : FileDef) (t : Tree AnyMapping) (leaves : ℕ) (key : Value)
+    (span : Span) : Type 0 where
+  pub tree : IsTreeFor file t leaves
+  pub storable : IsStorable file
+  pub fits : Fits (key_kind file) key
+  pub bounds : IsSpanOf key span
 
 -- The answer is what is at the key of the file that a tree's leaves hold, and fits.
 pub record Finds {S T : Type 0} (g : Ghosts S) (file : FileDef) (t : Tree AnyMapping)

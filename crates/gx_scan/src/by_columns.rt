@@ -5,7 +5,7 @@ ghost use Rattle.std.specs.List.{AllByRecursion, sum_by};
 ghost use Rattle.gx_values.specs.declared.values.Value.{Value as FieldValue};
 ghost use Rattle.gx_values.specs.Values.{Fits};
 ghost use Rattle.gx_values.specs.Keys.{bytes_of};
-ghost use Rattle.gx_schema.specs.Lookups.{key_kind, data_fields};
+ghost use Rattle.gx_schema.specs.Lookups.{data_fields};
 ghost use Rattle.gx_ports.specs.Calls.{ReadsMaps};
 ghost use Rattle.gx_ports.specs.LeafMaps.{entry_of, selected, map_at};
 ghost use Rattle.gx_mapping.specs.Rule.{In};
@@ -18,7 +18,7 @@ ghost use Rattle.gx_scan.specs.Files.{IsStorable, IsTreeFor};
 ghost use Rattle.gx_scan.specs.Entries.{entry_of_row};
 ghost use Rattle.gx_scan.specs.Stored.{HaveCodes};
 ghost use Rattle.gx_scan.specs.Columns.{AreColumns, ArePlainColumns, AreColumnEntries, column_entry};
-ghost use Rattle.gx_scan.specs.Search.{IsSpanOf, FindsValues, AddsWithin, AddsChosen};
+ghost use Rattle.gx_scan.specs.Search.{IsKeySearch, FindsValues, AddsWithin, AddsChosen};
 
 use crate::entries::{PLAIN_ROOM, add_met, entries_at, select_at};
 use crate::places::Place;
@@ -46,10 +46,8 @@ pub(crate) fn values_by_columns<B: Leaves>(
     leaves: &mut B,
 ) -> Result<Option<Values>, Stop>
     requires columns { AreColumns (tree_of node.now) places.now }
-    requires tree { IsTreeFor file.now (tree_of node.now) (length (B.working leaves.old)) }
-    requires storable { IsStorable file.now }
-    requires key { Fits (key_kind file.now) key.now }
-    requires span { IsSpanOf key.now span.now }
+    requires asked { IsKeySearch file.now (tree_of node.now) (length (B.working leaves.old))
+        key.now span.now }
     ensures { FindsValues B.View file.now (tree_of node.now) key.now leaves.old leaves.new result }
 {
     let (_, _) = (node, key);

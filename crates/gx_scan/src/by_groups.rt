@@ -2,13 +2,11 @@
 // joined by their keys.
 ghost use Rattle.std.specs.Prelude.{length};
 ghost use Rattle.std.specs.List.{AllByRecursion};
-ghost use Rattle.gx_values.specs.Values.{Fits};
-ghost use Rattle.gx_schema.specs.Lookups.{key_kind};
 ghost use Rattle.gx_stack.specs.Seen.{tree_of};
 ghost use Rattle.gx_model.specs.States.{IsRowOf};
 ghost use Rattle.gx_scan.specs.Files.{IsStorable, IsTreeFor};
 ghost use Rattle.gx_scan.specs.Groups.{AreGroups, ArePlain};
-ghost use Rattle.gx_scan.specs.Search.{IsSpanOf, FindsValues, AddsWithin};
+ghost use Rattle.gx_scan.specs.Search.{IsKeySearch, FindsValues, AddsWithin};
 
 use crate::both::values_of_both;
 use crate::entries::entries_at;
@@ -66,10 +64,8 @@ pub(crate) fn values_by_groups<B: Leaves>(
     leaves: &mut B,
 ) -> Result<Option<Values>, Stop>
     requires groups { AreGroups (tree_of node.now) groups.now }
-    requires tree { IsTreeFor file.now (tree_of node.now) (length (B.working leaves.old)) }
-    requires storable { IsStorable file.now }
-    requires key { Fits (key_kind file.now) key.now }
-    requires span { IsSpanOf key.now span.now }
+    requires asked { IsKeySearch file.now (tree_of node.now) (length (B.working leaves.old))
+        key.now span.now }
     ensures { FindsValues B.View file.now (tree_of node.now) key.now leaves.old leaves.new result }
 {
     let _key = key;

@@ -9,7 +9,7 @@ ghost use Rattle.gx_model.specs.States.{Row as TheRow, IsRowOf};
 ghost use Rattle.gx_scan.specs.Files.{IsStorable, IsTreeFor};
 ghost use Rattle.gx_scan.specs.Entries.{ArePlaces};
 ghost use Rattle.gx_scan.specs.Records.{list_of_one};
-ghost use Rattle.gx_scan.specs.Search.{IsSpanOf, FindsValues};
+ghost use Rattle.gx_scan.specs.Search.{IsKeySearch, FindsValues};
 
 use crate::by_columns::values_by_columns;
 use crate::by_entries::{FEW_PLACES, add_by_entries};
@@ -67,10 +67,8 @@ fn values_in<B: Leaves>(
     span: &Span,
     leaves: &mut B,
 ) -> Result<Option<Values>, Stop>
-    requires tree { IsTreeFor file.now (tree_of node.now) (length (B.working leaves.old)) }
-    requires storable { IsStorable file.now }
-    requires key { Fits (key_kind file.now) key.now }
-    requires span { IsSpanOf key.now span.now }
+    requires asked { IsKeySearch file.now (tree_of node.now) (length (B.working leaves.old))
+        key.now span.now }
     ensures { FindsValues B.View file.now (tree_of node.now) key.now leaves.old leaves.new result }
 {
     if let Some(groups) = groups_of(alloc, node)? {
@@ -102,10 +100,8 @@ fn values_at<B: Leaves>(
     leaves: &mut B,
 ) -> Result<Option<Values>, Stop>
     requires place { ArePlaces 0 (tree_of node.now) (place.now ∷ []) }
-    requires tree { IsTreeFor file.now (tree_of node.now) (length (B.working leaves.old)) }
-    requires storable { IsStorable file.now }
-    requires key { Fits (key_kind file.now) key.now }
-    requires span { IsSpanOf key.now span.now }
+    requires asked { IsKeySearch file.now (tree_of node.now) (length (B.working leaves.old))
+        key.now span.now }
     ensures { FindsValues B.View file.now (tree_of node.now) key.now leaves.old leaves.new result }
 {
     let _key = key;
@@ -129,10 +125,8 @@ fn values_by_entry<B: Leaves>(
     leaves: &mut B,
 ) -> Result<Option<Values>, Stop>
     requires places { ArePlaces 0 (tree_of node.now) places.now }
-    requires tree { IsTreeFor file.now (tree_of node.now) (length (B.working leaves.old)) }
-    requires storable { IsStorable file.now }
-    requires key { Fits (key_kind file.now) key.now }
-    requires span { IsSpanOf key.now span.now }
+    requires asked { IsKeySearch file.now (tree_of node.now) (length (B.working leaves.old))
+        key.now span.now }
     ensures { FindsValues B.View file.now (tree_of node.now) key.now leaves.old leaves.new result }
 {
     let _key = key;
@@ -172,10 +166,8 @@ fn values_by_record<B: Leaves>(
     span: &Span,
     leaves: &mut B,
 ) -> Result<Option<Values>, Stop>
-    requires tree { IsTreeFor file.now (tree_of node.now) (length (B.working leaves.old)) }
-    requires storable { IsStorable file.now }
-    requires key { Fits (key_kind file.now) key.now }
-    requires span { IsSpanOf key.now span.now }
+    requires asked { IsKeySearch file.now (tree_of node.now) (length (B.working leaves.old))
+        key.now span.now }
     ensures { FindsValues B.View file.now (tree_of node.now) key.now leaves.old leaves.new result }
 {
     match record_inside(alloc, file, node, key, span, leaves)? {

@@ -10,7 +10,7 @@ ghost use Rattle.gx_mapping.specs.Rule.{In, IsOf};
 ghost use Rattle.gx_stack.specs.Seen.{tree_of};
 ghost use Rattle.gx_scan.specs.Files.{rec_of, IsStorable, IsTreeFor};
 ghost use Rattle.gx_scan.specs.Records.{list_of_one};
-ghost use Rattle.gx_scan.specs.Search.{IsSpanOf, FindsRecord};
+ghost use Rattle.gx_scan.specs.Search.{IsSpanOf, IsKeySearch, FindsRecord};
 
 use crate::by_key::find_values;
 use gx_gather::Recs;
@@ -84,10 +84,8 @@ pub(crate) fn record_inside<B: Leaves>(
     span: &Span,
     leaves: &mut B,
 ) -> Result<Option<Rec>, Stop>
-    requires tree { IsTreeFor file.now (tree_of node.now) (length (B.working leaves.old)) }
-    requires storable { IsStorable file.now }
-    requires key { Fits (key_kind file.now) key.now }
-    requires span { IsSpanOf key.now span.now }
+    requires asked { IsKeySearch file.now (tree_of node.now) (length (B.working leaves.old))
+        key.now span.now }
     ensures { FindsRecord B.View file.now (tree_of node.now) key.now leaves.old leaves.new result }
 {
     let (_, _) = (file, key);

@@ -40,18 +40,18 @@ select_at-requires g c =
     let ps = c.args.places.now in
     let i = c.loop-at.at in
     let inv = c.loop-at.invariant in
-    let many = columns_many file t ps _ c.requires.tree c.requires.columns in
+    let many = columns_many file t ps _ c.requires.asked.tree c.requires.columns in
     let same = c.data_fields-fields.ensures in
     let p : Place = c.index-places-at.result in
     let lt : i < length ps = omega (arith, c.loop-at-test.true, many, ap length same) in
     subst (λ (maps : List LeafMap). p.leaf < length maps) (sym inv.reads.working)
-    (c.requires.tree.below p.leaf (column_there t ps p c.requires.columns
+    (c.requires.asked.tree.below p.leaf (column_there t ps p c.requires.columns
     (in_read ps i p c.index-places-at.is lt)))
 
 pub read_alone-requires : goal.read_alone-requires
 read_alone-requires g c =
     item_short c.data_fields-fields.result.now c.index-fields-at.result c.loop-at.at
-    (subst AreShort (sym c.data_fields-fields.ensures) c.requires.storable.short)
+    (subst AreShort (sym c.data_fields-fields.ensures) c.requires.asked.storable.short)
     c.loop-at-test.true c.index-fields-at.is
 
 pub returns-then-at-eq0 : goal.returns-then-at-eq0
@@ -62,33 +62,36 @@ returns-then-at-eq0 g c =
     let ps = c.args.places.now in
     let i = c.loop-at.at in
     let inv = c.loop-at.invariant in
-    let many = columns_many file t ps _ c.requires.tree c.requires.columns in
+    let many = columns_many file t ps _ c.requires.asked.tree c.requires.columns in
     let same = c.data_fields-fields.ensures in
     let p : Place = c.index-places-at.result in
     let lt : i < length ps = omega (arith, c.loop-at-test.true, many, ap length same) in
     let key = c.args.key.now in
     let span = c.args.span.now in
     let maps = b.working c.args.leaves.now in
-    let storable = c.requires.storable in
-    let tree = c.requires.tree in
+    let storable = c.requires.asked.storable in
+    let tree = c.requires.asked.tree in
     let are = c.requires.columns in
     let selected = c.in_ok-select_at.ensures in
     let item = c.index-places-at.is in
     let es = c.select_at.new.entries in
     record {
       found = λ f whole is. no_record file t ps _ maps f storable tree is are
-          key span c.requires.key c.requires.span.lo c.requires.span.hi i p lt item es _
+          key span c.requires.asked.fits c.requires.asked.bounds.lo c.requires.asked.bounds.hi i p
+          lt item es _
           inv.reads.working
           (selected.entries (inv.whole whole))
           (c.is_empty.ensures.0 c.if-is_empty.true);
       fits = tt;
       steps = λ f most whole is few. steps_key file t ps _ maps f storable tree is are
-          key span c.requires.key c.requires.span.lo c.requires.span.hi most (i + 1) _ _ few
+          key span c.requires.asked.fits c.requires.asked.bounds.lo c.requires.asked.bounds.hi most
+          (i + 1) _ _ few
           (omega (arith, lt)) (omega (
             arith,
             inv.steps f whole is,
             counted_most _ _ _ _ selected.steps (many_found file t ps _ maps f storable tree is are
-                key span c.requires.key c.requires.span.lo c.requires.span.hi i p lt item es _
+                key span c.requires.asked.fits c.requires.asked.bounds.lo c.requires.asked.bounds.hi
+                i p lt item es _
                 inv.reads.working
                 (selected.entries (inv.whole whole))),
           ));
@@ -104,15 +107,15 @@ returns-then-is_empty g c =
     let ps = c.args.places.now in
     let i = c.loop-at.at in
     let inv = c.loop-at.invariant in
-    let many = columns_many file t ps _ c.requires.tree c.requires.columns in
+    let many = columns_many file t ps _ c.requires.asked.tree c.requires.columns in
     let same = c.data_fields-fields.ensures in
     let p : Place = c.index-places-at.result in
     let lt : i < length ps = omega (arith, c.loop-at-test.true, many, ap length same) in
     let key = c.args.key.now in
     let span = c.args.span.now in
     let maps = b.working c.args.leaves.now in
-    let storable = c.requires.storable in
-    let tree = c.requires.tree in
+    let storable = c.requires.asked.storable in
+    let tree = c.requires.asked.tree in
     let are = c.requires.columns in
     let selected = c.in_ok-select_at.ensures in
     let item = c.index-places-at.is in
@@ -131,7 +134,8 @@ returns-then-is_empty g c =
               arith,
               ap length (c.is_empty.ensures.0 c.if-is_empty.true),
               ap length (one_found file t ps _ maps f storable tree is are
-                  key span c.requires.key c.requires.span.lo c.requires.span.hi i p lt item es _
+                  key span c.requires.asked.fits c.requires.asked.bounds.lo
+                  c.requires.asked.bounds.hi i p lt item es _
                   inv.reads.working
                   (selected.entries (inv.whole whole)) some.0 some.1),
             )
@@ -148,15 +152,15 @@ returns-in_default g c =
     let ps = c.args.places.now in
     let i = c.loop-at.at in
     let inv = c.loop-at.invariant in
-    let many = columns_many file t ps _ c.requires.tree c.requires.columns in
+    let many = columns_many file t ps _ c.requires.asked.tree c.requires.columns in
     let same = c.data_fields-fields.ensures in
     let p : Place = c.index-places-at.result in
     let lt : i < length ps = omega (arith, c.loop-at-test.true, many, ap length same) in
     let key = c.args.key.now in
     let span = c.args.span.now in
     let maps = b.working c.args.leaves.now in
-    let storable = c.requires.storable in
-    let tree = c.requires.tree in
+    let storable = c.requires.asked.storable in
+    let tree = c.requires.asked.tree in
     let are = c.requires.columns in
     let selected = c.in_ok-select_at.ensures in
     let item = c.index-places-at.is in
@@ -172,14 +176,16 @@ returns-in_default g c =
           let is = sound.1.1 in
           elim (found_cases (fin.get f key)) [
             | inl none ↦ some_record file t ps _ maps f storable tree is are
-                key span c.requires.key c.requires.span.lo c.requires.span.hi i p lt item es _
+                key span c.requires.asked.fits c.requires.asked.bounds.lo c.requires.asked.bounds.hi
+                i p lt item es _
                 inv.reads.working
                 (selected.entries (inv.whole whole)) e c.entry.ensures none
             | inr some ↦ (
                 let vs = some.0 in
                 let found = some.1 in
                 let row = row_there file t ps _ maps f storable tree is are
-                key span c.requires.key c.requires.span.lo c.requires.span.hi vs found in
+                key span c.requires.asked.fits c.requires.asked.bounds.lo c.requires.asked.bounds.hi
+                vs found in
                 let fit = row_fit file t ps _ maps f storable tree is are (key, vs) row in
                 let v = get_or vs i no_value in
                 let read = c.in_ok-value.ensures.read key v
@@ -187,7 +193,8 @@ returns-in_default g c =
                 c.index-fields-at.result same fit.1 c.loop-at-test.true c.index-fields-at.is)
                 (column_coded file t ps _ maps f storable tree is are i p lt item (key, vs) row)
                 (body_found file t ps _ maps f storable tree is are
-                key span c.requires.key c.requires.span.lo c.requires.span.hi i p lt item es _
+                key span c.requires.asked.fits c.requires.asked.bounds.lo c.requires.asked.bounds.hi
+                i p lt item es _
                 inv.reads.working
                 (selected.entries (inv.whole whole)) vs found e c.entry.ensures) in
                 let nothing = c.in_default.is in
@@ -205,15 +212,15 @@ loop-at-preserved g c =
     let ps = c.args.places.now in
     let i = c.loop-at.at in
     let inv = c.loop-at.invariant in
-    let many = columns_many file t ps _ c.requires.tree c.requires.columns in
+    let many = columns_many file t ps _ c.requires.asked.tree c.requires.columns in
     let same = c.data_fields-fields.ensures in
     let p : Place = c.index-places-at.result in
     let lt : i < length ps = omega (arith, c.loop-at-test.true, many, ap length same) in
     let key = c.args.key.now in
     let span = c.args.span.now in
     let maps = b.working c.args.leaves.now in
-    let storable = c.requires.storable in
-    let tree = c.requires.tree in
+    let storable = c.requires.asked.storable in
+    let tree = c.requires.asked.tree in
     let are = c.requires.columns in
     let selected = c.in_ok-select_at.ensures in
     let item = c.index-places-at.is in
@@ -230,7 +237,8 @@ loop-at-preserved g c =
           c.in_ok-push.ensures.items;
       so_far = λ f whole is vs found.
           let row = row_there file t ps _ maps f storable tree is are
-          key span c.requires.key c.requires.span.lo c.requires.span.hi vs found in
+          key span c.requires.asked.fits c.requires.asked.bounds.lo c.requires.asked.bounds.hi vs
+          found in
           let fit = row_fit file t ps _ maps f storable tree is are (key, vs) row in
           let v = get_or vs i no_value in
           let read = c.in_ok-value.ensures.read key v
@@ -238,7 +246,8 @@ loop-at-preserved g c =
           c.index-fields-at.result same fit.1 c.loop-at-test.true c.index-fields-at.is)
           (column_coded file t ps _ maps f storable tree is are i p lt item (key, vs) row)
           (body_found file t ps _ maps f storable tree is are
-          key span c.requires.key c.requires.span.lo c.requires.span.hi i p lt item es _
+          key span c.requires.asked.fits c.requires.asked.bounds.lo c.requires.asked.bounds.hi i p
+          lt item es _
           inv.reads.working
           (selected.entries (inv.whole whole)) vs found e c.entry.ensures) in
           let same : value ≡ v = some_same value v (sym c.in-Some.is ∙ read) in
@@ -247,7 +256,8 @@ loop-at-preserved g c =
           c.in_ok-push.ensures.items ∙ (λ j. inv.so_far f whole is vs found j ++ same j ∷ [])
           ∙ sym (take_more vs i no_value within);
       none = λ f whole is none. absurd (some_record file t ps _ maps f storable tree is are
-          key span c.requires.key c.requires.span.lo c.requires.span.hi i p lt item es _
+          key span c.requires.asked.fits c.requires.asked.bounds.lo c.requires.asked.bounds.hi i p
+          lt item es _
           inv.reads.working
           (selected.entries (inv.whole whole))
           e c.entry.ensures none);
@@ -255,7 +265,8 @@ loop-at-preserved g c =
         arith,
         inv.steps f whole is,
         counted_most _ _ _ _ selected.steps (many_found file t ps _ maps f storable tree is are
-            key span c.requires.key c.requires.span.lo c.requires.span.hi i p lt item es _
+            key span c.requires.asked.fits c.requires.asked.bounds.lo c.requires.asked.bounds.hi i p
+            lt item es _
             inv.reads.working
             (selected.entries (inv.whole whole))),
       );
@@ -272,13 +283,13 @@ returns g c =
     let ps = c.args.places.now in
     let i = c.loop-at.at in
     let inv = c.loop-at.invariant in
-    let many = columns_many file t ps _ c.requires.tree c.requires.columns in
+    let many = columns_many file t ps _ c.requires.asked.tree c.requires.columns in
     let same = c.data_fields-fields.ensures in
     let key = c.args.key.now in
     let span = c.args.span.now in
     let maps = b.working c.args.leaves.now in
-    let storable = c.requires.storable in
-    let tree = c.requires.tree in
+    let storable = c.requires.asked.storable in
+    let tree = c.requires.asked.tree in
     let are = c.requires.columns in
     record {
       found = λ f whole is. elim (found_cases (fin.get f key)) [
@@ -293,7 +304,8 @@ returns g c =
         | inr some ↦ (
             let vs = some.0 in
             let row = row_there file t ps _ maps f storable tree is are
-            key span c.requires.key c.requires.span.lo c.requires.span.hi vs some.1 in
+            key span c.requires.asked.fits c.requires.asked.bounds.lo c.requires.asked.bounds.hi vs
+            some.1 in
             let fit = row_fit file t ps _ maps f storable tree is are (key, vs) row in
             ap Some (inv.so_far f whole is vs some.1 ∙ take_all i vs (omega (
               arith,
@@ -305,7 +317,8 @@ returns g c =
       fits = subst (λ fs. AreFit fs c.loop-at.values.items)
           (take_all i c.data_fields-fields.result.now c.loop-at-test.false ∙ same) inv.fit;
       steps = λ f most whole is few. steps_key file t ps _ maps f storable tree is are
-          key span c.requires.key c.requires.span.lo c.requires.span.hi most i _ _ few
+          key span c.requires.asked.fits c.requires.asked.bounds.lo c.requires.asked.bounds.hi most
+          i _ _ few
           (omega (arith, many, ap length same)) (inv.steps f whole is);
       reads = reads_passed b _ (record { reads = inv.reads; whole = inv.whole; counted = inv.counted });
     }

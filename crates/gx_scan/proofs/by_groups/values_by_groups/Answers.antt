@@ -17,7 +17,7 @@ use Rattle.gx_scan.proofs.by_groups.values_by_groups.Goals as goal
 pub select-requires : goal.select-requires
 select-requires g c =
     let groups = c.args.groups.now in
-    c.requires.tree.below groups.first.leaf (first_there (tree_of c.args.node.now) groups
+    c.requires.asked.tree.below groups.first.leaf (first_there (tree_of c.args.node.now) groups
     c.requires.groups)
 
 pub select-requires-2 : goal.select-requires-2
@@ -25,24 +25,26 @@ select-requires-2 g c =
     let groups = c.args.groups.now in
     subst (λ (maps : List LeafMap). groups.others.leaf < length maps) (sym
     c.in_ok-select.ensures.reads.working)
-    (c.requires.tree.below groups.others.leaf (other_there (tree_of c.args.node.now) groups
+    (c.requires.asked.tree.below groups.others.leaf (other_there (tree_of c.args.node.now) groups
     c.requires.groups))
 
 pub returns-then-is_empty : goal.returns-then-is_empty
 returns-then-is_empty g c = record {
   found = λ f whole is.
       none_there c.args.file.now (tree_of c.args.node.now) c.args.groups.now _
-      (g.B.View.working c.args.leaves.now) f c.requires.storable c.requires.tree is
-      c.requires.groups c.args.key.now c.args.span.now c.requires.key c.requires.span.lo
-      c.requires.span.hi
+      (g.B.View.working c.args.leaves.now) f c.requires.asked.storable c.requires.asked.tree is
+      c.requires.groups c.args.key.now c.args.span.now c.requires.asked.fits
+      c.requires.asked.bounds.lo
+      c.requires.asked.bounds.hi
       c.new-entries.result c.select.new.out c.new-entries.ensures
       (c.in_ok-select.ensures.ok whole) (c.is_empty.ensures.0 c.if-is_empty.true);
   fits = tt;
   steps = λ f most whole is few.
       steps_first c.args.file.now (tree_of c.args.node.now) c.args.groups.now _
-      (g.B.View.working c.args.leaves.now) f c.requires.storable c.requires.tree is
-      c.requires.groups c.args.key.now c.args.span.now c.requires.key c.requires.span.lo
-      c.requires.span.hi
+      (g.B.View.working c.args.leaves.now) f c.requires.asked.storable c.requires.asked.tree is
+      c.requires.groups c.args.key.now c.args.span.now c.requires.asked.fits
+      c.requires.asked.bounds.lo
+      c.requires.asked.bounds.hi
       c.new-entries.result c.select.new.out c.new-entries.ensures
       (c.in_ok-select.ensures.ok whole) most _ _ few c.in_ok-select.ensures.steps;
   reads = search rules;
@@ -65,15 +67,15 @@ returns-in_default g c = record {
       let ends = c.in_ok-select.ensures.ends in
       let f = sound.1.0 in
       let is = sound.1.1 in
-      let all = both_are file t groups _ maps f c.requires.storable c.requires.tree is
-      c.requires.groups key span c.requires.key c.requires.span.lo
-      c.requires.span.hi
+      let all = both_are file t groups _ maps f c.requires.asked.storable c.requires.asked.tree is
+      c.requires.groups key span c.requires.asked.fits c.requires.asked.bounds.lo
+      c.requires.asked.bounds.hi
       c.new-entries.result c.select.new.out c.new-entries.ensures
       (c.in_ok-select.ensures.ok sound.0) c.select-2.new.out _ reads.working
       (c.in_ok-select-2.ensures.ok (ends.whole sound.0)) in
-      let fits = one_fits file t groups _ maps f c.requires.storable c.requires.tree is
-      c.requires.groups key span c.requires.key c.requires.span.lo
-      c.requires.span.hi in
+      let fits = one_fits file t groups _ maps f c.requires.asked.storable c.requires.asked.tree is
+      c.requires.groups key span c.requires.asked.fits c.requires.asked.bounds.lo
+      c.requires.asked.bounds.hi in
       let one = option_map (λ (vs : List Value). (key, vs)) (fin.get f key) in
       let found = c.in_ok-values.ensures.read one fits all in
       let none = c.in_default.is in
@@ -94,15 +96,15 @@ returns g c = record {
       let maps = g.B.View.working c.args.leaves.now in
       let reads = c.in_ok-select.ensures.reads in
       let ends = c.in_ok-select.ensures.ends in
-      let all = both_are file t groups _ maps f c.requires.storable c.requires.tree is
-      c.requires.groups key span c.requires.key c.requires.span.lo
-      c.requires.span.hi
+      let all = both_are file t groups _ maps f c.requires.asked.storable c.requires.asked.tree is
+      c.requires.groups key span c.requires.asked.fits c.requires.asked.bounds.lo
+      c.requires.asked.bounds.hi
       c.new-entries.result c.select.new.out c.new-entries.ensures
       (c.in_ok-select.ensures.ok whole) c.select-2.new.out _ reads.working
       (c.in_ok-select-2.ensures.ok (ends.whole whole)) in
-      let fits = one_fits file t groups _ maps f c.requires.storable c.requires.tree is
-      c.requires.groups key span c.requires.key c.requires.span.lo
-      c.requires.span.hi in
+      let fits = one_fits file t groups _ maps f c.requires.asked.storable c.requires.asked.tree is
+      c.requires.groups key span c.requires.asked.fits c.requires.asked.bounds.lo
+      c.requires.asked.bounds.hi in
       let one = option_map (λ (vs : List Value). (key, vs)) (fin.get f key) in
       let found = c.in_ok-values.ensures.read one fits all in
       some_same c.in-Some.values _ (sym c.in-Some.is ∙ found) ∙ row_values key (fin.get f key);
@@ -117,9 +119,9 @@ returns g c = record {
       let maps = g.B.View.working c.args.leaves.now in
       let reads = c.in_ok-select.ensures.reads in
       let ends = c.in_ok-select.ensures.ends in
-      steps_both file t groups _ maps f c.requires.storable c.requires.tree is
-      c.requires.groups key span c.requires.key c.requires.span.lo
-      c.requires.span.hi
+      steps_both file t groups _ maps f c.requires.asked.storable c.requires.asked.tree is
+      c.requires.groups key span c.requires.asked.fits c.requires.asked.bounds.lo
+      c.requires.asked.bounds.hi
       c.new-entries.result c.select.new.out c.new-entries.ensures
       (c.in_ok-select.ensures.ok whole) c.select-2.new.out _ reads.working
       (c.in_ok-select-2.ensures.ok (ends.whole whole))

@@ -4,8 +4,15 @@ use Rattle.gx_stack.specs.Seen.{tree_of}
 use Rattle.gx_scan.proofs.SearchedLemmas.{finds_inside}
 use Rattle.gx_scan.proofs.by_key.find_values.Goals as goal
 
-pub values_in-requires-clause-tree : goal.values_in-requires-clause-tree
-values_in-requires-clause-tree g c = c.searched_node-node.ensures.tree c.args.file.now _ c.requires.tree
+pub values_in-requires : goal.values_in-requires
+values_in-requires g c = record {
+  asked = record {
+    tree = c.searched_node-node.ensures.tree c.args.file.now _ c.requires.tree;
+    storable = c.requires.storable;
+    fits = c.requires.key;
+    bounds = c.set_key.ensures;
+  };
+}
 
 pub returns : goal.returns
 returns g c =

@@ -23,7 +23,7 @@ use Rattle.gx_scan.proofs.by_key.values_at.Goals as goal
 
 pub select-requires : goal.select-requires
 select-requires g c =
-    c.requires.tree.below c.args.place.now.leaf
+    c.requires.asked.tree.below c.args.place.now.leaf
     (place_there (tree_of c.args.node.now) c.args.place.now (at_one (tree_of c.args.node.now) c.args.place.now c.requires.place))
 
 pub returns-in_default : goal.returns-in_default
@@ -50,13 +50,16 @@ returns-in_default g c = record {
           let f = sound.1.0 in
           let is = sound.1.1 in
           let union = (c.internal_is_union.ensures (records_of f) maps).0 is.held in
-          let stored = place_entries file t _ maps f c.requires.storable c.requires.tree is.fit union p at in
+          let stored = place_entries file t _ maps f c.requires.asked.storable c.requires.asked.tree
+          is.fit union p at in
           let same = span_entries _ p.lengths p.codes (rows_at t p.leaf f) span.lo span.hi _ _ _ stored
           c.new-entries.ensures (c.in_ok-select.ensures.ok sound.0) refl in
           let fit = filter_fits (IsStoredRow file p.codes) inside (rows_at t p.leaf f)
-          (rows_stored file t _ maps f c.requires.storable c.requires.tree is.fit p at) in
-          let rows = rows_one file t _ maps f c.requires.storable c.requires.tree is p
-          c.requires.place key span c.requires.key c.requires.span.lo c.requires.span.hi in
+          (rows_stored file t _ maps f c.requires.asked.storable c.requires.asked.tree is.fit p at)
+          in
+          let rows = rows_one file t _ maps f c.requires.asked.storable c.requires.asked.tree is p
+          c.requires.place key span c.requires.asked.fits c.requires.asked.bounds.lo
+          c.requires.asked.bounds.hi in
           let one = option_map (λ (vs : List Value). (key, vs)) (fin.get f key) in
           let found = c.in_ok-values.ensures.read one (subst (AllByRecursion (IsStoredRow file p.codes)) rows fit)
           (same ∙ ap (map (λ (r : Row). entry_of (entry_of_row p.lengths p.codes r))) rows) in
@@ -80,13 +83,15 @@ returns g c = record {
       let span = c.args.span.now in
       let inside = λ (r : Row). is_inside span.lo span.hi (bytes_of r.0) in
       let union = (c.internal_is_union.ensures (records_of f) maps).0 is.held in
-      let stored = place_entries file t _ maps f c.requires.storable c.requires.tree is.fit union p at in
+      let stored = place_entries file t _ maps f c.requires.asked.storable c.requires.asked.tree
+      is.fit union p at in
       let same = span_entries _ p.lengths p.codes (rows_at t p.leaf f) span.lo span.hi _ _ _ stored
       c.new-entries.ensures (c.in_ok-select.ensures.ok whole) refl in
       let fit = filter_fits (IsStoredRow file p.codes) inside (rows_at t p.leaf f)
-      (rows_stored file t _ maps f c.requires.storable c.requires.tree is.fit p at) in
-      let rows = rows_one file t _ maps f c.requires.storable c.requires.tree is p c.requires.place
-      key span c.requires.key c.requires.span.lo c.requires.span.hi in
+      (rows_stored file t _ maps f c.requires.asked.storable c.requires.asked.tree is.fit p at) in
+      let rows = rows_one file t _ maps f c.requires.asked.storable c.requires.asked.tree is p
+      c.requires.place
+      key span c.requires.asked.fits c.requires.asked.bounds.lo c.requires.asked.bounds.hi in
       let one = option_map (λ (vs : List Value). (key, vs)) (fin.get f key) in
       let found = c.in_ok-values.ensures.read one (subst (AllByRecursion (IsStoredRow file p.codes)) rows fit)
       (same ∙ ap (map (λ (r : Row). entry_of (entry_of_row p.lengths p.codes r))) rows) in
@@ -102,7 +107,8 @@ returns g c = record {
       let span = c.args.span.now in
       let rows = filter (λ (r : Row). is_inside span.lo span.hi (bytes_of r.0)) (rows_at t p.leaf f) in
       let union = (c.internal_is_union.ensures (records_of f) maps).0 is.held in
-      let stored = place_entries file t _ maps f c.requires.storable c.requires.tree is.fit union p at in
+      let stored = place_entries file t _ maps f c.requires.asked.storable c.requires.asked.tree
+      is.fit union p at in
       let same = span_entries _ p.lengths p.codes (rows_at t p.leaf f) span.lo span.hi _ _ _ stored
       c.new-entries.ensures (c.in_ok-select.ensures.ok whole) refl in
       let step = counted_most _ _ (length c.select.new.out - length c.new-entries.result) (length rows) c.in_ok-select.ensures.steps
@@ -114,7 +120,9 @@ returns g c = record {
         ap length
             c.new-entries.ensures,
       )) in
-      steps_one file t _ maps f c.requires.storable c.requires.tree is p c.requires.place
-      c.args.key.now span c.requires.key c.requires.span.lo c.requires.span.hi most _ _ few step;
+      steps_one file t _ maps f c.requires.asked.storable c.requires.asked.tree is p
+      c.requires.place
+      c.args.key.now span c.requires.asked.fits c.requires.asked.bounds.lo
+      c.requires.asked.bounds.hi most _ _ few step;
   reads = search rules;
 }

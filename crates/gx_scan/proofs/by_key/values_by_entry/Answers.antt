@@ -17,18 +17,20 @@ returns g c = record {
       let values = fin.get f key in
       let one = option_map (λ (vs : List Value). (key, vs)) values in
       let rows = filter (meets_conds []) (rows_at_key f (key ∷ [])) in
-      let storable = c.requires.storable in
-      let found = added_at_key c.args.file.now f key c.args.span.now storable.key c.requires.key
-      is.fit c.requires.span.lo c.requires.span.hi [] _ _
+      let storable = c.requires.asked.storable in
+      let found = added_at_key c.args.file.now f key c.args.span.now storable.key
+      c.requires.asked.fits
+      is.fit c.requires.asked.bounds.lo c.requires.asked.bounds.hi [] _ _
       (c.in_ok-add_by_entries.ensures.adds.rows f whole is)
       ∙ ap (λ (before : List Row). before ++ rows) c.new-rows.ensures.items
       ∙ one_unfiltered key values in
       c.last_values.ensures.last one found ∙ row_values key values;
   fits = search rules;
   steps = λ f most whole is few.
-      let storable = c.requires.storable in
-      steps_at_key c.args.file.now f c.args.key.now c.args.span.now storable.key c.requires.key
-      is.fit c.requires.span.lo c.requires.span.hi
+      let storable = c.requires.asked.storable in
+      steps_at_key c.args.file.now f c.args.key.now c.args.span.now storable.key
+      c.requires.asked.fits
+      is.fit c.requires.asked.bounds.lo c.requires.asked.bounds.hi
       (length (leaves_of (tree_of c.args.node.now))) most _ _
       (c.in_ok-add_by_entries.ensures.adds.steps f most whole is few);
   reads = search rules;

@@ -15,7 +15,7 @@ use Rattle.gx_scan.proofs.by_pieces.values_by_pieces.Goals as goal
 pub select-requires : goal.select-requires
 select-requires g c =
     let pieces = c.args.pieces.now in
-    c.requires.tree.below pieces.leaf
+    c.requires.asked.tree.below pieces.leaf
     (pieces_there (tree_of c.args.node.now) pieces c.requires.pieces)
 
 pub values_of_pieces-requires-clause-some : goal.values_of_pieces-requires-clause-some
@@ -36,10 +36,12 @@ returns-in_default g c = record {
       let maps = g.B.View.working c.args.leaves.now in
       let f = sound.1.0 in
       let is = sound.1.1 in
-      let fits = one_fits file t pieces _ maps f c.requires.storable c.requires.tree is
-      c.requires.pieces key span c.requires.key c.requires.span.lo c.requires.span.hi in
-      let all = one_pieces file t pieces _ maps f c.requires.storable c.requires.tree is
-      c.requires.pieces key span c.requires.key c.requires.span.lo c.requires.span.hi
+      let fits = one_fits file t pieces _ maps f c.requires.asked.storable c.requires.asked.tree is
+      c.requires.pieces key span c.requires.asked.fits c.requires.asked.bounds.lo
+      c.requires.asked.bounds.hi in
+      let all = one_pieces file t pieces _ maps f c.requires.asked.storable c.requires.asked.tree is
+      c.requires.pieces key span c.requires.asked.fits c.requires.asked.bounds.lo
+      c.requires.asked.bounds.hi
       c.new-entries.result c.select.new.out c.new-entries.ensures
       (c.in_ok-select.ensures.ok sound.0) in
       let one = option_map (λ (vs : List Value). (key, vs)) (fin.get f key) in
@@ -58,10 +60,12 @@ returns g c = record {
       let key = c.args.key.now in
       let span = c.args.span.now in
       let maps = g.B.View.working c.args.leaves.now in
-      let fits = one_fits file t pieces _ maps f c.requires.storable c.requires.tree is
-      c.requires.pieces key span c.requires.key c.requires.span.lo c.requires.span.hi in
-      let all = one_pieces file t pieces _ maps f c.requires.storable c.requires.tree is
-      c.requires.pieces key span c.requires.key c.requires.span.lo c.requires.span.hi
+      let fits = one_fits file t pieces _ maps f c.requires.asked.storable c.requires.asked.tree is
+      c.requires.pieces key span c.requires.asked.fits c.requires.asked.bounds.lo
+      c.requires.asked.bounds.hi in
+      let all = one_pieces file t pieces _ maps f c.requires.asked.storable c.requires.asked.tree is
+      c.requires.pieces key span c.requires.asked.fits c.requires.asked.bounds.lo
+      c.requires.asked.bounds.hi
       c.new-entries.result c.select.new.out c.new-entries.ensures
       (c.in_ok-select.ensures.ok whole) in
       let one = option_map (λ (vs : List Value). (key, vs)) (fin.get f key) in
@@ -71,9 +75,10 @@ returns g c = record {
       c.in-Some.is c.in_ok-values.ensures.fits;
   steps = λ f most whole is few.
       one_steps c.args.file.now (tree_of c.args.node.now) c.args.pieces.now _
-      (g.B.View.working c.args.leaves.now) f c.requires.storable c.requires.tree is
-      c.requires.pieces c.args.key.now c.args.span.now c.requires.key c.requires.span.lo
-      c.requires.span.hi
+      (g.B.View.working c.args.leaves.now) f c.requires.asked.storable c.requires.asked.tree is
+      c.requires.pieces c.args.key.now c.args.span.now c.requires.asked.fits
+      c.requires.asked.bounds.lo
+      c.requires.asked.bounds.hi
       c.new-entries.result c.select.new.out c.new-entries.ensures
       (c.in_ok-select.ensures.ok whole) most _ _ few c.in_ok-select.ensures.steps;
   reads = search rules;

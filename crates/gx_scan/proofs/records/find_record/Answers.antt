@@ -27,7 +27,8 @@ returns g c =
       fits = subst (IsOf (file_form file)) (sym made)
           (row_fits file (key, values) c.requires.storable.keyed (
             c.requires.key,
-            subst (λ o. IfSome o (AreFit (data_fields file))) c.in-Some.is c.in_ok-values.ensures.fits,
+            subst (λ o. IfSome o (AreFit (data_fields file))) c.in-Some.is
+                c.in_ok-values.ensures.fits,
           ));
       steps = c.in_ok-values.ensures.steps;
       reads = search rules;

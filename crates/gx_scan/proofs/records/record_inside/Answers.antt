@@ -12,9 +12,10 @@ use Rattle.gx_scan.proofs.records.record_inside.Goals as goal
 
 pub select-requires-clause-span : goal.select-requires-clause-span
 select-requires-clause-span g c =
-    subst (λ form. IsKeySpan form c.args.span.now) (sym c.requires.tree.form)
-    (span_of_key c.args.file.now c.args.key.now c.args.span.now c.requires.storable.keyed
-    c.requires.storable.key c.requires.key c.requires.span.lo c.requires.span.hi)
+    subst (λ form. IsKeySpan form c.args.span.now) (sym c.requires.asked.tree.form)
+    (span_of_key c.args.file.now c.args.key.now c.args.span.now c.requires.asked.storable.keyed
+    c.requires.asked.storable.key c.requires.asked.fits c.requires.asked.bounds.lo
+    c.requires.asked.bounds.hi)
 
 pub returns-in_err-select : goal.returns-in_err-select
 returns-in_err-select g c = record {
@@ -24,7 +25,8 @@ returns-in_err-select g c = record {
   reads = reads_given g.B.View c.from_residual.result c.from_residual.ensures.1
       (λ sound.
       let f = sound.1.0 in
-      let set = subst (λ form. IsSet form (records_of f)) (sym c.requires.tree.form) (set_of c.args.file.now f c.requires.storable.keyed sound.1.1.fit) in
+      let set = subst (λ form. IsSet form (records_of f)) (sym c.requires.asked.tree.form) (set_of
+      c.args.file.now f c.requires.asked.storable.keyed sound.1.1.fit) in
       (sound.0, (records_of f, set, sound.1.1.held)))
       c.in_err-select.ensures.reads;
 }
@@ -33,19 +35,23 @@ pub returns : goal.returns
 returns g c = record {
   found = λ f whole is.
       let found = c.in_ok-select.ensures.found in
-      let set = subst (λ form. IsSet form (records_of f)) (sym c.requires.tree.form) (set_of c.args.file.now f c.requires.storable.keyed is.fit) in
+      let set = subst (λ form. IsSet form (records_of f)) (sym c.requires.asked.tree.form) (set_of
+      c.args.file.now f c.requires.asked.storable.keyed is.fit) in
       let one = one_found c.args.file.now f c.args.key.now c.args.span.now found.found
-      c.requires.storable.keyed c.requires.storable.key c.requires.key is.fit c.requires.span.lo
-      c.requires.span.hi (found.selected whole (records_of f) set is.held) in
+      c.requires.asked.storable.keyed c.requires.asked.storable.key c.requires.asked.fits is.fit
+      c.requires.asked.bounds.lo
+      c.requires.asked.bounds.hi (found.selected whole (records_of f) set is.held) in
       c.last_record.ensures.last (record_at f c.args.key.now) (found.appended ∙ ap (λ (before : List Rec). before ++ found.found) c.new-found.ensures ∙ one);
   fits = search rules;
   steps = λ f most whole is few.
       let found = c.in_ok-select.ensures.found in
-      let set = subst (λ form. IsSet form (records_of f)) (sym c.requires.tree.form) (set_of c.args.file.now f c.requires.storable.keyed is.fit) in
+      let set = subst (λ form. IsSet form (records_of f)) (sym c.requires.asked.tree.form) (set_of
+      c.args.file.now f c.requires.asked.storable.keyed is.fit) in
       let those = found.selected whole (records_of f) set is.held in
       let one = one_found c.args.file.now f c.args.key.now c.args.span.now found.found
-      c.requires.storable.keyed c.requires.storable.key c.requires.key is.fit c.requires.span.lo
-      c.requires.span.hi those in
+      c.requires.asked.storable.keyed c.requires.asked.storable.key c.requires.asked.fits is.fit
+      c.requires.asked.bounds.lo
+      c.requires.asked.bounds.hi those in
       omega (arith, found.few_steps, one_total (tree_of c.args.node.now) f most (record_at f c.args.key.now) found.found one few (λ r h. (those.sound r h).0));
   reads = search rules;
 }
