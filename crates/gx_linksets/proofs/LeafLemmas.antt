@@ -1,14 +1,15 @@
 -- No link has more leaves than there are.
-use Rattle.std.proofs.Common.{◌≡◌, ◌<◌, ◌≤◌, ℕ, suc, List, [], ◌∷◌, ◌++◌, Bool, true, false, length, inl, inr, refl}
+use Rattle.std.proofs.Common.{◌≡◌, ◌<◌, ◌≤◌, ℕ, suc, List, [], ◌∷◌, ◌++◌, true, false, length, inl, inr, refl}
 use Rattle.std.specs.List.{AllByRecursion, IsDistinct, list_any}
 use Rattle.std.proofs.Math.Dec.{eqb}
-use Rattle.std.proofs.lemmas.Bool.{eqb-true, or_cases}
+use Rattle.std.proofs.lemmas.Bool.{eqb-true, ne_eqb}
 use Rattle.std.proofs.lemmas.Map.Steps.{length-le_from_distinct_below}
+use Rattle.std.proofs.lemmas.Map.Views.{Contains-from_any}
 use Rattle.gx_values.specs.declared.records.Form.{Form}
 use Rattle.gx_schema.specs.declared.schema.Schema.{Schema}
 use Rattle.gx_schema.specs.Lookups.{link_at}
 use Rattle.gx_mapping.specs.Rule.{Rule, In}
-use Rattle.gx_gather.proofs.Lists.{in_cases}
+use Rattle.gx_gather.proofs.Lists.{in_cases, contains_in}
 use Rattle.gx_stack.specs.declared.node.Node.{Node}
 use Rattle.gx_stack.specs.Tree.{Tree, Kids, leaf, layer, no_kids, kid, leaves_of, kids_leaves, IsValid, AreValid}
 use Rattle.gx_forms.specs.Forms.{link_form}
@@ -24,7 +25,8 @@ abbrev IsOnce : List ℕ → Type 0
 IsOnce [] = Unit {0}
 IsOnce (x ∷ xs) = (In x xs → ⊥) × IsOnce xs
 
-once_joined : (xs ys : List ℕ) → IsOnce xs → IsOnce ys → ((n : ℕ) → In n xs → In n ys → ⊥) → IsOnce (xs ++ ys)
+once_joined : (xs ys : List ℕ) → IsOnce xs → IsOnce ys → ((n : ℕ) → In n xs → In n ys → ⊥)
+    → IsOnce (xs ++ ys)
 once_joined [] ys a b h = b
 once_joined (x ∷ xs) ys a b h = (
   λ i. elim (in_cases x xs ys i) [ inl k ↦ a.0 k | inr k ↦ h x (inl refl) k ],
@@ -39,34 +41,30 @@ module _ {M : Type 0} (rule : M → Rule) where
 
     kids_once : (forms : ℕ → Form) (ks : Kids M) → AreValid rule forms ks → IsOnce (kids_leaves ks)
     kids_once forms no_kids valid = tt
-    kids_once forms (kid t ks) valid = once_joined (leaves_of t) (kids_leaves ks) (leaves_once t valid.1) (kids_once (λ c. forms (suc c)) ks valid.3) valid.2
+    kids_once forms (kid t ks) valid =
+        once_joined (leaves_of t) (kids_leaves ks) (leaves_once t valid.1)
+        (kids_once (λ c. forms (suc c)) ks valid.3) valid.2
 
 among : (n : ℕ) (xs : List ℕ) → list_any (eqb n) xs ≡ true → In n xs
-among n [] is = absurd cc
-among n (x ∷ xs) is = elim (or_cases (eqb n x) (list_any (eqb n) xs) is) [
-  | inl e ↦ inl (eqb-true n x e)
-  | inr rest ↦ inr (among n xs rest)
-]
-
-unlike : (n x : ℕ) → (n ≡ x → ⊥) → eqb n x ≡ false
-unlike n x ne = go (eqb n x) refl
-  where
-    go : (b : Bool) → eqb n x ≡ b → b ≡ false
-    go true is = absurd (ne (eqb-true n x is))
-    go false is = refl
+among n xs is = contains_in n xs (Contains-from_any eqb-true n xs is)
 
 all_unlike : (n : ℕ) (xs : List ℕ) → (In n xs → ⊥) → AllByRecursion (λ x. eqb n x ≡ false) xs
 all_unlike n [] absent = tt
-all_unlike n (x ∷ xs) absent = (unlike n x (λ e. absent (inl e)), all_unlike n xs (λ h. absent (inr h)))
+all_unlike n (x ∷ xs) absent =
+    (ne_eqb n x (λ e. absent (inl e)), all_unlike n xs (λ h. absent (inr h)))
 
 distinct : (xs : List ℕ) → IsOnce xs → IsDistinct eqb xs
 unfolding IsDistinct
 distinct [] once = tt
 distinct (x ∷ xs) once = (all_unlike x xs once.0, distinct xs once.1)
 
-pub few_leaves : (schema : Schema) (files : List (Node AnyMapping)) (links : List LinkTree) (leaves i : ℕ) → AreLinkNodes schema files links leaves → i < length schema.links → length (rule_at schema links i).leaves ≤ leaves
+pub few_leaves : (schema : Schema) (files : List (Node AnyMapping)) (links : List LinkTree)
+    (leaves i : ℕ) → AreLinkNodes schema files links leaves → i < length schema.links
+    → length (rule_at schema links i).leaves ≤ leaves
 few_leaves schema files links leaves i are lt =
     let ks = link_kids_at links i in
-    let forms = link_form (linkset_at links i) (owner_kind schema.files (link_at schema i)) (member_kind schema.files (link_at schema i)) in
-    length-le_from_distinct_below (kids_leaves ks) leaves (distinct (kids_leaves ks) (kids_once any_rule forms ks (are.valid i lt)))
+    let forms = link_form (linkset_at links i) (owner_kind schema.files (link_at schema i))
+    (member_kind schema.files (link_at schema i)) in
+    length-le_from_distinct_below (kids_leaves ks) leaves
+    (distinct (kids_leaves ks) (kids_once any_rule forms ks (are.valid i lt)))
     (λ n h. are.below i n lt (among n (kids_leaves ks) h))

@@ -5,13 +5,19 @@ use Rattle.gx_linksets.specs.Any.{any_link_rule}
 use Rattle.gx_linksets.proofs.any.AnyLinksetLinkset.members.Goals as goal
 
 pub members-requires-clause-below : goal.members-requires-clause-below
-members-requires-clause-below g c = λ n h. c.requires.below n (subst (λ (l : AnyLinkset). In n (any_link_rule l).leaves) (sym c.in-Array.is) h)
+members-requires-clause-below g c =
+    λ n h. c.requires.below n (subst (λ (l : AnyLinkset). In n (any_link_rule l).leaves)
+    (sym c.in-Array.is) h)
 
 pub members-requires-in-Ring-clause-below : goal.members-requires-in-Ring-clause-below
-members-requires-in-Ring-clause-below g c = λ n h. c.requires.below n (subst (λ (l : AnyLinkset). In n (any_link_rule l).leaves) (sym c.in-Ring.is) h)
+members-requires-in-Ring-clause-below g c =
+    λ n h. c.requires.below n (subst (λ (l : AnyLinkset). In n (any_link_rule l).leaves)
+    (sym c.in-Ring.is) h)
 
 pub members-requires-in-Inverted-clause-below : goal.members-requires-in-Inverted-clause-below
-members-requires-in-Inverted-clause-below g c = λ n h. c.requires.below n (subst (λ (l : AnyLinkset). In n (any_link_rule l).leaves) (sym c.in-Inverted.is) h)
+members-requires-in-Inverted-clause-below g c =
+    λ n h. c.requires.below n (subst (λ (l : AnyLinkset). In n (any_link_rule l).leaves)
+    (sym c.in-Inverted.is) h)
 
 pub returns-in-Array-clause-reads : goal.returns-in-Array-clause-reads
 returns-in-Array-clause-reads g c = rw c.in-Array.is c.members.ensures.reads

@@ -5,13 +5,19 @@ use Rattle.gx_linksets.specs.Any.{any_link_rule}
 use Rattle.gx_linksets.proofs.any.AnyLinksetLinkset.owner.Goals as goal
 
 pub owner-requires-clause-below : goal.owner-requires-clause-below
-owner-requires-clause-below g c = λ n h. c.requires.below n (subst (λ (l : AnyLinkset). In n (any_link_rule l).leaves) (sym c.in-Array.is) h)
+owner-requires-clause-below g c =
+    λ n h. c.requires.below n (subst (λ (l : AnyLinkset). In n (any_link_rule l).leaves)
+    (sym c.in-Array.is) h)
 
 pub owner-requires-in-Ring-clause-below : goal.owner-requires-in-Ring-clause-below
-owner-requires-in-Ring-clause-below g c = λ n h. c.requires.below n (subst (λ (l : AnyLinkset). In n (any_link_rule l).leaves) (sym c.in-Ring.is) h)
+owner-requires-in-Ring-clause-below g c =
+    λ n h. c.requires.below n (subst (λ (l : AnyLinkset). In n (any_link_rule l).leaves)
+    (sym c.in-Ring.is) h)
 
 pub owner-requires-in-Inverted-clause-below : goal.owner-requires-in-Inverted-clause-below
-owner-requires-in-Inverted-clause-below g c = λ n h. c.requires.below n (subst (λ (l : AnyLinkset). In n (any_link_rule l).leaves) (sym c.in-Inverted.is) h)
+owner-requires-in-Inverted-clause-below g c =
+    λ n h. c.requires.below n (subst (λ (l : AnyLinkset). In n (any_link_rule l).leaves)
+    (sym c.in-Inverted.is) h)
 
 pub returns-in-Array-clause-reads : goal.returns-in-Array-clause-reads
 returns-in-Array-clause-reads g c = rw c.in-Array.is c.owner.ensures.reads

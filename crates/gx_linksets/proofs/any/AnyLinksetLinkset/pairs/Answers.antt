@@ -5,13 +5,19 @@ use Rattle.gx_linksets.specs.Any.{any_link_rule}
 use Rattle.gx_linksets.proofs.any.AnyLinksetLinkset.pairs.Goals as goal
 
 pub pairs-requires-clause-below : goal.pairs-requires-clause-below
-pairs-requires-clause-below g c = λ n h. c.requires.below n (subst (λ (l : AnyLinkset). In n (any_link_rule l).leaves) (sym c.in-Array.is) h)
+pairs-requires-clause-below g c =
+    λ n h. c.requires.below n (subst (λ (l : AnyLinkset). In n (any_link_rule l).leaves)
+    (sym c.in-Array.is) h)
 
 pub pairs-requires-in-Ring-clause-below : goal.pairs-requires-in-Ring-clause-below
-pairs-requires-in-Ring-clause-below g c = λ n h. c.requires.below n (subst (λ (l : AnyLinkset). In n (any_link_rule l).leaves) (sym c.in-Ring.is) h)
+pairs-requires-in-Ring-clause-below g c =
+    λ n h. c.requires.below n (subst (λ (l : AnyLinkset). In n (any_link_rule l).leaves)
+    (sym c.in-Ring.is) h)
 
 pub pairs-requires-in-Inverted-clause-below : goal.pairs-requires-in-Inverted-clause-below
-pairs-requires-in-Inverted-clause-below g c = λ n h. c.requires.below n (subst (λ (l : AnyLinkset). In n (any_link_rule l).leaves) (sym c.in-Inverted.is) h)
+pairs-requires-in-Inverted-clause-below g c =
+    λ n h. c.requires.below n (subst (λ (l : AnyLinkset). In n (any_link_rule l).leaves)
+    (sym c.in-Inverted.is) h)
 
 pub returns-in-Array-clause-pairs : goal.returns-in-Array-clause-pairs
 returns-in-Array-clause-pairs g c = rw c.in-Array.is c.pairs.ensures.pairs
