@@ -20,31 +20,44 @@ use Rattle.gx_pairs.specs.declared.stored.StoredLink.{StoredLink}
 use Rattle.gx_pairs.specs.Stored.{file_of, node_tree, AreLinked, HaveLink}
 use Rattle.gx_pairs.specs.Changes.{connect_refusal}
 
-module _ {L : Type 0} (rule : L → LinkRule) (held : L → Link → List LeafMap → Type 0) (s : StoredLink L) (maps : List LeafMap) where
-  pub owners_there : HaveLink rule held s maps → HasFile (file_of s.owners) (node_tree s.owners) maps
+module _ {L : Type 0} (rule : L → LinkRule) (held : L → Link → List LeafMap → Type 0)
+    (s : StoredLink L) (maps : List LeafMap) where
+  pub owners_there : HaveLink rule held s maps
+      → HasFile (file_of s.owners) (node_tree s.owners) maps
   owners_there h = (h.0, h.3.owners)
 
-  pub members_there : HaveLink rule held s maps → HasFile (file_of s.members) (node_tree s.members) maps
+  pub members_there : HaveLink rule held s maps
+      → HasFile (file_of s.members) (node_tree s.members) maps
   members_there h = (h.1, h.3.members)
 
   pub link_there : HaveLink rule held s maps → HasLink (rule s.linkset) (held s.linkset) maps
   link_there h = (h.2, h.3.is_link, h.3.link)
 
-module _ {L : Type 0} (rule : L → LinkRule) (held : L → Link → List LeafMap → Type 0) (s : StoredLink L) (old new : List LeafMap) where
-  pub linked_still : (owners members : File) (link : Link) → new ≡ old → AreLinked rule held s old owners members link → AreLinked rule held s new owners members link
-  linked_still owners members link same are = subst (λ (maps : List LeafMap). AreLinked rule held s maps owners members link) (sym same) are
+module _ {L : Type 0} (rule : L → LinkRule) (held : L → Link → List LeafMap → Type 0)
+    (s : StoredLink L) (old new : List LeafMap) where
+  pub linked_still : (owners members : File) (link : Link) → new ≡ old
+      → AreLinked rule held s old owners members link
+      → AreLinked rule held s new owners members link
+  linked_still owners members link same are =
+      subst (λ (maps : List LeafMap). AreLinked rule held s maps owners members link) (sym same) are
 
   pub have_still : new ≡ old → HaveLink rule held s old → HaveLink rule held s new
   have_still same h = (h.0, h.1, h.2, linked_still h.0 h.1 h.2 same h.3)
 
 -- a look-up gives what is there
-pub looked_up : {A B : Type 0} (f : A → B) (o : Option A) (found : Option B) → found ≡ option_map f o → found ≡ None → is_some o ≡ true → ⊥
+pub looked_up : {A B : Type 0} (f : A → B) (o : Option A) (found : Option B)
+    → found ≡ option_map f o → found ≡ None → is_some o ≡ true → ⊥
 looked_up f None found is none there = true≢false (sym there)
 looked_up f (Some x) found is none there = none_some (f x) (sym none ∙ is)
 
 pub no_value : {A : Type 0} (o : Option A) → is_some o ≡ false → o ≡ None
 no_value None e = refl
 no_value (Some x) e = absurd (true≢false e)
+
+-- the members and the pairs of an owner are as many
+pub as_many : (link : Link) (owner : Value)
+    → length (members_of link owner) ≡ length (pairs_of link owner)
+as_many link owner = length-map (pairs_of link owner) (λ pair. pair.0)
 
 -- ---- why a pair isn't connected
 
@@ -66,9 +79,6 @@ not_below_most n many =
     grind (arith, nat_tests)
 
 module _ (owners members : File) (link : Link) (owner member : Value) where
-  as_many : length (members_of link owner) ≡ length (pairs_of link owner)
-  as_many = length-map (pairs_of link owner) (λ pair. pair.0)
-
   -- one of the two is no record
   pub not_both : (both : Bool)
       → both ≡ is_some (fin.get owners owner) && is_some (fin.get members member) → both ≡ false
@@ -100,22 +110,31 @@ module _ (owners members : File) (link : Link) (owner member : Value) where
   for_room full = if full then Some too_many_members else None
 
   -- both are records, and the member has no owner
-  module _ (both has : Bool) (both_are : both ≡ is_some (fin.get owners owner) && is_some (fin.get members member)) (yes : both ≡ true) (has_is : has ≡ is_some (fin.get link member)) (no : has ≡ false) where
-    for_room_alone : connect_refusal owners members link owner member ≡ for_room (nat_le most_members (length (pairs_of link owner)))
+  module _ (both has : Bool) (both_are : both ≡ is_some (fin.get owners owner) && is_some
+      (fin.get members member)) (yes : both ≡ true) (has_is : has ≡ is_some (fin.get link member))
+      (no : has ≡ false) where
+    for_room_alone : connect_refusal owners members link owner member ≡ for_room
+        (nat_le most_members (length (pairs_of link owner)))
     for_room_alone =
-        let records : is_some (fin.get owners owner) && is_some (fin.get members member) ≡ true = sym both_are ∙ yes in
+        let records : is_some (fin.get owners owner) && is_some (fin.get members member) ≡ true =
+        sym both_are ∙ yes in
         let owned : is_some (fin.get link member) ≡ false = sym has_is ∙ no in
-        λ i. first_refusal ((not (records i), no_record) ∷ (owned i, has_owner) ∷ (nat_le most_members (length (pairs_of link owner)), too_many_members) ∷ [])
+        λ i. first_refusal ((not (records i), no_record) ∷ (owned i, has_owner)
+        ∷ (nat_le most_members (length (pairs_of link owner)), too_many_members) ∷ [])
 
     is_free : fin.get link member ≡ None
     is_free = no_value (fin.get link member) (sym has_is ∙ no)
 
     may_connect : HasRoom link owner → connect_refusal owners members link owner member ≡ None
-    may_connect room = for_room_alone ∙ ap for_room (ap (nat_le most_members) (sym as_many) ∙ below_most (length (members_of link owner)) room)
+    may_connect room = for_room_alone
+        ∙ ap for_room (ap (nat_le most_members) (sym (as_many link owner))
+        ∙ below_most (length (members_of link owner)) room)
 
     has_no_room : ¬ HasRoom link owner → connect_refusal owners members link owner member ≡ Some
         too_many_members
-    has_no_room full = for_room_alone ∙ ap for_room (ap (nat_le most_members) (sym as_many) ∙ not_below_most (length (members_of link owner)) full)
+    has_no_room full = for_room_alone
+        ∙ ap for_room (ap (nat_le most_members) (sym (as_many link owner))
+        ∙ not_below_most (length (members_of link owner)) full)
 
     pub may_join : {L : Type 0} (rule : L → LinkRule) (held : L → Link → List LeafMap → Type 0)
         (s : StoredLink L) (old new : List LeafMap) → new ≡ old

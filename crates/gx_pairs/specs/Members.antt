@@ -40,6 +40,10 @@ has_member link owner = list_any (λ pair. is_same pair.1 owner) (fin.entries li
 abbrev pub rows_at : File → Value → List Row
 rows_at f key = map row_of (list_of_one (record_at f key))
 
+-- that record where it meets the conditions, or none
+abbrev pub rows_meeting_at : File → List Cond → Value → List Row
+rows_meeting_at f conds key = filter (meets_conds conds) (rows_at f key)
+
 -- there is a record of the file at each of the keys
 abbrev pub AreThere : File → List Value → Type 0
 AreThere f keys = (key : Value) → In key keys → IsTrue (is_some (fin.get f key))

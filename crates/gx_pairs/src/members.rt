@@ -14,7 +14,7 @@ ghost use Rattle.gx_scan.specs.Files.{IsInternal};
 ghost use Rattle.gx_scan.specs.Steps.{HaveAtMost};
 ghost use Rattle.gx_pairs.specs.Stored.{file_of, node_tree, IsStoredFile, IsStoredLinkset, IsStoredLink};
 ghost use Rattle.gx_pairs.specs.Search.{LooksInFile, ReadsLink, FindsMembers};
-ghost use Rattle.gx_pairs.specs.Members.{is_member_of, AreMembersOf, member_rows, has_member, rows_at, HaveRecords};
+ghost use Rattle.gx_pairs.specs.Members.{is_member_of, AreMembersOf, member_rows, has_member, rows_at, rows_meeting_at, HaveRecords};
 
 use crate::kept::keep_members;
 use crate::stored::{StoredFile, StoredLink, has_record};
@@ -75,9 +75,8 @@ pub fn add_member_at<B: Leaves, L: Linkset>(
     requires none { rows.old.items ≡ [] }
     ensures { FindsMembers B.View L.rule L.held stored.now owner.now leaves.old leaves.new result
         (λ members link. rows.new.items
-        ≡ filter (is_member_of link owner.now)
-        (filter (meets_conds conds.now) (rows_at members key.now)))
-        (λ members link. length (filter (meets_conds conds.now) (rows_at members key.now)) + 2) }
+        ≡ filter (is_member_of link owner.now) (rows_meeting_at members conds.now key.now))
+        (λ members link. length (rows_meeting_at members conds.now key.now) + 2) }
 {
     if !has_record(alloc, &stored.owners, owner, leaves)? {
         return Ok(false);
@@ -134,8 +133,7 @@ fn add_record<B: Leaves>(
     requires fit { Fits (key_kind (file_of stored.now)) key.now }
     ensures looks { LooksInFile B.View stored.now leaves.old leaves.new result
         (λ f there. (there ≡ is_some (fin.get f key.now))
-        × (rows.new.items
-        ≡ rows.old.items ++ filter (meets_conds conds.now) (rows_at f key.now))) }
+        × (rows.new.items ≡ rows.old.items ++ rows_meeting_at f conds.now key.now)) }
     ensures fit { OnOk result
         (AllByRecursion (λ r. Fits (key_kind (file_of stored.now)) r.0) rows.old.items →
         AllByRecursion (λ r. Fits (key_kind (file_of stored.now)) r.0) rows.new.items) }

@@ -20,15 +20,21 @@ use Rattle.gx_pairs.proofs.kept.keep_owned.Goals as goal
 
 pub loop-row-init : goal.loop-row-init
 loop-row-init g c =
-    let given : into_iter_items c.into_iter-row-iterator.result ≡ c.args.rows.items = search rules in
+    let given : into_iter_items c.into_iter-row-iterator.result ≡ c.args.rows.items =
+    search rules in
     let rule = g.L.Linkset.rule c.args.linkset.now in
     let b = g.B.View in
     let maps = b.working c.args.leaves.now in
     record {
       many = search rules;
-      fit = λ r h. all_at (λ (q : Row). Fits rule.member q.0) c.args.rows.items r c.requires.members (subst (In r) given h);
-      those = λ link whole is held. λ i. c.new-kept.ensures.items i ++ filter (is_member_of link c.args.owner.now) (given i);
-      steps = λ link most whole is held few. subst (λ (rs : List Row). b.work c.args.leaves.now + length rs * (most + length maps) ≤ b.work c.args.leaves.now + length c.args.rows.items * (most + length maps)) (sym given) (omega arith);
+      fit = λ r h. all_at (λ (q : Row). Fits rule.member q.0) c.args.rows.items r c.requires.members
+          (subst (In r) given h);
+      those = λ link whole is held. λ i. c.new-kept.ensures.items i ++ filter
+          (is_member_of link c.args.owner.now) (given i);
+      steps = λ link most whole is held few. subst
+          (λ (rs : List Row). b.work c.args.leaves.now + length rs * (most + length maps)
+          ≤ b.work c.args.leaves.now + length c.args.rows.items * (most + length maps)) (sym given)
+          (omega arith);
       reads = reads_itself g.B.View c.args.leaves.now;
       whole = λ h. h;
       counted = refl;
@@ -75,11 +81,18 @@ loop-row-preserved-in-Continue-branch-2 g c =
           let test = is_member_of link c.args.owner.now in
           let found = e.answer.found link (inv.whole whole) is
           (subst (held link) (sym inv.reads.working) h) in
-          let owned : test r ≡ true = ap (λ (k : Value). is_owner c.args.owner.now (fin.get link k)) (sym key) ∙ sym found ∙ c.if-branch.true in
-          row_kept test c.loop-row.kept.items _ rest r owned c.in_ok-push.ensures.items ∙ ap (λ (l : List Row). c.loop-row.kept.items ++ filter test l) (sym steps) ∙ inv.those link whole is h;
+          let owned : test r ≡ true = ap (λ (k : Value). is_owner c.args.owner.now (fin.get link k))
+          (sym key) ∙ sym found ∙ c.if-branch.true in
+          row_kept test c.loop-row.kept.items _ rest r owned c.in_ok-push.ensures.items
+          ∙ ap (λ (l : List Row). c.loop-row.kept.items ++ filter test l) (sym steps)
+          ∙ inv.those link whole is h;
       steps = λ link most whole is h few.
-          let now = e.steps link most (inv.whole whole) is (subst (held link) (sym inv.reads.working) h) few in
-          row_steps rest r (into_iter_items c.loop-row.row-iterator) (most + length (b.working c.args.leaves.now)) _ (b.work c.loop-row.leaves) (b.work c.is_owned.new.leaves) (length c.args.rows.items) steps (inv.steps link most whole is h few)
+          let now = e.steps link most (inv.whole whole) is
+          (subst (held link) (sym inv.reads.working) h) few in
+          row_steps rest r (into_iter_items c.loop-row.row-iterator)
+          (most + length (b.working c.args.leaves.now)) _ (b.work c.loop-row.leaves)
+          (b.work c.is_owned.new.leaves) (length c.args.rows.items) steps
+          (inv.steps link most whole is h few)
           (subst (λ (maps : List LeafMap). b.work c.is_owned.new.leaves
           ≤ b.work c.loop-row.leaves + 1 * (most + length maps)) inv.reads.working now);
       reads = reads_joined b inv.reads e.answer.reads.reads;
@@ -104,11 +117,19 @@ loop-row-preserved g c =
           let test = is_member_of link c.args.owner.now in
           let found = e.answer.found link (inv.whole whole) is
           (subst (held link) (sym inv.reads.working) h) in
-          let other : test r ≡ false = ap (λ (k : Value). is_owner c.args.owner.now (fin.get link k)) (sym key) ∙ sym found ∙ c.if-branch.false in
-          row_dropped test c.loop-row.kept.items rest r other ∙ ap (λ (l : List Row). c.loop-row.kept.items ++ filter test l) (sym steps) ∙ inv.those link whole is h;
+          let other : test r ≡ false = ap
+          (λ (k : Value). is_owner c.args.owner.now (fin.get link k)) (sym key) ∙ sym found
+          ∙ c.if-branch.false in
+          row_dropped test c.loop-row.kept.items rest r other
+          ∙ ap (λ (l : List Row). c.loop-row.kept.items ++ filter test l) (sym steps)
+          ∙ inv.those link whole is h;
       steps = λ link most whole is h few.
-          let now = e.steps link most (inv.whole whole) is (subst (held link) (sym inv.reads.working) h) few in
-          row_steps rest r (into_iter_items c.loop-row.row-iterator) (most + length (b.working c.args.leaves.now)) _ (b.work c.loop-row.leaves) (b.work c.is_owned.new.leaves) (length c.args.rows.items) steps (inv.steps link most whole is h few)
+          let now = e.steps link most (inv.whole whole) is
+          (subst (held link) (sym inv.reads.working) h) few in
+          row_steps rest r (into_iter_items c.loop-row.row-iterator)
+          (most + length (b.working c.args.leaves.now)) _ (b.work c.loop-row.leaves)
+          (b.work c.is_owned.new.leaves) (length c.args.rows.items) steps
+          (inv.steps link most whole is h few)
           (subst (λ (maps : List LeafMap). b.work c.is_owned.new.leaves
           ≤ b.work c.loop-row.leaves + 1 * (most + length maps)) inv.reads.working now);
       reads = reads_joined b inv.reads e.answer.reads.reads;

@@ -18,10 +18,14 @@ invariant-loop-row g l =
     let rest = into_iter_items l.row-iterator in record {
       many : into_iter_len l.row-iterator ≡ length rest;
       fit : (r : Row) → In r rest → Fits rule.member r.0;
-      those : (link : Link) → b.whole l.fn.leaves → IsLink rule.owner rule.member link → g.L.Linkset.held l.linkset link maps →
-          l.kept.items ++ filter (is_member_of link l.owner) rest ≡ filter (is_member_of link l.owner) l.fn.rows.items;
-      steps : (link : Link) (most : ℕ) → b.whole l.fn.leaves → IsLink rule.owner rule.member link → g.L.Linkset.held l.linkset link maps → OwnersHaveAtMost most rule link →
-          b.work l.leaves + length rest * (most + length maps) ≤ b.work l.fn.leaves + length l.fn.rows.items * (most + length maps);
+      those : (link : Link) → b.whole l.fn.leaves → IsLink rule.owner rule.member link
+          → g.L.Linkset.held l.linkset link maps →
+          l.kept.items ++ filter (is_member_of link l.owner) rest ≡ filter
+          (is_member_of link l.owner) l.fn.rows.items;
+      steps : (link : Link) (most : ℕ) → b.whole l.fn.leaves → IsLink rule.owner rule.member link
+          → g.L.Linkset.held l.linkset link maps → OwnersHaveAtMost most rule link →
+          b.work l.leaves + length rest * (most + length maps) ≤ b.work l.fn.leaves
+          + length l.fn.rows.items * (most + length maps);
       reads : Reads b l.fn.leaves l.leaves;
       whole : b.whole l.fn.leaves → b.whole l.leaves;
       counted : b.faults l.leaves ≡ b.faults l.fn.leaves;

@@ -7,11 +7,10 @@ use Rattle.gx_values.specs.Values.{Fits}
 use Rattle.gx_schema.specs.Lookups.{key_kind}
 use Rattle.gx_ports.specs.LeafMaps.{LeafMap}
 use Rattle.gx_model.specs.States.{Row}
-use Rattle.gx_model.specs.Found.{meets_conds}
 use Rattle.gx_scan.specs.Files.{IsInternal}
 use Rattle.gx_scan.proofs.StepLemmas.{leaves_few}
 use Rattle.gx_pairs.specs.Stored.{file_of, node_tree, IsStoredLinkset}
-use Rattle.gx_pairs.specs.Members.{rows_at}
+use Rattle.gx_pairs.specs.Members.{rows_meeting_at}
 use Rattle.gx_stack.proofs.PassLemmas.{passes_joined, read_passes, reads_given, reads_given_after}
 use Rattle.gx_pairs.proofs.LinkedLemmas.{owners_there, members_there, link_there, have_still}
 use Rattle.gx_pairs.proofs.MemberLemmas.{one_owner_steps, one_member_steps}
@@ -66,8 +65,10 @@ keep_members-requires-clause-stored g c =
 pub keep_members-requires-clause-members : goal.keep_members-requires-clause-members
 keep_members-requires-clause-members g c =
     let fits = λ (k : Kind) (rs : List Row). AllByRecursion (λ (r : Row). Fits k r.0) rs in
-    let before = subst (fits (key_kind (file_of c.args.stored.now.members))) (sym c.new-found.ensures.items) tt in
-    subst (λ (k : Kind). fits k c.add_record.new.rows.items) (sym c.requires.stored.member_kind) (c.in_ok-add_record.ensures.fit before)
+    let before = subst (fits (key_kind (file_of c.args.stored.now.members)))
+    (sym c.new-found.ensures.items) tt in
+    subst (λ (k : Kind). fits k c.add_record.new.rows.items) (sym c.requires.stored.member_kind)
+    (c.in_ok-add_record.ensures.fit before)
 
 pub returns-in_err-rows : goal.returns-in_err-rows
 returns-in_err-rows g c =
@@ -101,8 +102,8 @@ returns g c = record {
       let same = found.looks.reads.reads.working ∙ first.reads.reads.working in
       let held = subst (g.L.Linkset.held x.linkset link) (sym same) linked.link in
       let one = (found.looks.found members after at).1
-      ∙ ap (λ (before : List Row). before ++ filter (meets_conds c.args.conds.now)
-      (rows_at members c.args.key.now)) c.new-found.ensures.items in
+      ∙ ap (λ (before : List Row). before
+      ++ rows_meeting_at members c.args.conds.now c.args.key.now) c.new-found.ensures.items in
       c.in_ok-rows.ensures.answer.found link (found.looks.reads.ends.whole after) linked.is_link
       held ∙ ap (filter _) one;
   steps = λ owners members link most whole linked few_o few_m few_l.
@@ -115,8 +116,8 @@ returns g c = record {
       let same = found.looks.reads.reads.working ∙ first.reads.reads.working in
       let held = subst (g.L.Linkset.held x.linkset link) (sym same) linked.link in
       let one = (found.looks.found members after at).1
-      ∙ ap (λ (before : List Row). before ++ filter (meets_conds c.args.conds.now)
-      (rows_at members c.args.key.now)) c.new-found.ensures.items in
+      ∙ ap (λ (before : List Row). before
+      ++ rows_meeting_at members c.args.conds.now c.args.key.now) c.new-found.ensures.items in
       let kept = c.in_ok-rows.ensures.steps link most (found.looks.reads.ends.whole after)
       linked.is_link held few_l in
       let own = c.requires.stored.owners.tree in

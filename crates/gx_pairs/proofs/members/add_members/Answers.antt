@@ -76,14 +76,18 @@ returns-in_err-add_records g c =
     let link = sound.1.2 in
     let linked = sound.1.3 in
     let whole = owner.ends.whole sound.0 in
-    let those = them.found.those whole link linked.is_link (subst (g.L.Linkset.held s.linkset link) (sym owner.reads.working) linked.link) in
-    let all = them.found.appended ∙ ap (λ (before : List Value). before ++ them.found.found) c.new.ensures.items in
+    let those = them.found.those whole link linked.is_link
+    (subst (g.L.Linkset.held s.linkset link) (sym owner.reads.working) linked.link) in
+    let all = them.found.appended
+    ∙ ap (λ (before : List Value). before ++ them.found.found) c.new.ensures.items in
     let slice : c.deref.result.now ≡ c.members.new.out = search rules in (
       passed.whole sound.0,
       (
         members,
-        subst (λ (maps : List LeafMap). IsInternal (file_of s.members) (node_tree s.members) maps members) (sym passed.reads.working) linked.members,
-        all_there members link o (λ m e. (linked.there m o e).0) c.deref.result.now (slice ∙ all ∙ those),
+        subst (λ (maps : List LeafMap). IsInternal (file_of s.members)
+            (node_tree s.members) maps members) (sym passed.reads.working) linked.members,
+        all_there members link o (λ m e. (linked.there m o e).0) c.deref.result.now
+            (slice ∙ all ∙ those),
       ),
     ))
     c.in_err-add_records.ensures.reads)

@@ -10,12 +10,18 @@ pub invariant_of-row : goal.invariant_of-row
 invariant_of-row g c =
     let file = file_of c.args.stored.now in
     let sized = fit_sized _ c.args.key.now c.requires.fit in
-    let fits = subst (λ o. IfSome o (AreFit (data_fields file))) c.in-Some.is c.in_ok-values.ensures.fits in
-    (subst IsSized (sym (c.in_ok-key.ensures sized)) sized, are_sized (data_fields file) c.in-Some.values fits)
+    let fits = subst (λ o. IfSome o (AreFit (data_fields file))) c.in-Some.is
+    c.in_ok-values.ensures.fits in (
+      subst IsSized (sym (c.in_ok-key.ensures sized)) sized,
+      are_sized (data_fields file) c.in-Some.values fits,
+    )
 
 pub invariant_of-row-then-meets_all : goal.invariant_of-row-then-meets_all
 invariant_of-row-then-meets_all g c =
     let file = file_of c.args.stored.now in
     let sized = fit_sized _ c.args.key.now c.requires.fit in
-    let fits = subst (λ o. IfSome o (AreFit (data_fields file))) c.in-Some.is c.in_ok-values.ensures.fits in
-    (subst IsSized (sym (c.in_ok-key.ensures sized)) sized, are_sized (data_fields file) c.in-Some.values fits)
+    let fits = subst (λ o. IfSome o (AreFit (data_fields file))) c.in-Some.is
+    c.in_ok-values.ensures.fits in (
+      subst IsSized (sym (c.in_ok-key.ensures sized)) sized,
+      are_sized (data_fields file) c.in-Some.values fits,
+    )

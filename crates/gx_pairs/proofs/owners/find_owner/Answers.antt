@@ -57,7 +57,8 @@ returns-in_err-record g c =
     let old = b.working c.args.leaves.now in
     let new = b.working c.owner.new.leaves in
     let first = c.in_ok-has_record.ensures.reads in
-    let passed = passes_joined b (read_passes b first) (read_passes b c.in_ok-owner.ensures.reads) in
+    let passed = passes_joined b (read_passes b first)
+    (read_passes b c.in_ok-owner.ensures.reads) in
     let given = c.from_residual-in_err-record.ensures.1 in
     linked_stopped b rule held s _ _ _ _ c.from_residual-in_err-record.result given
     (reads_given_after b c.from_residual-in_err-record.result given passed
