@@ -21,7 +21,8 @@ pub fn stored_link<'a>(
 ) -> StoredLink<'a, AnyLinkset<'a>>
     requires ready { (leaves : ℕ) × AreFor schema.now built.now leaves }
     requires link { link < length schema.now.links }
-    ensures { IsStoredLinkOf any_link_rule IsHeldBy IsValidLinkset schema.now built.now link result }
+    ensures { IsStoredLinkOf any_link_rule IsHeldBy IsValidLinkset schema.now built.now link
+        result }
 {
     let def = link_def(schema, link);
     StoredLink {

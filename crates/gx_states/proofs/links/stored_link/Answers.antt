@@ -12,9 +12,12 @@ returns c =
     let nodes = c.requires.ready.1.link_nodes in
     record {
       owner_file = c.stored_file.ensures.file ∙ ap (λ (d : LinkDef). file_at schema d.owner) def;
-      owner_tree = c.stored_file.ensures.tree ∙ ap (λ (d : LinkDef). tree_at built.files d.owner) def;
-      member_file = c.stored_file-2.ensures.file ∙ ap (λ (d : LinkDef). file_at schema d.member) def;
-      member_tree = c.stored_file-2.ensures.tree ∙ ap (λ (d : LinkDef). tree_at built.files d.member) def;
+      owner_tree = c.stored_file.ensures.tree
+          ∙ ap (λ (d : LinkDef). tree_at built.files d.owner) def;
+      member_file = c.stored_file-2.ensures.file
+          ∙ ap (λ (d : LinkDef). file_at schema d.member) def;
+      member_tree = c.stored_file-2.ensures.tree
+          ∙ ap (λ (d : LinkDef). tree_at built.files d.member) def;
       rule_is = c.linkset_at.ensures.rule c.requires.ready.0 nodes;
       valid_is = c.linkset_at.ensures.valid c.requires.ready.0 nodes;
       held_to = λ pairs maps. (c.linkset_at.ensures.held pairs maps).0;
