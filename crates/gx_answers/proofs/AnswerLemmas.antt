@@ -30,8 +30,10 @@ use Rattle.gx_answers.specs.Work.{IsBounded}
 
 module _ {S : Type 0} (g : Ghosts S) (schema : Schema) (built : Built) (c : Command) (a b : S) where
   -- what stops a call on which the command stands
-  pub answers_stopped : {U : Type 0} {known : Type 0} {why : Stop} (result : Result (List ℕ) Stop) → IsErrAnd result (λ s. s ≡ why)
-      → (g.whole a × HaveState schema built (g.working a) → known) → ReadsMaps {T = U} g known a b (Err why)
+  pub answers_stopped : {U : Type 0} {known : Type 0} {why : Stop} (result : Result (List ℕ) Stop)
+      → IsErrAnd result (λ s. s ≡ why)
+      → (g.whole a × HaveState schema built (g.working a) → known)
+      → ReadsMaps {T = U} g known a b (Err why)
       → Answers g schema built c a b result
   answers_stopped (Ok x) err more one = absurd err
   answers_stopped {U = U} (Err s) err more one = record {
@@ -41,8 +43,10 @@ module _ {S : Type 0} (g : Ghosts S) (schema : Schema) (built : Built) (c : Comm
   }
 
   -- an answer
-  pub answers_ok : {U : Type 0} (known : Type 0) (x : U) (text : List ℕ) → ReadsMaps g known a b (Ok x)
-      → ((s : State) → g.whole a → AreInternal schema built (g.working a) s → IsAnswer schema s c text)
+  pub answers_ok : {U : Type 0} (known : Type 0) (x : U) (text : List ℕ)
+      → ReadsMaps g known a b (Ok x)
+      → ((s : State) → g.whole a → AreInternal schema built (g.working a) s
+      → IsAnswer schema s c text)
       → ((s : State) → g.whole a → AreInternal schema built (g.working a) s
       → IsBounded schema built (length (g.working a)) s c (g.work a) (g.work b))
       → Answers g schema built c a b (Ok text)
@@ -73,7 +77,8 @@ module _ {S : Type 0} (g : Ghosts S) (schema : Schema) (built : Built) (c : Comm
       → IfOk result (IsAnswer schema s c))
       → ((s : State) → g.whole a → AreInternal schema built (g.working a) s
       → IsBounded schema built (length (g.working a)) s c (g.work a) (g.work b))
-      → ((n : ℕ) → IsErrOf result (stop.Damaged n) → ¬ (g.whole a × HaveState schema built (g.working a)))
+      → ((n : ℕ) → IsErrOf result (stop.Damaged n)
+      → ¬ (g.whole a × HaveState schema built (g.working a)))
       → ((n : ℕ) → IsErrOf result (stop.Damaged n) → n ≡ 0) → ¬ IsErrOf result stop.Fault
       → ¬ IsErrOf result stop.Full → Answers g schema built c a b result
   answers_line known x result one answered steps no_damage block no_fault not_full = record {
@@ -103,12 +108,16 @@ there_true : {A : Type 0} (o : Option A) → IsTrue (is_some o) → not (is_some
 there_true o there = ap not there
 
 pub refused_so : (lacks : Bool) (Reply : List ℕ → Type 0) (text : List ℕ) → lacks ≡ true
-    → text ≡ refusal_text no_record → IsAnswerOr (first_refusal ((lacks, no_record) ∷ [])) Reply text
-refused_so lacks Reply text e is = subst (λ b. IsAnswerOr (first_refusal ((b, no_record) ∷ [])) Reply text) (sym e) is
-
-pub replied_so : (lacks : Bool) (Reply : List ℕ → Type 0) (text : List ℕ) → lacks ≡ false → Reply text
+    → text ≡ refusal_text no_record
     → IsAnswerOr (first_refusal ((lacks, no_record) ∷ [])) Reply text
-replied_so lacks Reply text e is = subst (λ b. IsAnswerOr (first_refusal ((b, no_record) ∷ [])) Reply text) (sym e) is
+refused_so lacks Reply text e is =
+    subst (λ b. IsAnswerOr (first_refusal ((b, no_record) ∷ [])) Reply text) (sym e) is
+
+pub replied_so : (lacks : Bool) (Reply : List ℕ → Type 0) (text : List ℕ) → lacks ≡ false
+    → Reply text
+    → IsAnswerOr (first_refusal ((lacks, no_record) ∷ [])) Reply text
+replied_so lacks Reply text e is =
+    subst (λ b. IsAnswerOr (first_refusal ((b, no_record) ∷ [])) Reply text) (sym e) is
 
 pub owner_refused : (schema : Schema) (s : State) (i : ℕ) (member : Value) (text : List ℕ)
     → fin.get (file_in s (link_at schema i).member) member ≡ None → text ≡ refusal_text no_record
@@ -122,35 +131,44 @@ pub owner_free : (schema : Schema) (s : State) (i : ℕ) (member : Value) (text 
     → fin.get (link_in s i) member ≡ None → text ≡ codes "none\n"
     → IsAnswer schema s (command.Owner i member) text
 owner_free schema s i member text there none is =
-    replied_so _ (IsReply schema s (command.Owner i member)) text (there_true (fin.get (file_in s (link_at schema i).member) member) there)
-    (is ∙ sym (ap (owner_text (file_at schema (link_at schema i).owner) (file_in s (link_at schema i).owner)) none))
+    replied_so _ (IsReply schema s (command.Owner i member)) text
+    (there_true (fin.get (file_in s (link_at schema i).member) member) there)
+    (is ∙ sym (ap (owner_text (file_at schema (link_at schema i).owner)
+    (file_in s (link_at schema i).owner)) none))
 
 pub owner_found : (schema : Schema) (s : State) (i : ℕ) (member owner : Value) (values : List Value)
-    (file : FileDef) (text : List ℕ) → IsTrue (is_some (fin.get (file_in s (link_at schema i).member) member))
+    (file : FileDef) (text : List ℕ)
+    → IsTrue (is_some (fin.get (file_in s (link_at schema i).member) member))
     → fin.get (link_in s i) member ≡ Some owner
     → fin.get (file_in s (link_at schema i).owner) owner ≡ Some values
     → file ≡ file_at schema (link_at schema i).owner → text ≡ row_text file (owner, values)
     → IsAnswer schema s (command.Owner i member) text
 owner_found schema s i member owner values file text there owned found same is =
-    replied_so _ (IsReply schema s (command.Owner i member)) text (there_true (fin.get (file_in s (link_at schema i).member) member) there)
+    replied_so _ (IsReply schema s (command.Owner i member)) text
+    (there_true (fin.get (file_in s (link_at schema i).member) member) there)
     (is ∙ ap (λ f. row_text f (owner, values)) same
     ∙ sym (ap (record_text (file_at schema (link_at schema i).owner) owner) found)
-    ∙ sym (ap (owner_text (file_at schema (link_at schema i).owner) (file_in s (link_at schema i).owner))
+    ∙ sym (ap (owner_text (file_at schema (link_at schema i).owner)
+    (file_in s (link_at schema i).owner))
     owned))
 
 -- ---- members, and a `find` among them
 
-not_there : {A : Type 0} (o : Option A) (there : Bool) (b : Bool) → there ≡ b → there ≡ is_some o → not (is_some o) ≡ not b
+not_there : {A : Type 0} (o : Option A) (there : Bool) (b : Bool) → there ≡ b → there ≡ is_some o
+    → not (is_some o) ≡ not b
 not_there o there b e is = ap not (sym is ∙ e)
 
-pub members_refused : (schema : Schema) (s : State) (i : ℕ) (owner : Value) (order : OrderBy) (there : Bool)
-    (text : List ℕ) → there ≡ false → there ≡ is_some (fin.get (file_in s (link_at schema i).owner) owner)
+pub members_refused : (schema : Schema) (s : State) (i : ℕ) (owner : Value) (order : OrderBy)
+    (there : Bool)
+    (text : List ℕ) → there ≡ false
+    → there ≡ is_some (fin.get (file_in s (link_at schema i).owner) owner)
     → text ≡ refusal_text no_record → IsAnswer schema s (command.Members i owner order) text
 members_refused schema s i owner order there text e is text_is =
     refused_so _ (IsReply schema s (command.Members i owner order)) text
     (not_there (fin.get (file_in s (link_at schema i).owner) owner) there false e is) text_is
 
-pub members_listed : (schema : Schema) (s : State) (i : ℕ) (owner : Value) (order : OrderBy) (there : Bool)
+pub members_listed : (schema : Schema) (s : State) (i : ℕ) (owner : Value) (order : OrderBy)
+    (there : Bool)
     (file : FileDef) (text : List ℕ) → there ≡ true
     → there ≡ is_some (fin.get (file_in s (link_at schema i).owner) owner)
     → file ≡ file_at schema (link_at schema i).member
@@ -177,13 +195,15 @@ pub find_listed : (schema : Schema) (s : State) (q : Find) (of : Of) (there : Bo
     → there ≡ is_some (fin.get (file_in s (link_at schema of.link).owner) of.owner)
     → file ≡ file_at schema (link_at schema of.link).member
     → IsListText file (file_in s (link_at schema of.link).member)
-    (is_chosen_of (link_in s of.link) of.owner q.conds) q.order text → IsAnswer schema s (command.Find q) text
+    (is_chosen_of (link_in s of.link) of.owner q.conds) q.order text
+    → IsAnswer schema s (command.Find q) text
 find_listed schema s q of there file text of_is at e is same listed =
     replied_so _ (IsReply schema s (command.Find q)) text
     (ap (lacks_of schema s) of_is ∙ not_there
     (fin.get (file_in s (link_at schema of.link).owner) of.owner) there true e is)
     (subst (λ (n : ℕ). IsListText (file_at schema n) (file_in s n) (is_chosen s q) q.order text) at
-    (subst (λ (f : FileDef). IsListText f (file_in s (link_at schema of.link).member) (is_chosen s q) q.order text) same
+    (subst (λ (f : FileDef). IsListText f (file_in s (link_at schema of.link).member)
+    (is_chosen s q) q.order text) same
     (subst (λ (test : Row → Bool). IsListText file
     (file_in s (link_at schema of.link).member) test q.order text)
     (λ j r. meets_conds q.conds r && meets_of s (sym of_is j) r.0) listed)))

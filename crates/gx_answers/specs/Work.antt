@@ -1,8 +1,9 @@
 -- How many steps a command may take that reads. A step is a selection from a leaf that was
 -- answered, or an entry that one gave.
-use Rattle.std.specs.Prelude.{ℕ, zero, suc, ◌+◌, ◌≤◌, max, Bool, true, false, List, [], ◌∷◌, length, filter, Option, Some, None}
+use Rattle.std.specs.Prelude.{ℕ, zero, suc, ◌+◌, ◌*◌, ◌≤◌, max, Bool, true, false, List, [], ◌∷◌, length, filter, Option, Some, None}
 use Rattle.std.specs.FinMap as fin
 use Rattle.gx_values.specs.declared.values.Op.TheVariants as op
+use Rattle.gx_schema.specs.declared.schema.FileDef.{FileDef}
 use Rattle.gx_schema.specs.declared.schema.Schema.{Schema}
 use Rattle.gx_schema.specs.Lookups.{file_at, link_at}
 use Rattle.gx_commands.specs.declared.command.Of.{Of}
@@ -24,6 +25,9 @@ use Rattle.gx_planner.specs.declared.plans.Plan.TheVariants.{Key, Link as ByLink
 use Rattle.gx_model.specs.States.{File, State, Row, file_in}
 use Rattle.gx_model.specs.Found.{meets_of}
 use Rattle.gx_scan.specs.Files.{rec_of}
+use Rattle.gx_pairs.specs.declared.stored.StoredFile.{StoredFile}
+use Rattle.gx_pairs.specs.Stored.{file_of, node_tree}
+use Rattle.gx_pairs.specs.Members.{is_member_of}
 use Rattle.gx_finds.specs.Looked.{plan_for, condition_of, meets_one, step_bound}
 use Rattle.gx_states.specs.Internal.{owner_count}
 
@@ -39,12 +43,24 @@ meets_plan is_member q (KeyRange number) r = meets_one (condition_of q (KeyRange
 meets_plan is_member q (IndexRange number) r = meets_one (condition_of q (IndexRange number)) r
 meets_plan is_member q Scan r = true
 
--- the records of a file that do
+-- the records of a file with this tree and this definition that do
+abbrev pub candidates_in : (Row → Bool) → Tree AnyMapping → FileDef → Find → File → List Row
+candidates_in is_member t def q f =
+    filter (meets_plan is_member q (plan_for t def q)) (fin.entries f)
+
+-- those of a state
 abbrev pub candidates : Schema → Built → State → Find → List Row
-candidates schema built s q = filter
-    (meets_plan (λ r. meets_of s q.of r.0) q
-    (plan_for (tree_at built.files q.file) (file_at schema q.file) q))
-    (fin.entries (file_in s q.file))
+candidates schema built s q =
+    candidates_in (λ r. meets_of s q.of r.0) (tree_at built.files q.file) (file_at schema q.file) q
+    (file_in s q.file)
+
+-- How many look-ups a `find` among the members of an owner takes at most: two for each of the
+-- records of the members' file that meet the one condition of the plan, and two for the record of
+-- the owner and its link.
+abbrev pub member_look_ups : StoredFile → Find → Value → File → Link → ℕ
+member_look_ups stored q owner members link =
+    2 * (length (candidates_in (is_member_of link owner) (node_tree stored) (file_of stored) q
+    members) + 1)
 
 -- ---- the entries of a record
 

@@ -1,15 +1,13 @@
 // The members of an owner that a `find` gives.
-ghost use Rattle.std.specs.Prelude.{◌≡◌, ◌^◌, ◌<◌, ◌+◌, ◌*◌, [], Some, length, filter};
-ghost use Rattle.std.specs.FinMap as fin;
+ghost use Rattle.std.specs.Prelude.{◌≡◌, ◌^◌, ◌<◌, [], Some, length};
 ghost use Rattle.std.specs.List.{AllByRecursion};
 ghost use Rattle.gx_values.specs.Values.{Fits};
 ghost use Rattle.gx_schema.specs.Lookups.{key_kind};
 ghost use Rattle.gx_commands.specs.Commands.{IsCondOf};
-ghost use Rattle.gx_pairs.specs.Stored.{file_of, node_tree, IsStoredLink};
+ghost use Rattle.gx_pairs.specs.Stored.{file_of, IsStoredLink};
 ghost use Rattle.gx_pairs.specs.Search.{FindsMembers};
-ghost use Rattle.gx_pairs.specs.Members.{is_member_of, AreMembersOf};
-ghost use Rattle.gx_finds.specs.Looked.{plan_for};
-ghost use Rattle.gx_answers.specs.Work.{meets_plan};
+ghost use Rattle.gx_pairs.specs.Members.{AreMembersOf};
+ghost use Rattle.gx_answers.specs.Work.{member_look_ups};
 ghost use Rattle.gx_answers.specs.Queries.{key_number};
 
 use gx_commands::{Find, Of};
@@ -40,9 +38,7 @@ pub(crate) fn add_found_members<B: Leaves, L: Linkset>(
     ensures { FindsMembers B.View L.rule L.held stored.now of.now.owner leaves.old leaves.new
         result
         (λ members link. AreMembersOf members link of.now.owner find.now.conds rows.new.items)
-        (λ members link. 2 * (length (filter (meets_plan (is_member_of link of.now.owner) find.now
-        (plan_for (node_tree stored.now.members) (file_of stored.now.members) find.now))
-        (fin.entries members)) + 1)) }
+        (λ members link. member_look_ups stored.now.members find.now of.now.owner members link) }
 {
     let conds = find.conds.0.as_slice();
     let indexed = indexed_fields(alloc, stored.members.file, stored.members.node)?;

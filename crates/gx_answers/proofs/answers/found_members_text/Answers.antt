@@ -14,21 +14,26 @@ use Rattle.gx_answers.proofs.answers.found_members_text.Goals as goal
 
 pub add_found_members-requires-clause-stored : goal.add_found_members-requires-clause-stored
 add_found_members-requires-clause-stored g c =
-    let of = subst (IsOfOf c.args.schema.now c.args.find.now.file) c.requires.of c.requires.of_schema.of in
-    is_stored any_link_rule IsHeldBy IsValidLinkset c.args.schema.now c.args.built.now _ c.args.of.now.link
+    let of = subst (IsOfOf c.args.schema.now c.args.find.now.file) c.requires.of
+    c.requires.of_schema.of in
+    is_stored any_link_rule IsHeldBy IsValidLinkset c.args.schema.now c.args.built.now _
+    c.args.of.now.link
     c.stored_link-stored.result c.requires.ready of.0 c.stored_link-stored.ensures
 
 pub returns-in_err-add_found_members : goal.returns-in_err-add_found_members
 returns-in_err-add_found_members g c =
-    let of = subst (IsOfOf c.args.schema.now c.args.find.now.file) c.requires.of c.requires.of_schema.of in
+    let of = subst (IsOfOf c.args.schema.now c.args.find.now.file) c.requires.of
+    c.requires.of_schema.of in
     let stopped = c.in_err-add_found_members.ensures in
     answers_stopped g.B.View c.args.schema.now c.args.built.now
     (command.Find c.args.find.now)
-    c.args.leaves.now c.add_found_members.new.leaves c.from_residual.result c.from_residual.ensures.1
+    c.args.leaves.now c.add_found_members.new.leaves c.from_residual.result
+    c.from_residual.ensures.1
     (λ sound. (
       sound.0,
       have_link any_link_rule IsHeldBy IsValidLinkset c.args.schema.now c.args.built.now _
-          c.args.of.now.link c.stored_link-stored.result c.requires.ready of.0 c.stored_link-stored.ensures _
+          c.args.of.now.link c.stored_link-stored.result c.requires.ready of.0
+          c.stored_link-stored.ensures _
           sound.1,
     ))
     stopped.reads
@@ -44,18 +49,24 @@ returns-then-not-branch g c =
     let of_schema = subst (IsOfOf schema q.file) c.requires.of c.requires.of_schema.of in
     let lt = of_schema.0 in
     answers_ok g.B.View schema built
-    (command.Find q) c.args.leaves.now c.add_found_members.new.leaves _ c.in_ok-add_found_members.field-0 _
+    (command.Find q) c.args.leaves.now c.add_found_members.new.leaves _
+    c.in_ok-add_found_members.field-0 _
     c.in_ok-add_found_members.ensures.reads
     (λ s whole are.
-    let linked = is_linked_in any_link_rule IsHeldBy IsValidLinkset schema built _ of.link x c.requires.ready lt is _ s are in
-    find_refused schema s q of c.in_ok-add_found_members.field-0 _ c.requires.of c.if-not-branch.true
+    let linked = is_linked_in any_link_rule IsHeldBy IsValidLinkset schema built _ of.link x
+    c.requires.ready lt is _ s are in
+    find_refused schema s q of c.in_ok-add_found_members.field-0 _ c.requires.of
+    c.if-not-branch.true
     (c.in_ok-add_found_members.ensures.there _ _ _ whole linked) c.in_ok-refusal_text.ensures)
     (λ s whole are.
-    let linked = is_linked_in any_link_rule IsHeldBy IsValidLinkset schema built _ of.link x c.requires.ready lt is _ s are in
-    found_within schema built _ s q of (file_of x.members) (node_tree x.members) _ _ c.requires.of of_schema.1 is.member_file is.member_tree
+    let linked = is_linked_in any_link_rule IsHeldBy IsValidLinkset schema built _ of.link x
+    c.requires.ready lt is _ s are in
+    found_within schema built _ s q of (file_of x.members)
+    (node_tree x.members) _ _ c.requires.of of_schema.1 is.member_file is.member_tree
     (c.in_ok-add_found_members.ensures.steps _ _ _ (most_with built s (Some of)) whole linked
-    (owner_records_most any_link_rule IsHeldBy IsValidLinkset schema built _ x s of c.requires.ready lt is
-    are.valid.files_many) (member_records_most any_link_rule IsHeldBy IsValidLinkset schema built _ x s of
+    (owner_records_most any_link_rule IsHeldBy IsValidLinkset schema built _ x s of c.requires.ready
+    lt is are.valid.files_many)
+    (member_records_most any_link_rule IsHeldBy IsValidLinkset schema built _ x s of
     c.requires.ready lt is are.valid.files_many)
     (owners_most any_link_rule IsHeldBy IsValidLinkset schema built _ x s of c.requires.ready lt is
     are.valid.links_many)))
@@ -71,21 +82,27 @@ returns g c =
     let of_schema = subst (IsOfOf schema q.file) c.requires.of c.requires.of_schema.of in
     let lt = of_schema.0 in
     answers_ok g.B.View schema built
-    (command.Find q) c.args.leaves.now c.add_found_members.new.leaves _ c.in_ok-add_found_members.field-0 _
+    (command.Find q) c.args.leaves.now c.add_found_members.new.leaves _
+    c.in_ok-add_found_members.field-0 _
     c.in_ok-add_found_members.ensures.reads
     (λ s whole are.
-    let linked = is_linked_in any_link_rule IsHeldBy IsValidLinkset schema built _ of.link x c.requires.ready lt is _ s are in
+    let linked = is_linked_in any_link_rule IsHeldBy IsValidLinkset schema built _ of.link x
+    c.requires.ready lt is _ s are in
     let those = c.in_ok-add_found_members.ensures.those _ _ _ whole linked c.if-not-branch.false in
     find_listed schema s q of c.in_ok-add_found_members.field-0
     (file_of x.members) _ c.requires.of of_schema.1 c.if-not-branch.false
     (c.in_ok-add_found_members.ensures.there _ _ _ whole linked) is.member_file
-    (c.in_ok-sorted_text.ensures (file_in s (link_at schema of.link).member) (is_chosen_of (link_in s of.link) of.owner q.conds) those))
+    (c.in_ok-sorted_text.ensures (file_in s (link_at schema of.link).member)
+    (is_chosen_of (link_in s of.link) of.owner q.conds) those))
     (λ s whole are.
-    let linked = is_linked_in any_link_rule IsHeldBy IsValidLinkset schema built _ of.link x c.requires.ready lt is _ s are in
-    found_within schema built _ s q of (file_of x.members) (node_tree x.members) _ _ c.requires.of of_schema.1 is.member_file is.member_tree
+    let linked = is_linked_in any_link_rule IsHeldBy IsValidLinkset schema built _ of.link x
+    c.requires.ready lt is _ s are in
+    found_within schema built _ s q of (file_of x.members)
+    (node_tree x.members) _ _ c.requires.of of_schema.1 is.member_file is.member_tree
     (c.in_ok-add_found_members.ensures.steps _ _ _ (most_with built s (Some of)) whole linked
-    (owner_records_most any_link_rule IsHeldBy IsValidLinkset schema built _ x s of c.requires.ready lt is
-    are.valid.files_many) (member_records_most any_link_rule IsHeldBy IsValidLinkset schema built _ x s of
+    (owner_records_most any_link_rule IsHeldBy IsValidLinkset schema built _ x s of c.requires.ready
+    lt is are.valid.files_many)
+    (member_records_most any_link_rule IsHeldBy IsValidLinkset schema built _ x s of
     c.requires.ready lt is are.valid.files_many)
     (owners_most any_link_rule IsHeldBy IsValidLinkset schema built _ x s of c.requires.ready lt is
     are.valid.links_many)))

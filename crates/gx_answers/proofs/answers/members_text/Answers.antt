@@ -46,15 +46,18 @@ returns-then-not-branch g c =
     c.args.leaves.now c.add_members.new.leaves _ c.in_ok-add_members.field-0 _
     c.in_ok-add_members.ensures.reads
     (λ s whole are.
-    let linked = is_linked_in any_link_rule IsHeldBy IsValidLinkset schema built _ i x c.requires.ready lt is _ s are in
+    let linked = is_linked_in any_link_rule IsHeldBy IsValidLinkset schema built _ i x
+    c.requires.ready lt is _ s are in
     members_refused schema s i owner c.args.order c.in_ok-add_members.field-0 _ c.if-not-branch.true
     (c.in_ok-add_members.ensures.there _ _ _ whole linked) c.in_ok-refusal_text.ensures)
     (λ s whole are.
-    let linked = is_linked_in any_link_rule IsHeldBy IsValidLinkset schema built _ i x c.requires.ready lt is _ s are in
+    let linked = is_linked_in any_link_rule IsHeldBy IsValidLinkset schema built _ i x
+    c.requires.ready lt is _ s are in
     members_within schema built _ s i owner c.args.order _ _
     (c.in_ok-add_members.ensures.steps _ _ _ (most_with built s (Some of)) whole linked
-    (owner_records_most any_link_rule IsHeldBy IsValidLinkset schema built _ x s of c.requires.ready lt is
-    are.valid.files_many) (member_records_most any_link_rule IsHeldBy IsValidLinkset schema built _ x s of
+    (owner_records_most any_link_rule IsHeldBy IsValidLinkset schema built _ x s of c.requires.ready
+    lt is are.valid.files_many)
+    (member_records_most any_link_rule IsHeldBy IsValidLinkset schema built _ x s of
     c.requires.ready lt is are.valid.files_many)
     (owners_most any_link_rule IsHeldBy IsValidLinkset schema built _ x s of c.requires.ready lt is
     are.valid.links_many)))
@@ -74,17 +77,22 @@ returns g c =
     c.args.leaves.now c.add_members.new.leaves _ c.in_ok-add_members.field-0 _
     c.in_ok-add_members.ensures.reads
     (λ s whole are.
-    let linked = is_linked_in any_link_rule IsHeldBy IsValidLinkset schema built _ i x c.requires.ready lt is _ s are in
+    let linked = is_linked_in any_link_rule IsHeldBy IsValidLinkset schema built _ i x
+    c.requires.ready lt is _ s are in
     let those = c.in_ok-add_members.ensures.those _ _ _ whole linked c.if-not-branch.false in
-    members_listed schema s i owner c.args.order c.in_ok-add_members.field-0 _ _ c.if-not-branch.false
+    members_listed schema s i owner c.args.order c.in_ok-add_members.field-0 _ _
+    c.if-not-branch.false
     (c.in_ok-add_members.ensures.there _ _ _ whole linked) is.member_file
-    (c.in_ok-sorted_text.ensures (file_in s (link_at schema i).member) (λ r. is_owner owner (fin.get (link_in s i) r.0)) those))
+    (c.in_ok-sorted_text.ensures (file_in s (link_at schema i).member)
+    (λ r. is_owner owner (fin.get (link_in s i) r.0)) those))
     (λ s whole are.
-    let linked = is_linked_in any_link_rule IsHeldBy IsValidLinkset schema built _ i x c.requires.ready lt is _ s are in
+    let linked = is_linked_in any_link_rule IsHeldBy IsValidLinkset schema built _ i x
+    c.requires.ready lt is _ s are in
     members_within schema built _ s i owner c.args.order _ _
     (c.in_ok-add_members.ensures.steps _ _ _ (most_with built s (Some of)) whole linked
-    (owner_records_most any_link_rule IsHeldBy IsValidLinkset schema built _ x s of c.requires.ready lt is
-    are.valid.files_many) (member_records_most any_link_rule IsHeldBy IsValidLinkset schema built _ x s of
+    (owner_records_most any_link_rule IsHeldBy IsValidLinkset schema built _ x s of c.requires.ready
+    lt is are.valid.files_many)
+    (member_records_most any_link_rule IsHeldBy IsValidLinkset schema built _ x s of
     c.requires.ready lt is are.valid.files_many)
     (owners_most any_link_rule IsHeldBy IsValidLinkset schema built _ x s of c.requires.ready lt is
     are.valid.links_many)))

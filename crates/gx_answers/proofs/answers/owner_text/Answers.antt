@@ -42,8 +42,8 @@ returns-in_ok-refusal_text-in-NoMember g c =
     c.in_ok-owned.ensures.reads
     (λ s whole are.
     let linked = is_linked_in any_link_rule IsHeldBy IsValidLinkset schema built _ i
-    c.stored_link-stored.result c.requires.ready c.requires.of_schema.0 c.stored_link-stored.ensures _ s
-    are in
+    c.stored_link-stored.result c.requires.ready c.requires.of_schema.0 c.stored_link-stored.ensures
+    _ s are in
     let found = subst (λ (o : Owned). IsOwned (file_in s (link_at schema i).owner)
     (file_in s (link_at schema i).member) (link_in s i) member o) c.in-NoMember.is
     (c.in_ok-owned.ensures.found _ _ _ whole linked) in
@@ -61,8 +61,8 @@ returns-in_ok-none_text-in-Free g c =
     c.in_ok-owned.ensures.reads
     (λ s whole are.
     let linked = is_linked_in any_link_rule IsHeldBy IsValidLinkset schema built _ i
-    c.stored_link-stored.result c.requires.ready c.requires.of_schema.0 c.stored_link-stored.ensures _ s
-    are in
+    c.stored_link-stored.result c.requires.ready c.requires.of_schema.0 c.stored_link-stored.ensures
+    _ s are in
     let found = subst (λ (o : Owned). IsOwned (file_in s (link_at schema i).owner)
     (file_in s (link_at schema i).member) (link_in s i) member o) c.in-Free.is
     (c.in_ok-owned.ensures.found _ _ _ whole linked) in
@@ -78,13 +78,15 @@ returns-in-By g c =
     let line = c.owner_line.ensures in
     let by : (s : State) → g.B.View.whole c.args.leaves.now
     → AreInternal schema built (g.B.View.working c.args.leaves.now) s
-    → IsOwned (file_in s (link_at schema i).owner) (file_in s (link_at schema i).member) (link_in s i) member
+    → IsOwned (file_in s (link_at schema i).owner) (file_in s (link_at schema i).member)
+    (link_in s i) member
     (owned.By c.in-By.record) =
     λ s whole are.
     let linked = is_linked_in any_link_rule IsHeldBy IsValidLinkset schema built _ i
-    c.stored_link-stored.result c.requires.ready c.requires.of_schema.0 c.stored_link-stored.ensures _ s
-    are in
-    subst (λ (o : Owned). IsOwned (file_in s (link_at schema i).owner) (file_in s (link_at schema i).member)
+    c.stored_link-stored.result c.requires.ready c.requires.of_schema.0 c.stored_link-stored.ensures
+    _ s are in
+    subst (λ (o : Owned). IsOwned (file_in s (link_at schema i).owner)
+    (file_in s (link_at schema i).member)
     (link_in s i) member o) c.in-By.is (c.in_ok-owned.ensures.found _ _ _ whole linked) in
     answers_line g.B.View schema built
     (command.Owner i member) c.args.leaves.now c.find_owner.new.leaves _ c.in_ok-owned.owned
@@ -92,7 +94,9 @@ returns-in-By g c =
     (λ s whole are.
     let found = by s whole are in
     ok_one c.owner_line.result _ _ (line.line (found.1, found.2) found.5)
-    (λ text is. owner_found schema s i member found.1 found.2 _ text found.0 found.3 found.4 c.stored_link-stored.ensures.owner_file is))
+    (λ text is. owner_found schema s i member found.1 found.2 _ text found.0 found.3 found.4
+    c.stored_link-stored.ensures.owner_file is))
     (λ s whole are. tt)
-    (λ n e sound. let found = by sound.1.0 sound.0 sound.1.1 in line.no_damage (found.1, found.2) n found.5 e)
+    (λ n e sound. let found = by sound.1.0 sound.0 sound.1.1 in
+    line.no_damage (found.1, found.2) n found.5 e)
     line.block line.no_fault line.not_full

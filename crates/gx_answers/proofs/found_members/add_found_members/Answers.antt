@@ -7,9 +7,8 @@ use Rattle.gx_commands.specs.declared.command.Cond.{Cond}
 use Rattle.gx_gather.proofs.Lists.{in_at}
 use Rattle.gx_planner.specs.declared.plans.Plan.TheVariants.{Key, Link as ByLink}
 use Rattle.gx_planner.specs.Plans.{Applies, HasRank, least_plan}
-use Rattle.gx_model.specs.Found.{meets_conds}
 use Rattle.gx_pairs.specs.Stored.{file_of, node_tree}
-use Rattle.gx_pairs.specs.Members.{is_member_of, is_chosen_of, AreMembersOf, rows_at}
+use Rattle.gx_pairs.specs.Members.{is_member_of, is_chosen_of, AreMembersOf, rows_meeting_at}
 use Rattle.gx_finds.specs.Planned.{fields_indexed}
 use Rattle.gx_finds.specs.Looked.{plan_for}
 use Rattle.gx_scan.proofs.CallLemmas.{ok_one, ok_alone}
@@ -33,7 +32,7 @@ returns-in-Some g c = record {
       let found = c.add_member_at.ensures.those owners members link whole linked in
       ok_one c.add_member_at.result _ _ found (λ is more yes'.
       let rows = more yes' ∙ ap (λ (cs : List Cond). filter (is_member_of link c.args.of.now.owner)
-      (filter (meets_conds cs) (rows_at members cond.bound))) conds in
+      (rows_meeting_at members cs cond.bound)) conds in
       subst (IsPermutation
       (filter (is_chosen_of link c.args.of.now.owner q.conds) (fin.entries members)))
       (chosen_at members link c.args.of.now.owner q.conds cond _ gives there rows)
@@ -65,7 +64,7 @@ returns-in-Some g c = record {
       c.in-Some.number cond most leaves before after gives there (plan ∙ key)
       c.condition_at-cond.ensures
       (subst (λ (cs : List Cond). after ≤ before
-      + (length (filter (meets_conds cs) (rows_at members cond.bound)) + 2) * (most + leaves))
+      + (length (rows_meeting_at members cs cond.bound) + 2) * (most + leaves))
       conds steps));
   reads = c.add_member_at.ensures.reads;
 }
