@@ -138,12 +138,13 @@ pub record KeepsEngine {S E : Type 0} (g : Ghosts S) (old new : Engine S) (c : C
   pub keeps : is_commit c ≡ false → Keeps g (leaves_of old) (leaves_of new)
   pub work : selects c ≡ false → g.work (leaves_of new) ≡ g.work (leaves_of old)
 
--- the steps that the command took are bounded by what the state has that it sees
-abbrev pub TakesFewSteps : {S : Type 0} → Ghosts S → Playing → Command → Engine S → Engine S
-    → Type 0
-TakesFewSteps g p c old new =
-    IsBounded (schema_of old) (built_of old) (length (g.working (leaves_of old))) (seen_state p) c
-    (g.work (leaves_of old)) (g.work (leaves_of new))
+-- the steps of a command that was carried out are bounded by what the state has that it sees
+abbrev pub TakesFewSteps : {S E : Type 0} → Ghosts S → Command → Engine S → Engine S
+    → Result (Unit {0}) E → Type 0
+TakesFewSteps g c old new result =
+    (p : Playing) → IsAt g p old
+    → OnOk result (IsBounded (schema_of old) (built_of old) (length (g.working (leaves_of old)))
+    (seen_state p) c (g.work (leaves_of old)) (g.work (leaves_of new)))
 
 -- What a command leaves and how it ends: the leaves of what was reorganized are fresh; a stop says
 -- nothing, and where it isn't a fault, what was last committed stays. Damage is found only where

@@ -116,8 +116,7 @@ impl<B: Leaves + Drop> Engine<B> {
             OnOk result (CarriesOut B.View p command self.old self.new out.old out.new) }
         ensures full { (p : Playing) → IsAt B.View p self.old → result ≡ Err (Now Stop.Full) →
             IsShortFor B.View self.old p command }
-        ensures few_steps { (p : Playing) → IsAt B.View p self.old →
-            OnOk result (TakesFewSteps B.View p command self.old self.new) }
+        ensures few_steps { TakesFewSteps B.View command self.old self.new result }
         ensures fresh { B.whole (leaves_of self.old) →
             OnOk result (AreFresh B.View command self.new) }
         ensures unsaid { OnErr result (out.new ≡ out.old) }
@@ -154,8 +153,7 @@ impl<B: Leaves + Drop> Engine<B> {
         requires ready { IsReady B.View self.old }
         requires due { IsDue self.old command }
         ensures step { IsStep B.View self.old self.new command out.old out.new result }
-        ensures few_steps { (p : Playing) → IsAt B.View p self.old →
-            OnOk result (TakesFewSteps B.View p command self.old self.new) }
+        ensures few_steps { TakesFewSteps B.View command self.old self.new result }
     {
         if is_edit(&command) {
             return self.edit(alloc, command, out);
@@ -175,8 +173,7 @@ impl<B: Leaves + Drop> Engine<B> {
         requires due { IsDue self.old command.now }
         requires other { is_edit command.now ≡ false }
         ensures step { IsStep B.View self.old self.new command.now out.old out.new result }
-        ensures few_steps { (p : Playing) → IsAt B.View p self.old →
-            OnOk result (TakesFewSteps B.View p command.now self.old self.new) }
+        ensures few_steps { TakesFewSteps B.View command.now self.old self.new result }
     {
         match command {
             Command::Begin => self.begin(out),
@@ -271,8 +268,8 @@ impl<B: Leaves + Drop> Engine<B> {
         requires due { IsDue self.old (command.Get file key.now) }
         ensures step { IsStep B.View self.old self.new (command.Get file key.now) out.old out.new
             result }
-        ensures few_steps { (p : Playing) → IsAt B.View p self.old →
-            OnOk result (TakesFewSteps B.View p (command.Get file key.now) self.old self.new) }
+        ensures few_steps { TakesFewSteps B.View (command.Get file key.now) self.old self.new
+            result }
     {
         let def = file_def(&self.schema, file);
         let node = file_node(&self.built, file);
@@ -292,8 +289,7 @@ impl<B: Leaves + Drop> Engine<B> {
         requires alone { find.now.of ≡ None }
         ensures step { IsStep B.View self.old self.new (command.Find find.now) out.old out.new
             result }
-        ensures few_steps { (p : Playing) → IsAt B.View p self.old →
-            OnOk result (TakesFewSteps B.View p (command.Find find.now) self.old self.new) }
+        ensures few_steps { TakesFewSteps B.View (command.Find find.now) self.old self.new result }
     {
         let def = file_def(&self.schema, find.file);
         let node = file_node(&self.built, find.file);
@@ -308,8 +304,7 @@ impl<B: Leaves + Drop> Engine<B> {
         requires due { IsDue self.old command.now }
         requires follows { follows_link command.now ≡ true }
         ensures step { IsStep B.View self.old self.new command.now out.old out.new result }
-        ensures few_steps { (p : Playing) → IsAt B.View p self.old →
-            OnOk result (TakesFewSteps B.View p command.now self.old self.new) }
+        ensures few_steps { TakesFewSteps B.View command.now self.old self.new result }
     {
         let text = answer(alloc, &self.schema, &self.built, command, &mut self.leaves)?;
         append(out, text.as_slice())?;

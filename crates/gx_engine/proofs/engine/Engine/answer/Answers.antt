@@ -11,8 +11,11 @@ returns-clause-step g c =
     let asked = c.in_ok-text.ensures in
     record {
       carried = λ p at.
-          answer_carried e.schema e.built e.inside e.commits _ _ _ _ p command c.args.out.now _ c.in_ok-text.text c.requires.follows at.stands asked.reads.reads.working asked.reads.reads.kept (asked.answered (seen_state p) at.whole_is at.stands.working_is)
-          (c.in_ok-append.ensures.ok ∙ ap (λ (text : List ℕ). c.args.out.now ++ text) c.as_slice.ensures);
+          answer_carried e.schema e.built e.inside e.commits _ _ _ _ p command c.args.out.now _
+          c.in_ok-text.text c.requires.follows at.stands asked.reads.reads.working
+          asked.reads.reads.kept (asked.answered (seen_state p) at.whole_is at.stands.working_is)
+          (c.in_ok-append.ensures.ok ∙ ap
+          (λ (text : List ℕ). c.args.out.now ++ text) c.as_slice.ensures);
       full = search rules;
       ends = record {
         keeps = record {
@@ -28,7 +31,8 @@ returns-clause-step g c =
           whole = search rules;
           kept_whole = search rules;
           keeps = search rules;
-          work = λ none. absurd (true≢false (sym (follow_selects command c.requires.follows) ∙ none));
+          work = λ none. absurd (true≢false
+              (sym (follow_selects command c.requires.follows) ∙ none));
         };
         stopped = search rules;
         fresh = λ whole. follow_fresh g.B.View command _ c.requires.follows;

@@ -8,7 +8,10 @@ returns g c = record {
   carried = λ p at.
       let e = c.args.self.now in
       let edit = c.in_ok-refused.ensures.edit (seen_state p) tt at.whole_is at.stands.working_is in
-      edit_carried e.schema e.built e.inside e.commits _ _ _ _ p c.args.command c.in_ok-refused.refused c.args.out.now _ c.edit_answer.result.now c.requires.edit c.requires.due.allowed at.stands c.edit.ensures.keeps.kept edit c.edit_answer.ensures c.in_ok-append.ensures.ok;
+      edit_carried e.schema e.built e.inside e.commits _ _ _ _ p c.args.command
+      c.in_ok-refused.refused c.args.out.now _ c.edit_answer.result.now c.requires.edit
+      c.requires.due.allowed at.stands c.edit.ensures.keeps.kept edit c.edit_answer.ensures
+      c.in_ok-append.ensures.ok;
   full = search rules;
   ends = record {
     keeps = search rules;

@@ -13,7 +13,9 @@ use Rattle.gx_engine.proofs.engine.Engine.get.Goals as goal
 
 pub find_values-requires-clause-tree : goal.find_values-requires-clause-tree
 find_values-requires-clause-tree g c =
-    subst (λ (file : FileDef). IsTreeFor file (tree_of c.file_node-node.result.now) (length (g.B.View.working c.args.self.now.leaves))) (sym c.file_def-def.ensures) (c.file_node-node.ensures.fit c.args.self.now.schema _ c.requires.ready.nodes)
+    subst (λ (file : FileDef). IsTreeFor file (tree_of c.file_node-node.result.now)
+    (length (g.B.View.working c.args.self.now.leaves))) (sym c.file_def-def.ensures)
+    (c.file_node-node.ensures.fit c.args.self.now.schema _ c.requires.ready.nodes)
 
 pub returns-in_err-found-clause-step : goal.returns-in_err-found-clause-step
 returns-in_err-found-clause-step g c =
@@ -27,7 +29,10 @@ returns-in_err-found-clause-step g c =
         fresh = search rules;
         unsaid = search rules;
         kept = search rules;
-        cause = file_cause g.B.View e _ c.args.file c.file_def-def.result.now (tree_of c.file_node-node.result.now) _ c.from_residual.result c.requires.due.of_schema.0 c.file_def-def.ensures c.file_node-node.ensures.tree c.in_err-found.ensures.reads.ends c.from_residual.ensures.1;
+        cause = file_cause g.B.View e _ c.args.file c.file_def-def.result.now
+            (tree_of c.file_node-node.result.now) _ c.from_residual.result
+            c.requires.due.of_schema.0 c.file_def-def.ensures c.file_node-node.ensures.tree
+            c.in_err-found.ensures.reads.ends c.from_residual.ensures.1;
         block = search rules;
       };
     }
@@ -40,9 +45,15 @@ returns-clause-few_steps g c = λ p at.
     let t = tree_of c.file_node-node.result.now in
     let maps = g.B.View.working e.leaves in
     let fit = c.file_node-node.ensures.fit e.schema _ c.requires.ready.nodes in
-    let is = internal_at e.schema e.built i c.file_def-def.result.now t maps s c.file_def-def.ensures c.file_node-node.ensures.tree c.requires.due.of_schema.0 at.stands.working_is in
-    let few = have_most e.schema e.built _ s i t None c.requires.ready.nodes at.stands.working_is.valid.files_many c.requires.due.of_schema.0 c.file_node-node.ensures.tree in
-    record_within _ (most_entries e.built.files s.files) _ (length maps) _ _ (leaves_few t (length maps) fit.valid fit.below) (c.in_ok-found.ensures.steps _ (most_entries e.built.files s.files) at.whole_is is few)
+    let is = internal_at e.schema e.built i c.file_def-def.result.now t maps s
+    c.file_def-def.ensures c.file_node-node.ensures.tree c.requires.due.of_schema.0
+    at.stands.working_is in
+    let few = have_most e.schema e.built _ s i t None c.requires.ready.nodes
+    at.stands.working_is.valid.files_many c.requires.due.of_schema.0
+    c.file_node-node.ensures.tree in
+    record_within _ (most_entries e.built.files s.files) _ (length maps) _ _
+    (leaves_few t (length maps) fit.valid fit.below)
+    (c.in_ok-found.ensures.steps _ (most_entries e.built.files s.files) at.whole_is is few)
 
 pub returns-in_default-clause-few_steps : goal.returns-in_default-clause-few_steps
 returns-in_default-clause-few_steps g c = λ p at.
@@ -52,6 +63,12 @@ returns-in_default-clause-few_steps g c = λ p at.
     let t = tree_of c.file_node-node.result.now in
     let maps = g.B.View.working e.leaves in
     let fit = c.file_node-node.ensures.fit e.schema _ c.requires.ready.nodes in
-    let is = internal_at e.schema e.built i c.file_def-def.result.now t maps s c.file_def-def.ensures c.file_node-node.ensures.tree c.requires.due.of_schema.0 at.stands.working_is in
-    let few = have_most e.schema e.built _ s i t None c.requires.ready.nodes at.stands.working_is.valid.files_many c.requires.due.of_schema.0 c.file_node-node.ensures.tree in
-    record_within _ (most_entries e.built.files s.files) _ (length maps) _ _ (leaves_few t (length maps) fit.valid fit.below) (c.in_ok-found.ensures.steps _ (most_entries e.built.files s.files) at.whole_is is few)
+    let is = internal_at e.schema e.built i c.file_def-def.result.now t maps s
+    c.file_def-def.ensures c.file_node-node.ensures.tree c.requires.due.of_schema.0
+    at.stands.working_is in
+    let few = have_most e.schema e.built _ s i t None c.requires.ready.nodes
+    at.stands.working_is.valid.files_many c.requires.due.of_schema.0
+    c.file_node-node.ensures.tree in
+    record_within _ (most_entries e.built.files s.files) _ (length maps) _ _
+    (leaves_few t (length maps) fit.valid fit.below)
+    (c.in_ok-found.ensures.steps _ (most_entries e.built.files s.files) at.whole_is is few)
