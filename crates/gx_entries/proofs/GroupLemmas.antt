@@ -1,5 +1,5 @@
 -- Values in two groups.
-use Rattle.std.proofs.Common.{◌≡◌, ℕ, zero, suc, ◌+◌, ◌-◌, ◌<◌, List, [], ◌∷◌, ◌++◌, length, map, get_or, set, drop, Bool, true, false, cond, refl, sym, ap, subst, ◌∙◌, arith, append_assoc, append-nil}
+use Rattle.std.proofs.Common.{◌≡◌, ℕ, zero, suc, ◌+◌, ◌-◌, ◌<◌, List, [], ◌∷◌, ◌++◌, length, map, get_or, set, drop, Bool, true, false, cond, refl, sym, ap, subst, ◌∙◌, arith, append_assoc}
 use Rattle.std.specs.Prelude.{not, slice_set}
 use Rattle.std.specs.List.{AllByRecursion}
 use Rattle.std.proofs.lemmas.Bool.{true≢false}
@@ -9,16 +9,15 @@ use Rattle.gx_split.specs.Groups.{chosen}
 use Rattle.gx_commands.specs.declared.command.Change.{Change}
 use Rattle.gx_model.specs.Commands.{changed}
 
-pub chosen_none : (mask : List Bool) → chosen {A = Value} mask [] ≡ []
-chosen_none [] = refl
-chosen_none (b ∷ mask) = refl
-
-first_of : (b : Bool) (mask : List Bool) (v : Value) (vs : List Value) → chosen (b ∷ mask) (v ∷ vs) ≡ cond b (v ∷ []) [] ++ chosen mask vs
+first_of : (b : Bool) (mask : List Bool) (v : Value) (vs : List Value)
+    → chosen (b ∷ mask) (v ∷ vs) ≡ cond b (v ∷ []) [] ++ chosen mask vs
 first_of true mask v vs = refl
 first_of false mask v vs = refl
 
 -- one value more is in its group
-pub chosen_step : (mask : List Bool) (i n : ℕ) (b : Bool) (v : Value) (items rest done pushed total : List Value) → i < length mask → n ≡ i + 1 → b ≡ get_or mask i false → items ≡ v ∷ rest → pushed ≡ done ++ cond b (v ∷ []) []
+pub chosen_step : (mask : List Bool) (i n : ℕ) (b : Bool) (v : Value)
+    (items rest done pushed total : List Value) → i < length mask → n ≡ i + 1
+    → b ≡ get_or mask i false → items ≡ v ∷ rest → pushed ≡ done ++ cond b (v ∷ []) []
     → done ++ chosen (drop i mask) items ≡ total → pushed ++ chosen (drop n mask) rest ≡ total
 chosen_step mask i n b v items rest done pushed total lt next is_b steps pushes so_far =
     let m = drop_more mask i false lt ∙ ap (λ (c : Bool). c ∷ drop (i + 1) mask) (sym is_b) in
@@ -28,39 +27,48 @@ chosen_step mask i n b v items rest done pushed total lt next is_b steps pushes 
     ∙ (λ j. done ++ chosen (sym m j) (sym steps j))
     ∙ so_far
 
-pub turned_at : (mask : List Bool) (i : ℕ) (b : Bool) → i < length mask → b ≡ get_or mask i false → not b ≡ get_or (map not mask) i false
+pub turned_at : (mask : List Bool) (i : ℕ) (b : Bool) → i < length mask → b ≡ get_or mask i false
+    → not b ≡ get_or (map not mask) i false
 turned_at [] i b lt is = absurd (omega arith)
 turned_at (c ∷ mask) zero b lt is = ap not is
 turned_at (c ∷ mask) (suc i) b lt is = turned_at mask i b (omega arith) is
 
--- none is left
-pub all_chosen : (mask : List Bool) (i : ℕ) (items done total : List Value) → items ≡ [] → done ++ chosen (drop i mask) items ≡ total → done ≡ total
-all_chosen mask i items done total none so_far =
-    sym (append-nil done) ∙ ap (λ (vs : List Value). done ++ vs) (sym (chosen_none (drop i mask))) ∙ ap (λ (vs : List Value). done ++ chosen (drop i mask) vs) (sym none) ∙ so_far
-
 -- as many are chosen of lists that are equally long
-pub chosen_lengths : {A B : Type 0} (mask : List Bool) (xs : List A) (ys : List B) → length xs ≡ length ys → length (chosen mask xs) ≡ length (chosen mask ys)
+pub chosen_lengths : {A B : Type 0} (mask : List Bool) (xs : List A) (ys : List B)
+    → length xs ≡ length ys → length (chosen mask xs) ≡ length (chosen mask ys)
 chosen_lengths [] xs ys same = refl
 chosen_lengths (b ∷ mask) [] [] same = refl
 chosen_lengths (b ∷ mask) [] (y ∷ ys) same = absurd (omega (arith, same))
 chosen_lengths (b ∷ mask) (x ∷ xs) [] same = absurd (omega (arith, same))
-chosen_lengths (true ∷ mask) (x ∷ xs) (y ∷ ys) same = ap suc (chosen_lengths mask xs ys (omega (arith, same)))
-chosen_lengths (false ∷ mask) (x ∷ xs) (y ∷ ys) same = chosen_lengths mask xs ys (omega (arith, same))
+chosen_lengths (true ∷ mask) (x ∷ xs) (y ∷ ys) same =
+    ap suc (chosen_lengths mask xs ys (omega (arith, same)))
+chosen_lengths (false ∷ mask) (x ∷ xs) (y ∷ ys) same =
+    chosen_lengths mask xs ys (omega (arith, same))
 
 -- ---- changes of fields of the first group
 
-chosen_set : (mask : List Bool) (vs : List Value) (i : ℕ) (v : Value) → get_or mask i false ≡ true → chosen (map not mask) (set vs i v) ≡ chosen (map not mask) vs
+chosen_set : (mask : List Bool) (vs : List Value) (i : ℕ) (v : Value) → get_or mask i false ≡ true
+    → chosen (map not mask) (set vs i v) ≡ chosen (map not mask) vs
 chosen_set [] vs i v here = refl
 chosen_set (b ∷ mask) [] i v here = refl
 chosen_set (true ∷ mask) (w ∷ vs) zero v here = refl
 chosen_set (false ∷ mask) (w ∷ vs) zero v here = absurd (true≢false (sym here))
 chosen_set (true ∷ mask) (w ∷ vs) (suc i) v here = chosen_set mask vs i v here
-chosen_set (false ∷ mask) (w ∷ vs) (suc i) v here = ap (λ (ws : List Value). w ∷ ws) (chosen_set mask vs i v here)
+chosen_set (false ∷ mask) (w ∷ vs) (suc i) v here =
+    ap (λ (ws : List Value). w ∷ ws) (chosen_set mask vs i v here)
 
-pub others_same : (mask : List Bool) (cs : List Change) (vs : List Value) → AllByRecursion (λ (c : Change). get_or mask (c.field - 1) false ≡ true) cs → chosen (map not mask) (changed vs cs) ≡ chosen (map not mask) vs
+pub others_same : (mask : List Bool) (cs : List Change) (vs : List Value)
+    → AllByRecursion (λ (c : Change). get_or mask (c.field - 1) false ≡ true) cs
+    → chosen (map not mask) (changed vs cs) ≡ chosen (map not mask) vs
 others_same mask [] vs all = refl
-others_same mask (c ∷ cs) vs all = others_same mask cs (slice_set vs (c.field - 1) c.value) all.1 ∙ chosen_set mask vs (c.field - 1) c.value all.0
+others_same mask (c ∷ cs) vs all =
+    others_same mask cs (slice_set vs (c.field - 1) c.value) all.1
+    ∙ chosen_set mask vs (c.field - 1) c.value all.0
 
 -- a change more is of the first group
-pub all_more : (P : Change → Type 0) (cs : List Change) (i : ℕ) (c : Change) → i < length cs → c ≡ get_or cs i c → P c → (AllByRecursion P (drop i cs) → AllByRecursion P cs) → AllByRecursion P (drop (i + 1) cs) → AllByRecursion P cs
-all_more P cs i c lt is here before rest = before (subst (AllByRecursion P) (sym (drop_more cs i c lt ∙ ap (λ (d : Change). d ∷ drop (i + 1) cs) (sym is))) (here, rest))
+pub all_more : (P : Change → Type 0) (cs : List Change) (i : ℕ) (c : Change) → i < length cs
+    → c ≡ get_or cs i c → P c → (AllByRecursion P (drop i cs) → AllByRecursion P cs)
+    → AllByRecursion P (drop (i + 1) cs) → AllByRecursion P cs
+all_more P cs i c lt is here before rest =
+    before (subst (AllByRecursion P)
+    (sym (drop_more cs i c lt ∙ ap (λ (d : Change). d ∷ drop (i + 1) cs) (sym is))) (here, rest))

@@ -51,6 +51,7 @@ pub fn only_body(alloc: Global, node: &Node<AnyMapping>, fields: Values) -> Resu
 
 /// The bodies of the entries of each record with these data in both leaves of a segment. In the
 /// second there is none where each value of the second group is the default of its field.
+/// `NoMemory`: there was none for them.
 pub fn both_bodies(
     alloc: Global,
     node: &Node<AnyMapping>,
@@ -83,7 +84,8 @@ pub fn both_bodies(
     }
 }
 
-/// The body of the entry of each record with these data in the first leaf of a segment.
+/// The body of the entry of each record with these data in the first leaf of a segment. `NoMemory`:
+/// there was none for it.
 pub fn first_body(
     alloc: Global,
     node: &Node<AnyMapping>,

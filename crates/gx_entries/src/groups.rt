@@ -1,14 +1,19 @@
-// The data of a record under a segment, in their two groups.
-ghost use Rattle.std.specs.Prelude.{◌≡◌, ◌-◌, ◌++◌, ◌∷◌, [], length, map, not, true, false, slice_index_or, if◌then◌else◌, IfOk};
+// The data of a record under a segment, in their two groups, and changes of them.
+ghost use Rattle.std.specs.Prelude.{◌≡◌, ◌-◌, ◌++◌, ◌∷◌, [], List, length, map, not, true, false, slice_index_or, if◌then◌else◌, IfOk};
 ghost use Rattle.std.specs.List.{AllByRecursion};
+ghost use Rattle.gx_values.specs.declared.values.Value.{Value as TheValue};
 ghost use Rattle.gx_values.specs.Values.{AreFit};
 ghost use Rattle.gx_split.specs.Groups.{chosen, are_default};
 ghost use Rattle.gx_split.specs.SegmentRules.{form_of, mask_of};
-ghost use Rattle.gx_entries.specs.Entries.{others_of};
+ghost use Rattle.gx_stack.specs.Seen.{tree_of};
+ghost use Rattle.gx_model.specs.Commands.{changed};
+ghost use Rattle.gx_entries.specs.Entries.{others_in, others_of};
 
 use gx_commands::Changes;
 use gx_mapping::Mapping;
 use gx_split::Segment;
+use gx_stack::Node;
+use gx_types::AnyMapping;
 use gx_values::{Fields, NoMemory, Value, Values, is_default};
 use std::alloc::Global;
 
@@ -42,8 +47,23 @@ pub(crate) fn first_group(
     Ok(first)
 }
 
-/// Whether each change is of a field of the first group.
-pub(crate) fn are_first(mask: &[bool], changes: &Changes) -> bool
+/// Whether each change is of a field of the first group of a segment, so that the values of the
+/// second entry stay.
+pub fn others_stay(node: &Node<AnyMapping>, changes: &Changes) -> bool
+    ensures { result ≡ true → (values : List TheValue) →
+        others_in (tree_of node.now) (changed values changes.now)
+        ≡ others_in (tree_of node.now) values }
+{
+    if let Node::Layer(layer) = node
+        && let AnyMapping::Segment(mapping) = &layer.mapping
+    {
+        return are_first(mapping.mask(), changes);
+    }
+    false
+}
+
+// Whether each change is of a field of the first group.
+fn are_first(mask: &[bool], changes: &Changes) -> bool
     ensures { result ≡ true →
         AllByRecursion (λ c. slice_index_or mask.now (c.field - 1) false ≡ true) changes.now }
 {

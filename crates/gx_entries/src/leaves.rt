@@ -1,14 +1,10 @@
 // The leaves in which the entries of each record of a node stand, each under the record's own key.
-ghost use Rattle.std.specs.Prelude.{◌≡◌, List, true, IfSome};
-ghost use Rattle.gx_values.specs.declared.values.Value.{Value};
+ghost use Rattle.std.specs.Prelude.{◌≡◌, true, IfSome};
 ghost use Rattle.gx_stack.specs.Tree.{IsValid};
 ghost use Rattle.gx_stack.specs.Seen.{tree_of};
 ghost use Rattle.gx_types.specs.Any.{any_rule};
-ghost use Rattle.gx_model.specs.Commands.{changed};
-ghost use Rattle.gx_entries.specs.Entries.{AreOwnLeaves, IsOnlyLeaf, KeepsKeys, others_in};
+ghost use Rattle.gx_entries.specs.Entries.{AreOwnLeaves, IsOnlyLeaf, KeepsKeys};
 
-use crate::groups::are_first;
-use gx_commands::Changes;
 use gx_stack::Node;
 use gx_types::AnyMapping;
 
@@ -70,19 +66,4 @@ fn keeps_keys(mapping: &AnyMapping) -> bool
         AnyMapping::Actual(_) | AnyMapping::Encode(_) => true,
         _ => false,
     }
-}
-
-/// Whether each change is of a field of the first group of a segment, so that the values of the
-/// second entry stay.
-pub fn others_stay(node: &Node<AnyMapping>, changes: &Changes) -> bool
-    ensures { result ≡ true → (values : List Value) →
-        others_in (tree_of node.now) (changed values changes.now)
-        ≡ others_in (tree_of node.now) values }
-{
-    if let Node::Layer(layer) = node
-        && let AnyMapping::Segment(mapping) = &layer.mapping
-    {
-        return are_first(mapping.mask(), changes);
-    }
-    false
 }

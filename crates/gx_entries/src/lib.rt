@@ -7,4 +7,5 @@ mod leaves;
 mod plain;
 
 pub use bodies::{both_bodies, first_body, only_body};
-pub use leaves::{OwnLeaves, others_stay, own_leaves};
+pub use groups::others_stay;
+pub use leaves::{OwnLeaves, own_leaves};

@@ -9,7 +9,9 @@ loop-change-preserved c =
     let cs = c.args.changes.now in
     let i = c.loop-change.change-index in
     let ch = c.change-item.result in
-    let items : c.deref-change-items.result.now ≡ cs = c.deref-change-items.ensures.value ∙ c.changes.view_is in
+    let items : c.deref-change-items.result.now ≡ cs = c.deref-change-items.ensures.value
+    ∙ c.changes.view_is in
     let lt : i < length cs = omega (arith, c.loop-change-test.true, ap length items) in
     let here = c.is_first.ensures c.if-not-is_first.false in
-    all_more (λ (d : Change). get_or mask (d.field - 1) false ≡ true) cs i ch lt (c.change-item.is ∙ ap (λ (l : List Change). get_or l i ch) items) here c.loop-change.invariant
+    all_more (λ (d : Change). get_or mask (d.field - 1) false ≡ true) cs i ch lt
+    (c.change-item.is ∙ ap (λ (l : List Change). get_or l i ch) items) here c.loop-change.invariant

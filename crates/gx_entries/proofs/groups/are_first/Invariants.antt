@@ -5,4 +5,6 @@ use Rattle.gx_entries.proofs.groups.are_first.Given as goal
 
 abbrev pub invariant-loop-change : goal.invariant-loop-change
 invariant-loop-change l =
-    AllByRecursion (λ (c : Change). get_or l.fn.mask (c.field - 1) false ≡ true) (drop l.change-index l.fn.changes) → AllByRecursion (λ (c : Change). get_or l.fn.mask (c.field - 1) false ≡ true) l.fn.changes
+    AllByRecursion (λ (c : Change). get_or l.fn.mask (c.field - 1) false ≡ true)
+    (drop l.change-index l.fn.changes)
+    → AllByRecursion (λ (c : Change). get_or l.fn.mask (c.field - 1) false ≡ true) l.fn.changes

@@ -9,6 +9,8 @@ abbrev pub invariant-loop-value : goal.invariant-loop-value
 invariant-loop-value l = record {
   many : into_iter_len l.value-iterator ≡ length (into_iter_items l.value-iterator);
   left : l.at + length (into_iter_items l.value-iterator) ≡ length l.fn.mask;
-  first : l.first.items ++ chosen (drop l.at l.fn.mask) (into_iter_items l.value-iterator) ≡ chosen l.fn.mask l.fn.values;
-  others : l.others.items ++ chosen (drop l.at (map not l.fn.mask)) (into_iter_items l.value-iterator) ≡ chosen (map not l.fn.mask) l.fn.values;
+  first : l.first.items ++ chosen (drop l.at l.fn.mask) (into_iter_items l.value-iterator) ≡ chosen
+      l.fn.mask l.fn.values;
+  others : l.others.items ++ chosen (drop l.at (map not l.fn.mask))
+      (into_iter_items l.value-iterator) ≡ chosen (map not l.fn.mask) l.fn.values;
 }

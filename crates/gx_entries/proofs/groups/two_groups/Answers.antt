@@ -11,5 +11,8 @@ grouped-requires c = c.mask.ensures.long ∙ fit_length _ c.args.values c.requir
 pub are_default-requires : goal.are_default-requires
 are_default-requires c =
     let m = c.args.mapping.now in
-    ap (λ f. length f.fields) c.kid_form.ensures ∙ chosen_lengths (map not m.mask) m.form.fields c.args.values (fit_length m.form.fields c.args.values c.requires)
-    ∙ sym (ap length (c.in_ok-first.ensures.1 ∙ ap (λ k. chosen (map not k) c.args.values) c.mask.ensures.mask))
+    ap (λ f. length f.fields) c.kid_form.ensures
+    ∙ chosen_lengths (map not m.mask) m.form.fields c.args.values
+    (fit_length m.form.fields c.args.values c.requires)
+    ∙ sym (ap length (c.in_ok-first.ensures.1
+    ∙ ap (λ k. chosen (map not k) c.args.values) c.mask.ensures.mask))

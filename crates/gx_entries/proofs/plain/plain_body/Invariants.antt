@@ -8,6 +8,9 @@ use Rattle.gx_entries.proofs.plain.plain_body.Given as goal
 -- what is still to come of the group
 abbrev pub invariant-loop-i : goal.invariant-loop-i
 invariant-loop-i l = record {
-  lengths : AllByRecursion HasLength (chosen (drop l.i (of_group l.fn.is_first l.fn.mask)) (drop l.i l.fn.values));
-  bytes : l.body.items ++ body_of (chosen (drop l.i (of_group l.fn.is_first l.fn.mask)) (drop l.i l.fn.values)) ≡ body_of (chosen (of_group l.fn.is_first l.fn.mask) l.fn.values);
+  lengths : AllByRecursion HasLength
+      (chosen (drop l.i (of_group l.fn.is_first l.fn.mask)) (drop l.i l.fn.values));
+  bytes : l.body.items ++ body_of
+      (chosen (drop l.i (of_group l.fn.is_first l.fn.mask)) (drop l.i l.fn.values)) ≡ body_of
+      (chosen (of_group l.fn.is_first l.fn.mask) l.fn.values);
 }

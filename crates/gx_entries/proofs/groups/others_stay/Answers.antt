@@ -4,7 +4,7 @@ use Rattle.gx_commands.specs.declared.command.Change.{Change}
 use Rattle.gx_model.specs.Commands.{changed}
 use Rattle.gx_entries.proofs.GroupLemmas.{others_same}
 use Rattle.gx_entries.proofs.TwoLemmas.{others_seen}
-use Rattle.gx_entries.proofs.leaves.others_stay.Goals as goal
+use Rattle.gx_entries.proofs.groups.others_stay.Goals as goal
 
 pub returns : goal.returns
 returns c = λ yes values.
@@ -12,5 +12,9 @@ returns c = λ yes values.
     let l = c.in-Layer.layer in
     let x = c.in-Segment.mapping in
     let cs = c.args.changes.now in
-    let all = subst (λ (mask : List Bool). AllByRecursion (λ (d : Change). get_or mask (d.field - 1) false ≡ true) cs) c.mask.ensures.mask (c.are_first.ensures yes) in
-    others_seen node l x c.in-Layer.is c.in-Segment.is (changed values cs) ∙ others_same x.mask cs values all ∙ sym (others_seen node l x c.in-Layer.is c.in-Segment.is values)
+    let all = subst (λ (mask : List Bool). AllByRecursion
+    (λ (d : Change). get_or mask (d.field - 1) false ≡ true) cs) c.mask.ensures.mask
+    (c.are_first.ensures yes) in
+    others_seen node l x c.in-Layer.is c.in-Segment.is (changed values cs)
+    ∙ others_same x.mask cs values all
+    ∙ sym (others_seen node l x c.in-Layer.is c.in-Segment.is values)
