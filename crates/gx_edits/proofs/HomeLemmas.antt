@@ -1,6 +1,6 @@
 -- The node of a file that has all leaf entries of a key's record, and what an edit there does to
 -- the file.
-use Rattle.std.proofs.Common.{[], ◌≡◌, ℕ, List, ◌∷◌, ◌⊎◌, get_or, map, cond, length, ◌+◌, ◌-◌, Bool, true, false, Some, None, inl, inr, refl, sym, ap, subst, ◌∙◌, append-nil}
+use Rattle.std.proofs.Common.{[], ◌≡◌, ℕ, List, ◌∷◌, ◌⊎◌, cond, length, ◌+◌, ◌-◌, Bool, true, false, Some, None, inl, inr, refl, sym, ap, subst, ◌∙◌}
 use Rattle.std.specs.Prelude.{◌≢◌, is_some, not, Option, unwrap_or, slice_set}
 use Rattle.std.specs.List.{flat_map, AllByRecursion}
 use Rattle.std.specs.FinMap as fin
@@ -9,28 +9,20 @@ use Rattle.gx_values.specs.declared.records.Rec.{Rec}
 use Rattle.gx_values.specs.declared.keys.Span.{Span}
 use Rattle.gx_values.specs.Values.{Fits, AreFit}
 use Rattle.gx_values.specs.Keys.{bytes_of, key_of, is_inside}
-use Rattle.gx_values.proofs.OrderLemmas.{value_cmp_same, value_cmp_total}
+use Rattle.gx_values.proofs.OrderLemmas.{value_cmp_total}
 use Rattle.gx_schema.specs.declared.schema.FileDef.{FileDef}
 use Rattle.gx_schema.specs.Lookups.{key_kind, data_fields}
 use Rattle.gx_commands.specs.declared.command.Change.{Change}
 use Rattle.gx_commands.specs.Commands.{IsChangeOf}
 use Rattle.gx_ports.specs.LeafMaps.{LeafMap, Limits, map_at, entry_count, IsCrowdedBy}
-use Rattle.gx_mapping.specs.declared.parts.Part.{Part}
 use Rattle.gx_mapping.specs.Rule.{In, IsOf}
-use Rattle.gx_mapping.specs.Searched.{IsAlone}
-use Rattle.gx_gather.proofs.Lists.{in_each, from_each, all_at, all_of, nat_cases}
+use Rattle.gx_gather.proofs.Lists.{in_each, from_each, all_of, nat_cases}
 use Rattle.gx_stack.specs.declared.entries.LeafEntry.{LeafEntry}
-use Rattle.gx_stack.specs.declared.node.Node.{Node}
-use Rattle.gx_stack.specs.declared.node.LayerNode.{LayerNode}
-use Rattle.gx_stack.specs.declared.node.Node.TheVariants as nodes
-use Rattle.gx_stack.specs.Tree.{Tree, leaves_of, tree_form, entries_of, kid_entries, IsValid}
-use Rattle.gx_stack.specs.Seen.{tree_of, kids_from}
+use Rattle.gx_stack.specs.Tree.{Tree, leaves_of, tree_form, entries_of}
 use Rattle.gx_stack.specs.Internal.{at}
-use Rattle.gx_stack.proofs.Seen.{seen_layer, layer_form, child_valid, child_leaves, kid_entries_at}
 use Rattle.gx_stack.proofs.Children.{union_from_internal, internal_from_union}
 use Rattle.gx_stack.proofs.Unique.{entry_leaf, entries_apart}
 use Rattle.gx_types.specs.declared.any.AnyMapping.{AnyMapping}
-use Rattle.gx_types.specs.Passing.{PassesWhole}
 use Rattle.gx_types.specs.Any.{any_rule, any_laws}
 use Rattle.gx_typing.specs.Dues.{file_form}
 use Rattle.gx_model.specs.States.{File, Row, IsRowOf, IsFileOf}
@@ -38,20 +30,11 @@ use Rattle.gx_model.specs.Commands.{Refusal, changed, updated, first_refusal, ke
 use Rattle.gx_pairs.specs.declared.refused.Refused.{Refused}
 use Rattle.gx_scan.specs.Files.{rec_of, records_of, IsInternal, IsStorable, IsTreeFor}
 use Rattle.gx_scan.specs.Searched.{HasInside}
-use Rattle.gx_scan.proofs.FileLemmas.{value_cases, value_itself, other_value, one_key, inside_key, row_fits, find_in, in_find, in_there, there_in}
+use Rattle.gx_scan.proofs.FileLemmas.{value_cases, value_itself, other_value, one_key, inside_key, row_fits, in_find, in_there, there_in}
+use Rattle.gx_states.proofs.LinkLemmas.{there_fits}
 use Rattle.gx_edits.specs.Home.{HoldsKey, IsHome}
 use Rattle.gx_edits.specs.Records.{IsEdited, IsEditedWhere}
 use Rattle.gx_edits.proofs.RecordLemmas.{value_fits}
-
--- ---- a tree itself
-
-pub home_itself : (file : FileDef) (key : Value) (t : Tree AnyMapping) → IsHome file key t t
-home_itself file key t = record {
-  tree = λ n is. is;
-  leaves = λ n h. h;
-  held = λ maps f is. record { part = f; held = is; same = refl };
-  entries = λ values fit. refl;
-}
 
 -- ---- the span of one key
 
@@ -85,11 +68,6 @@ leaf_cases n (x ∷ ns) = elim (nat_cases n x) [
     | inr out ↦ inr (λ h. elim h [ inl e ↦ other e | inr i ↦ out i ])
   ]
 ]
-
-row_at : (file : FileDef) (f : File) (k : Value) (vs : List Value) → IsFileOf file f
-    → fin.get f k ≡ Some vs → IsRowOf file (k, vs)
-row_at file f k vs fit e = all_at (IsRowOf file) (fin.entries f) (k, vs) fit
-    (find_in value_cmp_same k vs (fin.entries f) (sym (fin.get-entries f k) ∙ e))
 
 -- the values of a record fit after changes of the file
 changed_fit : (file : FileDef) (cs : List Change) (vs : List Value)
@@ -170,9 +148,9 @@ module _ (file : FileDef) (key : Value) (t u : Tree AnyMapping) (home : IsHome f
         let found = in_find value_cmp_total r (fin.entries g) (fin.entries_sorted g) h in
         let got : fin.get g r.0 ≡ Some r.1 = fin.get-entries g r.0 ∙ found in
         elim (value_cases r.0 key) [
-          | inl same ↦ row_at file q r.0 r.1 done.fit
+          | inl same ↦ there_fits file q r.0 r.1 done.fit
               (ap (fin.get q) same ∙ now ∙ ap (fin.get g) (sym same) ∙ got)
-          | inr other ↦ row_at file f r.0 r.1 is.fit (sym (f_but r.0 other) ∙ got)
+          | inr other ↦ there_fits file f r.0 r.1 is.fit (sym (f_but r.0 other) ∙ got)
         ])
 
     held_entry : (e : LeafEntry) → IsEntryIn t g e → at new e.leaf e.key ≡ Some e.body
@@ -184,7 +162,7 @@ module _ (file : FileDef) (key : Value) (t u : Tree AnyMapping) (home : IsHome f
         elim (value_cases a.key key) [
           | inl same ↦ (
               let got : fin.get q key ≡ Some a.values = now ∙ ap (fin.get g) (sym same) ∙ a.found in
-              let row = row_at file g a.key a.values after_fits a.found in
+              let row = there_fits file g a.key a.values after_fits a.found in
               let low = down a.key a.values e same row a.its in
               after.holds e (entry_in u q e key a.values got low))
           | inr other ↦ (
@@ -193,8 +171,8 @@ module _ (file : FileDef) (key : Value) (t u : Tree AnyMapping) (home : IsHome f
               elim (leaf_cases e.leaf (leaves_of u)) [
                 | inl inside ↦ (
                     let b = owner u p e (before.only e inside stood) in
-                    let row_a = row_at file f a.key a.values is.fit there in
-                    let row_b = row_at file p b.key b.values part.fit b.found in
+                    let row_a = there_fits file f a.key a.values is.fit there in
+                    let row_b = there_fits file p b.key b.values part.fit b.found in
                     let apart : b.key ≢ key = λ same.
                     other (one_owner t tree a.key key a.values b.values e row_a
                     (subst (λ k. IsRowOf file (k, b.values)) same row_b) a.its
@@ -215,7 +193,7 @@ module _ (file : FileDef) (key : Value) (t u : Tree AnyMapping) (home : IsHome f
         elim (leaf_cases e.leaf (leaves_of u)) [
           | inl inside ↦ (
               let b = owner u q e (after.only e inside found) in
-              let row_b = row_at file q b.key b.values done.fit b.found in
+              let row_b = there_fits file q b.key b.values done.fit b.found in
               elim (value_cases b.key key) [
                 | inl same ↦ (
                     let got : fin.get g key ≡ Some b.values =
@@ -226,7 +204,7 @@ module _ (file : FileDef) (key : Value) (t u : Tree AnyMapping) (home : IsHome f
                     sym (p_but b.key other) ∙ b.found in
                     let stood = before.holds e (entry_in u p e b.key b.values there b.its) in
                     let a = owner t f e (above.only e in_leaf stood) in
-                    let row_a = row_at file f a.key a.values is.fit a.found in
+                    let row_a = there_fits file f a.key a.values is.fit a.found in
                     let apart : a.key ≢ key = λ same.
                     other (one_owner u (home.tree many tree) b.key key b.values a.values e row_b
                     (subst (λ k. IsRowOf file (k, a.values)) same row_a) b.its
@@ -237,7 +215,7 @@ module _ (file : FileDef) (key : Value) (t u : Tree AnyMapping) (home : IsHome f
               let stood =
               ap (λ (m : LeafMap). fin.get m e.key) (sym (others e.leaf outside)) ∙ found in
               let a = owner t f e (above.only e in_leaf stood) in
-              let row_a = row_at file f a.key a.values is.fit a.found in
+              let row_a = there_fits file f a.key a.values is.fit a.found in
               let apart : a.key ≢ key = λ same.
               outside (entry_leaf any_rule u (rec_of (key, a.values)) e
               (down a.key a.values e same row_a a.its)) in
@@ -362,6 +340,6 @@ module _ (file : FileDef) (key : Value) (t u : Tree AnyMapping) (home : IsHome f
         × IsCrowdedBy limit
         (entry_count maps + length (entries_of any_rule t (rec_of (key, changed vs cs))))
     update_short cs those short =
-        let row = row_at file h.part key short.0 h.held.fit short.1 in
+        let row = there_fits file h.part key short.0 h.held.fit short.1 in
         let fit = changed_fit file cs short.0 those row.1 in
         (short.0, sym h.same ∙ short.1, short_above (changed short.0 cs) fit short.2)

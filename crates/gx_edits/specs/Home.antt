@@ -1,16 +1,13 @@
 -- The node of a file's tree that has all leaf entries of a key's record.
-use Rattle.std.specs.Prelude.{◌≡◌, ℕ, true, List}
+use Rattle.std.specs.Prelude.{◌≡◌, ℕ, List}
 use Rattle.std.specs.FinMap as fin
 use Rattle.gx_values.specs.declared.values.Value.{Value}
-use Rattle.gx_values.specs.declared.records.Rec.{Rec}
-use Rattle.gx_values.specs.declared.keys.Span.{Span}
 use Rattle.gx_values.specs.Values.{AreFit}
-use Rattle.gx_values.specs.Keys.{key_of, is_inside}
 use Rattle.gx_schema.specs.declared.schema.FileDef.{FileDef}
 use Rattle.gx_schema.specs.Lookups.{data_fields}
 use Rattle.gx_ports.specs.LeafMaps.{LeafMap}
-use Rattle.gx_mapping.specs.Rule.{In, IsOf}
-use Rattle.gx_stack.specs.Tree.{Tree, leaves_of, tree_form, entries_of}
+use Rattle.gx_mapping.specs.Rule.{In}
+use Rattle.gx_stack.specs.Tree.{Tree, leaves_of, entries_of}
 use Rattle.gx_types.specs.declared.any.AnyMapping.{AnyMapping}
 use Rattle.gx_types.specs.Any.{any_rule}
 use Rattle.gx_model.specs.States.{File}

@@ -3,7 +3,9 @@ use Rattle.std.specs.Prelude.{[], ◌∷◌, ◌≡◌, ℕ, ◌+◌, List, leng
 use Rattle.std.specs.FinMap as fin
 use Rattle.std.specs.Option.{option_map}
 use Rattle.gx_values.specs.declared.values.Value.{Value}
+use Rattle.gx_values.specs.Values.{Fits}
 use Rattle.gx_schema.specs.declared.schema.FileDef.{FileDef}
+use Rattle.gx_schema.specs.Lookups.{key_kind}
 use Rattle.gx_commands.specs.declared.command.Change.{Change}
 use Rattle.gx_ports.specs.declared.stop.Stop.{Stop}
 use Rattle.gx_ports.specs.declared.stop.Stop.TheVariants as stop
@@ -18,7 +20,13 @@ use Rattle.gx_pairs.specs.declared.refused.Refused.{Refused}
 use Rattle.gx_pairs.specs.Changes.{refusal_for}
 use Rattle.gx_model.specs.States.{File}
 use Rattle.gx_model.specs.Commands.{Refusal, changed, updated as updated_file, first_refusal, key_exists, no_record}
-use Rattle.gx_scan.specs.Files.{rec_of, IsInternal, HasFile}
+use Rattle.gx_scan.specs.Files.{rec_of, IsInternal, IsStorable, IsTreeFor, HasFile}
+
+-- the tree is one for the records of the file, of which one may have this key
+pub record CanEdit (file : FileDef) (t : Tree AnyMapping) (leaves : ℕ) (key : Value) : Type 0 where
+  pub tree : IsTreeFor file t leaves
+  pub storable : IsStorable file
+  pub key_fits : Fits (key_kind file) key
 
 -- the working maps after a command on one file: its tree holds the records after it, and all other
 -- leaves stay

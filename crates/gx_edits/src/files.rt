@@ -1,12 +1,11 @@
 // Edits of a file: each is made at the node that has all leaf entries of the record.
-ghost use Rattle.std.specs.Prelude.{◌<◌, length};
+ghost use Rattle.std.specs.Prelude.{length};
 ghost use Rattle.std.specs.List.{AllByRecursion};
-ghost use Rattle.gx_values.specs.Values.{Fits, AreFit};
-ghost use Rattle.gx_schema.specs.Lookups.{key_kind, data_fields};
+ghost use Rattle.gx_values.specs.Values.{AreFit};
+ghost use Rattle.gx_schema.specs.Lookups.{data_fields};
 ghost use Rattle.gx_commands.specs.Commands.{IsChangeOf};
 ghost use Rattle.gx_stack.specs.Seen.{tree_of};
-ghost use Rattle.gx_scan.specs.Files.{IsStorable, IsTreeFor};
-ghost use Rattle.gx_edits.specs.Records.{Inserts, Deletes, Updates};
+ghost use Rattle.gx_edits.specs.Records.{CanEdit, Inserts, Deletes, Updates};
 
 use crate::home::home_of;
 use crate::records::{delete_record, insert_record, update_record};
@@ -28,9 +27,7 @@ pub(crate) fn insert_into_file<B: Leaves>(
     values: Values,
     leaves: &mut B,
 ) -> Result<Option<Refused>, Stop>
-    requires tree { IsTreeFor file.now (tree_of node.now) (length (B.working leaves.old)) }
-    requires storable { IsStorable file.now }
-    requires key { Fits (key_kind file.now) key }
+    requires can { CanEdit file.now (tree_of node.now) (length (B.working leaves.old)) key }
     requires values { AreFit (data_fields file.now) values }
     ensures { Inserts B.View file.now (tree_of node.now) key values leaves.old leaves.new result }
 {
@@ -46,9 +43,7 @@ pub(crate) fn delete_from_file<B: Leaves>(
     key: Value,
     leaves: &mut B,
 ) -> Result<Option<Refused>, Stop>
-    requires tree { IsTreeFor file.now (tree_of node.now) (length (B.working leaves.old)) }
-    requires storable { IsStorable file.now }
-    requires key { Fits (key_kind file.now) key }
+    requires can { CanEdit file.now (tree_of node.now) (length (B.working leaves.old)) key }
     ensures { Deletes B.View file.now (tree_of node.now) key leaves.old leaves.new result }
 {
     let home = home_of(file, node, &key);
@@ -64,9 +59,7 @@ pub(crate) fn update_in_file<B: Leaves>(
     changes: Changes,
     leaves: &mut B,
 ) -> Result<Option<Refused>, Stop>
-    requires tree { IsTreeFor file.now (tree_of node.now) (length (B.working leaves.old)) }
-    requires storable { IsStorable file.now }
-    requires key { Fits (key_kind file.now) key }
+    requires can { CanEdit file.now (tree_of node.now) (length (B.working leaves.old)) key }
     requires changes { AllByRecursion (IsChangeOf file.now) changes }
     ensures { Updates B.View file.now (tree_of node.now) key changes leaves.old leaves.new result }
 {

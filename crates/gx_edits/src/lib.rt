@@ -6,6 +6,7 @@ mod edits;
 mod files;
 mod home;
 mod links;
+mod one_record;
 mod records;
 mod segments;
 

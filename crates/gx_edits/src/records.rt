@@ -1,22 +1,23 @@
 // Edits of records: each is looked up and changed in the file's node.
-ghost use Rattle.std.specs.Prelude.{◌≡◌, ◌<◌, length, IfOk};
+ghost use Rattle.std.specs.Prelude.{◌≡◌, length, IfOk};
 ghost use Rattle.std.specs.List.{AllByRecursion};
-ghost use Rattle.gx_values.specs.Values.{Fits, AreFit};
-ghost use Rattle.gx_schema.specs.Lookups.{key_kind, data_fields};
+ghost use Rattle.gx_values.specs.Values.{AreFit};
+ghost use Rattle.gx_schema.specs.Lookups.{data_fields};
 ghost use Rattle.gx_commands.specs.Commands.{IsChangeOf};
 ghost use Rattle.gx_mapping.specs.Rule.{IsOf};
 ghost use Rattle.gx_stack.specs.Seen.{tree_of};
 ghost use Rattle.gx_typing.specs.Dues.{file_form};
 ghost use Rattle.gx_model.specs.Commands.{changed};
-ghost use Rattle.gx_scan.specs.Files.{rec_of, IsStorable, IsTreeFor};
-ghost use Rattle.gx_edits.specs.Records.{Inserts, Deletes, Updates};
+ghost use Rattle.gx_scan.specs.Files.{rec_of};
+ghost use Rattle.gx_edits.specs.Records.{CanEdit, Inserts, Deletes, Updates};
 ghost use Rattle.gx_entries.specs.Entries.{AreOwnLeaves};
 
 use crate::alone::is_there;
-use crate::segments::{put_changed, put_own, take_own};
+use crate::one_record::{Previous, RecordData, before_changes};
+use crate::segments::{put_own, take_own};
 use arrayvec::ArrayVec;
 use gx_commands::Changes;
-use gx_entries::{OwnLeaves, others_stay, own_leaves};
+use gx_entries::{OwnLeaves, own_leaves};
 use gx_pairs::Refused;
 use gx_ports::{Leaves, Stop};
 use gx_scan::{find_record, find_values, whole_span};
@@ -47,9 +48,7 @@ pub(crate) fn insert_record<B: Leaves>(
     values: Values,
     leaves: &mut B,
 ) -> Result<Option<Refused>, Stop>
-    requires tree { IsTreeFor file.now (tree_of node.now) (length (B.working leaves.old)) }
-    requires storable { IsStorable file.now }
-    requires key { Fits (key_kind file.now) key }
+    requires can { CanEdit file.now (tree_of node.now) (length (B.working leaves.old)) key }
     requires values { AreFit (data_fields file.now) values }
     ensures { Inserts B.View file.now (tree_of node.now) key values leaves.old leaves.new result }
 {
@@ -74,10 +73,8 @@ fn insert_own<B: Leaves>(
     values: Values,
     leaves: &mut B,
 ) -> Result<Option<Refused>, Stop>
-    requires tree { IsTreeFor file.now (tree_of node.now) (length (B.working leaves.old)) }
-    requires storable { IsStorable file.now }
+    requires can { CanEdit file.now (tree_of node.now) (length (B.working leaves.old)) key.now }
     requires own { AreOwnLeaves (tree_of node.now) own.first own.second }
-    requires key { Fits (key_kind file.now) key.now }
     requires values { AreFit (data_fields file.now) values }
     ensures { Inserts B.View file.now (tree_of node.now) key.now values
         leaves.old leaves.new result }
@@ -88,7 +85,12 @@ fn insert_own<B: Leaves>(
     if is_there(alloc, file, node, own, key, &span, leaves)? {
         Ok(Some(Refused::KeyExists))
     } else {
-        put_own(alloc, node, own, key, &span.lo, values, false, leaves)?;
+        let new = RecordData {
+            key,
+            bytes: &span.lo,
+            fields: values,
+        };
+        put_own(alloc, node, own, new, Previous::Absent, leaves)?;
         Ok(None)
     }
 }
@@ -101,9 +103,7 @@ pub(crate) fn delete_record<B: Leaves>(
     key: Value,
     leaves: &mut B,
 ) -> Result<Option<Refused>, Stop>
-    requires tree { IsTreeFor file.now (tree_of node.now) (length (B.working leaves.old)) }
-    requires storable { IsStorable file.now }
-    requires key { Fits (key_kind file.now) key }
+    requires can { CanEdit file.now (tree_of node.now) (length (B.working leaves.old)) key }
     ensures { Deletes B.View file.now (tree_of node.now) key leaves.old leaves.new result }
 {
     if let Some(own) = own_leaves(node) {
@@ -126,10 +126,8 @@ fn delete_own<B: Leaves>(
     key: &Value,
     leaves: &mut B,
 ) -> Result<Option<Refused>, Stop>
-    requires tree { IsTreeFor file.now (tree_of node.now) (length (B.working leaves.old)) }
-    requires storable { IsStorable file.now }
+    requires can { CanEdit file.now (tree_of node.now) (length (B.working leaves.old)) key.now }
     requires own { AreOwnLeaves (tree_of node.now) own.first own.second }
-    requires key { Fits (key_kind file.now) key.now }
     ensures { Deletes B.View file.now (tree_of node.now) key.now leaves.old leaves.new result }
 {
     let mut span = whole_span();
@@ -151,9 +149,7 @@ pub(crate) fn update_record<B: Leaves>(
     changes: Changes,
     leaves: &mut B,
 ) -> Result<Option<Refused>, Stop>
-    requires tree { IsTreeFor file.now (tree_of node.now) (length (B.working leaves.old)) }
-    requires storable { IsStorable file.now }
-    requires key { Fits (key_kind file.now) key }
+    requires can { CanEdit file.now (tree_of node.now) (length (B.working leaves.old)) key }
     requires changes { AllByRecursion (IsChangeOf file.now) changes }
     ensures { Updates B.View file.now (tree_of node.now) key changes leaves.old leaves.new result }
 {
@@ -161,11 +157,16 @@ pub(crate) fn update_record<B: Leaves>(
         return Ok(Some(Refused::NoRecord));
     };
     if let Some(own) = own_leaves(node) {
-        let stay = others_stay(node, &changes);
-        let values = changed_values(file, values, changes);
+        let previous = before_changes(node, &changes);
+        let fields = changed_values(file, values, changes);
         let mut bytes = KeyBuf(ArrayVec::new());
         bytes.set_value(&key);
-        put_changed(alloc, node, own, &key, &bytes, values, stay, leaves)?;
+        let new = RecordData {
+            key: &key,
+            bytes: &bytes,
+            fields,
+        };
+        put_own(alloc, node, own, new, previous, leaves)?;
         return Ok(None);
     }
     let old = new_record(alloc, key, values)?;

@@ -1,23 +1,19 @@
 // Records that have an entry in one leaf and may have one in a second, both under their own key.
-ghost use Rattle.std.specs.Prelude.{◌≡◌, ◌≢◌, ◌<◌, ◌≤◌, ◌+◌, ℕ, length, true, is_some, if◌then◌else◌, OnOk, IsErrOf};
-ghost use Rattle.gx_values.specs.Keys.{bytes_of};
+ghost use Rattle.std.specs.Prelude.{◌≡◌, ◌≢◌, ◌<◌, ◌≤◌, ◌+◌, ℕ, length, is_some, if◌then◌else◌, OnOk, IsErrOf};
 ghost use Rattle.gx_ports.specs.LeafMaps.{map_at, with_entry, without_entry, entry_count, IsCrowdedBy};
 ghost use Rattle.gx_ports.specs.declared.leaves.TheConstants.{MAX_ENTRY_LEN};
 ghost use Rattle.gx_ports.specs.Calls.{Keeps, Ends};
-ghost use Rattle.gx_mapping.specs.Rule.{In, IsOf};
-ghost use Rattle.gx_stack.specs.Tree.{leaves_of, tree_form, IsValid};
 ghost use Rattle.gx_stack.specs.Seen.{tree_of};
-ghost use Rattle.gx_types.specs.Any.{any_rule};
-ghost use Rattle.gx_scan.specs.Files.{rec_of};
 ghost use Rattle.gx_entries.specs.Entries.{AreOwnLeaves, AreTwoLeaves};
-ghost use Rattle.gx_edits.specs.OneRecord.{Takes, Puts, HasOthersIf};
+ghost use Rattle.gx_edits.specs.OneRecord.{CanTake, CanPut, Takes, Puts, has_record, StandsBefore};
 
 use crate::alone::{put_alone, take_alone};
+use crate::one_record::{Previous, RecordData};
 use gx_entries::{OwnLeaves, both_bodies, first_body};
 use gx_ports::{Leaves, Stop};
 use gx_stack::Node;
 use gx_types::AnyMapping;
-use gx_values::{KeyBuf, Octets, Span, Value, Values};
+use gx_values::{KeyBuf, Octets, Span, Value};
 use std::alloc::Global;
 
 /// Takes the record with this key, by the span of the key, out of its own leaves.
@@ -29,11 +25,8 @@ pub(crate) fn take_own<B: Leaves>(
     span: &Span,
     leaves: &mut B,
 ) -> Result<(), Stop>
-    requires valid { IsValid any_rule (tree_of node.now) }
-    requires below { (n : ℕ) → In n (leaves_of (tree_of node.now)) →
-        n < length (B.working leaves.old) }
+    requires can { CanTake (tree_of node.now) (length (B.working leaves.old)) key.now span.now.lo }
     requires own { AreOwnLeaves (tree_of node.now) own.first own.second }
-    requires lo { span.now.lo ≡ bytes_of key.now }
     ensures { Takes B.View (tree_of node.now) key.now leaves.old leaves.new result }
 {
     match own.second {
@@ -52,11 +45,8 @@ fn take_both<B: Leaves>(
     span: &Span,
     leaves: &mut B,
 ) -> Result<(), Stop>
-    requires valid { IsValid any_rule (tree_of node.now) }
-    requires below { (n : ℕ) → In n (leaves_of (tree_of node.now)) →
-        n < length (B.working leaves.old) }
+    requires can { CanTake (tree_of node.now) (length (B.working leaves.old)) key.now span.now.lo }
     requires two { AreTwoLeaves (tree_of node.now) first second }
-    requires lo { span.now.lo ≡ bytes_of key.now }
     ensures { Takes B.View (tree_of node.now) key.now leaves.old leaves.new result }
 {
     let (_, _) = (node, key);
@@ -64,63 +54,28 @@ fn take_both<B: Leaves>(
     leaves.remove(alloc, first, span.lo.as_slice())
 }
 
-/// Puts the record of this key, by its bytes, and these data into its own leaves, in the place of
-/// what is there at the key. `replaces`: a record is there.
+/// Puts the record into its own leaves, in the place of what is there at the key. The second entry
+/// is left alone where it stays.
 pub(crate) fn put_own<B: Leaves>(
     alloc: Global,
     node: &Node<AnyMapping>,
     own: OwnLeaves,
-    key: &Value,
-    bytes: &KeyBuf,
-    fields: Values,
-    replaces: bool,
+    new: RecordData,
+    previous: Previous,
     leaves: &mut B,
 ) -> Result<(), Stop>
-    requires valid { IsValid any_rule (tree_of node.now) }
-    requires below { (n : ℕ) → In n (leaves_of (tree_of node.now)) →
-        n < length (B.working leaves.old) }
+    requires can { CanPut (tree_of node.now) (length (B.working leaves.old)) new }
     requires own { AreOwnLeaves (tree_of node.now) own.first own.second }
-    requires bytes { bytes.now ≡ bytes_of key.now }
-    requires fits { IsOf (tree_form any_rule (tree_of node.now)) (rec_of (key.now, fields)) }
-    ensures { Puts B.View (tree_of node.now) key.now fields (λ gone. is_some gone ≡ replaces)
-        leaves.old leaves.new result }
+    ensures { Puts B.View (tree_of node.now) new.entry.key.now new.entry.fields
+        (StandsBefore previous (tree_of node.now) new.entry.fields) leaves.old leaves.new result }
 {
-    match own.second {
-        None => put_alone(alloc, node, own.first, key, bytes, fields, leaves),
-        Some(second) => {
-            put_both(
-                alloc, node, own.first, second, key, bytes, fields, replaces, leaves,
-            )
-        }
+    let Some(second) = own.second else {
+        return put_alone(alloc, node, own.first, new, leaves);
+    };
+    match previous {
+        Previous::SameOthers => put_first(alloc, node, own.first, second, new, leaves),
+        _ => put_both(alloc, node, own.first, second, new, previous, leaves),
     }
-}
-
-/// The same in the place of a record with this key. `others_stay`: its values of the second group
-/// are those of the new one.
-pub(crate) fn put_changed<B: Leaves>(
-    alloc: Global,
-    node: &Node<AnyMapping>,
-    own: OwnLeaves,
-    key: &Value,
-    bytes: &KeyBuf,
-    fields: Values,
-    others_stay: bool,
-    leaves: &mut B,
-) -> Result<(), Stop>
-    requires valid { IsValid any_rule (tree_of node.now) }
-    requires below { (n : ℕ) → In n (leaves_of (tree_of node.now)) →
-        n < length (B.working leaves.old) }
-    requires own { AreOwnLeaves (tree_of node.now) own.first own.second }
-    requires bytes { bytes.now ≡ bytes_of key.now }
-    requires fits { IsOf (tree_form any_rule (tree_of node.now)) (rec_of (key.now, fields)) }
-    ensures { Puts B.View (tree_of node.now) key.now fields
-        (HasOthersIf others_stay (tree_of node.now) fields)
-        leaves.old leaves.new result }
-{
-    if others_stay && let Some(second) = own.second {
-        return put_first(alloc, node, own.first, second, key, bytes, fields, leaves);
-    }
-    put_own(alloc, node, own, key, bytes, fields, true, leaves)
 }
 
 // The same of two leaves, of which the second stays.
@@ -129,51 +84,39 @@ fn put_first<B: Leaves>(
     node: &Node<AnyMapping>,
     first: u32,
     second: u32,
-    key: &Value,
-    bytes: &KeyBuf,
-    fields: Values,
+    new: RecordData,
     leaves: &mut B,
 ) -> Result<(), Stop>
-    requires valid { IsValid any_rule (tree_of node.now) }
-    requires below { (n : ℕ) → In n (leaves_of (tree_of node.now)) →
-        n < length (B.working leaves.old) }
+    requires can { CanPut (tree_of node.now) (length (B.working leaves.old)) new }
     requires two { AreTwoLeaves (tree_of node.now) first second }
-    requires bytes { bytes.now ≡ bytes_of key.now }
-    requires fits { IsOf (tree_form any_rule (tree_of node.now)) (rec_of (key.now, fields)) }
-    ensures { Puts B.View (tree_of node.now) key.now fields
-        (HasOthersIf true (tree_of node.now) fields) leaves.old leaves.new result }
+    ensures { Puts B.View (tree_of node.now) new.entry.key.now new.entry.fields
+        (StandsBefore Previous.SameOthers (tree_of node.now) new.entry.fields)
+        leaves.old leaves.new result }
 {
-    let (_, _) = (key, second);
-    let body = first_body(alloc, node, fields)?;
-    leaves.put(alloc, first, bytes.as_slice(), body.as_slice())
+    let _second = second;
+    let body = first_body(alloc, node, new.fields)?;
+    leaves.put(alloc, first, new.bytes.as_slice(), body.as_slice())
 }
 
-// The same of two leaves.
+// The same of two leaves, whatever stays.
 fn put_both<B: Leaves>(
     alloc: Global,
     node: &Node<AnyMapping>,
     first: u32,
     second: u32,
-    key: &Value,
-    bytes: &KeyBuf,
-    fields: Values,
-    replaces: bool,
+    new: RecordData,
+    previous: Previous,
     leaves: &mut B,
 ) -> Result<(), Stop>
-    requires valid { IsValid any_rule (tree_of node.now) }
-    requires below { (n : ℕ) → In n (leaves_of (tree_of node.now)) →
-        n < length (B.working leaves.old) }
+    requires can { CanPut (tree_of node.now) (length (B.working leaves.old)) new }
     requires two { AreTwoLeaves (tree_of node.now) first second }
-    requires bytes { bytes.now ≡ bytes_of key.now }
-    requires fits { IsOf (tree_form any_rule (tree_of node.now)) (rec_of (key.now, fields)) }
-    ensures { Puts B.View (tree_of node.now) key.now fields (λ gone. is_some gone ≡ replaces)
-        leaves.old leaves.new result }
+    ensures { Puts B.View (tree_of node.now) new.entry.key.now new.entry.fields
+        (λ gone. is_some gone ≡ has_record previous) leaves.old leaves.new result }
 {
-    let _key = key;
-    let (body, other) = both_bodies(alloc, node, fields)?;
+    let (body, other) = both_bodies(alloc, node, new.fields)?;
     match other {
-        None => put_short(alloc, first, second, bytes, &body, replaces, leaves),
-        Some(other) => put_each(alloc, first, second, bytes, &body, &other, leaves),
+        None => put_short(alloc, first, second, new.bytes, &body, previous, leaves),
+        Some(other) => put_each(alloc, first, second, new.bytes, &body, &other, leaves),
     }
 }
 
@@ -184,14 +127,14 @@ fn put_short<B: Leaves>(
     second: u32,
     bytes: &KeyBuf,
     body: &Octets,
-    replaces: bool,
+    previous: Previous,
     leaves: &mut B,
 ) -> Result<(), Stop>
     requires first { first < length (B.working leaves.old) }
     requires second { second < length (B.working leaves.old) }
     requires entry { length bytes.now + length body.now ≤ MAX_ENTRY_LEN }
     ensures done { B.whole leaves.old → OnOk result (B.working leaves.new
-        ≡ with_entry (if replaces then without_entry (B.working leaves.old) second bytes.now
+        ≡ with_entry (if has_record previous then without_entry (B.working leaves.old) second bytes.now
         else B.working leaves.old) first bytes.now body.now) }
     ensures others { (n : ℕ) → B.whole leaves.old → ¬ IsErrOf result Stop.Fault →
         n ≢ first → n ≢ second →
@@ -201,7 +144,7 @@ fn put_short<B: Leaves>(
     ensures full { B.whole leaves.old → IsErrOf result Stop.Full →
         IsCrowdedBy (B.limit leaves.old) (entry_count (B.working leaves.old)) }
 {
-    if replaces {
+    if previous.has_record() {
         leaves.remove(alloc, second, bytes.as_slice())?;
     }
     leaves.put(alloc, first, bytes.as_slice(), body.as_slice())

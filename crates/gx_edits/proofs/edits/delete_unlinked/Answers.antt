@@ -1,4 +1,4 @@
-use Rattle.std.proofs.Common.{length, sym, subst}
+use Rattle.std.proofs.Common.{rules, length, sym, subst}
 use Rattle.gx_schema.specs.declared.schema.FileDef.{FileDef}
 use Rattle.gx_stack.specs.Seen.{tree_of}
 use Rattle.gx_scan.specs.Files.{IsTreeFor}
@@ -7,9 +7,18 @@ use Rattle.gx_states.proofs.StoredLemmas.{internal_at, has_file}
 use Rattle.gx_edits.proofs.EditLemmas.{delete_edited}
 use Rattle.gx_edits.proofs.edits.delete_unlinked.Goals as goal
 
-pub delete_from_file-requires-clause-tree : goal.delete_from_file-requires-clause-tree
-delete_from_file-requires-clause-tree g c =
-    subst (λ (file : FileDef). IsTreeFor file (tree_of c.file_node-node.result.now) (length (g.B.View.working c.args.leaves.now))) (sym c.file_def-def.ensures) (c.file_node-node.ensures.fit c.args.schema.now _ c.requires.ready.nodes)
+pub delete_from_file-requires : goal.delete_from_file-requires
+delete_from_file-requires g c =
+    let t = tree_of c.file_node-node.result.now in
+    let leaves = length (g.B.View.working c.args.leaves.now) in
+    record {
+      can = record {
+        tree = subst (λ (file : FileDef). IsTreeFor file t leaves) (sym c.file_def-def.ensures)
+            (c.file_node-node.ensures.fit c.args.schema.now _ c.requires.ready.nodes);
+        storable = search rules;
+        key_fits = search rules;
+      };
+    }
 
 pub returns : goal.returns
 returns g c =
@@ -25,12 +34,17 @@ returns g c =
     let tree_is = c.file_node-node.ensures.tree in
     record {
       edit = λ s free whole are.
-          ok_one c.delete_from_file.result _ _ (c.delete_from_file.ensures.deleted _ whole (internal_at schema built i def t old s def_is tree_is lt are))
-          (λ why is. delete_edited schema built _ old new s i def t why c.requires.ready are lt def_is tree_is c.args.key free is);
+          ok_one c.delete_from_file.result _ _
+          (c.delete_from_file.ensures.deleted _ whole
+          (internal_at schema built i def t old s def_is tree_is lt are))
+          (λ why is. delete_edited schema built _ old new s i def t why c.requires.ready are lt
+          def_is tree_is c.args.key free is);
       full = λ s free whole are stops. absurd (c.delete_from_file.ensures.not_full stops);
       bringing = λ stops. absurd (c.delete_from_file.ensures.not_full stops);
       accepted = λ s free whole are stops. absurd (c.delete_from_file.ensures.not_full stops);
       keeps = c.delete_from_file.ensures.keeps;
-      ends = ends_so g.B.View _ _ _ _ _ (λ found. (found.0, has_file schema built i def t old def_is tree_is lt found.1)) c.delete_from_file.ensures.ends;
+      ends = ends_so g.B.View _ _ _ _ _
+          (λ found. (found.0, has_file schema built i def t old def_is tree_is lt found.1))
+          c.delete_from_file.ensures.ends;
       block = c.delete_from_file.ensures.block;
     }

@@ -1,4 +1,4 @@
-use Rattle.std.proofs.Common.{length, sym, subst, refl}
+use Rattle.std.proofs.Common.{rules, length, sym, subst, refl}
 use Rattle.gx_schema.specs.declared.schema.FileDef.{FileDef}
 use Rattle.gx_stack.specs.Seen.{tree_of}
 use Rattle.gx_scan.specs.Files.{IsTreeFor}
@@ -7,9 +7,16 @@ use Rattle.gx_states.proofs.StoredLemmas.{internal_at, has_file}
 use Rattle.gx_edits.proofs.EditLemmas.{update_edited, update_accepted, short_update}
 use Rattle.gx_edits.proofs.edits.update.Goals as goal
 
-pub update_in_file-requires-clause-tree : goal.update_in_file-requires-clause-tree
-update_in_file-requires-clause-tree g c =
-    subst (λ (file : FileDef). IsTreeFor file (tree_of c.file_node-node.result.now) (length (g.B.View.working c.args.leaves.now))) (sym c.file_def-def.ensures) (c.file_node-node.ensures.fit c.args.schema.now _ c.requires.ready.nodes)
+pub update_in_file-requires-clause-can : goal.update_in_file-requires-clause-can
+update_in_file-requires-clause-can g c =
+    let t = tree_of c.file_node-node.result.now in
+    let leaves = length (g.B.View.working c.args.leaves.now) in
+    record {
+      tree = subst (λ (file : FileDef). IsTreeFor file t leaves) (sym c.file_def-def.ensures)
+          (c.file_node-node.ensures.fit c.args.schema.now _ c.requires.ready.nodes);
+      storable = search rules;
+      key_fits = search rules;
+    }
 
 pub returns : goal.returns
 returns g c =
@@ -25,16 +32,24 @@ returns g c =
     let tree_is = c.file_node-node.ensures.tree in
     record {
       edit = λ s known whole are.
-          ok_one c.update_in_file.result _ _ (c.update_in_file.ensures.updated _ whole (internal_at schema built i def t old s def_is tree_is lt are))
-          (λ why is. update_edited schema built _ old new s i def t why c.requires.ready are lt def_is tree_is c.args.key c.args.changes is);
+          ok_one c.update_in_file.result _ _
+          (c.update_in_file.ensures.updated _ whole
+          (internal_at schema built i def t old s def_is tree_is lt are))
+          (λ why is. update_edited schema built _ old new s i def t why c.requires.ready are lt
+          def_is tree_is c.args.key c.args.changes is);
       full = λ s known whole are stops.
-          let short = c.update_in_file.ensures.full _ whole (internal_at schema built i def t old s def_is tree_is lt are) stops in
-          short_update (g.B.View.limit c.args.leaves.now) schema built _ _ old s i t c.requires.ready are lt tree_is c.args.key c.args.changes short.0 short.1 short.2;
+          let short = c.update_in_file.ensures.full _ whole
+          (internal_at schema built i def t old s def_is tree_is lt are) stops in
+          short_update (g.B.View.limit c.args.leaves.now) schema built _ _ old s i t
+          c.requires.ready are lt tree_is c.args.key c.args.changes short.0 short.1 short.2;
       bringing = λ stops. refl;
       accepted = λ s known whole are stops.
-          let short = c.update_in_file.ensures.full _ whole (internal_at schema built i def t old s def_is tree_is lt are) stops in
+          let short = c.update_in_file.ensures.full _ whole
+          (internal_at schema built i def t old s def_is tree_is lt are) stops in
           update_accepted schema s i c.args.key c.args.changes short.0 short.1;
       keeps = c.update_in_file.ensures.keeps;
-      ends = ends_so g.B.View _ _ _ _ _ (λ found. (found.0, has_file schema built i def t old def_is tree_is lt found.1)) c.update_in_file.ensures.ends;
+      ends = ends_so g.B.View _ _ _ _ _
+          (λ found. (found.0, has_file schema built i def t old def_is tree_is lt found.1))
+          c.update_in_file.ensures.ends;
       block = c.update_in_file.ensures.block;
     }

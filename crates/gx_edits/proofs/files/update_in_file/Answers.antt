@@ -4,8 +4,12 @@ use Rattle.gx_scan.proofs.CallLemmas.{ok_one, ends_so}
 use Rattle.gx_edits.proofs.HomeLemmas.{update_above, update_short}
 use Rattle.gx_edits.proofs.files.update_in_file.Goals as goal
 
-pub update_record-requires-clause-tree : goal.update_record-requires-clause-tree
-update_record-requires-clause-tree g c = c.home_of-home.ensures.tree _ c.requires.tree
+pub update_record-requires-clause-can : goal.update_record-requires-clause-can
+update_record-requires-clause-can g c = record {
+  tree = c.home_of-home.ensures.tree _ c.requires.can.tree;
+  storable = c.requires.can.storable;
+  key_fits = c.requires.can.key_fits;
+}
 
 pub returns : goal.returns
 returns g c = record {
@@ -16,8 +20,8 @@ returns g c = record {
       let h = home.held _ f is in
       let part = c.update_record.ensures.updated h.part whole h.held in
       ok_one c.update_record.result _ _ part
-      (λ why done. update_above c.args.file.now c.args.key t u home _ c.requires.tree
-      c.requires.storable _ _ f is h why c.args.changes done);
+      (λ why done. update_above c.args.file.now c.args.key t u home _ c.requires.can.tree
+      c.requires.can.storable _ _ f is h why c.args.changes done);
   keeps = search rules;
   ends = ends_so g.B.View _ _ _ _ _
       (λ sound.
@@ -31,6 +35,6 @@ returns g c = record {
       let h = home.held _ f is in
       let limit = g.B.View.limit c.args.leaves.now in
       let short = c.update_record.ensures.full h.part whole h.held stops in
-      update_short c.args.file.now c.args.key t u home _ c.requires.tree c.requires.storable
+      update_short c.args.file.now c.args.key t u home _ c.requires.can.tree c.requires.can.storable
       limit _ f h c.args.changes c.requires.changes short;
 }

@@ -15,17 +15,23 @@ use Rattle.gx_edits.proofs.RelinkLemmas.{connect_edit, connect_full}
 use Rattle.gx_edits.proofs.links.connect.Goals as goal
 
 pub stored_link-stored-requires-clause-ready : goal.stored_link-stored-requires-clause-ready
-stored_link-stored-requires-clause-ready g c = (length (g.B.View.working c.args.leaves.now), c.requires.ready)
+stored_link-stored-requires-clause-ready g c =
+    (length (g.B.View.working c.args.leaves.now), c.requires.ready)
 
 pub connect_pair-requires-clause-stored : goal.connect_pair-requires-clause-stored
 connect_pair-requires-clause-stored g c =
-    is_stored any_link_rule IsHeldBy IsValidLinkset c.args.schema.now c.args.built.now _ c.args.link c.stored_link-stored.result c.requires.ready c.requires.of_schema.0 c.stored_link-stored.ensures
+    is_stored any_link_rule IsHeldBy IsValidLinkset c.args.schema.now c.args.built.now _ c.args.link
+    c.stored_link-stored.result c.requires.ready c.requires.of_schema.0 c.stored_link-stored.ensures
 
 pub connect_pair-requires-clause-owner : goal.connect_pair-requires-clause-owner
-connect_pair-requires-clause-owner g c = subst (λ (f : FileDef). Fits (key_kind f) c.args.owner.now) (sym c.stored_link-stored.ensures.owner_file) c.requires.of_schema.1
+connect_pair-requires-clause-owner g c =
+    subst (λ (f : FileDef). Fits (key_kind f) c.args.owner.now)
+    (sym c.stored_link-stored.ensures.owner_file) c.requires.of_schema.1
 
 pub connect_pair-requires-clause-member : goal.connect_pair-requires-clause-member
-connect_pair-requires-clause-member g c = subst (λ (f : FileDef). Fits (key_kind f) c.args.member.now) (sym c.stored_link-stored.ensures.member_file) c.requires.of_schema.2
+connect_pair-requires-clause-member g c =
+    subst (λ (f : FileDef). Fits (key_kind f) c.args.member.now)
+    (sym c.stored_link-stored.ensures.member_file) c.requires.of_schema.2
 
 pub returns : goal.returns
 returns g c =
@@ -40,12 +46,16 @@ returns g c =
     let pair = c.connect_pair.ensures in
     record {
       edit = λ s known whole are.
-          let linked = is_linked_in any_link_rule IsHeldBy IsValidLinkset schema built _ i x c.requires.ready lt is old s are in
+          let linked = is_linked_in any_link_rule IsHeldBy IsValidLinkset schema built _ i x
+          c.requires.ready lt is old s are in
           ok_both c.connect_pair.result _ _ _ (pair.refused _ _ _ whole linked)
           (pair.changed _ _ _ whole linked)
-          (λ why refused relinked. connect_edit any_link_rule IsHeldBy IsValidLinkset schema built _ i x c.requires.ready lt is old _ s c.args.owner.now c.args.member.now why are refused relinked);
+          (λ why refused relinked. connect_edit any_link_rule IsHeldBy IsValidLinkset schema built _
+          i x c.requires.ready lt is old _ s c.args.owner.now c.args.member.now why are refused
+          relinked);
       full = λ s known whole are stops.
-          let linked = is_linked_in any_link_rule IsHeldBy IsValidLinkset schema built _ i x c.requires.ready lt is old s are in
+          let linked = is_linked_in any_link_rule IsHeldBy IsValidLinkset schema built _ i x
+          c.requires.ready lt is old s are in
           let full = pair.full _ _ _ whole linked stops in
           let joined = fin.insert (link_in s i) c.args.member.now c.args.owner.now in
           let crowded = subst (λ (o : Value). IsCrowdedBy (b.limit c.args.leaves.now)
@@ -55,8 +65,13 @@ returns g c =
           is _ _ s c.args.owner.now c.args.member.now are.valid full.0 crowded;
       bringing = λ stops. refl;
       accepted = λ s known whole are stops.
-          (pair.full _ _ _ whole (is_linked_in any_link_rule IsHeldBy IsValidLinkset schema built _ i x c.requires.ready lt is old s are) stops).0;
+          (pair.full _ _ _ whole (is_linked_in any_link_rule IsHeldBy IsValidLinkset schema built _
+          i x c.requires.ready lt is old s are) stops).0;
       keeps = pair.keeps;
-      ends = ends_so b _ _ _ _ _ (λ sound. (sound.0, have_link any_link_rule IsHeldBy IsValidLinkset schema built _ i x c.requires.ready lt is old sound.1)) pair.ends;
+      ends = ends_so b _ _ _ _ _ (λ sound. (
+        sound.0,
+        have_link any_link_rule IsHeldBy IsValidLinkset schema built _ i x
+            c.requires.ready lt is old sound.1,
+      )) pair.ends;
       block = pair.block;
     }

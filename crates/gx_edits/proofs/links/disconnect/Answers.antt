@@ -9,14 +9,18 @@ use Rattle.gx_edits.proofs.RelinkLemmas.{disconnect_edit, disconnect_full}
 use Rattle.gx_edits.proofs.links.disconnect.Goals as goal
 
 pub stored_link-stored-requires-clause-ready : goal.stored_link-stored-requires-clause-ready
-stored_link-stored-requires-clause-ready g c = (length (g.B.View.working c.args.leaves.now), c.requires.ready)
+stored_link-stored-requires-clause-ready g c =
+    (length (g.B.View.working c.args.leaves.now), c.requires.ready)
 
 pub disconnect_pair-requires-clause-stored : goal.disconnect_pair-requires-clause-stored
 disconnect_pair-requires-clause-stored g c =
-    is_stored any_link_rule IsHeldBy IsValidLinkset c.args.schema.now c.args.built.now _ c.args.link c.stored_link-stored.result c.requires.ready c.requires.of_schema.0 c.stored_link-stored.ensures
+    is_stored any_link_rule IsHeldBy IsValidLinkset c.args.schema.now c.args.built.now _ c.args.link
+    c.stored_link-stored.result c.requires.ready c.requires.of_schema.0 c.stored_link-stored.ensures
 
 pub disconnect_pair-requires-clause-member : goal.disconnect_pair-requires-clause-member
-disconnect_pair-requires-clause-member g c = subst (λ (f : FileDef). Fits (key_kind f) c.args.member.now) (sym c.stored_link-stored.ensures.member_file) c.requires.of_schema.1
+disconnect_pair-requires-clause-member g c =
+    subst (λ (f : FileDef). Fits (key_kind f) c.args.member.now)
+    (sym c.stored_link-stored.ensures.member_file) c.requires.of_schema.1
 
 pub returns : goal.returns
 returns g c =
@@ -31,12 +35,15 @@ returns g c =
     let pair = c.disconnect_pair.ensures in
     record {
       edit = λ s known whole are.
-          let linked = is_linked_in any_link_rule IsHeldBy IsValidLinkset schema built _ i x c.requires.ready lt is old s are in
+          let linked = is_linked_in any_link_rule IsHeldBy IsValidLinkset schema built _ i x
+          c.requires.ready lt is old s are in
           ok_both c.disconnect_pair.result _ _ _ (pair.refused _ _ _ whole linked)
           (pair.changed _ _ _ whole linked)
-          (λ why refused relinked. disconnect_edit any_link_rule IsHeldBy IsValidLinkset schema built _ i x c.requires.ready lt is old _ s c.args.member.now why are refused relinked);
+          (λ why refused relinked. disconnect_edit any_link_rule IsHeldBy IsValidLinkset schema
+          built _ i x c.requires.ready lt is old _ s c.args.member.now why are refused relinked);
       full = λ s known whole are stops.
-          let linked = is_linked_in any_link_rule IsHeldBy IsValidLinkset schema built _ i x c.requires.ready lt is old s are in
+          let linked = is_linked_in any_link_rule IsHeldBy IsValidLinkset schema built _ i x
+          c.requires.ready lt is old s are in
           let full = pair.full _ _ _ whole linked stops in
           disconnect_full any_link_rule IsHeldBy IsValidLinkset schema built _ i x c.requires.ready
           lt is _ _ s full.1 c.args.member.now are.valid full.0 full.3;
@@ -46,6 +53,10 @@ returns g c =
           c.requires.ready lt is old s are in
           (pair.full _ _ _ whole linked stops).0;
       keeps = pair.keeps;
-      ends = ends_so b _ _ _ _ _ (λ sound. (sound.0, have_link any_link_rule IsHeldBy IsValidLinkset schema built _ i x c.requires.ready lt is old sound.1)) pair.ends;
+      ends = ends_so b _ _ _ _ _ (λ sound. (
+        sound.0,
+        have_link any_link_rule IsHeldBy IsValidLinkset schema built _ i x
+            c.requires.ready lt is old sound.1,
+      )) pair.ends;
       block = pair.block;
     }

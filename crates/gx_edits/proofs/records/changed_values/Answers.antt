@@ -11,8 +11,10 @@ use Rattle.gx_edits.proofs.records.changed_values.Goals as goal
 
 pub loop-change-init : goal.loop-change-init
 loop-change-init c =
-    let items : into_iter_items c.into_iter-change-iterator.result ≡ c.args.changes = search rules in
-    let many : into_iter_len c.into_iter-change-iterator.result ≡ length (into_iter_items c.into_iter-change-iterator.result) = search rules in
+    let items : into_iter_items c.into_iter-change-iterator.result ≡ c.args.changes = search
+    rules in
+    let many : into_iter_len c.into_iter-change-iterator.result ≡ length
+    (into_iter_items c.into_iter-change-iterator.result) = search rules in
     record {
       many = many;
       those = subst (AllByRecursion (IsChangeOf c.args.file.now)) (sym items) c.requires.changes;
@@ -23,8 +25,14 @@ loop-change-init c =
 pub index_mut-requires : goal.index_mut-requires
 index_mut-requires c =
     let steps = c.in-Some.ensures.steps.0 in
-    let those = subst (AllByRecursion (IsChangeOf c.args.file.now)) steps c.loop-change.invariant.those in
-    omega (arith, c.loop-change.values.ok.0, change_in c.args.file.now c.in-Some.change c.loop-change.values.items those.0 c.loop-change.invariant.fit)
+    let those = subst (AllByRecursion (IsChangeOf c.args.file.now)) steps
+    c.loop-change.invariant.those in
+    omega (
+      arith,
+      c.loop-change.values.ok.0,
+      change_in c.args.file.now c.in-Some.change
+          c.loop-change.values.items those.0 c.loop-change.invariant.fit,
+    )
 
 pub loop-change-preserved : goal.loop-change-preserved
 loop-change-preserved c =
@@ -32,9 +40,12 @@ loop-change-preserved c =
     let inv = c.loop-change.invariant in
     let ch = c.in-Some.change in
     let vs = c.loop-change.values.items in
-    let steps : into_iter_items c.loop-change.change-iterator ≡ ch ∷ into_iter_items c.next.new.self = c.in-Some.ensures.steps.0 in
+    let steps : into_iter_items c.loop-change.change-iterator ≡ ch ∷ into_iter_items
+    c.next.new.self = c.in-Some.ensures.steps.0 in
     let those = subst (AllByRecursion (IsChangeOf file)) steps inv.those in
-    let many : into_iter_len c.next.new.self ≡ length (into_iter_items c.next.new.self) = let was = inv.many in let gone = c.in-Some.ensures.steps.1 in let short = ap length steps in omega arith in
+    let many : into_iter_len c.next.new.self ≡ length (into_iter_items c.next.new.self) = let was =
+    inv.many in let gone = c.in-Some.ensures.steps.1 in let short = ap length steps in omega
+    arith in
     record {
       many = many;
       those = those.1;
@@ -48,9 +59,12 @@ loop-change-preserved-in-Some c =
     let inv = c.loop-change.invariant in
     let ch = c.in-Some.change in
     let vs = c.loop-change.values.items in
-    let steps : into_iter_items c.loop-change.change-iterator ≡ ch ∷ into_iter_items c.next.new.self = c.in-Some.ensures.steps.0 in
+    let steps : into_iter_items c.loop-change.change-iterator ≡ ch ∷ into_iter_items
+    c.next.new.self = c.in-Some.ensures.steps.0 in
     let those = subst (AllByRecursion (IsChangeOf file)) steps inv.those in
-    let many : into_iter_len c.next.new.self ≡ length (into_iter_items c.next.new.self) = let was = inv.many in let gone = c.in-Some.ensures.steps.1 in let short = ap length steps in omega arith in
+    let many : into_iter_len c.next.new.self ≡ length (into_iter_items c.next.new.self) = let was =
+    inv.many in let gone = c.in-Some.ensures.steps.1 in let short = ap length steps in omega
+    arith in
     record {
       many = many;
       those = those.1;
@@ -64,9 +78,12 @@ loop-change-preserved-in-Some-2 c =
     let inv = c.loop-change.invariant in
     let ch = c.in-Some.change in
     let vs = c.loop-change.values.items in
-    let steps : into_iter_items c.loop-change.change-iterator ≡ ch ∷ into_iter_items c.next.new.self = c.in-Some.ensures.steps.0 in
+    let steps : into_iter_items c.loop-change.change-iterator ≡ ch ∷ into_iter_items
+    c.next.new.self = c.in-Some.ensures.steps.0 in
     let those = subst (AllByRecursion (IsChangeOf file)) steps inv.those in
-    let many : into_iter_len c.next.new.self ≡ length (into_iter_items c.next.new.self) = let was = inv.many in let gone = c.in-Some.ensures.steps.1 in let short = ap length steps in omega arith in
+    let many : into_iter_len c.next.new.self ≡ length (into_iter_items c.next.new.self) = let was =
+    inv.many in let gone = c.in-Some.ensures.steps.1 in let short = ap length steps in omega
+    arith in
     record {
       many = many;
       those = those.1;

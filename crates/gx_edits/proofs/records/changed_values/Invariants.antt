@@ -12,6 +12,7 @@ abbrev pub invariant-loop-change : goal.invariant-loop-change
 invariant-loop-change l = record {
   many : into_iter_len l.change-iterator ≡ length (into_iter_items l.change-iterator);
   those : AllByRecursion (IsChangeOf l.file) (into_iter_items l.change-iterator);
-  so_far : changed l.values.items (into_iter_items l.change-iterator) ≡ changed l.fn.values l.fn.changes;
+  so_far : changed l.values.items (into_iter_items l.change-iterator) ≡ changed l.fn.values
+      l.fn.changes;
   fit : AreFit (data_fields l.file) l.values.items;
 }

@@ -10,6 +10,13 @@ returns-clause-full g c = λ whole e.
     let maps = b.working c.args.leaves.now in
     let first = c.in_ok-put.ensures in
     let then = c.put-2.ensures.full (first.ends.whole whole) e in
-    let few : entry_count (b.working c.put.new.self) ≤ entry_count maps + 1 = omega (arith, ap entry_count (first.ok whole), count_put maps c.args.first c.as_slice.result.now c.as_slice-2.result.now c.requires.first) in
-    crowded_more (b.limit c.args.leaves.now) (entry_count (b.working c.put.new.self)) (entry_count maps + 1) few
-    (subst (λ limit. IsCrowdedBy limit (entry_count (b.working c.put.new.self))) first.keeps.limit then)
+    let few : entry_count (b.working c.put.new.self) ≤ entry_count maps + 1 = omega (
+      arith,
+      ap entry_count (first.ok whole),
+      count_put maps c.args.first c.as_slice.result.now
+          c.as_slice-2.result.now c.requires.first,
+    ) in
+    crowded_more (b.limit c.args.leaves.now) (entry_count (b.working c.put.new.self))
+    (entry_count maps + 1) few
+    (subst (λ limit. IsCrowdedBy limit (entry_count (b.working c.put.new.self))) first.keeps.limit
+    then)

@@ -10,7 +10,9 @@ use Rattle.gx_edits.proofs.SegmentLemmas.{both_removed}
 use Rattle.gx_edits.proofs.segments.take_both.Goals as goal
 
 pub remove-requires-clause-leaf : goal.remove-requires-clause-leaf
-remove-requires-clause-leaf g c = c.requires.below c.args.second (second_in_tree (tree_of c.args.node.now) c.args.first c.args.second c.requires.two)
+remove-requires-clause-leaf g c =
+    c.requires.can.below c.args.second
+    (second_in_tree (tree_of c.args.node.now) c.args.first c.args.second c.requires.two)
 
 pub returns-in_err-remove : goal.returns-in_err-remove
 returns-in_err-remove g c = record {
@@ -18,7 +20,9 @@ returns-in_err-remove g c = record {
   others = λ n whole fault away.
       let t = tree_of c.args.node.now in
       let p = err_from_is_err_and c.from_residual.result c.from_residual.ensures.1 in
-      c.in_err-remove.ensures.others whole (λ f. fault (p.1 ∙ ap Err p.2 ∙ f)) n (λ is. away (subst (λ (i : ℕ). In i (leaves_of t)) (sym is) (second_in_tree t c.args.first c.args.second c.requires.two)));
+      c.in_err-remove.ensures.others whole (λ f. fault (p.1 ∙ ap Err p.2 ∙ f)) n
+      (λ is. away (subst (λ (i : ℕ). In i (leaves_of t)) (sym is)
+      (second_in_tree t c.args.first c.args.second c.requires.two)));
   keeps = search rules;
   ends = search rules;
   not_full = search rules;
@@ -26,7 +30,12 @@ returns-in_err-remove g c = record {
 
 pub remove-requires-2-clause-leaf : goal.remove-requires-2-clause-leaf
 remove-requires-2-clause-leaf g c =
-    omega (arith, c.in_ok-remove.ensures.keeps.leaves, c.requires.below c.args.first (first_in_tree (tree_of c.args.node.now) c.args.first c.args.second c.requires.two))
+    omega (
+      arith,
+      c.in_ok-remove.ensures.keeps.leaves,
+      c.requires.can.below c.args.first
+          (first_in_tree (tree_of c.args.node.now) c.args.first c.args.second c.requires.two),
+    )
 
 pub returns : goal.returns
 returns g c = record {
@@ -34,16 +43,26 @@ returns g c = record {
       let t = tree_of c.args.node.now in
       let maps = g.B.View.working c.args.leaves.now in
       let gone = c.in_ok-remove.ensures in
-      let key : c.as_slice-2.result.now ≡ key_of old.key = c.as_slice-2.ensures.value ∙ c.requires.lo ∙ sym (append-nil (bytes_of c.args.key.now)) ∙ sym (ap key_of same) in
-      let both : c.as_slice.result.now ≡ c.as_slice-2.result.now = c.as_slice.ensures.value ∙ sym c.as_slice-2.ensures.value in
-      on_ok_weaker c.remove-2.result (λ done. both_removed t c.args.first c.args.second c.requires.two c.requires.valid R set maps c.requires.below held old c.as_slice-2.result.now _ there key
-      (done ∙ ap (λ ms. without_entry ms c.args.first c.as_slice-2.result.now) (gone.ok whole ∙ ap (without_entry maps c.args.second) both)))
+      let key : c.as_slice-2.result.now ≡ key_of old.key = c.as_slice-2.ensures.value
+      ∙ c.requires.can.bytes_are ∙ sym (append-nil (bytes_of c.args.key.now))
+      ∙ sym (ap key_of same) in
+      let both : c.as_slice.result.now ≡ c.as_slice-2.result.now = c.as_slice.ensures.value
+      ∙ sym c.as_slice-2.ensures.value in
+      on_ok_weaker c.remove-2.result
+      (λ done. both_removed t c.args.first c.args.second c.requires.two c.requires.can.valid R set
+      maps c.requires.can.below held old c.as_slice-2.result.now _ there key
+      (done ∙ ap (λ ms. without_entry ms c.args.first c.as_slice-2.result.now)
+      (gone.ok whole ∙ ap (without_entry maps c.args.second) both)))
       (c.remove-2.ensures.ok (gone.ends.whole whole));
   others = λ n whole fault away.
       let t = tree_of c.args.node.now in
       let gone = c.in_ok-remove.ensures in
-      c.remove-2.ensures.others (gone.ends.whole whole) fault n (λ is. away (subst (λ (i : ℕ). In i (leaves_of t)) (sym is) (first_in_tree t c.args.first c.args.second c.requires.two)))
-      ∙ gone.others whole (λ f. cc) n (λ is. away (subst (λ (i : ℕ). In i (leaves_of t)) (sym is) (second_in_tree t c.args.first c.args.second c.requires.two)));
+      c.remove-2.ensures.others (gone.ends.whole whole) fault n
+      (λ is. away (subst (λ (i : ℕ). In i (leaves_of t)) (sym is)
+      (first_in_tree t c.args.first c.args.second c.requires.two)))
+      ∙ gone.others whole (λ f. cc) n
+      (λ is. away (subst (λ (i : ℕ). In i (leaves_of t)) (sym is)
+      (second_in_tree t c.args.first c.args.second c.requires.two)));
   keeps = search rules;
   ends = search rules;
   not_full = search rules;
