@@ -31,11 +31,14 @@ use Rattle.gx_play.proofs.OverLemmas.{heard_lines, long_stops}
 use Rattle.gx_explain.proofs.BehindLemmas.{behind, front_behind, taken}
 
 -- the fields that are indexed in nodes are those that are indexed in the terms that they mean
-pub same_fields : (schema : Schema) (ds : List DefinitionTree) (nodes : List (Node AnyMapping)) → AreTreesOfFiles 0 schema.files ds nodes → fields_in schema nodes ≡ indexed_fields schema ds
-same_fields schema ds nodes are = λ i file. map (λ f. file_indexed_as 0 schema.files ds nodes file f.name are i) (file_at schema file).fields
+pub same_fields : (schema : Schema) (ds : List DefinitionTree) (nodes : List (Node AnyMapping))
+    → AreTreesOfFiles 0 schema.files ds nodes → fields_in schema nodes ≡ indexed_fields schema ds
+same_fields schema ds nodes are =
+    λ i file. map (λ f. file_indexed_as 0 schema.files ds nodes file f.name are i) (file_at schema file).fields
 
 -- a front of a text is one of the text and a line behind it
-front_within : (old new : Content) (text line : List ℕ) → ((n : ℕ) × (new.now.said ≡ old.now.said ++ take n text)) → (n : ℕ) × (new.now.said ≡ old.now.said ++ take n (text ++ line))
+front_within : (old new : Content) (text line : List ℕ)
+    → ((n : ℕ) × (new.now.said ≡ old.now.said ++ take n text)) → (n : ℕ) × (new.now.said ≡ old.now.said ++ take n (text ++ line))
 front_within old new text line is =
     let m = min is.0 (length text) in
     (m, is.1 ∙ ap (λ t. old.now.said ++ t) (taken text is.0 m refl ∙ sym (take-append-le m text line (omega arith))))
@@ -47,30 +50,39 @@ module _ (schema : Schema) (indexed : ℕ → List Bool) where
   said_from P old mid new same is = (is.0, is.1, is.2 ∙ ap (λ t. t ++ is.0) same)
 
   -- nothing was said before
-  pub plans_from : (all : Lines) (old mid new : Content) (result : Result (Unit {0}) PlayEnd) → mid.now.said ≡ old.now.said → SaysPlans schema indexed all mid new result → SaysPlans schema indexed all old new result
+  pub plans_from : (all : Lines) (old mid new : Content) (result : Result (Unit {0}) PlayEnd)
+      → mid.now.said ≡ old.now.said → SaysPlans schema indexed all mid new result → SaysPlans schema indexed all old new result
   plans_from all old mid new (Ok x) same is = said_from (IsExplainedTo schema indexed all good) old mid new same is
-  plans_from all old mid new (Err (play_end.Line number why)) same is = said_from (IsExplainedTo schema indexed all (stopped number why)) old mid new same is
-  plans_from all old mid new (Err (play_end.Stop stop.NoMemory)) same is = said_from (AreFirstExplained schema indexed all) old mid new same is
-  plans_from all old mid new (Err (play_end.Stop stop.Fault)) same is = (is.0, is.1, (is.2.0, is.2.1 ∙ ap (λ t. t ++ take is.2.0 is.0) same))
+  plans_from all old mid new (Err (play_end.Line number why)) same is =
+      said_from (IsExplainedTo schema indexed all (stopped number why)) old mid new same is
+  plans_from all old mid new (Err (play_end.Stop stop.NoMemory)) same is =
+      said_from (AreFirstExplained schema indexed all) old mid new same is
+  plans_from all old mid new (Err (play_end.Stop stop.Fault)) same is =
+      (is.0, is.1, (is.2.0, is.2.1 ∙ ap (λ t. t ++ take is.2.0 is.0) same))
   plans_from all old mid new (Err (play_end.Stop stop.Full)) same is = absurd is
   plans_from all old mid new (Err (play_end.Stop (stop.Damaged block))) same is = absurd is
 
   -- what was heard has the lines of the whole script
-  pub plans_of : (script left heard : List ℕ) (old new : Content) (result : Result (Unit {0}) PlayEnd) → IsHeard script left heard → SaysPlans schema indexed (script_lines heard) old new result → SaysPlans schema indexed (script_lines script) old new result
-  plans_of script left heard old new result is = subst (λ all. SaysPlans schema indexed all old new result) (heard_lines script left heard is)
+  pub plans_of : (script left heard : List ℕ) (old new : Content) (result : Result (Unit {0}) PlayEnd)
+      → IsHeard script left heard → SaysPlans schema indexed (script_lines heard) old new result
+      → SaysPlans schema indexed (script_lines script) old new result
+  plans_of script left heard old new result is =
+      subst (λ all. SaysPlans schema indexed all old new result) (heard_lines script left heard is)
 
   none_explained : (all : Lines) → AreFirstExplained schema indexed all []
   none_explained all = record { ran = []; later = all.lines; parts = refl; inside = false; explained = (refl, refl) }
 
   -- before a line is explained
-  pub unheard_plans : (all : Lines) (old new : Content) (before now : ℕ) (why : Stop) → new.now.said ≡ old.now.said → HasCause before now why → SaysPlans schema indexed all old new (Err (play_end.Stop why))
+  pub unheard_plans : (all : Lines) (old new : Content) (before now : ℕ) (why : Stop)
+      → new.now.said ≡ old.now.said → HasCause before now why → SaysPlans schema indexed all old new (Err (play_end.Stop why))
   unheard_plans all old new before now stop.Fault same cause = ([], none_explained all, (0, same ∙ sym (append-nil old.now.said)))
   unheard_plans all old new before now stop.NoMemory same cause = ([], none_explained all, same ∙ sym (append-nil old.now.said))
   unheard_plans all old new before now stop.Full same cause = absurd cause
   unheard_plans all old new before now (stop.Damaged block) same cause = absurd cause
 
   -- where no line ended it, the whole script was heard
-  all_lines : (all : Lines) (ran : List (List ℕ)) (next : Result (Option (List ℕ)) LineWhy) (inside : Bool) (n : ℕ) → AreFirstLines all ran next → IsExplainEnd schema inside n next good → all.stop ≡ None
+  all_lines : (all : Lines) (ran : List (List ℕ)) (next : Result (Option (List ℕ)) LineWhy) (inside : Bool)
+      (n : ℕ) → AreFirstLines all ran next → IsExplainEnd schema inside n next good → all.stop ≡ None
   all_lines all ran (Ok None) inside n first ends = first.1
   all_lines all ran (Ok (Some line)) inside n first ends = absurd (not_good ends.2)
     where
@@ -81,7 +93,8 @@ module _ (schema : Schema) (indexed : ℕ → List Bool) where
       not_good : ◌≡◌ {A = End} good (stopped (n + 1) why) → ⊥
       not_good e = cc
 
-  pub heard_whole : (script left heard : List ℕ) (old new : Content) (result : Result (Unit {0}) PlayEnd) → IsHeard script left heard → SaysPlans schema indexed (script_lines heard) old new result → result ≡ Ok tt → left ≡ []
+  pub heard_whole : (script left heard : List ℕ) (old new : Content) (result : Result (Unit {0}) PlayEnd)
+      → IsHeard script left heard → SaysPlans schema indexed (script_lines heard) old new result → result ≡ Ok tt → left ≡ []
   unfolding longest_script
   heard_whole script left heard old new result is said ok = by_end is.end
     where
@@ -90,38 +103,57 @@ module _ (schema : Schema) (indexed : ℕ → List Bool) where
 
       by_end : ((left ≡ []) ⊎ (16777216 < length heard)) → left ≡ []
       by_end (inl none) = none
-      by_end (inr long) = absurd (long_stops heard long (all_lines (script_lines heard) to.1.ran to.1.next to.1.inside (length to.1.ran) to.1.first to.1.ends))
+      by_end (inr long) =
+          absurd (long_stops heard long (all_lines (script_lines heard) to.1.ran to.1.next to.1.inside
+          (length to.1.ran) to.1.first to.1.ends))
 
   -- ---- behind the plans, the line of the end
 
-  pub done_said : (old new : Content) → SaysText (IsExplainedTo schema indexed (script_lines old.script) good) old new → IsScriptExplained schema indexed old new status.Done
+  pub done_said : (old new : Content)
+      → SaysText (IsExplainedTo schema indexed (script_lines old.script) good) old new
+      → IsScriptExplained schema indexed old new status.Done
   done_said old new is = (is.0, record { plans = is.0; explained = is.1; text_is = sym (append-nil is.0) }, is.2)
 
   -- what was explained are the first lines
-  first_of : (all : Lines) (end : End) (text : List ℕ) → (x : IsExplainedTo schema indexed all end text) → AreFirstExplained schema indexed all text
+  first_of : (all : Lines) (end : End) (text : List ℕ) → (x : IsExplainedTo schema indexed all end text)
+      → AreFirstExplained schema indexed all text
   first_of all end text x =
       let parts = parts_of all x.ran x.next x.first in
       record { ran = x.ran; later = parts.0; parts = parts.1; inside = x.inside; explained = x.explained }
     where
-      parts_of : (all : Lines) (ran : List (List ℕ)) (next : Result (Option (List ℕ)) LineWhy) → AreFirstLines all ran next → (later : List (List ℕ)) × (all.lines ≡ ran ++ later)
+      parts_of : (all : Lines) (ran : List (List ℕ)) (next : Result (Option (List ℕ)) LineWhy)
+          → AreFirstLines all ran next → (later : List (List ℕ)) × (all.lines ≡ ran ++ later)
       parts_of all ran (Ok (Some line)) first = (line ∷ first.0, first.1)
       parts_of all ran (Ok None) first = ([], first.0 ∙ sym (append-nil ran))
       parts_of all ran (Err why) first = ([], first.0 ∙ sym (append-nil ran))
 
-  short_said : (old mid new : Content) → SaysText (AreFirstExplained schema indexed (script_lines old.script)) old mid → new.now.said ≡ mid.now.said ++ memory_line → SaysText (IsMemoryExplanation schema indexed old.script) old new
-  short_said old mid new is said = (is.0 ++ memory_line, record { plans = is.0; explained = is.1; text_is = refl }, behind old.now.said mid.now.said new.now.said is.0 memory_line is.2 said)
+  short_said : (old mid new : Content)
+      → SaysText (AreFirstExplained schema indexed (script_lines old.script)) old mid
+      → new.now.said ≡ mid.now.said ++ memory_line → SaysText (IsMemoryExplanation schema indexed old.script) old new
+  short_said old mid new is said = (
+    is.0 ++ memory_line,
+    record { plans = is.0; explained = is.1; text_is = refl },
+    behind old.now.said
+        mid.now.said new.now.said is.0 memory_line is.2 said,
+  )
 
-  short_front : (old mid new : Content) (n : ℕ) → SaysText (AreFirstExplained schema indexed (script_lines old.script)) old mid → new.now.said ≡ mid.now.said ++ take n memory_line → SaysFront (IsSomeText schema indexed old.script) old new
+  short_front : (old mid new : Content) (n : ℕ)
+      → SaysText (AreFirstExplained schema indexed (script_lines old.script)) old mid
+      → new.now.said ≡ mid.now.said ++ take n memory_line → SaysFront (IsSomeText schema indexed old.script) old new
   short_front old mid new n is said = (
     is.0 ++ memory_line,
     inr (record { plans = is.0; explained = is.1; text_is = refl }),
     (length is.0 + n, front_behind old.now.said mid.now.said new.now.said is.0 memory_line n is.2 said),
   )
 
-  firsts : (old mid : Content) (number : ℕ) (why : LineWhy) → SaysText (IsExplainedTo schema indexed (script_lines old.script) (stopped number why)) old mid → SaysText (AreFirstExplained schema indexed (script_lines old.script)) old mid
+  firsts : (old mid : Content) (number : ℕ) (why : LineWhy)
+      → SaysText (IsExplainedTo schema indexed (script_lines old.script) (stopped number why)) old mid
+      → SaysText (AreFirstExplained schema indexed (script_lines old.script)) old mid
   firsts old mid number why is = (is.0, first_of (script_lines old.script) (stopped number why) is.0 is.1, is.2)
 
-  line_front : (old mid new : Content) (number : ℕ) (why : LineWhy) → SaysText (IsExplainedTo schema indexed (script_lines old.script) (stopped number why)) old mid → IsCut (line_of (ending.Line number why)) memory_line mid new → SaysFront (IsSomeText schema indexed old.script) old new
+  line_front : (old mid new : Content) (number : ℕ) (why : LineWhy)
+      → SaysText (IsExplainedTo schema indexed (script_lines old.script) (stopped number why)) old mid
+      → IsCut (line_of (ending.Line number why)) memory_line mid new → SaysFront (IsSomeText schema indexed old.script) old new
   line_front old mid new number why is (n, inl said) = (
     is.0 ++ line_of (ending.Line number why),
     inl (stopped number why, record { plans = is.0; explained = is.1; text_is = refl }),
@@ -129,18 +161,24 @@ module _ (schema : Schema) (indexed : ℕ → List Bool) where
   )
   line_front old mid new number why is (n, inr said) = short_front old mid new n (firsts old mid number why is) said
 
-  memory_front : (old mid new : Content) → SaysText (AreFirstExplained schema indexed (script_lines old.script)) old mid → IsCut memory_line memory_line mid new → SaysFront (IsSomeText schema indexed old.script) old new
+  memory_front : (old mid new : Content)
+      → SaysText (AreFirstExplained schema indexed (script_lines old.script)) old mid
+      → IsCut memory_line memory_line mid new → SaysFront (IsSomeText schema indexed old.script) old new
   memory_front old mid new is (n, inl said) = short_front old mid new n is said
   memory_front old mid new is (n, inr said) = short_front old mid new n is said
 
-  fault_front : (old mid new : Content) → SaysFront (AreFirstExplained schema indexed (script_lines old.script)) old mid → new.now.said ≡ mid.now.said → SaysFront (IsSomeText schema indexed old.script) old new
+  fault_front : (old mid new : Content)
+      → SaysFront (AreFirstExplained schema indexed (script_lines old.script)) old mid
+      → new.now.said ≡ mid.now.said → SaysFront (IsSomeText schema indexed old.script) old new
   fault_front old mid new is silent = (
     is.0 ++ memory_line,
     inr (record { plans = is.0; explained = is.1; text_is = refl }),
     front_within old new is.0 memory_line (is.2.0, silent ∙ is.2.1),
   )
 
-  line_said : (old mid new : Content) (number : ℕ) (why : LineWhy) (s : Status) → SaysText (IsExplainedTo schema indexed (script_lines old.script) (stopped number why)) old mid → IsEnded (ending.Line number why) mid new s → IsScriptExplained schema indexed old new s
+  line_said : (old mid new : Content) (number : ℕ) (why : LineWhy) (s : Status)
+      → SaysText (IsExplainedTo schema indexed (script_lines old.script) (stopped number why)) old mid
+      → IsEnded (ending.Line number why) mid new s → IsScriptExplained schema indexed old new s
   line_said old mid new number why status.Script is e = (
     is.0 ++ line_of (ending.Line number why),
     (number, why, record { plans = is.0; explained = is.1; text_is = refl }),
@@ -165,7 +203,9 @@ module _ (schema : Schema) (indexed : ℕ → List Bool) where
       never : status.Device ≡ status.Script → ⊥
       never f = cc
 
-  memory_said : (old mid new : Content) (s : Status) → SaysText (AreFirstExplained schema indexed (script_lines old.script)) old mid → IsEnded ending.NoMemory mid new s → IsScriptExplained schema indexed old new s
+  memory_said : (old mid new : Content) (s : Status)
+      → SaysText (AreFirstExplained schema indexed (script_lines old.script)) old mid
+      → IsEnded ending.NoMemory mid new s → IsScriptExplained schema indexed old new s
   memory_said old mid new status.Memory is e = short_said old mid new is (e.memory refl)
   memory_said old mid new status.Outside is e = memory_front old mid new is (e.cut refl)
   memory_said old mid new status.Script is e = absurd (never (e.status_is (λ f. cc) (λ f. cc)))
@@ -190,7 +230,9 @@ module _ (schema : Schema) (indexed : ℕ → List Bool) where
       never f = cc
 
   -- whatever the status of the end is
-  pub end_said : (old mid new : Content) (why : PlayEnd) (s : Status) → SaysPlans schema indexed (script_lines old.script) old mid (Err why) → IsEnded (ending_of why) mid new s → IsScriptExplained schema indexed old new s
+  pub end_said : (old mid new : Content) (why : PlayEnd) (s : Status)
+      → SaysPlans schema indexed (script_lines old.script) old mid (Err why) → IsEnded (ending_of why) mid new s
+      → IsScriptExplained schema indexed old new s
   end_said old mid new (play_end.Line number why) s is e = line_said old mid new number why s is e
   end_said old mid new (play_end.Stop stop.NoMemory) s is e = memory_said old mid new s is e
   end_said old mid new (play_end.Stop stop.Fault) s is e =

@@ -32,18 +32,24 @@ none_not_some : (why : LineWhy) → ◌≡◌ {A = Option LineWhy} None (Some wh
 none_not_some why e = cc
 
 command_once : (schema : Schema) (line : List ℕ) (c d : Command) → IsLineOf schema line c → IsLineOf schema line d → c ≡ d
-command_once schema line c d x y = ap (command_or c) (one_reading schema line (Ok c) (Ok d) (reading_of_line schema line c x) (reading_of_line schema line d y))
+command_once schema line c d x y =
+    ap (command_or c) (one_reading schema line (Ok c) (Ok d) (reading_of_line schema line c x) (reading_of_line schema line d y))
 
 -- a good line that may stand where it does is not bad there
-placed_not_bad : (schema : Schema) (inside : Bool) (line : List ℕ) (c : Command) (why : LineWhy) → IsLineOf schema line c → place_reason inside c ≡ None → IsBadLine schema inside line why → ⊥
-placed_not_bad schema inside line c why means placed (inl read) = good_not_bad c why (one_reading schema line (Ok c) (Err why) (reading_of_line schema line c means) read)
+placed_not_bad : (schema : Schema) (inside : Bool) (line : List ℕ) (c : Command) (why : LineWhy)
+    → IsLineOf schema line c → place_reason inside c ≡ None → IsBadLine schema inside line why → ⊥
+placed_not_bad schema inside line c why means placed (inl read) =
+    good_not_bad c why (one_reading schema line (Ok c) (Err why) (reading_of_line schema line c means) read)
 placed_not_bad schema inside line c why means placed (inr bad) =
     none_not_some why (sym placed ∙ ap (place_reason inside) (command_once schema line c bad.0 means bad.1) ∙ bad.2)
 
-bad_once : (schema : Schema) (inside : Bool) (line : List ℕ) (why other : LineWhy) → IsBadLine schema inside line why → IsBadLine schema inside line other → why ≡ other
+bad_once : (schema : Schema) (inside : Bool) (line : List ℕ) (why other : LineWhy)
+    → IsBadLine schema inside line why → IsBadLine schema inside line other → why ≡ other
 bad_once schema inside line why other (inl x) (inl y) = ap (why_or why) (one_reading schema line (Err why) (Err other) x y)
-bad_once schema inside line why other (inl x) (inr y) = absurd (good_not_bad y.0 why (one_reading schema line (Ok y.0) (Err why) (reading_of_line schema line y.0 y.1) x))
-bad_once schema inside line why other (inr x) (inl y) = absurd (good_not_bad x.0 other (one_reading schema line (Ok x.0) (Err other) (reading_of_line schema line x.0 x.1) y))
+bad_once schema inside line why other (inl x) (inr y) =
+    absurd (good_not_bad y.0 why (one_reading schema line (Ok y.0) (Err why) (reading_of_line schema line y.0 y.1) x))
+bad_once schema inside line why other (inr x) (inl y) =
+    absurd (good_not_bad x.0 other (one_reading schema line (Ok x.0) (Err other) (reading_of_line schema line x.0 x.1) y))
 bad_once schema inside line why other (inr x) (inr y) =
     ap (some_or why) (sym x.2 ∙ ap (place_reason inside) (command_once schema line x.0 y.0 x.1 y.1) ∙ y.2)
 
@@ -66,7 +72,8 @@ record AreLater (line : List ℕ) (all : Lines) (ran : List (List ℕ)) (next : 
   parts : all.lines ≡ line ∷ rest
   first : AreFirstLines (record { lines = rest; stop = all.stop }) ran next
 
-later_of : (line : List ℕ) (all : Lines) (ran : List (List ℕ)) (next : Result (Option (List ℕ)) LineWhy) → AreFirstLines all (line ∷ ran) next → AreLater line all ran next
+later_of : (line : List ℕ) (all : Lines) (ran : List (List ℕ)) (next : Result (Option (List ℕ)) LineWhy)
+    → AreFirstLines all (line ∷ ran) next → AreLater line all ran next
 later_of line all ran (Ok (Some other)) h = record { rest = ran ++ other ∷ h.0; parts = h.1; first = (h.0, refl) }
 later_of line all ran (Ok None) h = record { rest = ran; parts = h.0; first = (refl, h.1) }
 later_of line all ran (Err why) h = record { rest = ran; parts = h.0; first = (refl, h.1) }
@@ -77,52 +84,65 @@ AreOne a b d e = (a ≡ b) × (d ≡ e)
 
 module _ (schema : Schema) (indexed : ℕ → List Bool) where
   -- so many lines are before the first of these
-  record IsFrom (last : ℕ) (inside : Bool) (all : Lines) (ran : List (List ℕ)) (next : Result (Option (List ℕ)) LineWhy) (text : List ℕ) (final : Bool) (end : End) : Type 0 where
+  record IsFrom (last : ℕ) (inside : Bool) (all : Lines) (ran : List (List ℕ))
+      (next : Result (Option (List ℕ)) LineWhy) (text : List ℕ) (final : Bool) (end : End) : Type 0 where
     first : AreFirstLines all ran next
     explained : AreExplained schema indexed (last + 1) inside ran text final
     ends : IsExplainEnd schema final (last + length ran) next end
 
   -- where no line was explained, the end is that of the next one
   none_once : (last : ℕ) (inside : Bool) (all : Lines) (next then : Result (Option (List ℕ)) LineWhy) (end close : End)
-      → AreFirstLines all [] next → AreFirstLines all [] then → IsExplainEnd schema inside last next end → IsExplainEnd schema inside last then close → end ≡ close
+      → AreFirstLines all [] next → AreFirstLines all [] then → IsExplainEnd schema inside last next end
+      → IsExplainEnd schema inside last then close → end ≡ close
   none_once last inside all (Ok None) (Ok None) end close f g x y = x ∙ sym y
   none_once last inside all (Ok None) (Ok (Some line)) end close f g x y = absurd (no_line line g.0 (sym g.1 ∙ f.0))
   none_once last inside all (Ok None) (Err why) end close f g x y = absurd (none_not_some why (sym f.1 ∙ g.1))
   none_once last inside all (Ok (Some line)) (Ok None) end close f g x y = absurd (no_line line f.0 (sym f.1 ∙ g.0))
   none_once last inside all (Ok (Some line)) (Ok (Some other)) end close f g x y =
       let same = ap (head_or line) (sym f.1 ∙ g.1) in
-      x.2 ∙ ap (stopped (last + 1)) (bad_once schema inside other x.0 y.0 (subst (λ l. IsBadLine schema inside l x.0) same x.1) y.1) ∙ sym y.2
+      x.2 ∙ ap (stopped (last + 1)) (bad_once schema inside other x.0 y.0
+      (subst (λ l. IsBadLine schema inside l x.0) same x.1) y.1) ∙ sym y.2
   none_once last inside all (Ok (Some line)) (Err why) end close f g x y = absurd (no_line line f.0 (sym f.1 ∙ g.0))
   none_once last inside all (Err why) (Ok None) end close f g x y = absurd (none_not_some why (sym g.1 ∙ f.1))
   none_once last inside all (Err why) (Ok (Some line)) end close f g x y = absurd (no_line line g.0 (sym g.1 ∙ f.0))
   none_once last inside all (Err why) (Err other) end close f g x y = x ∙ ap (stopped (last + 1)) (ap (some_or why) (sym f.1 ∙ g.1)) ∙ sym y
 
   -- a line that was explained isn't one at which it ends
-  not_here : (last : ℕ) (inside : Bool) (all : Lines) (line : List ℕ) (c : Command) (rest : List (List ℕ)) (next : Result (Option (List ℕ)) LineWhy) (end : End)
-      → IsLineOf schema line c → place_reason inside c ≡ None → all.lines ≡ line ∷ rest → AreFirstLines all [] next → IsExplainEnd schema inside last next end → ⊥
+  not_here : (last : ℕ) (inside : Bool) (all : Lines) (line : List ℕ) (c : Command) (rest : List (List ℕ))
+      (next : Result (Option (List ℕ)) LineWhy) (end : End)
+      → IsLineOf schema line c → place_reason inside c ≡ None → all.lines ≡ line ∷ rest
+      → AreFirstLines all [] next → IsExplainEnd schema inside last next end → ⊥
   not_here last inside all line c rest (Ok None) end means placed parts f x = no_line line rest (sym parts ∙ f.0)
   not_here last inside all line c rest (Err why) end means placed parts f x = no_line line rest (sym parts ∙ f.0)
   not_here last inside all line c rest (Ok (Some other)) end means placed parts f x =
-      placed_not_bad schema inside line c x.0 means placed (subst (λ l. IsBadLine schema inside l x.0) (ap (head_or other) (sym f.1 ∙ parts)) x.1)
+      placed_not_bad schema inside line c x.0 means placed
+      (subst (λ l. IsBadLine schema inside l x.0) (ap (head_or other) (sym f.1 ∙ parts)) x.1)
 
-  more : (last : ℕ) (line : List ℕ) (ran : List (List ℕ)) (next : Result (Option (List ℕ)) LineWhy) (final : Bool) (end : End) → IsExplainEnd schema final (last + length (line ∷ ran)) next end → IsExplainEnd schema final (last + 1 + length ran) next end
-  more last line ran next final end = subst (λ n. IsExplainEnd schema final n next end) (let e : last + length (line ∷ ran) ≡ last + 1 + length ran = omega arith in e)
+  more : (last : ℕ) (line : List ℕ) (ran : List (List ℕ)) (next : Result (Option (List ℕ)) LineWhy)
+      (final : Bool) (end : End) → IsExplainEnd schema final (last + length (line ∷ ran)) next end
+      → IsExplainEnd schema final (last + 1 + length ran) next end
+  more last line ran next final end =
+      subst (λ n. IsExplainEnd schema final n next end) (let e : last + length (line ∷ ran) ≡ last + 1 + length ran = omega arith in e)
 
-  once : (ran others : List (List ℕ)) (last : ℕ) (inside : Bool) (all : Lines) (next then : Result (Option (List ℕ)) LineWhy) (a b : List ℕ) (final other : Bool) (end close : End)
+  once : (ran others : List (List ℕ)) (last : ℕ) (inside : Bool) (all : Lines)
+      (next then : Result (Option (List ℕ)) LineWhy) (a b : List ℕ) (final other : Bool) (end close : End)
       → IsFrom last inside all ran next a final end → IsFrom last inside all others then b other close → AreOne a b end close
   once [] [] last inside all next then a b final other end close x y = (
     x.explained.0 ∙ sym y.explained.0,
     none_once (last + 0) inside all next then end close x.first y.first
-        (subst (λ i. IsExplainEnd schema i (last + 0) next end) x.explained.1 x.ends) (subst (λ i. IsExplainEnd schema i (last + 0) then close) y.explained.1 y.ends),
+        (subst (λ i. IsExplainEnd schema i (last + 0) next end) x.explained.1 x.ends)
+        (subst (λ i. IsExplainEnd schema i (last + 0) then close) y.explained.1 y.ends),
   )
   once [] (line ∷ others) last inside all next then a b final other end close x y =
       let e = y.explained in
       let l = later_of line all others then y.first in
-      absurd (not_here (last + 0) inside all line e.0 l.rest next end e.2 e.3 l.parts x.first (subst (λ i. IsExplainEnd schema i (last + 0) next end) x.explained.1 x.ends))
+      absurd (not_here (last + 0) inside all line e.0 l.rest next end e.2 e.3 l.parts x.first
+      (subst (λ i. IsExplainEnd schema i (last + 0) next end) x.explained.1 x.ends))
   once (line ∷ ran) [] last inside all next then a b final other end close x y =
       let e = x.explained in
       let l = later_of line all ran next x.first in
-      absurd (not_here (last + 0) inside all line e.0 l.rest then close e.2 e.3 l.parts y.first (subst (λ i. IsExplainEnd schema i (last + 0) then close) y.explained.1 y.ends))
+      absurd (not_here (last + 0) inside all line e.0 l.rest then close e.2 e.3 l.parts y.first
+      (subst (λ i. IsExplainEnd schema i (last + 0) then close) y.explained.1 y.ends))
   once (line ∷ ran) (another ∷ others) last inside all next then a b final other end close x y =
       let l = later_of line all ran next x.first in
       let m = later_of another all others then y.first in
@@ -130,7 +150,8 @@ module _ (schema : Schema) (indexed : ℕ → List Bool) where
       let p = x.explained in
       let q = y.explained in
       let same : p.0 ≡ q.0 = command_once schema another p.0 q.0 (subst (λ t. IsLineOf schema t p.0) (ap (head_or line) parts) p.2) q.2 in
-      let rest = once ran others (last + 1) (inside_after inside q.0) (record { lines = m.rest; stop = all.stop }) next then p.1 q.1 final other end close
+      let rest = once ran others (last + 1) (inside_after inside q.0)
+      (record { lines = m.rest; stop = all.stop }) next then p.1 q.1 final other end close
       (record {
         first = subst (λ ls. AreFirstLines (record { lines = ls; stop = all.stop }) ran next) (ap tail_of parts) l.first;
         explained = subst (λ c. AreExplained schema indexed (last + 1 + 1) (inside_after inside c) ran p.1 final) same p.4;
@@ -139,18 +160,22 @@ module _ (schema : Schema) (indexed : ℕ → List Bool) where
       (record { first = m.first; explained = q.4; ends = more last another others then other close y.ends }) in
       (p.5 ∙ (λ i. command_text schema indexed (last + 1) (same i) ++ rest.0 i) ∙ sym q.5, rest.1)
 
-  from_0 : (all : Lines) (end : End) (text : List ℕ) → (x : IsExplainedTo schema indexed all end text) → IsFrom 0 false all x.ran x.next text x.inside end
+  from_0 : (all : Lines) (end : End) (text : List ℕ) → (x : IsExplainedTo schema indexed all end text)
+      → IsFrom 0 false all x.ran x.next text x.inside end
   from_0 all end text x = record {
     first = x.first;
     explained = subst (λ n. AreExplained schema indexed n false x.ran text x.inside) (let e : 1 ≡ 0 + 1 = omega arith in e) x.explained;
     ends = subst (λ n. IsExplainEnd schema x.inside n x.next end) (let e : length x.ran ≡ 0 + length x.ran = omega arith in e) x.ends;
   }
 
-  pub explained_once : (all : Lines) (end close : End) (a b : List ℕ) → IsExplainedTo schema indexed all end a → IsExplainedTo schema indexed all close b → AreOne a b end close
-  explained_once all end close a b x y = once x.ran y.ran 0 false all x.next y.next a b x.inside y.inside end close (from_0 all end a x) (from_0 all close b y)
+  pub explained_once : (all : Lines) (end close : End) (a b : List ℕ) → IsExplainedTo schema indexed all end a
+      → IsExplainedTo schema indexed all close b → AreOne a b end close
+  explained_once all end close a b x y =
+      once x.ran y.ran 0 false all x.next y.next a b x.inside y.inside end close (from_0 all end a x) (from_0 all close b y)
 
   -- the same of the whole text
-  pub text_once : (script : List ℕ) (end close : End) (a b : List ℕ) → IsExplainText schema indexed script end a → IsExplainText schema indexed script close b → AreOne a b end close
+  pub text_once : (script : List ℕ) (end close : End) (a b : List ℕ) → IsExplainText schema indexed script end a
+      → IsExplainText schema indexed script close b → AreOne a b end close
   text_once script end close a b x y =
       let same = explained_once (script_lines script) end close x.plans y.plans x.explained y.explained in
       (x.text_is ∙ (λ i. same.0 i ++ end_text (same.1 i)) ∙ sym y.text_is, same.1)

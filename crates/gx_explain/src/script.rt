@@ -1,9 +1,9 @@
 // A script that is heard and explained.
-ghost use Rattle.std.specs.Prelude.{◌≡◌, ◌≢◌, ◌≤◌, [], Ok, false, length, IsTrue, IfErr};
-ghost use Rattle.gx_device.specs.Faults.{Rose};
+ghost use Rattle.std.specs.Prelude.{◌≡◌, ◌≤◌, [], Ok, false, length, IsTrue, IfErr};
 ghost use Rattle.gx_schema.specs.WellFormed.{IsWellFormed};
 ghost use Rattle.gx_commands.specs.Lines.{script_lines};
 ghost use Rattle.gx_types.specs.Nodes.{AreNodes};
+ghost use Rattle.gx_play.specs.Endings.{CountsOutside};
 ghost use Rattle.gx_play.specs.Plays.{is_play_fault};
 ghost use Rattle.gx_explain.specs.Explained.{IsScriptExplained};
 ghost use Rattle.gx_explain.specs.Explaining.{fields_in, HasEndCause, SaysPlans};
@@ -32,9 +32,7 @@ pub fn explain_script<M: Machine>(
     ensures heard { IsTrue M.tells → result ≡ Status.Done → (M.content machine.new).script ≡ [] }
     ensures blocks { (M.content machine.new).now.blocks ≡ (M.content machine.old).now.blocks }
     ensures shelf { (M.content machine.new).now.shelf ≡ (M.content machine.old).now.shelf }
-    ensures outside { result ≡ Status.Outside → Rose (M.faults machine.old) (M.faults machine.new) }
-    ensures counted { result ≢ Status.Outside → M.faults machine.new ≡ M.faults machine.old }
-    ensures later { M.faults machine.old ≤ M.faults machine.new }
+    ensures failures { CountsOutside (M.faults machine.old) (M.faults machine.new) result }
 {
     match explain_heard(alloc, schema, built, machine) {
         Ok(()) => Status::Done,

@@ -9,7 +9,7 @@ ghost use Rattle.gx_pages.specs.View.{journal_of};
 ghost use Rattle.gx_store.specs.Device.{IsHeadOf, IsSettled, ReadAlike};
 ghost use Rattle.gx_store.specs.Store.{machine_of};
 ghost use Rattle.gx_states.specs.Internal.{AreFor};
-ghost use Rattle.gx_requests.specs.Fetched.{CountsFault};
+ghost use Rattle.gx_play.specs.Endings.{CountsFault};
 ghost use Rattle.gx_operations.specs.Examined.{IsExamined};
 
 use gx_audit::audit;

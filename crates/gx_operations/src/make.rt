@@ -42,20 +42,14 @@ pub fn make_stored<'a, M: Machine + Drop>(
     ensures counted { is_outside result.0 ≡ false → M.faults result.1 ≡ M.faults machine }
     ensures later { M.faults machine ≤ M.faults result.1 }
 {
-    let Stored {
-        built,
-        schema_text,
-        equation_text,
-        ..
-    } = stored;
     let (made, machine) = make(
         alloc,
         machine,
         device,
         blocks,
-        schema_text.as_slice(),
-        equation_text.as_slice(),
-        &built.specs.0,
+        stored.schema_text.as_slice(),
+        stored.equation_text.as_slice(),
+        &stored.built.specs.0,
     );
     (making_ending(made, blocks), machine)
 }

@@ -12,9 +12,8 @@ ghost use Rattle.gx_pages.specs.View.{journal_of};
 ghost use Rattle.gx_store.specs.Store.{HoldsMaps, machine_of};
 ghost use Rattle.gx_model.specs.States.{State, empty_state};
 ghost use Rattle.gx_states.specs.Internal.{AreInternal, AreFor};
-ghost use Rattle.gx_play.specs.Endings.{IsPlayEnding};
+ghost use Rattle.gx_play.specs.Endings.{IsPlayEnding, CountsFault};
 ghost use Rattle.gx_play.specs.Plays.{IsPlayedAs};
-ghost use Rattle.gx_requests.specs.Fetched.{CountsFault};
 ghost use Rattle.gx_operations.specs.Settled.{IsSettledIn};
 
 use gx_device::Machine;

@@ -5,8 +5,8 @@ ghost use Rattle.gx_device.specs.Content.{Silent};
 ghost use Rattle.gx_work.specs.Schema.{work_schema};
 ghost use Rattle.gx_store.specs.Device.{Reopens};
 ghost use Rattle.gx_store.specs.Store.{CanAttach, Attaches, KeepsDevice};
+ghost use Rattle.gx_play.specs.Endings.{CountsFault};
 ghost use Rattle.gx_requests.specs.Checked.{IsStored};
-ghost use Rattle.gx_requests.specs.Fetched.{CountsFault};
 ghost use Rattle.gx_operations.specs.Working.{IsPlayedOn, IsWorking};
 
 use gx_device::Machine;
@@ -42,31 +42,17 @@ pub fn make_and_play<'a, M: Machine + Drop>(
         Attaches device.now (M.content machine) (M.content result.1) }
     ensures failures { CountsFault (M.faults machine) (M.faults result.1) result.0 }
 {
-    let Stored {
-        schema,
-        built,
-        schema_text,
-        equation_text,
-    } = stored;
     let (made, machine) = make(
         alloc,
         machine,
         device,
         blocks,
-        schema_text.as_slice(),
-        equation_text.as_slice(),
-        &built.specs.0,
+        stored.schema_text.as_slice(),
+        stored.equation_text.as_slice(),
+        &stored.built.specs.0,
     );
     match made {
-        Ok(()) => {
-            let stored = Stored {
-                schema,
-                built,
-                schema_text,
-                equation_text,
-            };
-            play_made(alloc, stored, records, machine)
-        }
+        Ok(()) => play_made(alloc, stored, records, machine),
         Err(why) => (Err(unopened_ending(why)), machine),
     }
 }

@@ -22,10 +22,12 @@ use Rattle.gx_play.specs.Plays.{IsCommandPlayed, IsLinePlayed, IsCommandGivenUp,
 use Rattle.gx_play.proofs.SayLemmas.{begins_same, begins_then}
 
 -- the engine stands so with answers beside it
-pub at_beside : {S : Type 0} (g : Ghosts S) (to : Answers) (p : Playing) (e : Engine S) (out : List ℕ) → IsAt g p e → IsAt (beside g to) p (with_answers e out)
+pub at_beside : {S : Type 0} (g : Ghosts S) (to : Answers) (p : Playing) (e : Engine S) (out : List ℕ)
+    → IsAt g p e → IsAt (beside g to) p (with_answers e out)
 at_beside g to p e out at = record { stands = at.stands; whole_is = at.whole_is; kept_whole_is = at.kept_whole_is }
 
-pub at_alone : {S : Type 0} (g : Ghosts S) (to : Answers) (p : Playing) (e : Engine S) (out : List ℕ) → IsAt (beside g to) p (with_answers e out) → IsAt g p e
+pub at_alone : {S : Type 0} (g : Ghosts S) (to : Answers) (p : Playing) (e : Engine S) (out : List ℕ)
+    → IsAt (beside g to) p (with_answers e out) → IsAt g p e
 at_alone g to p e out at = record { stands = at.stands; whole_is = at.whole_is; kept_whole_is = at.kept_whole_is }
 
 -- ---- what stays of the engine
@@ -42,7 +44,8 @@ keeps_same g to e ready = record {
   silent = λ kept. record { said = refl; shelf = refl; script = refl; aside = refl };
 }
 
-pub keeps_then : {S : Type 0} (g : Ghosts S) (to : Answers) (a b c : Engine S) → KeepsPlayed g to a b → KeepsPlayed g to b c → KeepsPlayed g to a c
+pub keeps_then : {S : Type 0} (g : Ghosts S) (to : Answers) (a b c : Engine S) → KeepsPlayed g to a b
+    → KeepsPlayed g to b c → KeepsPlayed g to a c
 keeps_then g to a b c p q = record {
   schema = q.schema ∙ p.schema;
   built = q.built ∙ p.built;
@@ -59,7 +62,9 @@ keeps_then g to a b c p q = record {
 
 -- ---- the line of the command
 
-pub line_played : {S : Type 0} (g : Ghosts S) (to : Answers) (p : Playing) (line : List ℕ) (c : Command) (old new : Engine S) (out now : List ℕ) → IsAt g p old → IsLineOf (schema_of old) line c → IsDue old c → IsCommandPlayed (beside g to) p c (with_answers old out) (with_answers new now)
+pub line_played : {S : Type 0} (g : Ghosts S) (to : Answers) (p : Playing) (line : List ℕ) (c : Command)
+    (old new : Engine S) (out now : List ℕ) → IsAt g p old → IsLineOf (schema_of old) line c → IsDue old c
+    → IsCommandPlayed (beside g to) p c (with_answers old out) (with_answers new now)
     → IsLinePlayed (beside g to) p line (with_answers old out) (with_answers new now)
 line_played g to p line c old new out now at means due played = record {
   command = c;
@@ -68,7 +73,9 @@ line_played g to p line c old new out now at means due played = record {
   played = played;
 }
 
-pub line_given_up : {S : Type 0} (g : Ghosts S) (to : Answers) (p : Playing) (line : List ℕ) (c : Command) (old new : Engine S) (out now : List ℕ) (why : Stop) → IsAt g p old → IsLineOf (schema_of old) line c → IsDue old c → IsCommandGivenUp (beside g to) p c (with_answers old out) (with_answers new now) why
+pub line_given_up : {S : Type 0} (g : Ghosts S) (to : Answers) (p : Playing) (line : List ℕ) (c : Command)
+    (old new : Engine S) (out now : List ℕ) (why : Stop) → IsAt g p old → IsLineOf (schema_of old) line c
+    → IsDue old c → IsCommandGivenUp (beside g to) p c (with_answers old out) (with_answers new now) why
     → IsGivenUp (beside g to) p line (with_answers old out) (with_answers new now) why
 line_given_up g to p line c old new out now why at means due up =
     let placed : place_reason (is_inside p) c ≡ None = subst (λ (b : Bool). place_reason b c ≡ None) at.stands.inside_same due.allowed in
@@ -101,21 +108,40 @@ stop_same a b e = ap stop_in e
     stop_in (play_end.Line number reason) = a
 
 -- a line for which there was no memory
-pub unread_given_up : {S : Type 0} (g : Ghosts S) (to : Answers) (p : Playing) (line : List ℕ) (e : Engine S) (out : List ℕ) (why : Stop) → why ≡ stop.NoMemory → IsGivenUp (beside g to) p line (with_answers e out) (with_answers e out) why
+pub unread_given_up : {S : Type 0} (g : Ghosts S) (to : Answers) (p : Playing) (line : List ℕ) (e : Engine S)
+    (out : List ℕ) (why : Stop) → why ≡ stop.NoMemory → IsGivenUp (beside g to) p line (with_answers e out) (with_answers e out) why
 unread_given_up g to p line e out why is = record {
   unsaid = λ other. refl;
   cut = inl refl;
-  kept = λ other. record { leaves = refl; kept = refl; kept_whole = (λ h. h, λ h. h); limit = refl; head = refl; calm = λ s h. h; silent = record { said = refl; shelf = refl; script = refl; aside = refl } };
+  kept = λ other. record {
+    leaves = refl;
+    kept = refl;
+    kept_whole = (λ h. h, λ h. h);
+    limit = refl;
+    head = refl;
+    calm = λ s h. h;
+    silent = record { said = refl; shelf = refl; script = refl; aside = refl };
+  };
   short = λ full. no_memory_full why is full;
 }
 
 -- ---- what the machine said, alone
 
-up_alone : {S : Type 0} (g : Ghosts S) (p : Playing) (lines : Lines) (old new : Engine S) (out now : List ℕ) (end : End) → IsPlayedUp (beside g answers.Said) p lines (with_answers old out) (with_answers new now) end → IsPlayedUp g p lines old new end
-up_alone g p lines old new out now end up = record { text = up.text; final = up.final; played = up.played; said = up.said; at = at_alone g answers.Said up.final new now up.at }
+up_alone : {S : Type 0} (g : Ghosts S) (p : Playing) (lines : Lines) (old new : Engine S) (out now : List ℕ)
+    (end : End) → IsPlayedUp (beside g answers.Said) p lines (with_answers old out) (with_answers new now) end
+    → IsPlayedUp g p lines old new end
+up_alone g p lines old new out now end up = record {
+  text = up.text;
+  final = up.final;
+  played = up.played;
+  said = up.said;
+  at = at_alone g answers.Said up.final new now up.at;
+}
 
 -- the play of lines whose answers were said
-pub played_aloud : {S : Type 0} (g : Ghosts S) (p : Playing) (lines : Lines) (old new : Engine S) (out now : List ℕ) (result : Result (Unit {0}) PlayEnd) → IsPlayedTo (beside g answers.Said) p lines (with_answers old out) (with_answers new now) result → IsPlayedTo g p lines old new result
+pub played_aloud : {S : Type 0} (g : Ghosts S) (p : Playing) (lines : Lines) (old new : Engine S)
+    (out now : List ℕ) (result : Result (Unit {0}) PlayEnd)
+    → IsPlayedTo (beside g answers.Said) p lines (with_answers old out) (with_answers new now) result → IsPlayedTo g p lines old new result
 played_aloud g p lines old new out now (Ok x) up = up_alone g p lines old new out now good up
 played_aloud g p lines old new out now (Err (play_end.Line number why)) up = up_alone g p lines old new out now (stopped number why) up
 played_aloud g p lines old new out now (Err (play_end.Stop why)) part = record {
@@ -151,7 +177,9 @@ outside_end U (play_end.Stop stop.Full) = refl
 outside_end U (play_end.Stop stop.NoMemory) = refl
 outside_end U (play_end.Stop (stop.Damaged block)) = refl
 
-pub failed_end : {T : Type 0} (U : Type 0) (before mid now : ℕ) (end : PlayEnd) (result : Result T Ending) → mid ≡ before → result ≡ Err (ending_of end) → CountsFailed mid now (is_play_fault {T = U} (Err end)) → CountsFailed before now (is_fault result)
+pub failed_end : {T : Type 0} (U : Type 0) (before mid now : ℕ) (end : PlayEnd) (result : Result T Ending)
+    → mid ≡ before → result ≡ Err (ending_of end) → CountsFailed mid now (is_play_fault {T = U} (Err end))
+    → CountsFailed before now (is_fault result)
 failed_end {T = T} U before mid now end result same is counts =
     subst (λ (r : Result T Ending). CountsFailed before now (is_fault r)) (sym is)
     (subst (CountsFailed before now) (sym (outside_end U end))

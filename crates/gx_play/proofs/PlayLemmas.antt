@@ -44,18 +44,33 @@ at_start g start all e at = record {
 }
 
 -- one line more runs
-one_more : (schema : Schema) (start p : Playing) (ran : List (List ℕ)) (answers line : List ℕ) (command : Command) (answer : List ℕ) → Runs schema start ran answers p → IsLineOf schema line command → place_reason (is_inside p) command ≡ None → IsAnswered schema p command answer → Runs schema start (ran ++ line ∷ []) (answers ++ answer) (next_of schema p command)
+one_more : (schema : Schema) (start p : Playing) (ran : List (List ℕ)) (answers line : List ℕ)
+    (command : Command) (answer : List ℕ) → Runs schema start ran answers p → IsLineOf schema line command
+    → place_reason (is_inside p) command ≡ None → IsAnswered schema p command answer
+    → Runs schema start (ran ++ line ∷ []) (answers ++ answer) (next_of schema p command)
 one_more schema start p ran answers line command answer runs means placed answered =
-    let step : Step schema p line answer (next_of schema p command) = record { command = command; means = means; allowed = placed; answered = answered; next_is = refl } in
+    let step : Step schema p line answer (next_of schema p command) = record {
+      command = command;
+      means = means;
+      allowed = placed;
+      answered = answered;
+      next_is = refl;
+    } in
     subst (λ t. Runs schema start (ran ++ line ∷ []) t (next_of schema p command)) (ap (λ t. answers ++ t) (append-nil answer))
-    (run_on schema start p (next_of schema p command) ran (line ∷ []) answers (answer ++ []) runs (answer, [], next_of schema p command, step, (refl, refl), refl))
+    (run_on schema start p (next_of schema p command) ran (line ∷ []) answers (answer ++ []) runs
+    (answer, [], next_of schema p command, step, (refl, refl), refl))
 
 -- the lines of which one more ran
-parts_more : (all before left : Lines) (ran : List (List ℕ)) (line : List ℕ) → all.lines ≡ ran ++ before.lines → before ≡ with_line line left → all.lines ≡ (ran ++ line ∷ []) ++ left.lines
-parts_more all before left ran line parts before_is = parts ∙ ap (λ (ls : Lines). ran ++ ls.lines) before_is ∙ sym (append_assoc ran (line ∷ []) left.lines)
+parts_more : (all before left : Lines) (ran : List (List ℕ)) (line : List ℕ) → all.lines ≡ ran ++ before.lines
+    → before ≡ with_line line left → all.lines ≡ (ran ++ line ∷ []) ++ left.lines
+parts_more all before left ran line parts before_is =
+    parts ∙ ap (λ (ls : Lines). ran ++ ls.lines) before_is ∙ sym (append_assoc ran (line ∷ []) left.lines)
 
 -- one more line was played
-pub after_line : {S : Type 0} (g : Ghosts S) (start : Playing) (all before left : Lines) (number : ℕ) (line : List ℕ) (old e new : Engine S) → schema_of e ≡ schema_of old → before ≡ with_line line left → IsTrue g.tells → (so : IsSoFar g start all before number old e) → IsLinePlayed g so.now line e new → IsSoFar g start all left (number + 1) old new
+pub after_line : {S : Type 0} (g : Ghosts S) (start : Playing) (all before left : Lines) (number : ℕ)
+    (line : List ℕ) (old e new : Engine S) → schema_of e ≡ schema_of old → before ≡ with_line line left
+    → IsTrue g.tells → (so : IsSoFar g start all before number old e) → IsLinePlayed g so.now line e new
+    → IsSoFar g start all left (number + 1) old new
 after_line g start all before left number line old e new schema_is before_is told so played = record {
   now = next_of (schema_of old) so.now played.command;
   answers = so.answers ++ played.played.answer;
@@ -71,45 +86,69 @@ after_line g start all before left number line old e new schema_is before_is tol
 }
 
 -- the play ends there
-ended : {S : Type 0} (g : Ghosts S) (start : Playing) (all left : Lines) (number : ℕ) (next : Result (Option (List ℕ)) LineWhy) (old e : Engine S) (end : End) → (so : IsSoFar g start all left number old e) → AreFirstLines all so.ran next → IsEnd (schema_of old) so.now number next end → IsPlayedUp g start all old e end
+ended : {S : Type 0} (g : Ghosts S) (start : Playing) (all left : Lines) (number : ℕ)
+    (next : Result (Option (List ℕ)) LineWhy) (old e : Engine S) (end : End)
+    → (so : IsSoFar g start all left number old e) → AreFirstLines all so.ran next
+    → IsEnd (schema_of old) so.now number next end → IsPlayedUp g start all old e end
 ended g start all left number next old e end so first ends = record {
   text = so.answers;
   final = so.now;
-  played = record { ran = so.ran; next = next; first = first; runs = so.runs; ends = subst (λ n. IsEnd (schema_of old) so.now n next end) (sym so.many) ends };
+  played = record {
+    ran = so.ran;
+    next = next;
+    first = first;
+    runs = so.runs;
+    ends = subst
+        (λ n. IsEnd (schema_of old) so.now n next end) (sym so.many) ends;
+  };
   said = so.said;
   at = so.at;
 }
 
 -- no more lines are left
-all_ran : {S : Type 0} (g : Ghosts S) (start : Playing) (all left : Lines) (number : ℕ) (stop : Option LineWhy) (old e : Engine S) → left ≡ record { lines = []; stop = stop } → (so : IsSoFar g start all left number old e) → (all.lines ≡ so.ran) × (all.stop ≡ stop)
+all_ran : {S : Type 0} (g : Ghosts S) (start : Playing) (all left : Lines) (number : ℕ) (stop : Option LineWhy)
+    (old e : Engine S) → left ≡ record { lines = []; stop = stop }
+    → (so : IsSoFar g start all left number old e) → (all.lines ≡ so.ran) × (all.stop ≡ stop)
 all_ran g start all left number stop old e left_is so = (
   so.lines_are ∙ ap (λ (ls : Lines). so.ran ++ ls.lines) left_is ∙ append-nil so.ran,
   so.stop_is ∙ ap (λ (ls : Lines). ls.stop) left_is,
 )
 
 -- at its end, where no transaction is open or one is
-pub at_end : {S : Type 0} (g : Ghosts S) (start : Playing) (all left : Lines) (number : ℕ) (old e : Engine S) (at : Bool) → IsSoFar g start all left number old e → left ≡ no_lines → is_open e ≡ at → IsPlayedUp g start all old e (end_at number at)
+pub at_end : {S : Type 0} (g : Ghosts S) (start : Playing) (all left : Lines) (number : ℕ) (old e : Engine S)
+    (at : Bool) → IsSoFar g start all left number old e → left ≡ no_lines → is_open e ≡ at → IsPlayedUp g start all old e (end_at number at)
 at_end g start all left number old e at so left_is open_is =
     ended g start all left number (Ok None) old e (end_at number at) so
     (all_ran g start all left number None old e left_is so) (ap (end_at number) (sym open_is ∙ so.at.stands.inside_same))
 
 -- where the line behind can't be had
-pub at_stop : {S : Type 0} (g : Ghosts S) (start : Playing) (all left : Lines) (number n : ℕ) (reason : LineWhy) (old e : Engine S) → IsSoFar g start all left number old e → n ≡ number + 1 → left ≡ stopped_lines reason → IsPlayedUp g start all old e (stopped n reason)
+pub at_stop : {S : Type 0} (g : Ghosts S) (start : Playing) (all left : Lines) (number n : ℕ) (reason : LineWhy)
+    (old e : Engine S) → IsSoFar g start all left number old e → n ≡ number + 1 → left ≡ stopped_lines reason
+    → IsPlayedUp g start all old e (stopped n reason)
 at_stop g start all left number n reason old e so n_is left_is =
     ended g start all left number (Err reason) old e (stopped n reason) so
     (all_ran g start all left number (Some reason) old e left_is so) (ap (λ k. stopped k reason) n_is)
 
 -- at a line that means no command, or one that may not stand there
-at_bad_line : {S : Type 0} (g : Ghosts S) (start : Playing) (all before left : Lines) (number : ℕ) (line : List ℕ) (reason : LineWhy) (old e : Engine S) → schema_of e ≡ schema_of old → before ≡ with_line line left → IsSoFar g start all before number old e → IsBadLine (schema_of e) (is_open e) line reason → IsPlayedUp g start all old e (stopped (number + 1) reason)
+at_bad_line : {S : Type 0} (g : Ghosts S) (start : Playing) (all before left : Lines) (number : ℕ)
+    (line : List ℕ) (reason : LineWhy) (old e : Engine S) → schema_of e ≡ schema_of old
+    → before ≡ with_line line left → IsSoFar g start all before number old e
+    → IsBadLine (schema_of e) (is_open e) line reason → IsPlayedUp g start all old e (stopped (number + 1) reason)
 at_bad_line g start all before left number line reason old e schema_is before_is so bad =
     ended g start all before number (Ok (Some line)) old e (stopped (number + 1) reason) so
-    (left.lines, so.lines_are ∙ ap (λ (ls : Lines). so.ran ++ ls.lines) before_is)
-    (reason, subst (λ s. IsBadLine s (is_inside so.now) line reason) schema_is (subst (λ i. IsBadLine (schema_of e) i line reason) so.at.stands.inside_same bad), refl)
+    (left.lines, so.lines_are ∙ ap (λ (ls : Lines). so.ran ++ ls.lines) before_is) (
+      reason,
+      subst (λ s. IsBadLine s (is_inside so.now) line reason) schema_is
+          (subst (λ i. IsBadLine (schema_of e) i line reason) so.at.stands.inside_same bad),
+      refl,
+    )
 
 -- ---- a line that is given up
 
 -- what was last committed stays the last kept state
-kept_after : {S : Type 0} (g : Ghosts S) (p : Playing) (old e new : Engine S) → schema_of e ≡ schema_of old → built_of e ≡ built_of old → IsAt g p e → Keeps g (leaves_of e) (leaves_of new) → KeepsState g (schema_of old) (built_of old) (leaves_of new) p.kept
+kept_after : {S : Type 0} (g : Ghosts S) (p : Playing) (old e new : Engine S) → schema_of e ≡ schema_of old
+    → built_of e ≡ built_of old → IsAt g p e → Keeps g (leaves_of e) (leaves_of new)
+    → KeepsState g (schema_of old) (built_of old) (leaves_of new) p.kept
 kept_after g p old e new schema_is built_is at keeps = (
   subst (λ (b : Built). AreInternal (schema_of old) b (g.kept (leaves_of new)) p.kept) built_is
       (subst (λ (s : Schema). AreInternal s (built_of e) (g.kept (leaves_of new)) p.kept) schema_is
@@ -118,7 +157,8 @@ kept_after g p old e new schema_is built_is at keeps = (
 )
 
 -- the same where the play ends
-pub kept_at : {S : Type 0} (g : Ghosts S) (p : Playing) (old e : Engine S) → schema_of e ≡ schema_of old → built_of e ≡ built_of old → IsAt g p e → KeepsState g (schema_of old) (built_of old) (leaves_of e) p.kept
+pub kept_at : {S : Type 0} (g : Ghosts S) (p : Playing) (old e : Engine S) → schema_of e ≡ schema_of old
+    → built_of e ≡ built_of old → IsAt g p e → KeepsState g (schema_of old) (built_of old) (leaves_of e) p.kept
 kept_at g p old e schema_is built_is at = (
   subst (λ (b : Built). AreInternal (schema_of old) b (g.kept (leaves_of e)) p.kept) built_is
       (subst (λ (s : Schema). AreInternal s (built_of e) (g.kept (leaves_of e)) p.kept) schema_is at.stands.kept_is),
@@ -126,7 +166,10 @@ kept_at g p old e schema_is built_is at = (
 )
 
 -- the pages may be too few for the line
-short_at : {S : Type 0} (g : Ghosts S) (p : Playing) (before left : Lines) (line : List ℕ) (old e : Engine S) → schema_of e ≡ schema_of old → built_of e ≡ built_of old → g.limit (leaves_of e) ≡ g.limit (leaves_of old) → before ≡ with_line line left → IsReady g e → IsAt g p e → IsShortLine g e p line → IsShortAt (schema_of old) (built_of old) (g.limit (leaves_of old)) p before.lines
+short_at : {S : Type 0} (g : Ghosts S) (p : Playing) (before left : Lines) (line : List ℕ) (old e : Engine S)
+    → schema_of e ≡ schema_of old → built_of e ≡ built_of old → g.limit (leaves_of e) ≡ g.limit (leaves_of old)
+    → before ≡ with_line line left → IsReady g e → IsAt g p e → IsShortLine g e p line
+    → IsShortAt (schema_of old) (built_of old) (g.limit (leaves_of old)) p before.lines
 short_at g p before left line old e schema_is built_is limit_is before_is ready at (command, means, placed, short) =
     subst (λ (b : Built). IsShortAt (schema_of old) b (g.limit (leaves_of old)) p before.lines) built_is
     (subst (λ (s : Schema). IsShortAt s (built_of e) (g.limit (leaves_of old)) p before.lines) schema_is
@@ -135,12 +178,28 @@ short_at g p before left line old e schema_is built_is limit_is before_is ready 
       maps = g.working (leaves_of e);
       many = sym ready.owned.each;
       before = at.stands.working_is;
-      short = record { line = line; later = left.lines; lines_are = ap (λ (ls : Lines). ls.lines) before_is; command = command; means = means; placed = placed; wants = short.0; short = short.1 };
+      short = record {
+        line = line;
+        later = left.lines;
+        lines_are = ap
+            (λ (ls : Lines). ls.lines) before_is;
+        command = command;
+        means = means;
+        placed = placed;
+        wants = short.0;
+        short = short.1;
+      };
     })))
 
 -- the answers of the lines before it
-part_before : {S : Type 0} (g : Ghosts S) (start : Playing) (all before : Lines) (number : ℕ) (old e new : Engine S) (why : Stop) → (so : IsSoFar g start all before number old e) → (g.content (leaves_of new)).now.said ≡ (g.content (leaves_of e)).now.said → (why ≢ stop.Fault → KeepsState g (schema_of old) (built_of old) (leaves_of new) so.now.kept)
-    → (why ≡ stop.Fault → KeepsState g (schema_of old) (built_of old) (leaves_of new) so.now.kept ⊎ IsCommitLine (schema_of old) before.lines) → (why ≡ stop.Full → IsShortAt (schema_of old) (built_of old) (g.limit (leaves_of old)) so.now before.lines) → IsPlayedPart g start all old new why
+part_before : {S : Type 0} (g : Ghosts S) (start : Playing) (all before : Lines) (number : ℕ)
+    (old e new : Engine S) (why : Stop) → (so : IsSoFar g start all before number old e)
+    → (g.content (leaves_of new)).now.said ≡ (g.content (leaves_of e)).now.said
+    → (why ≢ stop.Fault → KeepsState g (schema_of old) (built_of old) (leaves_of new) so.now.kept)
+    → (why ≡ stop.Fault → KeepsState g (schema_of old) (built_of old) (leaves_of new) so.now.kept
+    ⊎ IsCommitLine (schema_of old) before.lines)
+    → (why ≡ stop.Full → IsShortAt (schema_of old) (built_of old) (g.limit (leaves_of old)) so.now before.lines)
+    → IsPlayedPart g start all old new why
 part_before g start all before number old e new why so unsaid kept failed short = record {
   ran = so.ran;
   later = before.lines;
@@ -148,7 +207,11 @@ part_before g start all before number old e new why so unsaid kept failed short 
   text = so.answers;
   final = so.now;
   runs = so.runs;
-  front = (length so.answers, unsaid ∙ so.said ∙ ap (λ t. (g.content (leaves_of old)).now.said ++ t) (sym (take_all (length so.answers) so.answers (omega arith))));
+  front = (
+    length so.answers,
+    unsaid ∙ so.said
+        ∙ ap (λ t. (g.content (leaves_of old)).now.said ++ t) (sym (take_all (length so.answers) so.answers (omega arith))),
+  );
   whole = λ _. unsaid ∙ so.said;
   kept = kept;
   failed = λ fault. inr (unsaid ∙ so.said, failed fault);
@@ -162,8 +225,14 @@ fault_not_full e = absurd (never e)
     never f = cc
 
 -- the same, and a front of its own
-part_within : {S : Type 0} (g : Ghosts S) (start : Playing) (all before left : Lines) (number : ℕ) (line : List ℕ) (command : Command) (answer : List ℕ) (n : ℕ) (old e new : Engine S) → before ≡ with_line line left → (so : IsSoFar g start all before number old e) → IsLineOf (schema_of old) line command → place_reason (is_inside so.now) command ≡ None → IsAnswered (schema_of old) so.now command answer
-    → IsAt g (next_of (schema_of old) so.now command) new → (g.content (leaves_of new)).now.said ≡ (g.content (leaves_of e)).now.said ++ take n answer → IsPlayedPart g start all old new stop.Fault
+part_within : {S : Type 0} (g : Ghosts S) (start : Playing) (all before left : Lines) (number : ℕ)
+    (line : List ℕ) (command : Command) (answer : List ℕ) (n : ℕ) (old e new : Engine S)
+    → before ≡ with_line line left → (so : IsSoFar g start all before number old e)
+    → IsLineOf (schema_of old) line command → place_reason (is_inside so.now) command ≡ None
+    → IsAnswered (schema_of old) so.now command answer
+    → IsAt g (next_of (schema_of old) so.now command) new
+    → (g.content (leaves_of new)).now.said ≡ (g.content (leaves_of e)).now.said ++ take n answer
+    → IsPlayedPart g start all old new stop.Fault
 part_within g start all before left number line command answer n old e new before_is so means placed answered at said = record {
   ran = so.ran ++ line ∷ [];
   later = left.lines;
@@ -183,16 +252,26 @@ part_within g start all before left number line command answer n old e new befor
 }
 
 -- a command of which nothing was said kept what was last committed, or it is a commit
-unsaid_keeps : {S : Type 0} (g : Ghosts S) (p : Playing) (before left : Lines) (line : List ℕ) (command : Command) (old e new : Engine S) → schema_of e ≡ schema_of old → built_of e ≡ built_of old → before ≡ with_line line left → IsAt g p e → IsLineOf (schema_of e) line command → (is_commit command ≡ false → Keeps g (leaves_of e) (leaves_of new))
+unsaid_keeps : {S : Type 0} (g : Ghosts S) (p : Playing) (before left : Lines) (line : List ℕ)
+    (command : Command) (old e new : Engine S) → schema_of e ≡ schema_of old → built_of e ≡ built_of old
+    → before ≡ with_line line left → IsAt g p e → IsLineOf (schema_of e) line command
+    → (is_commit command ≡ false → Keeps g (leaves_of e) (leaves_of new))
     → KeepsState g (schema_of old) (built_of old) (leaves_of new) p.kept ⊎ IsCommitLine (schema_of old) before.lines
-unsaid_keeps g p before left line command.Commit old e new schema_is built_is before_is at means keeps = inr (line, left.lines, ap (λ (ls : Lines). ls.lines) before_is, subst (λ s. IsLineOf s line command.Commit) schema_is means)
-unsaid_keeps g p before left line _ old e new schema_is built_is before_is at means keeps = inl (kept_after g p old e new schema_is built_is at (keeps refl))
+unsaid_keeps g p before left line command.Commit old e new schema_is built_is before_is at means keeps =
+    inr (line, left.lines, ap (λ (ls : Lines). ls.lines) before_is, subst (λ s. IsLineOf s line command.Commit) schema_is means)
+unsaid_keeps g p before left line _ old e new schema_is built_is before_is at means keeps =
+    inl (kept_after g p old e new schema_is built_is at (keeps refl))
 
 -- after a fault a front of its answer may have been said, where it was carried out
-pub at_fault : {S : Type 0} (g : Ghosts S) (start : Playing) (all before left : Lines) (number : ℕ) (line : List ℕ) (old e new : Engine S) → schema_of e ≡ schema_of old → built_of e ≡ built_of old → before ≡ with_line line left → (so : IsSoFar g start all before number old e) → IsLineCut g so.now line e new → IsPlayedPart g start all old new stop.Fault
+pub at_fault : {S : Type 0} (g : Ghosts S) (start : Playing) (all before left : Lines) (number : ℕ)
+    (line : List ℕ) (old e new : Engine S) → schema_of e ≡ schema_of old → built_of e ≡ built_of old
+    → before ≡ with_line line left → (so : IsSoFar g start all before number old e)
+    → IsLineCut g so.now line e new → IsPlayedPart g start all old new stop.Fault
 at_fault g start all before left number line old e new schema_is built_is before_is so (inl same) =
-    part_before g start all before number old e new stop.Fault so (ap (λ (x : Engine _). (g.content (leaves_of x)).now.said) same) (λ other. absurd (other refl))
-    (λ _. inl (subst (λ (x : Engine _). KeepsState g (schema_of old) (built_of old) (leaves_of x) so.now.kept) (sym same) (kept_at g so.now old e schema_is built_is so.at))) fault_not_full
+    part_before g start all before number old e new stop.Fault so
+    (ap (λ (x : Engine _). (g.content (leaves_of x)).now.said) same) (λ other. absurd (other refl))
+    (λ _. inl (subst (λ (x : Engine _). KeepsState g (schema_of old) (built_of old) (leaves_of x) so.now.kept)
+    (sym same) (kept_at g so.now old e schema_is built_is so.at))) fault_not_full
 at_fault g start all before left number line old e new schema_is built_is before_is so (inr (command, means, placed, inl (unsaid, keeps))) =
     part_before g start all before number old e new stop.Fault so unsaid (λ other. absurd (other refl))
     (λ _. unsaid_keeps g so.now before left line command old e new schema_is built_is before_is so.at means keeps) fault_not_full
@@ -203,7 +282,11 @@ at_fault g start all before left number line old e new schema_is built_is before
     (subst (λ s. IsAt g (next_of s so.now command) new) schema_is at) cut.2.1
 
 -- after another stop nothing of it was
-at_other : {S : Type 0} (g : Ghosts S) (start : Playing) (all before left : Lines) (number : ℕ) (line : List ℕ) (why : Stop) (old e new : Engine S) → schema_of e ≡ schema_of old → built_of e ≡ built_of old → g.limit (leaves_of e) ≡ g.limit (leaves_of old) → before ≡ with_line line left → (so : IsSoFar g start all before number old e) → IsReady g e → why ≢ stop.Fault → IsGivenUp g so.now line e new why → IsPlayedPart g start all old new why
+at_other : {S : Type 0} (g : Ghosts S) (start : Playing) (all before left : Lines) (number : ℕ) (line : List ℕ)
+    (why : Stop) (old e new : Engine S) → schema_of e ≡ schema_of old → built_of e ≡ built_of old
+    → g.limit (leaves_of e) ≡ g.limit (leaves_of old) → before ≡ with_line line left
+    → (so : IsSoFar g start all before number old e) → IsReady g e → why ≢ stop.Fault
+    → IsGivenUp g so.now line e new why → IsPlayedPart g start all old new why
 at_other g start all before left number line why old e new schema_is built_is limit_is before_is so ready other up =
     part_before g start all before number old e new why so (up.unsaid other)
     (λ _. kept_after g so.now old e new schema_is built_is so.at (up.kept other))
@@ -211,31 +294,48 @@ at_other g start all before left number line why old e new schema_is built_is li
     (λ full. short_at g so.now before left line old e schema_is built_is limit_is before_is ready so.at (up.short full))
 
 -- the same of every stop
-pub at_cut : {S : Type 0} (g : Ghosts S) (start : Playing) (all before left : Lines) (number : ℕ) (line : List ℕ) (why : Stop) (old e new : Engine S) → schema_of e ≡ schema_of old → built_of e ≡ built_of old → g.limit (leaves_of e) ≡ g.limit (leaves_of old) → before ≡ with_line line left → (so : IsSoFar g start all before number old e) → IsReady g e → IsGivenUp g so.now line e new why → IsPlayedPart g start all old new why
-at_cut g start all before left number line stop.Fault old e new schema_is built_is limit_is before_is so ready up = at_fault g start all before left number line old e new schema_is built_is before_is so up.cut
-at_cut g start all before left number line stop.Full old e new schema_is built_is limit_is before_is so ready up = at_other g start all before left number line stop.Full old e new schema_is built_is limit_is before_is so ready (λ f. cc) up
-at_cut g start all before left number line stop.NoMemory old e new schema_is built_is limit_is before_is so ready up = at_other g start all before left number line stop.NoMemory old e new schema_is built_is limit_is before_is so ready (λ f. cc) up
-at_cut g start all before left number line (stop.Damaged block) old e new schema_is built_is limit_is before_is so ready up = at_other g start all before left number line (stop.Damaged block) old e new schema_is built_is limit_is before_is so ready (λ f. cc) up
+pub at_cut : {S : Type 0} (g : Ghosts S) (start : Playing) (all before left : Lines) (number : ℕ)
+    (line : List ℕ) (why : Stop) (old e new : Engine S) → schema_of e ≡ schema_of old
+    → built_of e ≡ built_of old → g.limit (leaves_of e) ≡ g.limit (leaves_of old) → before ≡ with_line line left
+    → (so : IsSoFar g start all before number old e) → IsReady g e → IsGivenUp g so.now line e new why
+    → IsPlayedPart g start all old new why
+at_cut g start all before left number line stop.Fault old e new schema_is built_is limit_is before_is so ready up =
+    at_fault g start all before left number line old e new schema_is built_is before_is so up.cut
+at_cut g start all before left number line stop.Full old e new schema_is built_is limit_is before_is so ready up =
+    at_other g start all before left number line stop.Full old e new schema_is built_is limit_is before_is so ready (λ f. cc) up
+at_cut g start all before left number line stop.NoMemory old e new schema_is built_is limit_is before_is so ready up =
+    at_other g start all before left number line stop.NoMemory old e new schema_is built_is limit_is before_is so ready (λ f. cc) up
+at_cut g start all before left number line (stop.Damaged block) old e new schema_is built_is limit_is before_is so ready up =
+    at_other g start all before left number line (stop.Damaged block) old e new schema_is built_is limit_is before_is so ready (λ f. cc) up
 
 -- a cause in a later call is one in all of them
 pub rose_since : (before mid now : ℕ) → before ≤ mid → Rose mid now → Rose before now
 rose_since before mid now le rose = omega (arith, rose)
 
-pub cause_since : (limit start : Option Limits) (before mid now : ℕ) (why : Stop) → limit ≡ start → before ≤ mid → HasPlayCause limit mid now why → HasPlayCause start before now why
+pub cause_since : (limit start : Option Limits) (before mid now : ℕ) (why : Stop) → limit ≡ start → before ≤ mid
+    → HasPlayCause limit mid now why → HasPlayCause start before now why
 cause_since limit start before mid now stop.Fault limit_is le cause = rose_since before mid now le cause
 cause_since limit start before mid now stop.Full limit_is le cause = subst IsSome limit_is cause
 cause_since limit start before mid now stop.NoMemory limit_is le cause = tt
 cause_since limit start before mid now (stop.Damaged block) limit_is le cause = absurd cause
 
 -- how the play ends where a line isn't carried out
-pub at_line : {S : Type 0} (g : Ghosts S) (start : Playing) (all before left : Lines) (number : ℕ) (line : List ℕ) (end : PlayEnd) (result : Result (Unit {0}) PlayEnd) (old e new : Engine S) → schema_of e ≡ schema_of old → built_of e ≡ built_of old → g.limit (leaves_of e) ≡ g.limit (leaves_of old) → before ≡ with_line line left → (so : IsSoFar g start all before number old e) → IsReady g e → result ≡ Err end → ((n : ℕ) (reason : LineWhy) → end ≡ play_end.Line n reason → IsBadAt (schema_of e) (is_open e) (number + 1) line n reason × (new ≡ e)) → ((why : Stop) → end ≡ play_end.Stop why → IsGivenUp g so.now line e new why) → IsPlayedTo g start all old new result
-at_line g start all before left number line (play_end.Line n reason) result old e new schema_is built_is limit_is before_is so ready result_is bad up =
+pub at_line : {S : Type 0} (g : Ghosts S) (start : Playing) (all before left : Lines) (number : ℕ)
+    (line : List ℕ) (end : PlayEnd) (result : Result (Unit {0}) PlayEnd) (old e new : Engine S)
+    → schema_of e ≡ schema_of old → built_of e ≡ built_of old → g.limit (leaves_of e) ≡ g.limit (leaves_of old)
+    → before ≡ with_line line left → (so : IsSoFar g start all before number old e) → IsReady g e
+    → result ≡ Err end → ((n : ℕ) (reason : LineWhy) → end ≡ play_end.Line n reason
+    → IsBadAt (schema_of e) (is_open e) (number + 1) line n reason × (new ≡ e))
+    → ((why : Stop) → end ≡ play_end.Stop why → IsGivenUp g so.now line e new why) → IsPlayedTo g start all old new result
+at_line g start all before left number line (play_end.Line n reason) result old e new schema_is built_is
+    limit_is before_is so ready result_is bad up =
     let at = bad n reason refl in
     subst (λ r. IsPlayedTo g start all old new r) (sym result_is)
     (subst (λ k. IsPlayedUp g start all old new (stopped k reason)) (sym at.0.0)
     (subst (λ x. IsPlayedUp g start all old x (stopped (number + 1) reason)) (sym at.1)
     (at_bad_line g start all before left number line reason old e schema_is before_is so at.0.1)))
-at_line g start all before left number line (play_end.Stop s) result old e new schema_is built_is limit_is before_is so ready result_is bad up =
+at_line g start all before left number line (play_end.Stop s) result old e new schema_is built_is limit_is
+    before_is so ready result_is bad up =
     subst (λ r. IsPlayedTo g start all old new r) (sym result_is)
     (at_cut g start all before left number line s old e new schema_is built_is limit_is before_is so ready (up s refl))
 
@@ -251,7 +351,10 @@ parts_or false a c n le other = other
 
 parts_few : (bs : List ℕ) → length (parts_of bs).ended ≤ length bs
 parts_few [] = omega arith
-parts_few (b ∷ bs) = parts_or (b == 10) (record { ended = [] ∷ (parts_of bs).ended; rest = (parts_of bs).rest }) (with_byte b (parts_of bs).ended (parts_of bs).rest) (length (b ∷ bs)) (omega (arith, parts_few bs)) (omega (arith, parts_few bs, with_byte_few b (parts_of bs).ended (parts_of bs).rest))
+parts_few (b ∷ bs) =
+    parts_or (b == 10) (record { ended = [] ∷ (parts_of bs).ended; rest = (parts_of bs).rest })
+    (with_byte b (parts_of bs).ended (parts_of bs).rest) (length (b ∷ bs)) (omega (arith, parts_few bs))
+    (omega (arith, parts_few bs, with_byte_few b (parts_of bs).ended (parts_of bs).rest))
 
 lines_or : (t : Bool) (a c : Lines) (n : ℕ) → length a.lines ≤ n → length c.lines ≤ n → length (if t then a else c).lines ≤ n
 lines_or true a c n le other = le
@@ -263,18 +366,31 @@ last_few [] false = omega arith
 last_few (b ∷ bs) false = omega arith
 
 limit_few : (ended : List (List ℕ)) (rest : List ℕ) (longer : Bool) → length (up_to_limit ended rest longer).lines ≤ length ended + 1
-limit_few [] rest longer = lines_or (nat_lt longest_line (length rest)) (stopped_lines why.TooLong) (last_line rest longer) 1 (omega arith) (last_few rest longer)
-limit_few (line ∷ lines) rest longer = lines_or (nat_lt longest_line (length line)) (stopped_lines why.TooLong) (with_line (without_cr line) (up_to_limit lines rest longer)) (length (line ∷ lines) + 1) (omega arith) (omega (arith, limit_few lines rest longer))
+limit_few [] rest longer =
+    lines_or (nat_lt longest_line (length rest)) (stopped_lines why.TooLong) (last_line rest longer) 1 (omega arith) (last_few rest longer)
+limit_few (line ∷ lines) rest longer =
+    lines_or (nat_lt longest_line (length line)) (stopped_lines why.TooLong)
+    (with_line (without_cr line) (up_to_limit lines rest longer)) (length (line ∷ lines) + 1) (omega arith)
+    (omega (arith, limit_few lines rest longer))
 
 pub few_lines : (script : List ℕ) → length (script_lines script).lines ≤ 16777217
 unfolding lines_within longest_script
-few_lines script = omega (arith, limit_few (parts_of (take 16777216 script)).ended (parts_of (take 16777216 script)).rest (nat_lt 16777216 (length script)), parts_few (take 16777216 script), taken)
+few_lines script =
+    omega (
+      arith,
+      limit_few (parts_of (take 16777216 script)).ended (parts_of (take 16777216 script)).rest
+          (nat_lt 16777216 (length script)),
+      parts_few (take 16777216 script),
+      taken,
+    )
   where
     taken : length (take 16777216 script) ≤ 16777216
     taken = subst (λ n. n ≤ 16777216) (sym (length-take 16777216 script)) (omega arith)
 
 -- the same for the end that is answered
-pub at_line_end : {S : Type 0} (g : Ghosts S) (start : Playing) (all left : Lines) (number : ℕ) (end : PlayEnd) (result : Result (Unit {0}) PlayEnd) (old e : Engine S) → IsSoFar g start all left number old e → result ≡ Err end → IsLineEnd left number end → IsPlayedTo g start all old e result
+pub at_line_end : {S : Type 0} (g : Ghosts S) (start : Playing) (all left : Lines) (number : ℕ) (end : PlayEnd)
+    (result : Result (Unit {0}) PlayEnd) (old e : Engine S) → IsSoFar g start all left number old e
+    → result ≡ Err end → IsLineEnd left number end → IsPlayedTo g start all old e result
 at_line_end g start all left number (play_end.Line n reason) result old e so result_is is =
     subst (λ r. IsPlayedTo g start all old e r) (sym result_is)
     (at_stop g start all left number n reason old e so is.0 is.1)
@@ -286,7 +402,8 @@ is_err (Ok x) end is = absurd is
 is_err (Err e) end is = ap Err is
 
 -- no line is behind for another reason than its own
-pub no_stop : (lines : Lines) (number : ℕ) (r : Result (Unit {0}) PlayEnd) (end : PlayEnd) (why : Stop) → IsLineEnd lines number end → r ≡ Err end → r ≡ Err (play_end.Stop why) → ⊥
+pub no_stop : (lines : Lines) (number : ℕ) (r : Result (Unit {0}) PlayEnd) (end : PlayEnd) (why : Stop)
+    → IsLineEnd lines number end → r ≡ Err end → r ≡ Err (play_end.Stop why) → ⊥
 no_stop lines number r (play_end.Line n reason) why is e f = other (sym e ∙ f)
   where
     other : ◌≡◌ {A = Result (Unit {0}) PlayEnd} (Err (play_end.Line n reason)) (Err (play_end.Stop why)) → ⊥

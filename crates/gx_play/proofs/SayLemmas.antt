@@ -10,15 +10,19 @@ use Rattle.gx_engine.specs.Steps.{IsSame, leaves_of}
 take_add : (a b : ℕ) (xs : List ℕ) → take a xs ++ take b (drop a xs) ≡ take (a + b) xs
 take_add zero b xs = ap (λ k. take k xs) (let e : b ≡ 0 + b = omega arith in e)
 take_add (suc a) b [] = take_all b [] (omega arith) ∙ sym (take_all (suc a + b) [] (omega arith))
-take_add (suc a) b (x ∷ xs) = ap (λ (ys : List ℕ). x ∷ ys) (take_add a b xs) ∙ ap (λ k. take k (x ∷ xs)) (let e : suc (a + b) ≡ suc a + b = omega arith in e)
+take_add (suc a) b (x ∷ xs) =
+    ap (λ (ys : List ℕ). x ∷ ys) (take_add a b xs) ∙ ap (λ k. take k (x ∷ xs)) (let e : suc (a + b) ≡ suc a + b = omega arith in e)
 
 -- what is said so far, after the next part
-pub said_more : (piece rest old mid new : List ℕ) (done n : ℕ) → rest ≡ drop done piece → mid ≡ old ++ take done piece → new ≡ mid ++ take n rest → new ≡ old ++ take (done + n) piece
+pub said_more : (piece rest old mid new : List ℕ) (done n : ℕ) → rest ≡ drop done piece
+    → mid ≡ old ++ take done piece → new ≡ mid ++ take n rest → new ≡ old ++ take (done + n) piece
 said_more piece rest old mid new done n is so_far next =
-    next ∙ (λ i. so_far i ++ take n (is i)) ∙ append_assoc old (take done piece) (take n (drop done piece)) ∙ ap (λ (p : List ℕ). old ++ p) (take_add done n piece)
+    next ∙ (λ i. so_far i ++ take n (is i)) ∙ append_assoc old (take done piece) (take n (drop done piece))
+    ∙ ap (λ (p : List ℕ). old ++ p) (take_add done n piece)
 
 pub rest_more : (piece rest : List ℕ) (done n : ℕ) → rest ≡ drop done piece → take (length rest - n) (drop n rest) ≡ drop (done + n) piece
-rest_more piece rest done n is = take_all (length rest - n) (drop n rest) (omega (arith, length-drop n rest)) ∙ ap (drop n) is ∙ drop-drop n done piece
+rest_more piece rest done n is =
+    take_all (length rest - n) (drop n rest) (omega (arith, length-drop n rest)) ∙ ap (drop n) is ∙ drop-drop n done piece
 
 -- ---- what was said before stays in front
 
@@ -35,7 +39,19 @@ begins_front xs ys zs piece same said = (take said.0 piece, said.1 ∙ ap (λ (t
 -- ---- what `hear` and `say` keep, once and one after the other
 
 pub talks_itself : {S : Type 0} (g : Ghosts S) (a : S) → Talks g a a
-talks_itself g a = record { working = refl; whole = λ h. h; fresh = λ leaf h. h; kept = refl; unchanged = λ h. h; kept_whole = (λ h. h, λ h. h); work = refl; limit = refl; head = refl; calm = λ s h. h }
+talks_itself g a = record {
+  working = refl;
+  whole = λ h. h;
+  fresh = λ leaf h. h;
+  kept = refl;
+  unchanged = λ h.
+      h;
+  kept_whole = (λ h. h, λ h. h);
+  work = refl;
+  limit = refl;
+  head = refl;
+  calm = λ s h. h;
+}
 
 pub talks_joined : {S : Type 0} (g : Ghosts S) (a b c : S) → Talks g a b → Talks g b c → Talks g a c
 talks_joined g a b c p q = record {

@@ -46,6 +46,11 @@ beside g to = record {
 
 -- an engine beside a list of answers
 abbrev pub with_answers : {S : Type 0} → Engine S → List ℕ → Engine (S × List ℕ)
-with_answers e kept =
-    record
-    { schema = e.schema; built = e.built; leaves = (e.leaves, kept); inside = e.inside; commits = e.commits; stopped = e.stopped }
+with_answers e kept = record {
+  schema = e.schema;
+  built = e.built;
+  leaves = (e.leaves, kept);
+  inside = e.inside;
+  commits = e.commits;
+  stopped = e.stopped;
+}

@@ -1,5 +1,5 @@
 -- How a request ends that isn't played to its end: its line and its status.
-use Rattle.std.specs.Prelude.{◌≡◌, ◌≢◌, ℕ, Bool, true, false, Result, Ok, Err, List, [], ◌++◌, codes}
+use Rattle.std.specs.Prelude.{◌≡◌, ◌≢◌, ℕ, ◌≤◌, Bool, true, false, Result, Ok, Err, IsErrOf, List, [], ◌++◌, codes}
 use Rattle.std.specs.Fmt.{decimal}
 use Rattle.gx_device.specs.Content.{Content}
 use Rattle.gx_device.specs.Faults.{Rose}
@@ -98,6 +98,18 @@ is_outside _ = false
 abbrev pub is_fault : {T : Type 0} → Result T Ending → Bool
 is_fault (Err why) = is_outside why
 is_fault (Ok x) = false
+
+-- `Fault` comes only where a call of the machine failed, and with any other answer none did
+pub record CountsFault {T : Type 0} (before now : ℕ) (result : Result T Ending) : Type 0 where
+  pub fault : IsErrOf result ending.Fault → Rose before now
+  pub counted : is_fault result ≡ false → now ≡ before
+  pub later : before ≤ now
+
+-- the same by the status: `Outside` comes only where one failed, and with any other none did
+pub record CountsOutside (before now : ℕ) (s : Status) : Type 0 where
+  pub outside : s ≡ status.Outside → Rose before now
+  pub counted : s ≢ status.Outside → now ≡ before
+  pub later : before ≤ now
 
 -- a failed call of the machine, or want of memory
 abbrev pub IsOutside : ℕ → ℕ → Ending → Type 0

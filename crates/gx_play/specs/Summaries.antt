@@ -8,9 +8,11 @@ use Rattle.gx_play.specs.declared.summary.Summary.{Summary}
 -- how many leaves there are, how many pages they have from the start on, and the blocks of the
 -- smallest device for them
 abbrev pub summary_of : List LeafSpec → Summary
-summary_of specs =
-    record
-    { leaves = length specs; root_pages = root_pages specs; smallest_device = smallest_device specs }
+summary_of specs = record {
+  leaves = length specs;
+  root_pages = root_pages specs;
+  smallest_device = smallest_device specs;
+}
 
 abbrev pub accepted_line : Summary → List ℕ
 accepted_line s =

@@ -1,9 +1,7 @@
 // How a request ends that isn't played to its end, and what is said of it.
-ghost use Rattle.std.specs.Prelude.{◌≡◌, ◌≢◌, ◌++◌, ◌≤◌, ◌⊎◌, List, ℕ, [], take, IsTrue, IfOk, IsOk, codes};
+ghost use Rattle.std.specs.Prelude.{◌≡◌, ◌≢◌, ◌++◌, ◌≤◌, ◌⊎◌, ℕ, [], take, IsTrue, IfOk, IsOk, codes};
 ghost use Rattle.std.specs.Fmt.{decimal};
 ghost use Rattle.gx_device.specs.Faults.{Rose};
-ghost use Rattle.gx_tokens.specs.Whys.{word_of as why_word};
-ghost use Rattle.gx_commands.specs.LineWhys.{word_of as line_word};
 ghost use Rattle.gx_play.specs.Summaries.{accepted_line};
 ghost use Rattle.gx_play.specs.Endings.{line_of, status_of, memory_line, device_line, made_line};
 ghost use Rattle.gx_play.specs.Say.{IsCut, OnlySays, SameDevices};

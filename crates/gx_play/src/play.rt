@@ -1,14 +1,14 @@
 // Playing a script on an engine, line by line.
-ghost use Rattle.std.specs.Prelude.{◌≡◌, ◌≢◌, ◌^◌, ◌<◌, ◌≤◌, ◌+◌, ◌++◌, List, ℕ, Option, None, Ok, Err, false, length, take, IsTrue, IfOk, IfErr, IfSome, OnOk, OnErr, ◌-◌, option_map};
+ghost use Rattle.std.specs.Prelude.{◌≡◌, ◌<◌, ◌≤◌, ◌+◌, ℕ, None, Ok, Err, false, length, IsTrue, IfOk, OnOk, OnErr, ◌-◌};
 ghost use Rattle.gx_schema.specs.WellFormed.{IsWellFormed};
 ghost use Rattle.gx_ports.specs.Stops.{is_fault, HasStopCause};
 ghost use Rattle.gx_ports.specs.Calls.{Keeps};
-ghost use Rattle.gx_engine.specs.Steps.{IsReady, IsAt, IsDue, IsSound, IsShortFor, CarriesOut, KeepsEngine, schema_of, built_of, is_open, stop_of, leaves_of};
+ghost use Rattle.gx_engine.specs.Steps.{IsReady, IsAt, IsDue, IsSound, IsShortFor, CarriesOut, KeepsEngine, schema_of, is_open, stop_of, leaves_of};
 ghost use Rattle.gx_model.specs.Play.{Playing};
-ghost use Rattle.gx_commands.specs.Lines.{longest_line, script_lines, IsNext};
+ghost use Rattle.gx_commands.specs.Lines.{longest_line, script_lines};
 ghost use Rattle.gx_script.specs.Grammar.{IsLineOf};
 ghost use Rattle.gx_play.specs.Answering.{are_told, beside, with_answers};
-ghost use Rattle.gx_play.specs.Plays.{IsLinePlayed, IsCommandPlayed, IsGivenUp, IsCommandGivenUp, HasPlayCause, KeepsPlayed, CountsFailed, IsBadAt, IsPlayedTo, IsLineEnd, is_play_fault};
+ghost use Rattle.gx_play.specs.Plays.{IsLinePlayed, IsCommandPlayed, IsGivenUp, IsCommandGivenUp, HasPlayCause, KeepsPlayed, CountsFailed, IsBadAt, IsPlayedTo, is_play_fault};
 
 use crate::lines::{next_line, placed_command};
 use crate::say::answer_all;

@@ -1,5 +1,5 @@
 // Hearing the script whole, before any of it is played.
-ghost use Rattle.std.specs.Prelude.{◌≡◌, ◌⊎◌, ◌≤◌, ◌<◌, ◌^◌, List, ℕ, [], ◌++◌, false, length, IsTrue, IfOk, IfErr};
+ghost use Rattle.std.specs.Prelude.{◌≡◌, ◌≤◌, ◌<◌, ◌^◌, false, length, IsTrue, IfOk, IfErr};
 ghost use Rattle.gx_device.specs.Content.{Listens};
 ghost use Rattle.gx_ports.specs.Calls.{Talks};
 ghost use Rattle.gx_play.specs.Endings.{IsOutside, is_fault};
@@ -14,8 +14,8 @@ use std::alloc::Global;
 /// `Fault` comes only where a call below failed.
 pub fn hear_script<'a, B: Leaves>(alloc: Global, leaves: &mut B) -> Result<Vec<u8>, Ending<'a>>
     ensures heard { IsTrue B.tells →
-        IfOk result
-        (λ script. IsHeard (B.content leaves.old).script (B.content leaves.new).script script.items) }
+        IfOk result (λ script.
+        IsHeard (B.content leaves.old).script (B.content leaves.new).script script.items) }
     ensures short { IfOk result (λ script. length script.items < 2 ^ 32) }
     ensures unheard { IfErr result (IsOutside (B.faults leaves.old) (B.faults leaves.new)) }
     ensures counted { is_fault result ≡ false → B.faults leaves.new ≡ B.faults leaves.old }

@@ -58,12 +58,15 @@ mutual
   in_term : (levels owner : ℕ) (form : Form) (t : Tree) → IsTerm levels t → HaveFiles (leaves_of owner form t)
   in_term zero owner form t is = absurd is
   in_term (suc levels) owner form (node top kids) is =
-      both (leaf_here owner top form) (leaves_of_kids owner (kid_form top form) 0 kids) (at_head owner top form is.0) (in_terms levels owner (kid_form top form) 0 kids is.2)
+      both (leaf_here owner top form) (leaves_of_kids owner (kid_form top form) 0 kids)
+      (at_head owner top form is.0) (in_terms levels owner (kid_form top form) 0 kids is.2)
 
-  in_terms : (levels owner : ℕ) (forms : ℕ → Form) (i : ℕ) (ts : Trees) → AllByRecursion (IsTerm levels) (list_of ts) → HaveFiles (leaves_of_kids owner forms i ts)
+  in_terms : (levels owner : ℕ) (forms : ℕ → Form) (i : ℕ) (ts : Trees)
+      → AllByRecursion (IsTerm levels) (list_of ts) → HaveFiles (leaves_of_kids owner forms i ts)
   in_terms levels owner forms i none are = refl
   in_terms levels owner forms i (kid t ts) are =
-      both (leaves_of owner (forms i) t) (leaves_of_kids owner forms (suc i) ts) (in_term levels owner (forms i) t are.0) (in_terms levels owner forms (suc i) ts are.1)
+      both (leaves_of owner (forms i) t) (leaves_of_kids owner forms (suc i) ts)
+      (in_term levels owner (forms i) t are.0) (in_terms levels owner forms (suc i) ts are.1)
 
 in_side : (owner : ℕ) (due : Stored) (side : SideTree) → IsSide side → HaveFiles (leaves_of_side owner due side)
 in_side owner (stored.File form) (file_side t) is = in_term 16 owner form t is
@@ -72,11 +75,13 @@ in_side owner (stored.Link o m) (file_side t) is = refl
 in_side owner (stored.Link o m) (link_side linkset ts) is =
     in_terms 15 owner (link_form linkset o m) 0 (kids_from ts) (subst (AllByRecursion (IsTerm 15)) (sym (list_from ts)) is.1)
 
-in_definitions : (owner : ℕ) (ms : List Due) (ds : List DefinitionTree) → AllByRecursion IsDefinition ds → HaveFiles (leaves_of_all owner ms ds)
+in_definitions : (owner : ℕ) (ms : List Due) (ds : List DefinitionTree) → AllByRecursion IsDefinition ds
+    → HaveFiles (leaves_of_all owner ms ds)
 in_definitions owner [] ds are = refl
 in_definitions owner (due ∷ ms) [] are = refl
 in_definitions owner (due ∷ ms) (d ∷ ds) are =
-    both (leaves_of_side owner due.stored d.side) (leaves_of_all (suc owner) ms ds) (in_side owner due.stored d.side are.0.side) (in_definitions (suc owner) ms ds are.1)
+    both (leaves_of_side owner due.stored d.side) (leaves_of_all (suc owner) ms ds)
+    (in_side owner due.stored d.side are.0.side) (in_definitions (suc owner) ms ds are.1)
 
 -- ---- how many there are
 
@@ -84,16 +89,24 @@ some_in_side : (form : Form) (side : SideTree) → IsSide side → IsTypedSide (
 some_in_side form (file_side t) is typed = some_leaf 16 form t is
 some_in_side form (link_side linkset ts) is typed = absurd typed
 
-some_in : (files : List FileDef) (more : List Due) (ds : List DefinitionTree) → 0 < length files → AllByRecursion IsDefinition ds → AreTyped (map file_due files ++ more) ds → 1 ≤ all_leaf_count ds
+some_in : (files : List FileDef) (more : List Due) (ds : List DefinitionTree) → 0 < length files
+    → AllByRecursion IsDefinition ds → AreTyped (map file_due files ++ more) ds → 1 ≤ all_leaf_count ds
 some_in [] more ds some each typed = absurd (omega (arith, some))
 some_in (file ∷ files) more [] some each typed = absurd typed
 some_in (file ∷ files) more (d ∷ ds) some each typed = omega (arith, some_in_side (file_form file) d.side each.0.side typed.1)
 
 -- a file has a leaf
-pub some_leaves : (schema : Schema) (ds : List DefinitionTree) → IsSchema schema → AreWritten ds → IsTyped schema ds → 0 < length (map spec_of (leaves schema ds))
+pub some_leaves : (schema : Schema) (ds : List DefinitionTree) → IsSchema schema → AreWritten ds
+    → IsTyped schema ds → 0 < length (map spec_of (leaves schema ds))
 some_leaves schema ds is written typed =
     let total = split_count schema.files ds ∙ total_count schema ds (length (leaves schema ds)) typed refl in
-    omega (arith, length-map (leaves schema ds) spec_of, total, some_in schema.files (map (link_due schema.files) schema.links) ds is.some written.each typed.definitions)
+    omega (
+      arith,
+      length-map (leaves schema ds) spec_of,
+      total,
+      some_in schema.files
+          (map (link_due schema.files) schema.links) ds is.some written.each typed.definitions,
+    )
 
 -- ---- their kinds
 
@@ -102,8 +115,10 @@ leaves_built schema ds written =
     list_all-map (λ (spec : LeafSpec). is_built spec.kind) spec_of (leaves schema ds) ∙ in_definitions 0 (dues schema) ds written.each
 
 -- each leaf that the definitions mean has an owner
-pub all_owned : (schema : Schema) (ds : List DefinitionTree) (typing : Typing) (specs : List LeafSpec) (owners : List ℕ) → IsTyped schema ds → typing ≡ typing_with (leaves schema ds) → typing ≡ record { specs = specs; owners = owners }
+pub all_owned : (schema : Schema) (ds : List DefinitionTree) (typing : Typing) (specs : List LeafSpec)
+    (owners : List ℕ) → IsTyped schema ds → typing ≡ typing_with (leaves schema ds) → typing ≡ record { specs = specs; owners = owners }
     → length owners ≡ length specs → length owners ≡ file_leaf_count schema.files ds + all_leaf_count (link_definitions schema.files ds)
 all_owned schema ds typing specs owners typed leaves_are given owned =
-    let total : length specs ≡ length (leaves schema ds) = ap (λ (t : Typing). length t.specs) (sym given ∙ leaves_are) ∙ length-map (leaves schema ds) spec_of in
+    let total : length specs ≡ length (leaves schema ds) = ap (λ (t : Typing). length t.specs)
+    (sym given ∙ leaves_are) ∙ length-map (leaves schema ds) spec_of in
     owned ∙ sym (total_count schema ds (length specs) typed total)

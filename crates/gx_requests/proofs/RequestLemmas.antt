@@ -198,10 +198,13 @@ asked_of_one words texts a equation_name equation asks there = record {
 -- ---- accepted texts
 
 -- as many leaves as a typed equation may have
-pub few_leaves : (s e : List ℕ) (schema : Schema) (ds : List DefinitionTree) (typing : Typing) → AreAccepted s e schema ds typing → length typing.specs ≤ 255
-few_leaves s e schema ds typing is = subst (λ (t : Typing). length t.specs ≤ 255) (sym is.leaves_are) (omega (arith, is.typed.few, length-map (leaves schema ds) spec_of))
+pub few_leaves : (s e : List ℕ) (schema : Schema) (ds : List DefinitionTree) (typing : Typing)
+    → AreAccepted s e schema ds typing → length typing.specs ≤ 255
+few_leaves s e schema ds typing is =
+    subst (λ (t : Typing). length t.specs ≤ 255) (sym is.leaves_are) (omega (arith, is.typed.few, length-map (leaves schema ds) spec_of))
 
-unaccepted : (words : List (List ℕ)) (texts : Texts) (before now : ℕ) (a : Action) (s e : List ℕ) (why : Ending) → IsAsked words texts a s e → AreUnchecked s e why → IsUnprepared words texts before now why
+unaccepted : (words : List (List ℕ)) (texts : Texts) (before now : ℕ) (a : Action) (s e : List ℕ) (why : Ending)
+    → IsAsked words texts a s e → AreUnchecked s e why → IsUnprepared words texts before now why
 unaccepted words texts before now a s e (ending.Schema line reason) asked h = inl (a, s, e, asked, h)
 unaccepted words texts before now a s e (ending.Equation line reason) asked h = inl (a, s, e, asked, h)
 unaccepted words texts before now a s e (ending.Type line reason) asked h = inl (a, s, e, asked, h)
@@ -218,16 +221,20 @@ unaccepted words texts before now a s e (ending.Line number reason) asked h = ab
 unaccepted words texts before now a s e ending.Fault asked h = absurd h
 
 -- the same for what a call answers
-all_unaccepted : (words : List (List ℕ)) (texts : Texts) (before now : ℕ) (a : Action) (s e : List ℕ) (result : Result Checked Ending) → IsAsked words texts a s e → IfErr result (AreUnchecked s e) → IfErr result (IsUnprepared words texts before now)
+all_unaccepted : (words : List (List ℕ)) (texts : Texts) (before now : ℕ) (a : Action) (s e : List ℕ)
+    (result : Result Checked Ending) → IsAsked words texts a s e → IfErr result (AreUnchecked s e)
+    → IfErr result (IsUnprepared words texts before now)
 all_unaccepted words texts before now a s e (Ok c) asked h = tt
 all_unaccepted words texts before now a s e (Err why) asked h = unaccepted words texts before now a s e why asked h
 
-all_accepted : (words : List (List ℕ)) (texts : Texts) (a : Action) (s e : List ℕ) (result : Result Checked Ending) → IsAsked words texts a s e → IfOk result (AreChecked s e) → IfOk result (IsAcceptedAs words texts a)
+all_accepted : (words : List (List ℕ)) (texts : Texts) (a : Action) (s e : List ℕ)
+    (result : Result Checked Ending) → IsAsked words texts a s e → IfOk result (AreChecked s e) → IfOk result (IsAcceptedAs words texts a)
 all_accepted words texts a s e (Ok c) asked h = (s, e, asked, h)
 all_accepted words texts a s e (Err why) asked h = tt
 
 -- what the checker says of them
-pub summary : (words : List (List ℕ)) (texts : Texts) (c : Checked) (given : Summary) → IsAcceptedAs words texts checking c → given ≡ summary_of c.typing.specs → IsSummary words texts given
+pub summary : (words : List (List ℕ)) (texts : Texts) (c : Checked) (given : Summary)
+    → IsAcceptedAs words texts checking c → given ≡ summary_of c.typing.specs → IsSummary words texts given
 summary words texts c given is same = (c.schema, definitions_of c.equation.definitions, c.typing, is, same)
 
 -- what the checker says of the texts that are asked for is what is prepared
@@ -258,7 +265,8 @@ passed_on Asks Given texts before now why (Err e) un is = record {
 
 -- ---- what is built of them
 
-pub all_built : (words : List (List ℕ)) (texts : Texts) (a : Action) (c : Checked) (x : Schema × Built) → IsAcceptedAs words texts a c → IsBuiltFor c x → IsPrepared words texts a x
+pub all_built : (words : List (List ℕ)) (texts : Texts) (a : Action) (c : Checked) (x : Schema × Built)
+    → IsAcceptedAs words texts a c → IsBuiltFor c x → IsPrepared words texts a x
 all_built words texts a c x is h =
     let ds = definitions_of c.equation.definitions in
     record {
@@ -268,7 +276,8 @@ all_built words texts a c x is h =
       trees = subst (λ (k : Schema). IsBuiltOf k ds x.1) (sym h.0) h.1;
     }
 
-pub all_stored : (words : List (List ℕ)) (texts : Texts) (a : Action) (c : Checked) (x : Stored) → IsAcceptedAs words texts a c → IsStoredOf c x → IsStoredFor words texts a x
+pub all_stored : (words : List (List ℕ)) (texts : Texts) (a : Action) (c : Checked) (x : Stored)
+    → IsAcceptedAs words texts a c → IsStoredOf c x → IsStoredFor words texts a x
 all_stored words texts a c x is h =
     let ds = definitions_of c.equation.definitions in
     record {

@@ -1,18 +1,10 @@
 -- What a call that fetches texts leaves of a machine, and what it gives of them.
-use Rattle.std.specs.Prelude.{◌≡◌, ◌≤◌, ℕ, List, false, Result, IfOk, IfErr, IsErrOf}
+use Rattle.std.specs.Prelude.{ℕ, List, Result, IfOk, IfErr}
 use Rattle.gx_device.specs.Content.{Content, SameContent, Texts}
-use Rattle.gx_device.specs.Faults.{Rose}
 use Rattle.gx_play.specs.declared.ending.Ending.{Ending}
-use Rattle.gx_play.specs.declared.ending.Ending.TheVariants as ending
-use Rattle.gx_play.specs.Endings.{is_fault}
+use Rattle.gx_play.specs.Endings.{CountsFault}
 use Rattle.gx_requests.specs.Requests.{IsUnprepared}
 use Rattle.gx_requests.specs.Words.{Action}
-
--- `Fault` comes only where a call of the machine failed, and with any other answer none did
-pub record CountsFault {T : Type 0} (before now : ℕ) (result : Result T Ending) : Type 0 where
-  pub fault : IsErrOf result ending.Fault → Rose before now
-  pub counted : is_fault result ≡ false → now ≡ before
-  pub later : before ≤ now
 
 -- Of a machine whose content and whose count of failed calls are given by `content` and `faults`:
 -- its content is as it was, and its failures are counted.

@@ -12,7 +12,7 @@ ghost use Rattle.gx_requests.specs.Lengths.{text_length};
 ghost use Rattle.gx_work.specs.Schema.{schema_lines};
 ghost use Rattle.gx_requests.specs.Checked.{IsUnread, IsUnreadEquation, IsUntyped, IsChecked, IsAcceptedAs, AreChecked};
 ghost use Rattle.gx_requests.specs.Fetched.{Fetches, Prepares};
-ghost use Rattle.gx_requests.specs.Requests.{AreUnchecked, equation_of, text_limit};
+ghost use Rattle.gx_requests.specs.Requests.{AreUnchecked, text_limit};
 
 use crate::texts::{TEXT_LIMIT, fetch_text};
 use gx_device::Machine;

@@ -51,11 +51,15 @@ pub record AreFew (ts : List Task) : Type 0 where
   pub few : length ts ≤ 25002
 
 -- the tasks ran, and these are their answers
-pub record IsNext {S : Type 0} (g : Ghosts S) (p : Playing) (ts : List Task) (commits : ℕ) (r : RunsTo p ts false commits) (f : Engine S) (text : List ℕ) : Type 0 where
+pub record IsNext {S : Type 0} (g : Ghosts S) (p : Playing) (ts : List Task) (commits : ℕ)
+    (r : RunsTo p ts false commits) (f : Engine S) (text : List ℕ) : Type 0 where
   pub text_is : text ≡ r.text
   pub at : IsAt g r.final f
 
-pub played_next : {S : Type 0} (g : Ghosts S) (p : Playing) (ts : List Task) (commits : ℕ) (e f : Engine S) (text : List ℕ) → AreFew ts → (r : RunsTo p ts false commits) → schema_of e ≡ work_schema → IsPlayedTo (beside g answers.Kept) p (script_lines (lines_text ts)) (with_answers e []) (with_answers f text) (Ok tt) → IsNext g p ts commits r f text
+pub played_next : {S : Type 0} (g : Ghosts S) (p : Playing) (ts : List Task) (commits : ℕ) (e f : Engine S)
+    (text : List ℕ) → AreFew ts → (r : RunsTo p ts false commits) → schema_of e ≡ work_schema
+    → IsPlayedTo (beside g answers.Kept) p (script_lines (lines_text ts)) (with_answers e [])
+    (with_answers f text) (Ok tt) → IsNext g p ts commits r f text
 played_next g p ts commits e f text few r schema_is up =
     let played : IsPlayFrom work_schema p (record { lines = map line_of ts; stop = None }) up.text up.final good =
     subst (λ (ls : Lines). IsPlayFrom work_schema p ls up.text up.final good) (task_lines ts few.small few.few)
@@ -66,11 +70,15 @@ played_next g p ts commits e f text few r schema_is up =
       at = subst (λ (q : Playing). IsAt g q f) one.1 (at_alone g answers.Kept up.final f text up.at);
     }
 
-abbrev pub up_to_next : {S : Type 0} (g : Ghosts S) (start : State) (done ts : List Task) (some commits : ℕ) (e f : Engine S) (text : List ℕ) (u : IsUpTo g start done some e) (r : RunsTo u.final ts false commits) → IsNext g u.final ts commits r f text → IsUpTo g start (done ++ ts) commits f
+abbrev pub up_to_next : {S : Type 0} (g : Ghosts S) (start : State) (done ts : List Task) (some commits : ℕ)
+    (e f : Engine S) (text : List ℕ) (u : IsUpTo g start done some e) (r : RunsTo u.final ts false commits)
+    → IsNext g u.final ts commits r f text → IsUpTo g start (done ++ ts) commits f
 up_to_next g start done ts some commits e f text u r next = record {
   text = u.text ++ r.text;
   final = r.final;
-  runs = subst (λ ls. Runs work_schema (start_at start) ls (u.text ++ r.text) r.final) (sym (map-append line_of done ts)) (run_on work_schema (start_at start) u.final r.final (map line_of done) (map line_of ts) u.text r.text u.runs r.runs);
+  runs = subst (λ ls. Runs work_schema (start_at start) ls (u.text ++ r.text) r.final)
+      (sym (map-append line_of done ts)) (run_on work_schema (start_at start) u.final r.final (map line_of done)
+      (map line_of ts) u.text r.text u.runs r.runs);
   at = next.at;
   outside = r.inside_is;
   commits_are = r.commits_are;
@@ -82,16 +90,20 @@ up_to_next g start done ts some commits e f text u r next = record {
 all_lines : (n : ℕ) → n ≤ 10000 → (script_lines (work_script n)).lines ≡ map line_of (tasks n)
 all_lines n le = ap (λ (ls : Lines). ls.lines) (task_lines (tasks n) (tasks_small n le) (length_tasks n le))
 
-parts_of_all : (n : ℕ) (done ts later : List Task) (ran behind : List (List ℕ)) → n ≤ 10000 → tasks n ≡ done ++ ts ++ later → map line_of ts ≡ ran ++ behind → (script_lines (work_script n)).lines ≡ (map line_of done ++ ran) ++ (behind ++ map line_of later)
+parts_of_all : (n : ℕ) (done ts later : List Task) (ran behind : List (List ℕ)) → n ≤ 10000
+    → tasks n ≡ done ++ ts ++ later → map line_of ts ≡ ran ++ behind
+    → (script_lines (work_script n)).lines ≡ (map line_of done ++ ran) ++ (behind ++ map line_of later)
 parts_of_all n done ts later ran behind le all parts =
-    all_lines n le ∙ ap (map line_of) all ∙ map-append line_of (done ++ ts) later ∙ ap (λ ls. ls ++ map line_of later) (map-append line_of done ts ∙ ap (λ ls. map line_of done ++ ls) parts)
+    all_lines n le ∙ ap (map line_of) all ∙ map-append line_of (done ++ ts) later
+    ∙ ap (λ ls. ls ++ map line_of later) (map-append line_of done ts ∙ ap (λ ls. map line_of done ++ ls) parts)
     ∙ regroup (map line_of done) ran behind (map line_of later)
   where
     regroup : (a b c d : List (List ℕ)) → (a ++ (b ++ c)) ++ d ≡ (a ++ b) ++ (c ++ d)
     regroup a b c d = simp append_assoc
 
 -- a line that the pages may be too few for, with more lines behind it
-short_before : (built : Built) (limit : Option Limits) (p : Playing) (lines more : List (List ℕ)) → IsShortAt work_schema built limit p lines → IsShortAt work_schema built limit p (lines ++ more)
+short_before : (built : Built) (limit : Option Limits) (p : Playing) (lines more : List (List ℕ))
+    → IsShortAt work_schema built limit p lines → IsShortAt work_schema built limit p (lines ++ more)
 short_before built limit p lines more s = record {
   maps = s.maps;
   many = s.many;
@@ -108,7 +120,9 @@ short_before built limit p lines more s = record {
   };
 }
 
-module _ {S : Type 0} (g : Ghosts S) (n : ℕ) (start : State) (done ts later : List Task) (some commits : ℕ) (e f : Engine S) (text : List ℕ) (few_records : n ≤ 10000) (all : tasks n ≡ done ++ ts ++ later) (few : AreFew ts) (schema_is : schema_of e ≡ work_schema) (u : IsUpTo g start done some e) where
+module _ {S : Type 0} (g : Ghosts S) (n : ℕ) (start : State) (done ts later : List Task) (some commits : ℕ)
+    (e f : Engine S) (text : List ℕ) (few_records : n ≤ 10000) (all : tasks n ≡ done ++ ts ++ later)
+    (few : AreFew ts) (schema_is : schema_of e ≡ work_schema) (u : IsUpTo g start done some e) where
   abbrev Kept : State → Type 0
   Kept = KeepsState g work_schema (built_of e) (leaves_of f)
 
@@ -118,8 +132,11 @@ module _ {S : Type 0} (g : Ghosts S) (n : ℕ) (start : State) (done ts later : 
   part_lines : (why : Stop) (part : Part why) → map line_of ts ≡ part.ran ++ part.later
   part_lines why part = ap (λ (ls : Lines). ls.lines) (sym (task_lines ts few.small few.few)) ∙ part.parts
 
-  part_runs : (why : Stop) (part : Part why) → Runs work_schema (start_at start) (map line_of done ++ part.ran) (u.text ++ part.text) part.final
-  part_runs why part = run_on work_schema (start_at start) u.final part.final (map line_of done) part.ran u.text part.text u.runs (subst (λ (k : Schema). Runs k u.final part.ran part.text part.final) schema_is part.runs)
+  part_runs : (why : Stop) (part : Part why)
+      → Runs work_schema (start_at start) (map line_of done ++ part.ran) (u.text ++ part.text) part.final
+  part_runs why part =
+      run_on work_schema (start_at start) u.final part.final (map line_of done) part.ran u.text part.text u.runs
+      (subst (λ (k : Schema). Runs k u.final part.ran part.text part.final) schema_is part.runs)
 
   part_kept : (why : Stop) → why ≢ stop.Fault → (part : Part why) → Kept part.final.kept
   part_kept why other part = subst (λ (k : Schema). KeepsState g k (built_of e) (leaves_of f) part.final.kept) schema_is (part.kept other)
@@ -146,23 +163,29 @@ module _ {S : Type 0} (g : Ghosts S) (n : ℕ) (start : State) (done ts later : 
       later = part.later ++ map line_of later;
       parts = parts_of_all n done ts later part.ran part.later few_records all (part_lines stop.Full part);
       runs = part_runs stop.Full part;
-      short = short_before (built_of e) (g.limit (leaves_of e)) part.final part.later (map line_of later) (subst (λ (k : Schema). IsShortAt k (built_of e) (g.limit (leaves_of e)) part.final part.later) schema_is (part.short refl));
+      short = short_before (built_of e) (g.limit (leaves_of e)) part.final part.later (map line_of later)
+          (subst (λ (k : Schema). IsShortAt k (built_of e) (g.limit (leaves_of e)) part.final part.later) schema_is (part.short refl));
     };
     holds = part_kept stop.Full (λ e. cc) part;
   }
 
-  no_line : (number : ℕ) (why : LineWhy) → RunsTo u.final ts false commits → IsPlayedUp (beside g answers.Kept) u.final (script_lines (lines_text ts)) (with_answers e []) (with_answers f text) (stopped number why) → ⊥
+  no_line : (number : ℕ) (why : LineWhy) → RunsTo u.final ts false commits
+      → IsPlayedUp (beside g answers.Kept) u.final (script_lines (lines_text ts)) (with_answers e [])
+      (with_answers f text) (stopped number why) → ⊥
   no_line number why r up =
       let played : IsPlayFrom work_schema u.final (record { lines = map line_of ts; stop = None }) up.text up.final (stopped number why) =
       subst (λ (ls : Lines). IsPlayFrom work_schema u.final ls up.text up.final (stopped number why)) (task_lines ts few.small few.few)
-      (subst (λ (k : Schema). IsPlayFrom k u.final (script_lines (lines_text ts)) up.text up.final (stopped number why)) schema_is up.played) in
+      (subst (λ (k : Schema). IsPlayFrom k u.final (script_lines (lines_text ts)) up.text up.final
+      (stopped number why)) schema_is up.played) in
       never (task_once u.final ts commits r up.text up.final (stopped number why) played).2
     where
       never : ◌≡◌ {A = End} (stopped number why) good → ⊥
       never h = cc
 
   -- the play ends early in a part
-  pub worked_part : (end : PlayEnd) → RunsTo u.final ts false commits → ((block : ℕ) → end ≡ play_end.Stop (stop.Damaged block) → ⊥) → IsPlayedTo (beside g answers.Kept) u.final (script_lines (lines_text ts)) (with_answers e []) (with_answers f text) (Err end)
+  pub worked_part : (end : PlayEnd) → RunsTo u.final ts false commits
+      → ((block : ℕ) → end ≡ play_end.Stop (stop.Damaged block) → ⊥)
+      → IsPlayedTo (beside g answers.Kept) u.final (script_lines (lines_text ts)) (with_answers e []) (with_answers f text) (Err end)
       → IsWorkedAs (built_of e) (g.limit (leaves_of e)) start Kept n (Err (ending_of end))
   worked_part (play_end.Line number why) r sound up = absurd (no_line number why r up)
   worked_part (play_end.Stop stop.NoMemory) r sound part = worked_first stop.NoMemory (λ h. cc) part
@@ -171,7 +194,9 @@ module _ {S : Type 0} (g : Ghosts S) (n : ℕ) (start : State) (done ts later : 
   worked_part (play_end.Stop (stop.Damaged block)) r sound part = absurd (sound block refl)
 
 -- no memory where these tasks ran
-pub worked_so_far : {S : Type 0} (g : Ghosts S) (n : ℕ) (start : State) (done later : List Task) (commits : ℕ) (e : Engine S) (Holds : State → Type 0) → n ≤ 10000 → tasks n ≡ done ++ later → (u : IsUpTo g start done commits e) → Holds u.final.kept → IsWorkedFirst start Holds n
+pub worked_so_far : {S : Type 0} (g : Ghosts S) (n : ℕ) (start : State) (done later : List Task) (commits : ℕ)
+    (e : Engine S) (Holds : State → Type 0) → n ≤ 10000 → tasks n ≡ done ++ later
+    → (u : IsUpTo g start done commits e) → Holds u.final.kept → IsWorkedFirst start Holds n
 worked_so_far g n start done later commits e Holds le all u holds = record {
   answers = u.text;
   first = record {

@@ -1,7 +1,6 @@
 // Playing the workload's script silently.
-ghost use Rattle.std.specs.Prelude.{◌≡◌, ◌≤◌, None, false, length, OnOk, IfErr, IsErrOf};
+ghost use Rattle.std.specs.Prelude.{◌≡◌, ◌≤◌, None, length, OnOk, IfErr, IsErrOf};
 ghost use Rattle.gx_device.specs.Content.{Silent};
-ghost use Rattle.gx_device.specs.Faults.{Rose};
 ghost use Rattle.gx_schema.specs.WellFormed.{IsWellFormed};
 ghost use Rattle.gx_commands.specs.Lines.{script_lines};
 ghost use Rattle.gx_model.specs.States.{State};
@@ -9,7 +8,7 @@ ghost use Rattle.gx_model.specs.Play.{Playing, start_at};
 ghost use Rattle.gx_states.specs.Internal.{AreFor};
 ghost use Rattle.gx_engine.specs.Steps.{IsReady, IsAt, schema_of, built_of, stop_of, leaves_of};
 ghost use Rattle.gx_work.specs.Schema.{work_schema};
-ghost use Rattle.gx_play.specs.Endings.{IsPlayEnding, is_fault};
+ghost use Rattle.gx_play.specs.Endings.{IsPlayEnding, CountsFault, is_fault};
 ghost use Rattle.gx_play.specs.Plays.{IsHolding, KeepsState, KeepsPlayed, CountsFailed, HasPlayCause, is_play_fault};
 ghost use Rattle.gx_working.specs.Answering.{IsAnsweredBy};
 ghost use Rattle.gx_working.specs.Worked.{IsWorkedAs};
@@ -48,12 +47,10 @@ pub fn play_work<'a, B: Leaves + Drop>(
         IsWorkedAs built (B.limit leaves) s (KeepsState B.View work_schema built result.1) records
         result.0 }
     ensures ending { IfErr result.0 IsPlayEnding }
-    ensures fault { IsErrOf result.0 Ending.Fault → Rose (B.faults leaves) (B.faults result.1) }
     ensures limit { B.limit result.1 ≡ B.limit leaves }
     ensures head { B.head result.1 ≡ B.head leaves }
     ensures silent { Silent (B.content leaves) (B.content result.1) }
-    ensures counted { is_fault result.0 ≡ false → B.faults result.1 ≡ B.faults leaves }
-    ensures later { B.faults leaves ≤ B.faults result.1 }
+    ensures failures { CountsFault (B.faults leaves) (B.faults result.1) result.0 }
 {
     let mut engine = Engine::start(schema, built, leaves);
     let line = work(alloc, records, &mut engine);

@@ -10,7 +10,9 @@ invariant-loop-line g l =
     let content = g.D.Device.content in
     record {
       few : l.number + length l.lines.lines ≤ 16777217;
-      so_far : IsTrue g.D.Device.tells → IsSoFar l.schema (fields_in l.schema l.built.files) (script_lines l.script) l.lines l.number l.inside (content l.fn.device) (content l.device);
+      so_far : IsTrue g.D.Device.tells
+          → IsSoFar l.schema (fields_in l.schema l.built.files) (script_lines l.script) l.lines l.number
+          l.inside (content l.fn.device) (content l.device);
       rest : OnlySays (content l.fn.device) (content l.device);
       devices : SameDevices (content l.fn.device) (content l.device);
       counted : g.D.Device.faults l.device ≡ g.D.Device.faults l.fn.device;

@@ -29,7 +29,9 @@ returns-clause-untouched g c = λ told steady un.
     let old = journal_of (pages_of c.args.store) in
     let left = c.examine-found.new.leaves in
     let new = journal_of (pages_of left) in
-    let same = ap (λ (o : Option Stored). stored_or (record { ground = ground_of old; sheets = kept_sheets old }) o) (c.examine-found.ensures.untouched told steady un) in
+    let same = ap (λ (o : Option Stored). stored_or
+    (record { ground = ground_of old; sheets = kept_sheets old }) o) (c.examine-found.ensures.untouched told steady un) in
     subst (λ m. ReadAlike (content (machine_of c.args.store)).now.blocks (content m).now.blocks) (sym c.close.ensures.machine)
-    (alike_still old new told (g.met.M.Device.sized old.device told) (g.met.M.Device.sized new.device told) steady (c.examine-found.ensures.steady told steady un)
+    (alike_still old new told (g.met.M.Device.sized old.device told)
+    (g.met.M.Device.sized new.device told) steady (c.examine-found.ensures.steady told steady un)
     (ap (λ (s : Stored). s.ground) same) (ap (λ (s : Stored). s.sheets) same))

@@ -16,11 +16,18 @@ returns-in-Ok-clause-answered g c = λ told.
     let left = c.play_over-leaves.result.1 in
     held_as c.args.schema c.args.built None start
     (λ (s : State). AreInternal c.args.schema c.args.built (kept_of left) s × Unit {0}) (λ s. Unit {0})
-    (content c.args.machine).script (content c.args.machine).now.said (content c.into_device.result).now.said c.play_over-leaves.result.0 (λ s held. tt)
-    (subst (λ m. IsPlayedAs c.args.schema c.args.built None start (λ (s : State). AreInternal c.args.schema c.args.built (kept_of left) s × Unit {0}) (content c.args.machine).script (content c.args.machine).now.said (content m).now.said c.play_over-leaves.result.0) (sym c.into_device.ensures)
-    (subst (λ m. IsPlayedAs c.args.schema c.args.built None start (λ (s : State). AreInternal c.args.schema c.args.built (kept_of left) s × Unit {0}) (content m).script (content m).now.said (content left.device).now.said c.play_over-leaves.result.0) c.in-Ok.ensures.device
+    (content c.args.machine).script (content c.args.machine).now.said
+    (content c.into_device.result).now.said c.play_over-leaves.result.0 (λ s held. tt)
+    (subst (λ m. IsPlayedAs c.args.schema c.args.built None start
+    (λ (s : State). AreInternal c.args.schema c.args.built (kept_of left) s × Unit {0})
+    (content c.args.machine).script (content c.args.machine).now.said
+    (content m).now.said c.play_over-leaves.result.0) (sym c.into_device.ensures)
+    (subst (λ m. IsPlayedAs c.args.schema c.args.built None start
+    (λ (s : State). AreInternal c.args.schema c.args.built (kept_of left) s × Unit {0}) (content m).script
+    (content m).now.said (content left.device).now.said c.play_over-leaves.result.0) c.in-Ok.ensures.device
     (c.play_over-leaves.ensures.answered told start (record {
-      working_is = subst (λ w. AreInternal c.args.schema c.args.built w start) (sym c.in-Ok.ensures.working) (start_state c.args.schema c.args.built _ _ c.requires.built);
+      working_is = subst (λ w. AreInternal c.args.schema c.args.built w start) (sym c.in-Ok.ensures.working)
+          (start_state c.args.schema c.args.built _ _ c.requires.built);
       kept_same = c.in-Ok.ensures.kept ∙ sym c.in-Ok.ensures.working;
       whole_is = tt;
       kept_whole_is = tt;
@@ -30,7 +37,8 @@ pub returns-in-Ok-clause-heard : goal.returns-in-Ok-clause-heard
 returns-in-Ok-clause-heard g c = λ told e.
     ap (λ m. (g.M.Device.content m).script) c.into_device.ensures
     ∙ c.play_over-leaves.ensures.heard told (empty_state c.args.schema) (record {
-      working_is = subst (λ w. AreInternal c.args.schema c.args.built w (empty_state c.args.schema)) (sym c.in-Ok.ensures.working) (start_state c.args.schema c.args.built _ _ c.requires.built);
+      working_is = subst (λ w. AreInternal c.args.schema c.args.built w (empty_state c.args.schema))
+          (sym c.in-Ok.ensures.working) (start_state c.args.schema c.args.built _ _ c.requires.built);
       kept_same = c.in-Ok.ensures.kept ∙ sym c.in-Ok.ensures.working;
       whole_is = tt;
       kept_whole_is = tt;
@@ -44,13 +52,13 @@ returns-in-Ok-clause-failures g c =
           subst (λ m. Rose (g.M.Device.faults c.args.machine) (g.M.Device.faults m))
           (sym c.into_device.ensures)
           (subst (λ m. Rose (g.M.Device.faults m) (g.M.Device.faults left)) c.in-Ok.ensures.device
-          (c.play_over-leaves.ensures.fault e));
+          (c.play_over-leaves.ensures.failures.fault e));
       counted = λ e.
-          ap g.M.Device.faults c.into_device.ensures ∙ c.play_over-leaves.ensures.counted e
+          ap g.M.Device.faults c.into_device.ensures ∙ c.play_over-leaves.ensures.failures.counted e
           ∙ ap g.M.Device.faults c.in-Ok.ensures.device;
       later = omega (
         arith,
-        c.play_over-leaves.ensures.later,
+        c.play_over-leaves.ensures.failures.later,
         ap g.M.Device.faults c.into_device.ensures,
         ap g.M.Device.faults c.in-Ok.ensures.device,
       );
@@ -63,4 +71,6 @@ returns-in-Ok-clause-shelf g c =
     ∙ ap (λ m. (g.M.Device.content m).now.shelf) c.in-Ok.ensures.device
 
 pub returns-clause-answered : goal.returns-clause-answered
-returns-clause-answered g c = λ told. unheard c.args.schema c.args.built None (empty_state c.args.schema) (λ s. Unit {0}) _ _ _ 0 0 ending.NoMemory (ap (λ m. (g.M.Device.content m).now.said) (search rules)) tt tt
+returns-clause-answered g c =
+    λ told. unheard c.args.schema c.args.built None (empty_state c.args.schema)
+    (λ s. Unit {0}) _ _ _ 0 0 ending.NoMemory (ap (λ m. (g.M.Device.content m).now.said) (search rules)) tt tt

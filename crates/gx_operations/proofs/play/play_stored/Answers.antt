@@ -23,10 +23,15 @@ returns-clause-answered g c = λ told s maps reaches internal texts head.
     held_as c.args.schema c.args.built limit s
     (λ (k : State). AreInternal c.args.schema c.args.built (kept_of left) k × WasWhole left)
     (IsSettledIn c.args.schema c.args.built texts.0 texts.1 (specs_of (places_in c.args.store)) (content c.close.result).now.blocks)
-    (content (machine_of c.args.store)).script (content (machine_of c.args.store)).now.said (content c.close.result).now.said c.play_over-store.result.0
-    (λ k held. settled_from c.args.schema c.args.built texts.0 texts.1 (head_of c.args.store) (head_of left) (kept_of left) (content c.close.result).now.blocks k c.play_over-store.ensures.head head
+    (content (machine_of c.args.store)).script (content (machine_of c.args.store)).now.said
+    (content c.close.result).now.said c.play_over-store.result.0
+    (λ k held. settled_from c.args.schema c.args.built texts.0 texts.1 (head_of c.args.store) (head_of left)
+    (kept_of left) (content c.close.result).now.blocks k c.play_over-store.ensures.head head
     (λ is. c.close.ensures.settled texts.0 texts.1 is held.1) held.0)
-    (subst (λ m. IsPlayedAs c.args.schema c.args.built limit s (λ (k : State). AreInternal c.args.schema c.args.built (kept_of left) k × WasWhole left) (content (machine_of c.args.store)).script (content (machine_of c.args.store)).now.said (content m).now.said c.play_over-store.result.0) (sym c.close.ensures.machine)
+    (subst (λ m. IsPlayedAs c.args.schema c.args.built limit s
+    (λ (k : State). AreInternal c.args.schema c.args.built (kept_of left) k × WasWhole left)
+    (content (machine_of c.args.store)).script (content (machine_of c.args.store)).now.said
+    (content m).now.said c.play_over-store.result.0) (sym c.close.ensures.machine)
     (c.play_over-store.ensures.answered told s (record {
       working_is = subst (λ (w : List LeafMap). AreInternal c.args.schema c.args.built w s) (sym reaches.working) internal;
       kept_same = reaches.kept ∙ sym reaches.working;
@@ -47,4 +52,5 @@ returns-clause-heard g c = λ told s maps reaches internal ok.
 pub returns-clause-begins : goal.returns-clause-begins
 returns-clause-begins g c = λ told.
     let content = g.M.Device.content in
-    subst (IsPrefix (content (machine_of c.args.store)).now.said) (ap (λ m. (content m).now.said) (sym c.close.ensures.machine)) (c.play_over-store.ensures.begins told)
+    subst (IsPrefix (content (machine_of c.args.store)).now.said)
+    (ap (λ m. (content m).now.said) (sym c.close.ensures.machine)) (c.play_over-store.ensures.begins told)

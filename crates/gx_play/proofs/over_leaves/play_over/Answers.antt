@@ -1,4 +1,4 @@
-use Rattle.std.proofs.Common.{sym, ap, subst, ◌∙◌, arith}
+use Rattle.std.proofs.Common.{refl, sym, ap, subst, ◌∙◌, arith}
 use Rattle.gx_device.specs.Quiet.{IsPrefix}
 use Rattle.gx_model.specs.Play.{start_at}
 use Rattle.gx_ports.specs.declared.stop.Stop.TheVariants as stop
@@ -6,7 +6,7 @@ use Rattle.gx_engine.specs.Steps.{leaves_of}
 use Rattle.gx_commands.specs.Lines.{script_lines}
 use Rattle.gx_play.specs.Plays.{IsHeard, is_play_fault}
 use Rattle.gx_play.proofs.HoldingLemmas.{holding_after, at_first, kept_in}
-use Rattle.gx_play.proofs.OverLemmas.{played_as, played_over, unheard, heard_to_end, play_ending, outside_ending, stop_of_ending, rose_before}
+use Rattle.gx_play.proofs.OverLemmas.{played_as, played_over, unheard, heard_to_end, play_ending, outside_ending, stop_of_ending, goes_on, rose_before}
 use Rattle.gx_play.proofs.AnsweringLemmas.{played_aloud}
 use Rattle.gx_play.proofs.SayLemmas.{begins_same, begins_then}
 use Rattle.gx_play.proofs.over_leaves.play_over.Goals as goal
@@ -22,36 +22,62 @@ returns-in-Err-clause-ending g c = outside_ending _ _ c.in-Err.ending c.in-Err.e
 pub returns-clause-answered : goal.returns-clause-answered
 returns-clause-answered g c = λ told s holds.
     let heard = holding_after g.B.View c.args.schema c.args.built s c.args.leaves c.hear_script.new.leaves c.in-Ok.ensures.keeps holds in
-    let at = at_first g.B.View c.args.schema c.args.built s c.hear_script.new.leaves c.start-engine.result heard c.start-engine.ensures.leaves (c.start-engine.ensures.stands s heard.working_is heard.kept_same) in
+    let at = at_first g.B.View c.args.schema c.args.built s c.hear_script.new.leaves c.start-engine.result heard
+    c.start-engine.ensures.leaves (c.start-engine.ensures.stands s heard.working_is heard.kept_same) in
     let content = g.B.View.content in
-    played_over g.B.View c.args.schema c.args.built s (content c.args.leaves).script (content c.args.leaves).now.said c.start-engine.result c.play_script-played.new.engine c.args.leaves c.into_leaves.result c.ended.result
-    c.start-engine.ensures.schema c.start-engine.ensures.built (ap g.B.View.limit c.start-engine.ensures.leaves ∙ c.in-Ok.ensures.keeps.limit) c.into_leaves.ensures
-    (played_as g.B.View s (content c.args.leaves).script (content c.hear_script.new.leaves).script c.deref.result.now (content c.args.leaves).now.said c.start-engine.result c.play_script-played.new.engine
+    played_over g.B.View c.args.schema c.args.built s (content c.args.leaves).script
+    (content c.args.leaves).now.said c.start-engine.result c.play_script-played.new.engine c.args.leaves c.into_leaves.result c.ended.result
+    c.start-engine.ensures.schema c.start-engine.ensures.built
+    (ap g.B.View.limit c.start-engine.ensures.leaves ∙ c.in-Ok.ensures.keeps.limit) c.into_leaves.ensures
+    (played_as g.B.View s (content c.args.leaves).script (content c.hear_script.new.leaves).script
+    c.deref.result.now (content c.args.leaves).now.said c.start-engine.result c.play_script-played.new.engine
     (ap (λ l. (content l).now.said) c.start-engine.ensures.leaves ∙ ap (λ n. n.said) c.in-Ok.ensures.rest.now)
     c.play_script-played.ensures.keeps.schema c.play_script-played.ensures.keeps.built
-    (subst (λ t. IsHeard (content c.args.leaves).script (content c.hear_script.new.leaves).script t) (sym c.deref.ensures.value) (c.in-Ok.ensures.heard told))
-    c.play_script-played.result c.ended.result c.ended.ensures (λ block e. c.play_script-played.ensures.cause (start_at s) at (stop.Damaged block) e)
-    (played_aloud g.B.View (start_at s) (script_lines c.deref.result.now) c.start-engine.result c.play_script-played.new.engine _ c.play_script-played.new.out c.play_script-played.result (c.play_script-played.ensures.played told (start_at s) at)))
+    (subst (λ t. IsHeard (content c.args.leaves).script (content c.hear_script.new.leaves).script t)
+    (sym c.deref.ensures.value) (c.in-Ok.ensures.heard told))
+    c.play_script-played.result c.ended.result c.ended.ensures
+    (λ block e. c.play_script-played.ensures.cause (start_at s) at (stop.Damaged block) e)
+    (played_aloud g.B.View (start_at s) (script_lines c.deref.result.now) c.start-engine.result
+    c.play_script-played.new.engine _ c.play_script-played.new.out c.play_script-played.result
+    (c.play_script-played.ensures.played told (start_at s) at)))
 
 pub returns-clause-heard : goal.returns-clause-heard
 returns-clause-heard g c = λ told s holds e.
     let heard = holding_after g.B.View c.args.schema c.args.built s c.args.leaves c.hear_script.new.leaves c.in-Ok.ensures.keeps holds in
-    let at = at_first g.B.View c.args.schema c.args.built s c.hear_script.new.leaves c.start-engine.result heard c.start-engine.ensures.leaves (c.start-engine.ensures.stands s heard.working_is heard.kept_same) in
+    let at = at_first g.B.View c.args.schema c.args.built s c.hear_script.new.leaves c.start-engine.result heard
+    c.start-engine.ensures.leaves (c.start-engine.ensures.stands s heard.working_is heard.kept_same) in
     let content = g.B.View.content in
-    ap (λ l. (content l).script) c.into_leaves.ensures ∙ c.play_script-played.ensures.keeps.rest.script ∙ ap (λ l. (content l).script) c.start-engine.ensures.leaves
-    ∙ heard_to_end g.B.View s c.start-engine.result c.play_script-played.new.engine (content c.args.leaves).script (content c.hear_script.new.leaves).script c.deref.result.now c.play_script-played.result c.ended.result
-    (subst (λ t. IsHeard (content c.args.leaves).script (content c.hear_script.new.leaves).script t) (sym c.deref.ensures.value) (c.in-Ok.ensures.heard told))
-    c.ended.ensures (played_aloud g.B.View (start_at s) (script_lines c.deref.result.now) c.start-engine.result c.play_script-played.new.engine _ c.play_script-played.new.out c.play_script-played.result (c.play_script-played.ensures.played told (start_at s) at)) e
+    ap (λ l. (content l).script) c.into_leaves.ensures ∙ c.play_script-played.ensures.keeps.rest.script
+    ∙ ap (λ l. (content l).script) c.start-engine.ensures.leaves
+    ∙ heard_to_end g.B.View s c.start-engine.result c.play_script-played.new.engine
+    (content c.args.leaves).script (content c.hear_script.new.leaves).script c.deref.result.now c.play_script-played.result c.ended.result
+    (subst (λ t. IsHeard (content c.args.leaves).script (content c.hear_script.new.leaves).script t)
+    (sym c.deref.ensures.value) (c.in-Ok.ensures.heard told))
+    c.ended.ensures (played_aloud g.B.View (start_at s) (script_lines c.deref.result.now) c.start-engine.result
+    c.play_script-played.new.engine _ c.play_script-played.new.out c.play_script-played.result
+    (c.play_script-played.ensures.played told (start_at s) at)) e
 
 pub returns-clause-ending : goal.returns-clause-ending
 returns-clause-ending g c = play_ending c.play_script-played.result c.ended.result c.ended.ensures
 
-pub returns-clause-fault : goal.returns-clause-fault
-returns-clause-fault g c = λ e.
-    let rose = c.play_script-played.ensures.counts.rose (ap is_play_fault (stop_of_ending c.play_script-played.result c.ended.result stop.Fault c.ended.ensures e)) in
-    rose_before (g.B.View.faults c.args.leaves) (g.B.View.faults (leaves_of c.start-engine.result)) (g.B.View.faults (leaves_of c.play_script-played.new.engine)) (g.B.View.faults c.into_leaves.result)
-    (omega (arith, c.in-Ok.ensures.later, ap g.B.View.faults c.start-engine.ensures.leaves))
-    (ap g.B.View.faults (sym c.into_leaves.ensures)) rose
+pub returns-clause-failures : goal.returns-clause-failures
+returns-clause-failures g c =
+    let faults = g.B.View.faults in
+    let started = ap faults c.start-engine.ensures.leaves in
+    let ended = ap faults c.into_leaves.ensures in
+    let played = c.play_script-played.ensures.counts in
+    record {
+      fault = λ e.
+          rose_before (faults c.args.leaves) (faults (leaves_of c.start-engine.result))
+          (faults (leaves_of c.play_script-played.new.engine)) (faults c.into_leaves.result)
+          (omega (arith, c.in-Ok.ensures.later, started)) (sym ended)
+          (played.rose
+          (ap is_play_fault (stop_of_ending c.play_script-played.result c.ended.result stop.Fault c.ended.ensures e)));
+      counted = λ e.
+          ended ∙ played.counted (goes_on c.play_script-played.result c.ended.result c.ended.ensures e) ∙ started
+          ∙ c.in-Ok.ensures.counted refl;
+      later = omega (arith, c.in-Ok.ensures.later, started, played.later, ended);
+    }
 
 pub returns-in-Err-clause-begins : goal.returns-in-Err-clause-begins
 returns-in-Err-clause-begins g c = λ told. begins_same _ _ (ap (λ n. n.said) c.in-Err.ensures.rest.now)
@@ -60,6 +86,8 @@ pub returns-clause-begins : goal.returns-clause-begins
 returns-clause-begins g c = λ told.
     let content = g.B.View.content in
     subst (IsPrefix (content c.args.leaves).now.said) (ap (λ l. (content l).now.said) (sym c.into_leaves.ensures))
-    (begins_then (content c.args.leaves).now.said (content (leaves_of c.start-engine.result)).now.said (content (leaves_of c.play_script-played.new.engine)).now.said
-    (begins_same (content c.args.leaves).now.said (content (leaves_of c.start-engine.result)).now.said (ap (λ l. (content l).now.said) c.start-engine.ensures.leaves ∙ ap (λ n. n.said) c.in-Ok.ensures.rest.now))
+    (begins_then (content c.args.leaves).now.said (content (leaves_of c.start-engine.result)).now.said
+    (content (leaves_of c.play_script-played.new.engine)).now.said
+    (begins_same (content c.args.leaves).now.said (content (leaves_of c.start-engine.result)).now.said
+    (ap (λ l. (content l).now.said) c.start-engine.ensures.leaves ∙ ap (λ n. n.said) c.in-Ok.ensures.rest.now))
     (c.play_script-played.ensures.keeps.begins told))

@@ -8,7 +8,9 @@ invariant-loop-rest g l =
     let content = g.B.View.content in
     let faults = g.B.View.faults in
     record {
-      part : (taken : ℕ) × (l.rest ≡ drop taken l.piece) × (IsTrue g.B.View.tells → (content (leaves_of l.engine)).now.said ≡ (content (leaves_of l.fn.engine)).now.said ++ take taken l.piece);
+      part : (taken : ℕ) × (l.rest ≡ drop taken l.piece)
+          × (IsTrue g.B.View.tells → (content (leaves_of l.engine)).now.said
+          ≡ (content (leaves_of l.fn.engine)).now.said ++ take taken l.piece);
       script : (content (leaves_of l.engine)).script ≡ (content (leaves_of l.fn.engine)).script;
       shelf : (content (leaves_of l.engine)).now.shelf ≡ (content (leaves_of l.fn.engine)).now.shelf;
       aside : (content (leaves_of l.engine)).aside ≡ (content (leaves_of l.fn.engine)).aside;

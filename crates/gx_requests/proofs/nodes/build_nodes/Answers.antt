@@ -10,7 +10,9 @@ returns-clause-built c = (
   record {
     files = c.in_ok-built.ensures.trees;
     links = c.in_ok-built.ensures.link_trees;
-    owned = all_owned c.args.checked.schema (definitions_of c.args.checked.equation.definitions) c.args.checked.typing c.in_ok-built.built.specs c.in_ok-built.built.owners
+    owned =
+        all_owned c.args.checked.schema (definitions_of c.args.checked.equation.definitions)
+        c.args.checked.typing c.in_ok-built.built.specs c.in_ok-built.built.owners
         c.requires.typed c.requires.leaves_are c.in_ok-built.ensures.leaves c.in_ok-built.ensures.owned.each;
   },
 )

@@ -14,7 +14,9 @@ returns-clause-built c = record {
   trees = record {
     files = c.in_ok-built.ensures.trees;
     links = c.in_ok-built.ensures.link_trees;
-    owned = all_owned c.args.checked.schema (definitions_of c.args.checked.equation.definitions) c.args.checked.typing c.in_ok-built.built.specs c.in_ok-built.built.owners
+    owned =
+        all_owned c.args.checked.schema (definitions_of c.args.checked.equation.definitions)
+        c.args.checked.typing c.in_ok-built.built.specs c.in_ok-built.built.owners
         c.requires.typed c.requires.leaves_are c.in_ok-built.ensures.leaves c.in_ok-built.ensures.owned.each;
   };
   schema_text_is = c.in_ok-schema_text.ensures.exact;
@@ -36,7 +38,17 @@ returns-clause-stored c =
         },
         c.requires.well_formed,
       );
-      short = omega (arith, c.requires.short, ap (λ t. length t) c.in_ok-schema_text.ensures.exact, ap (λ t. length t) c.in_ok-equation_text.ensures.text);
-      some = subst (λ ks. 0 < length ks) (ap (λ (t : Typing). t.specs) (sym c.requires.leaves_are ∙ c.in_ok-built.ensures.leaves)) (some_leaves schema ds c.requires.rules c.requires.written c.requires.typed);
-      kinds = subst (λ ks. are_built ks ≡ true) (ap (λ (t : Typing). t.specs) (sym c.requires.leaves_are ∙ c.in_ok-built.ensures.leaves)) (leaves_built schema ds c.requires.written);
+      short = omega (
+        arith,
+        c.requires.short,
+        ap (λ t. length t) c.in_ok-schema_text.ensures.exact,
+        ap
+            (λ t. length t) c.in_ok-equation_text.ensures.text,
+      );
+      some = subst (λ ks. 0 < length ks) (ap (λ (t : Typing). t.specs)
+          (sym c.requires.leaves_are ∙ c.in_ok-built.ensures.leaves))
+          (some_leaves schema ds c.requires.rules c.requires.written c.requires.typed);
+      kinds = subst (λ ks. are_built ks ≡ true)
+          (ap (λ (t : Typing). t.specs) (sym c.requires.leaves_are ∙ c.in_ok-built.ensures.leaves))
+          (leaves_built schema ds c.requires.written);
     }

@@ -12,10 +12,13 @@ returns-in-Some-clause-some c =
     (search rules)
     (omega (arith, c.if-digits-gt-MOST_DIGITS.false, c.as_bytes-digits.ensures.len))
     (search rules)
-    (subst (λ (z : ℤ). IfSome c.as_count.result (λ n. (z ≡ pos n) × (n < 2 ^ 32))) (fits c.in-Some.number (search rules)) c.as_count.ensures.some)
+    (subst (λ (z : ℤ). IfSome c.as_count.result (λ n. (z ≡ pos n) × (n < 2 ^ 32)))
+    (fits c.in-Some.number (search rules)) c.as_count.ensures.some)
 
 pub returns-in-Some-clause-none : goal.returns-in-Some-clause-none
-returns-in-Some-clause-none c = λ none. other_count c.args.word.now c.in-Some.number (search rules) (subst (λ (z : ℤ). (n : ℕ) → n < 2 ^ 32 → z ≢ pos n) (fits c.in-Some.number (search rules)) (c.as_count.ensures.none none))
+returns-in-Some-clause-none c =
+    λ none. other_count c.args.word.now c.in-Some.number (search rules)
+    (subst (λ (z : ℤ). (n : ℕ) → n < 2 ^ 32 → z ≢ pos n) (fits c.in-Some.number (search rules)) (c.as_count.ensures.none none))
 
 pub returns-in-None-clause-none : goal.returns-in-None-clause-none
 returns-in-None-clause-none c = λ none. no_count c.args.word.now (search rules)

@@ -11,4 +11,6 @@ returns-clause-worked g c = λ s h.
       whole_is = subst g.B.View.whole (sym c.start-engine.ensures.leaves) h.whole_is;
       kept_whole_is = subst g.B.View.kept_whole (sym c.start-engine.ensures.leaves) h.kept_whole_is;
     } in
-    worked_over g.B.View c.args.records s c.start-engine.result c.work-line.new.engine c.args.leaves c.into_leaves.result c.args.built c.work-line.result c.start-engine.ensures.built c.start-engine.ensures.leaves c.into_leaves.ensures (c.work-line.ensures.worked s at)
+    worked_over g.B.View c.args.records s c.start-engine.result c.work-line.new.engine c.args.leaves
+    c.into_leaves.result c.args.built c.work-line.result c.start-engine.ensures.built
+    c.start-engine.ensures.leaves c.into_leaves.ensures (c.work-line.ensures.worked s at)
