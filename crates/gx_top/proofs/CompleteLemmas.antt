@@ -25,6 +25,7 @@ use Rattle.gx_model.specs.Play.{Playing, End, good, stopped, start_at}
 use Rattle.gx_model.proofs.RunLemmas.{play_once}
 use Rattle.gx_layout.specs.Head.{HasMagic}
 use Rattle.gx_store.specs.Device.{IsSize, HasTexts}
+use Rattle.gx_store.proofs.AttachLemmas.{some_same}
 use Rattle.gx_play.specs.declared.ending.DeviceWhy.{DeviceWhy}
 use Rattle.gx_play.specs.declared.ending.DeviceWhy.TheVariants as device_why
 use Rattle.gx_play.specs.declared.ending.Ending.{Ending}
@@ -109,7 +110,8 @@ equation_named (running device) s t e f same = ap third same
 equation_named (inspecting device) s t e f same = ap third same
 equation_named (working device blocks records) s t e f same = ap second same
 
-pub same_words : (words : List (List ℕ)) (a b : Action) (s t e f : List ℕ) → words ≡ request_words a s e → words ≡ request_words b t f → SameWords a b s t e f
+pub same_words : (words : List (List ℕ)) (a b : Action) (s t e f : List ℕ) → words ≡ request_words a s e
+    → words ≡ request_words b t f → SameWords a b s t e f
 same_words words a b s t e f p q =
     let once : a ≡ b = action_once a b s t e f (sym p ∙ q) in
     let same : request_words a s e ≡ request_words a t f = subst (λ c. request_words a s e ≡ request_words c t f) (sym once) (sym p ∙ q) in
@@ -139,7 +141,8 @@ pub record SameAsked (a b : Action) (s t e f : List ℕ) : Type 0 where
   pub schemas : s ≡ t
   pub equations : e ≡ f
 
-schema_once : (a : Action) (texts : Texts) (name other s t : List ℕ) → (NamesSchema a → name ≡ other) → IsSchemaOf a texts name s → IsSchemaOf a texts other t → s ≡ t
+schema_once : (a : Action) (texts : Texts) (name other s t : List ℕ) → (NamesSchema a → name ≡ other)
+    → IsSchemaOf a texts name s → IsSchemaOf a texts other t → s ≡ t
 schema_once checking texts name other s t same x y = text_once texts name other s t (same tt) x.0 y.0
 schema_once trying texts name other s t same x y = text_once texts name other s t (same tt) x.0 y.0
 schema_once explaining texts name other s t same x y = text_once texts name other s t (same tt) x.0 y.0
@@ -148,41 +151,53 @@ schema_once (running device) texts name other s t same x y = text_once texts nam
 schema_once (inspecting device) texts name other s t same x y = text_once texts name other s t (same tt) x.0 y.0
 schema_once (working device blocks records) texts name other s t same x y = x ∙ sym y
 
-pub one_request : (words : List (List ℕ)) (texts : Texts) (a b : Action) (s t e f : List ℕ) → IsAsked words texts a s e → IsAsked words texts b t f → SameAsked a b s t e f
+pub one_request : (words : List (List ℕ)) (texts : Texts) (a b : Action) (s t e f : List ℕ)
+    → IsAsked words texts a s e → IsAsked words texts b t f → SameAsked a b s t e f
 one_request words texts a b s t e f x y =
     let same = same_words words a b x.schema_name y.schema_name x.equation_name y.equation_name x.words_are y.words_are in
     record {
       actions = same.actions;
-      schemas = schema_once a texts x.schema_name y.schema_name s t same.schemas x.schema_there (subst (λ c. IsSchemaOf c texts y.schema_name t) (sym same.actions) y.schema_there);
+      schemas = schema_once a texts x.schema_name y.schema_name s t same.schemas x.schema_there
+          (subst (λ c. IsSchemaOf c texts y.schema_name t) (sym same.actions) y.schema_there);
       equations = text_once texts x.equation_name y.equation_name e f same.equations x.equation_there.0 y.equation_there.0;
     }
 
 -- where both texts are there, so is the one of this name
-one_there : (texts : Texts) (name schema other equation s e : List ℕ) → schema ≡ other → IsText texts schema s → IsText texts equation e → (name ≡ other) ⊎ (IsThere texts other × (name ≡ equation)) → IsThere texts name
+one_there : (texts : Texts) (name schema other equation s e : List ℕ) → schema ≡ other → IsText texts schema s
+    → IsText texts equation e → (name ≡ other) ⊎ (IsThere texts other × (name ≡ equation)) → IsThere texts name
 one_there texts name schema other equation s e same x y (inl is) = (s, subst (λ k. IsText texts k s) (same ∙ sym is) x)
 one_there texts name schema other equation s e same x y (inr is) = (e, subst (λ k. IsText texts k e) (sym is.1) y)
 
-either_there : (a : Action) (texts : Texts) (name schema other equation s e : List ℕ) → (NamesSchema a → schema ≡ other) → IsSchemaOf a texts schema s → IsText texts equation e → IsEither a texts name other equation → IsThere texts name
+either_there : (a : Action) (texts : Texts) (name schema other equation s e : List ℕ)
+    → (NamesSchema a → schema ≡ other) → IsSchemaOf a texts schema s → IsText texts equation e
+    → IsEither a texts name other equation → IsThere texts name
 either_there checking texts name schema other equation s e same x y is = one_there texts name schema other equation s e (same tt) x y is
 either_there trying texts name schema other equation s e same x y is = one_there texts name schema other equation s e (same tt) x y is
 either_there explaining texts name schema other equation s e same x y is = one_there texts name schema other equation s e (same tt) x y is
-either_there (making device blocks) texts name schema other equation s e same x y is = one_there texts name schema other equation s e (same tt) x y is
-either_there (running device) texts name schema other equation s e same x y is = one_there texts name schema other equation s e (same tt) x y is
-either_there (inspecting device) texts name schema other equation s e same x y is = one_there texts name schema other equation s e (same tt) x y is
-either_there (working device blocks records) texts name schema other equation s e same x y is = (e, subst (λ k. IsText texts k e) (sym is) y)
+either_there (making device blocks) texts name schema other equation s e same x y is =
+    one_there texts name schema other equation s e (same tt) x y is
+either_there (running device) texts name schema other equation s e same x y is =
+    one_there texts name schema other equation s e (same tt) x y is
+either_there (inspecting device) texts name schema other equation s e same x y is =
+    one_there texts name schema other equation s e (same tt) x y is
+either_there (working device blocks records) texts name schema other equation s e same x y is =
+    (e, subst (λ k. IsText texts k e) (sym is) y)
 
 -- neither of two texts that are there is missing or too long
-pub named : (words : List (List ℕ)) (texts : Texts) (name : List ℕ) (a : Action) (s e : List ℕ) → IsAsked words texts a s e → IsNamed words texts name → IsThere texts name
+pub named : (words : List (List ℕ)) (texts : Texts) (name : List ℕ) (a : Action) (s e : List ℕ)
+    → IsAsked words texts a s e → IsNamed words texts name → IsThere texts name
 named words texts name a s e x y =
     let same = same_words words a y.asked x.schema_name y.schema_name x.equation_name y.equation_name x.words_are y.words_are in
     either_there a texts name x.schema_name y.schema_name x.equation_name s e same.schemas x.schema_there x.equation_there
-    (subst (λ c. IsEither c texts name y.schema_name x.equation_name) (sym same.actions) (subst (λ k. IsEither y.asked texts name y.schema_name k) (sym same.equations) y.first))
+    (subst (λ c. IsEither c texts name y.schema_name x.equation_name) (sym same.actions)
+    (subst (λ k. IsEither y.asked texts name y.schema_name k) (sym same.equations) y.first))
 
 pub not_missing : (texts : Texts) (name : List ℕ) → IsThere texts name → get texts name ≡ None → ⊥
 not_missing texts name is none = some_not_none is.0 (sym is.1.0 ∙ none)
 
 pub not_long : (texts : Texts) (name : List ℕ) → IsThere texts name → IsTooLong texts name → ⊥
-not_long texts name is long = omega (arith, is.1.1, subst (λ (o : Option (List ℕ)). IsSomeAnd o (λ text. text_limit < length text)) is.1.0 long)
+not_long texts name is long =
+    omega (arith, is.1.1, subst (λ (o : Option (List ℕ)). IsSomeAnd o (λ text. text_limit < length text)) is.1.0 long)
 
 -- ---- two meanings of the same texts
 
@@ -191,7 +206,8 @@ record SameTexts (schema other : Schema) (ds fs : List DefinitionTree) (lines mo
   pub definitions : ds ≡ fs
   pub lines_are : lines ≡ more
 
-one_reading : (s e : List ℕ) (schema other : Schema) (ds fs : List DefinitionTree) (lines more : List ℕ) → AreRead s e schema ds lines → AreRead s e other fs more → SameTexts schema other ds fs lines more
+one_reading : (s e : List ℕ) (schema other : Schema) (ds fs : List DefinitionTree) (lines more : List ℕ)
+    → AreRead s e schema ds lines → AreRead s e other fs more → SameTexts schema other ds fs lines more
 one_reading s e schema other ds fs lines more x y =
     let same = one_meaning e (ds, lines) (fs, more) x.equation_means y.equation_means in
     record {
@@ -210,15 +226,25 @@ typed_not_mistaken : (t : Typing) (m : Mistake) → ◌≡◌ {A = Result Typing
 typed_not_mistaken t m f = cc
 
 -- accepted texts aren't refused
-not_unaccepted : (s e : List ℕ) (schema : Schema) (ds : List DefinitionTree) (typing : Typing) (why : Ending) → AreAccepted s e schema ds typing → AreUnaccepted s e why → ⊥
-not_unaccepted s e schema ds typing (ending.Schema line why) a r = ok_not_bad schema (unread.Bad line why) (sym (schema_again s schema a.read.schema_means) ∙ r)
-not_unaccepted s e schema ds typing (ending.Equation line why) a r = other_not_bad (ds, a.lines) (unread.Bad line why) (sym (equation_read e (ds, a.lines) a.read.equation_means) ∙ r.2)
+not_unaccepted : (s e : List ℕ) (schema : Schema) (ds : List DefinitionTree) (typing : Typing) (why : Ending)
+    → AreAccepted s e schema ds typing → AreUnaccepted s e why → ⊥
+not_unaccepted s e schema ds typing (ending.Schema line why) a r =
+    ok_not_bad schema (unread.Bad line why) (sym (schema_again s schema a.read.schema_means) ∙ r)
+not_unaccepted s e schema ds typing (ending.Equation line why) a r =
+    other_not_bad (ds, a.lines) (unread.Bad line why) (sym (equation_read e (ds, a.lines) a.read.equation_means) ∙ r.2)
 not_unaccepted s e schema ds typing (ending.Type line why) a r =
     let same = one_reading s e schema r.0 ds r.1 a.lines r.2 a.read r.3 in
-    typed_not_mistaken (typing_with (leaves r.0 r.1)) (line, why) (sym (typed_again r.0 r.1 r.2 (subst (λ (k : Schema). IsTyped k r.1) same.schemas (subst (λ fs. IsTyped schema fs) same.definitions a.typed))) ∙ r.4)
+    typed_not_mistaken (typing_with (leaves r.0 r.1)) (line, why)
+    (sym (typed_again r.0 r.1 r.2 (subst (λ (k : Schema). IsTyped k r.1) same.schemas
+    (subst (λ fs. IsTyped schema fs) same.definitions a.typed))) ∙ r.4)
 not_unaccepted s e schema ds typing ending.TextsTooLong a r =
     let same = one_reading s e schema r.0 ds r.1 a.lines r.2 a.read r.3 in
-    omega (arith, a.short, subst (λ (k : Schema). text_limit < text_length k ds) (sym same.schemas) (subst (λ fs. text_limit < text_length r.0 fs) (sym same.definitions) r.5))
+    omega (
+      arith,
+      a.short,
+      subst (λ (k : Schema). text_limit < text_length k ds) (sym same.schemas)
+          (subst (λ fs. text_limit < text_length r.0 fs) (sym same.definitions) r.5),
+    )
 not_unaccepted s e schema ds typing ending.Words a r = r
 not_unaccepted s e schema ds typing (ending.Missing name) a r = r
 not_unaccepted s e schema ds typing (ending.TooLong name) a r = r
@@ -231,20 +257,31 @@ not_unaccepted s e schema ds typing ending.Fault a r = r
 not_unaccepted s e schema ds typing (ending.Line number why) a r = r
 
 -- the same of a request that asks for the same of the same texts
-not_refused_by_texts : (words : List (List ℕ)) (texts : Texts) (a : Action) (s e : List ℕ) (schema : Schema) (ds : List DefinitionTree) (typing : Typing) (why : Ending) → IsAsked words texts a s e → AreAccepted s e schema ds typing → ((b : Action) × (t : List ℕ) × (f : List ℕ) × IsAsked words texts b t f × AreUnaccepted t f why) → ⊥
+not_refused_by_texts : (words : List (List ℕ)) (texts : Texts) (a : Action) (s e : List ℕ) (schema : Schema)
+    (ds : List DefinitionTree) (typing : Typing) (why : Ending) → IsAsked words texts a s e
+    → AreAccepted s e schema ds typing
+    → ((b : Action) × (t : List ℕ) × (f : List ℕ) × IsAsked words texts b t f × AreUnaccepted t f why) → ⊥
 not_refused_by_texts words texts a s e schema ds typing why asked is r =
     let same = one_request words texts a r.0 s r.1 e r.2 asked r.3 in
-    not_unaccepted s e schema ds typing why is (subst (λ t. AreUnaccepted t e why) (sym same.schemas) (subst (λ f. AreUnaccepted r.1 f why) (sym same.equations) r.4))
+    not_unaccepted s e schema ds typing why is
+    (subst (λ t. AreUnaccepted t e why) (sym same.schemas) (subst (λ f. AreUnaccepted r.1 f why) (sym same.equations) r.4))
 
 -- a request whose texts are accepted is refused for no reason
-pub accepted_not_refused : (words : List (List ℕ)) (texts : Texts) (a : Action) (schema : Schema) (ds : List DefinitionTree) (typing : Typing) (why : Ending) → IsAccepted words texts a schema ds typing → IsRefused words texts why → ⊥
+pub accepted_not_refused : (words : List (List ℕ)) (texts : Texts) (a : Action) (schema : Schema)
+    (ds : List DefinitionTree) (typing : Typing) (why : Ending) → IsAccepted words texts a schema ds typing → IsRefused words texts why → ⊥
 accepted_not_refused words texts a schema ds typing ending.Words is r = r a is.2.schema_name is.2.equation_name is.2.counted is.2.words_are
-accepted_not_refused words texts a schema ds typing (ending.Missing name) is r = not_missing texts name.now (named words texts name.now a is.0 is.1 is.2 r.0) r.1
-accepted_not_refused words texts a schema ds typing (ending.TooLong name) is r = not_long texts name.now (named words texts name.now a is.0 is.1 is.2 r.0) r.1
-accepted_not_refused words texts a schema ds typing (ending.Schema line why) is r = not_refused_by_texts words texts a is.0 is.1 schema ds typing (ending.Schema line why) is.2 is.3 r
-accepted_not_refused words texts a schema ds typing (ending.Equation line why) is r = not_refused_by_texts words texts a is.0 is.1 schema ds typing (ending.Equation line why) is.2 is.3 r
-accepted_not_refused words texts a schema ds typing (ending.Type line why) is r = not_refused_by_texts words texts a is.0 is.1 schema ds typing (ending.Type line why) is.2 is.3 r
-accepted_not_refused words texts a schema ds typing ending.TextsTooLong is r = not_refused_by_texts words texts a is.0 is.1 schema ds typing ending.TextsTooLong is.2 is.3 r
+accepted_not_refused words texts a schema ds typing (ending.Missing name) is r =
+    not_missing texts name.now (named words texts name.now a is.0 is.1 is.2 r.0) r.1
+accepted_not_refused words texts a schema ds typing (ending.TooLong name) is r =
+    not_long texts name.now (named words texts name.now a is.0 is.1 is.2 r.0) r.1
+accepted_not_refused words texts a schema ds typing (ending.Schema line why) is r =
+    not_refused_by_texts words texts a is.0 is.1 schema ds typing (ending.Schema line why) is.2 is.3 r
+accepted_not_refused words texts a schema ds typing (ending.Equation line why) is r =
+    not_refused_by_texts words texts a is.0 is.1 schema ds typing (ending.Equation line why) is.2 is.3 r
+accepted_not_refused words texts a schema ds typing (ending.Type line why) is r =
+    not_refused_by_texts words texts a is.0 is.1 schema ds typing (ending.Type line why) is.2 is.3 r
+accepted_not_refused words texts a schema ds typing ending.TextsTooLong is r =
+    not_refused_by_texts words texts a is.0 is.1 schema ds typing ending.TextsTooLong is.2 is.3 r
 accepted_not_refused words texts a schema ds typing (ending.Accepted summary) is r = r.4
 accepted_not_refused words texts a schema ds typing ending.Full is r = r.4
 accepted_not_refused words texts a schema ds typing (ending.Device wrong) is r = r.4
@@ -261,10 +298,14 @@ pub record SameRequest (a b : Action) (schema other : Schema) (ds fs : List Defi
   pub definitions : ds ≡ fs
   pub typings : typing ≡ more
 
-pub one_acceptance : (words : List (List ℕ)) (texts : Texts) (a b : Action) (schema other : Schema) (ds fs : List DefinitionTree) (typing more : Typing) → IsAccepted words texts a schema ds typing → IsAccepted words texts b other fs more → SameRequest a b schema other ds fs typing more
+pub one_acceptance : (words : List (List ℕ)) (texts : Texts) (a b : Action) (schema other : Schema)
+    (ds fs : List DefinitionTree) (typing more : Typing) → IsAccepted words texts a schema ds typing
+    → IsAccepted words texts b other fs more → SameRequest a b schema other ds fs typing more
 one_acceptance words texts a b schema other ds fs typing more x y =
     let same = one_request words texts a b x.0 y.0 x.1 y.1 x.2 y.2 in
-    let read = one_reading y.0 y.1 schema other ds fs x.3.lines y.3.lines (subst (λ t. AreRead t y.1 schema ds x.3.lines) same.schemas (subst (λ f. AreRead x.0 f schema ds x.3.lines) same.equations x.3.read)) y.3.read in
+    let read = one_reading y.0 y.1 schema other ds fs x.3.lines y.3.lines
+    (subst (λ t. AreRead t y.1 schema ds x.3.lines) same.schemas
+    (subst (λ f. AreRead x.0 f schema ds x.3.lines) same.equations x.3.read)) y.3.read in
     record {
       actions = same.actions;
       schemas = read.schemas;
@@ -272,20 +313,25 @@ one_acceptance words texts a b schema other ds fs typing more x y =
       typings = x.3.leaves_are ∙ (λ i. typing_with (leaves (read.schemas i) (read.definitions i))) ∙ sym y.3.leaves_are;
     }
 
-pub checkable_not_refused : (words : List (List ℕ)) (before : Content) (why : Ending) → IsCheckable words before → IsRefused words before.aside.texts why → ⊥
+pub checkable_not_refused : (words : List (List ℕ)) (before : Content) (why : Ending) → IsCheckable words before
+    → IsRefused words before.aside.texts why → ⊥
 checkable_not_refused words before why x r = accepted_not_refused words before.aside.texts checking x.0 x.1 x.2 why x.3 r
 
 -- the words ask for one script to be played
 pub one_task : (words : List (List ℕ)) (texts : Texts) (t u : Task) → IsTask words texts t → IsTask words texts u → t ≡ u
 one_task words texts t u x y =
-    let same = one_acceptance words texts t.action u.action t.schema u.schema t.definitions u.definitions t.typing u.typing x.accepted y.accepted in
+    let same = one_acceptance words texts t.action u.action t.schema u.schema t.definitions u.definitions
+    t.typing u.typing x.accepted y.accepted in
     λ i. record { action = same.actions i; schema = same.schemas i; definitions = same.definitions i; typing = same.typings i }
 
 -- where they ask for another thing, for none
-pub to_play : (words : List (List ℕ)) (texts : Texts) (t : Task) (a : Action) (schema : Schema) (ds : List DefinitionTree) (typing : Typing) → IsTask words texts t → IsAccepted words texts a schema ds typing → IsToPlay a
-to_play words texts t a schema ds typing x y = subst IsToPlay (one_acceptance words texts t.action a t.schema schema t.definitions ds t.typing typing x.accepted y).actions x.to_play
+pub to_play : (words : List (List ℕ)) (texts : Texts) (t : Task) (a : Action) (schema : Schema)
+    (ds : List DefinitionTree) (typing : Typing) → IsTask words texts t → IsAccepted words texts a schema ds typing → IsToPlay a
+to_play words texts t a schema ds typing x y =
+    subst IsToPlay (one_acceptance words texts t.action a t.schema schema t.definitions ds t.typing typing x.accepted y).actions x.to_play
 
-pub checked_no_task : (words : List (List ℕ)) (before : Content) (t : Task) → IsTask words before.aside.texts t → IsCheckable words before → ⊥
+pub checked_no_task : (words : List (List ℕ)) (before : Content) (t : Task) → IsTask words before.aside.texts t
+    → IsCheckable words before → ⊥
 checked_no_task words before t x y = to_play words before.aside.texts t checking y.0 y.1 y.2 x y.3
 
 pub made_no_task : (words : List (List ℕ)) (texts : Texts) (t : Task) (blocks : ℕ) → IsTask words texts t → IsToMake words texts blocks → ⊥
@@ -294,16 +340,24 @@ made_no_task words texts t blocks x y = to_play words texts t (making y.device y
 checking_not_making : (device digits : List ℕ) → checking ≡ making device digits → ⊥
 checking_not_making device digits e = cc
 
-pub checked_not_made : (words : List (List ℕ)) (before : Content) (blocks : ℕ) → IsCheckable words before → IsToMake words before.aside.texts blocks → ⊥
-checked_not_made words before blocks x y = checking_not_making y.device y.digits (one_acceptance words before.aside.texts checking (making y.device y.digits) x.0 y.schema x.1 y.definitions x.2 y.typing x.3 y.accepted).actions
+pub checked_not_made : (words : List (List ℕ)) (before : Content) (blocks : ℕ) → IsCheckable words before
+    → IsToMake words before.aside.texts blocks → ⊥
+checked_not_made words before blocks x y =
+    checking_not_making y.device y.digits (one_acceptance words before.aside.texts checking
+    (making y.device y.digits) x.0 y.schema x.1 y.definitions x.2 y.typing x.3 y.accepted).actions
 
 -- a request whose device is wrong isn't refused
-pub wrong_not_refused : (words : List (List ℕ)) (before : Content) (wrong : DeviceWhy) (why : Ending) → IsWrong words before wrong → IsRefused words before.aside.texts why → ⊥
-wrong_not_refused words before wrong why (inl run) r = accepted_not_refused words before.aside.texts run.task.action run.task.schema run.task.definitions run.task.typing why run.is.accepted r
-wrong_not_refused words before wrong why (inr make) r = accepted_not_refused words before.aside.texts (making make.1.device make.1.digits) make.1.schema make.1.definitions make.1.typing why make.1.accepted r
+pub wrong_not_refused : (words : List (List ℕ)) (before : Content) (wrong : DeviceWhy) (why : Ending)
+    → IsWrong words before wrong → IsRefused words before.aside.texts why → ⊥
+wrong_not_refused words before wrong why (inl run) r =
+    accepted_not_refused words before.aside.texts run.task.action run.task.schema run.task.definitions run.task.typing why run.is.accepted r
+wrong_not_refused words before wrong why (inr make) r =
+    accepted_not_refused words before.aside.texts (making make.1.device make.1.digits) make.1.schema
+    make.1.definitions make.1.typing why make.1.accepted r
 
 -- texts that are to be checked name no device
-pub checked_not_wrong : (words : List (List ℕ)) (before : Content) (wrong : DeviceWhy) → IsCheckable words before → IsWrong words before wrong → ⊥
+pub checked_not_wrong : (words : List (List ℕ)) (before : Content) (wrong : DeviceWhy)
+    → IsCheckable words before → IsWrong words before wrong → ⊥
 checked_not_wrong words before wrong x (inl run) = checked_no_task words before run.task run.is x
 checked_not_wrong words before wrong x (inr make) = checked_not_made words before make.0 x make.1
 
@@ -316,15 +370,20 @@ checking_not_explaining : checking ≡ explaining → ⊥
 checking_not_explaining e = cc
 
 pub checked_not_explained : (words : List (List ℕ)) (before : Content) → IsCheckable words before → IsToExplain words before.aside.texts → ⊥
-checked_not_explained words before x y = checking_not_explaining (one_acceptance words before.aside.texts checking explaining x.0 y.schema x.1 y.definitions x.2 y.typing x.3 y.accepted).actions
+checked_not_explained words before x y =
+    checking_not_explaining (one_acceptance words before.aside.texts checking explaining x.0 y.schema x.1
+    y.definitions x.2 y.typing x.3 y.accepted).actions
 
 making_not_explaining : (device digits : List ℕ) → making device digits ≡ explaining → ⊥
 making_not_explaining device digits e = cc
 
 pub made_not_explained : (words : List (List ℕ)) (texts : Texts) (blocks : ℕ) → IsToMake words texts blocks → IsToExplain words texts → ⊥
-made_not_explained words texts blocks x y = making_not_explaining x.device x.digits (one_acceptance words texts (making x.device x.digits) explaining x.schema y.schema x.definitions y.definitions x.typing y.typing x.accepted y.accepted).actions
+made_not_explained words texts blocks x y =
+    making_not_explaining x.device x.digits (one_acceptance words texts
+    (making x.device x.digits) explaining x.schema y.schema x.definitions y.definitions x.typing y.typing x.accepted y.accepted).actions
 
-pub wrong_not_explained : (words : List (List ℕ)) (before : Content) (wrong : DeviceWhy) → IsWrong words before wrong → IsToExplain words before.aside.texts → ⊥
+pub wrong_not_explained : (words : List (List ℕ)) (before : Content) (wrong : DeviceWhy)
+    → IsWrong words before wrong → IsToExplain words before.aside.texts → ⊥
 wrong_not_explained words before wrong (inl run) y = task_not_explained words before.aside.texts run.task run.is y
 wrong_not_explained words before wrong (inr make) y = made_not_explained words before.aside.texts make.0 make.1 y
 
@@ -337,19 +396,26 @@ pub checking_not_inspecting : (device : List ℕ) → checking ≡ inspecting de
 checking_not_inspecting device e = cc
 
 pub checked_not_inspected : (words : List (List ℕ)) (before : Content) → IsCheckable words before → IsToInspect words before.aside.texts → ⊥
-checked_not_inspected words before x y = checking_not_inspecting y.device (one_acceptance words before.aside.texts checking (inspecting y.device) x.0 y.schema x.1 y.definitions x.2 y.typing x.3 y.accepted).actions
+checked_not_inspected words before x y =
+    checking_not_inspecting y.device (one_acceptance words before.aside.texts checking
+    (inspecting y.device) x.0 y.schema x.1 y.definitions x.2 y.typing x.3 y.accepted).actions
 
 pub making_not_inspecting : (device digits other : List ℕ) → making device digits ≡ inspecting other → ⊥
 making_not_inspecting device digits other e = cc
 
 pub made_not_inspected : (words : List (List ℕ)) (texts : Texts) (blocks : ℕ) → IsToMake words texts blocks → IsToInspect words texts → ⊥
-made_not_inspected words texts blocks x y = making_not_inspecting x.device x.digits y.device (one_acceptance words texts (making x.device x.digits) (inspecting y.device) x.schema y.schema x.definitions y.definitions x.typing y.typing x.accepted y.accepted).actions
+made_not_inspected words texts blocks x y =
+    making_not_inspecting x.device x.digits y.device
+    (one_acceptance words texts (making x.device x.digits) (inspecting y.device) x.schema y.schema x.definitions
+    y.definitions x.typing y.typing x.accepted y.accepted).actions
 
 pub explaining_not_inspecting : (device : List ℕ) → explaining ≡ inspecting device → ⊥
 explaining_not_inspecting device e = cc
 
 pub explained_not_inspected : (words : List (List ℕ)) (texts : Texts) → IsToExplain words texts → IsToInspect words texts → ⊥
-explained_not_inspected words texts x y = explaining_not_inspecting y.device (one_acceptance words texts explaining (inspecting y.device) x.schema y.schema x.definitions y.definitions x.typing y.typing x.accepted y.accepted).actions
+explained_not_inspected words texts x y =
+    explaining_not_inspecting y.device (one_acceptance words texts explaining
+    (inspecting y.device) x.schema y.schema x.definitions y.definitions x.typing y.typing x.accepted y.accepted).actions
 
 pub trying_not_inspecting : (device : List ℕ) → trying ≡ inspecting device → ⊥
 trying_not_inspecting device e = cc
@@ -358,47 +424,70 @@ pub running_not_inspecting : (name device : List ℕ) → running name ≡ inspe
 running_not_inspecting name device e = cc
 
 pub inspected_not_refused : (words : List (List ℕ)) (texts : Texts) (why : Ending) → IsToInspect words texts → IsRefused words texts why → ⊥
-inspected_not_refused words texts why x r = accepted_not_refused words texts (inspecting x.device) x.schema x.definitions x.typing why x.accepted r
+inspected_not_refused words texts why x r =
+    accepted_not_refused words texts (inspecting x.device) x.schema x.definitions x.typing why x.accepted r
 
-pub wrong_not_inspected : (words : List (List ℕ)) (before : Content) (wrong : DeviceWhy) → IsWrong words before wrong → IsToInspect words before.aside.texts → ⊥
+pub wrong_not_inspected : (words : List (List ℕ)) (before : Content) (wrong : DeviceWhy)
+    → IsWrong words before wrong → IsToInspect words before.aside.texts → ⊥
 wrong_not_inspected words before wrong (inl run) y = task_not_inspected words before.aside.texts run.task run.is y
 wrong_not_inspected words before wrong (inr make) y = made_not_inspected words before.aside.texts make.0 make.1 y
 
 -- ---- a request to play the workload is no other
 
-pub task_not_worked : (words : List (List ℕ)) (texts : Texts) (t : Task) (count records : ℕ) → IsTask words texts t → IsToWork words texts count records → ⊥
-task_not_worked words texts t count records x y = to_play words texts t (working y.device y.digits y.number) y.schema y.definitions y.typing x y.accepted
+pub task_not_worked : (words : List (List ℕ)) (texts : Texts) (t : Task) (count records : ℕ)
+    → IsTask words texts t → IsToWork words texts count records → ⊥
+task_not_worked words texts t count records x y =
+    to_play words texts t (working y.device y.digits y.number) y.schema y.definitions y.typing x y.accepted
 
 pub checking_not_working : (device digits number : List ℕ) → checking ≡ working device digits number → ⊥
 checking_not_working device digits number e = cc
 
-pub checked_not_worked : (words : List (List ℕ)) (before : Content) (count records : ℕ) → IsCheckable words before → IsToWork words before.aside.texts count records → ⊥
-checked_not_worked words before count records x y = checking_not_working y.device y.digits y.number (one_acceptance words before.aside.texts checking (working y.device y.digits y.number) x.0 y.schema x.1 y.definitions x.2 y.typing x.3 y.accepted).actions
+pub checked_not_worked : (words : List (List ℕ)) (before : Content) (count records : ℕ)
+    → IsCheckable words before → IsToWork words before.aside.texts count records → ⊥
+checked_not_worked words before count records x y =
+    checking_not_working y.device y.digits y.number
+    (one_acceptance words before.aside.texts checking (working y.device y.digits y.number) x.0 y.schema x.1
+    y.definitions x.2 y.typing x.3 y.accepted).actions
 
 pub making_not_working : (name blocks device digits number : List ℕ) → making name blocks ≡ working device digits number → ⊥
 making_not_working name blocks device digits number e = cc
 
-pub made_not_worked : (words : List (List ℕ)) (texts : Texts) (blocks count records : ℕ) → IsToMake words texts blocks → IsToWork words texts count records → ⊥
-made_not_worked words texts blocks count records x y = making_not_working x.device x.digits y.device y.digits y.number (one_acceptance words texts (making x.device x.digits) (working y.device y.digits y.number) x.schema y.schema x.definitions y.definitions x.typing y.typing x.accepted y.accepted).actions
+pub made_not_worked : (words : List (List ℕ)) (texts : Texts) (blocks count records : ℕ)
+    → IsToMake words texts blocks → IsToWork words texts count records → ⊥
+made_not_worked words texts blocks count records x y =
+    making_not_working x.device x.digits y.device y.digits y.number
+    (one_acceptance words texts (making x.device x.digits) (working y.device y.digits y.number) x.schema
+    y.schema x.definitions y.definitions x.typing y.typing x.accepted y.accepted).actions
 
 pub explaining_not_working : (device digits number : List ℕ) → explaining ≡ working device digits number → ⊥
 explaining_not_working device digits number e = cc
 
-pub explained_not_worked : (words : List (List ℕ)) (texts : Texts) (count records : ℕ) → IsToExplain words texts → IsToWork words texts count records → ⊥
-explained_not_worked words texts count records x y = explaining_not_working y.device y.digits y.number (one_acceptance words texts explaining (working y.device y.digits y.number) x.schema y.schema x.definitions y.definitions x.typing y.typing x.accepted y.accepted).actions
+pub explained_not_worked : (words : List (List ℕ)) (texts : Texts) (count records : ℕ) → IsToExplain words texts
+    → IsToWork words texts count records → ⊥
+explained_not_worked words texts count records x y =
+    explaining_not_working y.device y.digits y.number
+    (one_acceptance words texts explaining (working y.device y.digits y.number) x.schema y.schema x.definitions
+    y.definitions x.typing y.typing x.accepted y.accepted).actions
 
 pub inspecting_not_working : (name device digits number : List ℕ) → inspecting name ≡ working device digits number → ⊥
 inspecting_not_working name device digits number e = cc
 
-pub inspected_not_worked : (words : List (List ℕ)) (texts : Texts) (count records : ℕ) → IsToInspect words texts → IsToWork words texts count records → ⊥
-inspected_not_worked words texts count records x y = inspecting_not_working x.device y.device y.digits y.number (one_acceptance words texts (inspecting x.device) (working y.device y.digits y.number) x.schema y.schema x.definitions y.definitions x.typing y.typing x.accepted y.accepted).actions
+pub inspected_not_worked : (words : List (List ℕ)) (texts : Texts) (count records : ℕ) → IsToInspect words texts
+    → IsToWork words texts count records → ⊥
+inspected_not_worked words texts count records x y =
+    inspecting_not_working x.device y.device y.digits y.number
+    (one_acceptance words texts (inspecting x.device) (working y.device y.digits y.number) x.schema y.schema
+    x.definitions y.definitions x.typing y.typing x.accepted y.accepted).actions
 
-pub wrong_not_worked : (words : List (List ℕ)) (before : Content) (wrong : DeviceWhy) (count records : ℕ) → IsWrong words before wrong → IsToWork words before.aside.texts count records → ⊥
+pub wrong_not_worked : (words : List (List ℕ)) (before : Content) (wrong : DeviceWhy) (count records : ℕ)
+    → IsWrong words before wrong → IsToWork words before.aside.texts count records → ⊥
 wrong_not_worked words before wrong count records (inl run) y = task_not_worked words before.aside.texts run.task count records run.is y
 wrong_not_worked words before wrong count records (inr make) y = made_not_worked words before.aside.texts make.0 count records make.1 y
 
-pub worked_not_refused : (words : List (List ℕ)) (texts : Texts) (count records : ℕ) (why : Ending) → IsToWork words texts count records → IsRefused words texts why → ⊥
-worked_not_refused words texts count records why x r = accepted_not_refused words texts (working x.device x.digits x.number) x.schema x.definitions x.typing why x.accepted r
+pub worked_not_refused : (words : List (List ℕ)) (texts : Texts) (count records : ℕ) (why : Ending)
+    → IsToWork words texts count records → IsRefused words texts why → ⊥
+worked_not_refused words texts count records why x r =
+    accepted_not_refused words texts (working x.device x.digits x.number) x.schema x.definitions x.typing why x.accepted r
 
 pub trying_not_working : (device digits number : List ℕ) → trying ≡ working device digits number → ⊥
 trying_not_working device digits number e = cc
@@ -417,18 +506,15 @@ working_not_running device digits number name e = cc
 
 -- ---- a device that holds a state isn't wrong
 
-some_blocks : (a b : List (List ℕ)) → Some a ≡ Some b → a ≡ b
-some_blocks a b e = ap (λ (o : Option (List (List ℕ))). blocks_or a o) e
-  where
-    blocks_or : List (List ℕ) → Option (List (List ℕ)) → List (List ℕ)
-    blocks_or d (Some t) = t
-    blocks_or d None = d
-
-same_blocks : (device : List ℕ) (before : Content) (a b : List (List ℕ)) → device_at before.now device ≡ Some a → device_at before.now device ≡ Some b → a ≡ b
-same_blocks device before a b x y = some_blocks a b (sym x ∙ y)
+same_blocks : (device : List ℕ) (before : Content) (a b : List (List ℕ)) → device_at before.now device ≡ Some a
+    → device_at before.now device ≡ Some b → a ≡ b
+same_blocks device before a b x y = some_same a b (sym x ∙ y)
 
 -- nor one that has a size, the magic and these texts
-pub had_not_wrong : (device : List ℕ) (t : Task) (before : Content) (wrong : DeviceWhy) (blocks : List (List ℕ)) → device_at before.now device ≡ Some blocks → IsSize t.typing.specs (length blocks) → HasMagic (get_or blocks 0 []) → HasTexts (schema_text t.schema) (equation_text t.definitions) blocks → IsBefore wrong → IsWrongOn device t before wrong → ⊥
+pub had_not_wrong : (device : List ℕ) (t : Task) (before : Content) (wrong : DeviceWhy) (blocks : List (List ℕ))
+    → device_at before.now device ≡ Some blocks → IsSize t.typing.specs (length blocks)
+    → HasMagic (get_or blocks 0 []) → HasTexts (schema_text t.schema) (equation_text t.definitions) blocks
+    → IsBefore wrong → IsWrongOn device t before wrong → ⊥
 had_not_wrong device t before device_why.Missing blocks there size magic texts early is = some_not_none blocks (sym there ∙ is)
 had_not_wrong device t before device_why.Exists blocks there size magic texts early is = is
 had_not_wrong device t before device_why.Size blocks there size magic texts early is =
@@ -436,14 +522,18 @@ had_not_wrong device t before device_why.Size blocks there size magic texts earl
 had_not_wrong device t before device_why.NoDatabase blocks there size magic texts early is =
     is.2.1 (subst (λ (b : List (List ℕ)). HasMagic (get_or b 0 [])) (same_blocks device before blocks is.0 there is.1) magic)
 had_not_wrong device t before (device_why.OtherEquation place) blocks there size magic texts early is =
-    is.2.2.1 (subst (λ (b : List (List ℕ)). HasTexts (schema_text t.schema) (equation_text t.definitions) b) (same_blocks device before blocks is.0 there is.1) texts place is.2.2.0)
+    is.2.2.1 (subst (λ (b : List (List ℕ)). HasTexts (schema_text t.schema) (equation_text t.definitions) b)
+    (same_blocks device before blocks is.0 there is.1) texts place is.2.2.0)
 had_not_wrong device t before (device_why.Damaged block) blocks there size magic texts early is = early
 
-pub held_not_wrong : (device : List ℕ) (t : Task) (before : Content) (limit : Option Limits) (s : State) (wrong : DeviceWhy) → IsBefore wrong → IsWrongOn device t before wrong → IsHeldOn t device before limit s → ⊥
-held_not_wrong device t before limit s wrong early is held = had_not_wrong device t before wrong held.blocks held.there held.reopens.size held.reopens.magic held.reopens.texts early is
+pub held_not_wrong : (device : List ℕ) (t : Task) (before : Content) (limit : Option Limits) (s : State)
+    (wrong : DeviceWhy) → IsBefore wrong → IsWrongOn device t before wrong → IsHeldOn t device before limit s → ⊥
+held_not_wrong device t before limit s wrong early is held =
+    had_not_wrong device t before wrong held.blocks held.there held.reopens.size held.reopens.magic held.reopens.texts early is
 
 -- the same of the words
-pub start_not_wrong : (words : List (List ℕ)) (before : Content) (t : Task) (limit : Option Limits) (s : State) (wrong : DeviceWhy) → IsTask words before.aside.texts t → IsBefore wrong → IsWrong words before wrong → IsFrom t before limit s → ⊥
+pub start_not_wrong : (words : List (List ℕ)) (before : Content) (t : Task) (limit : Option Limits) (s : State)
+    (wrong : DeviceWhy) → IsTask words before.aside.texts t → IsBefore wrong → IsWrong words before wrong → IsFrom t before limit s → ⊥
 start_not_wrong words before t limit s wrong x early (inl run) from =
     let same = one_task words before.aside.texts t run.task x run.is in
     held_not_wrong run.device run.task before limit s wrong early run.wrong
@@ -456,23 +546,35 @@ good_not_stopped : (number : ℕ) (why : LineWhy) → ◌≡◌ {A = End} good (
 good_not_stopped number why e = cc
 
 -- it has one end
-pub one_end : (schema : Schema) (start : State) (script : List ℕ) (answers : List ℕ) (final : Playing) (end close : End) (text : List ℕ) (kept : State) → IsPlay schema start script answers final end → IsPlayText schema start script close text kept → end ≡ close
+pub one_end : (schema : Schema) (start : State) (script : List ℕ) (answers : List ℕ) (final : Playing)
+    (end close : End) (text : List ℕ) (kept : State) → IsPlay schema start script answers final end
+    → IsPlayText schema start script close text kept → end ≡ close
 one_end schema start script answers final end close text kept play is =
     (play_once schema (start_at start) (script_lines script) answers is.answers final is.final end close play is.play).2
 
-pub not_stopped : (schema : Schema) (start : State) (script : List ℕ) (answers : List ℕ) (final : Playing) (text : List ℕ) (kept : State) → IsPlay schema start script answers final good → IsStoppedText schema start script text kept → ⊥
-not_stopped schema start script answers final text kept play is = good_not_stopped is.0 is.1 (one_end schema start script answers final good (stopped is.0 is.1) text kept play is.2)
+pub not_stopped : (schema : Schema) (start : State) (script : List ℕ) (answers : List ℕ) (final : Playing)
+    (text : List ℕ) (kept : State) → IsPlay schema start script answers final good → IsStoppedText schema start script text kept → ⊥
+not_stopped schema start script answers final text kept play is =
+    good_not_stopped is.0 is.1 (one_end schema start script answers final good (stopped is.0 is.1) text kept play is.2)
 
-pub not_good : (schema : Schema) (start : State) (script : List ℕ) (answers : List ℕ) (final : Playing) (number : ℕ) (why : LineWhy) (text : List ℕ) (kept : State) → IsPlay schema start script answers final (stopped number why) → IsPlayText schema start script good text kept → ⊥
-not_good schema start script answers final number why text kept play is = good_not_stopped number why (sym (one_end schema start script answers final (stopped number why) good text kept play is))
+pub not_good : (schema : Schema) (start : State) (script : List ℕ) (answers : List ℕ) (final : Playing)
+    (number : ℕ) (why : LineWhy) (text : List ℕ) (kept : State)
+    → IsPlay schema start script answers final (stopped number why) → IsPlayText schema start script good text kept → ⊥
+not_good schema start script answers final number why text kept play is =
+    good_not_stopped number why (sym (one_end schema start script answers final (stopped number why) good text kept play is))
 
 -- ---- where the request isn't refused, and can't be carried out
 
-pub unprepared_memory : (words : List (List ℕ)) (texts : Texts) (before now : ℕ) (why : Ending) (s : Status) → IsUnprepared words texts before now why → (IsRefused words texts why → ⊥) → (s ≢ status.Outside → s ≢ status.Memory → s ≡ status_of why) → (why ≡ ending.Fault → s ≡ status.Outside) → s ≢ status.Outside → s ≡ status.Memory
+pub unprepared_memory : (words : List (List ℕ)) (texts : Texts) (before now : ℕ) (why : Ending) (s : Status)
+    → IsUnprepared words texts before now why → (IsRefused words texts why → ⊥)
+    → (s ≢ status.Outside → s ≢ status.Memory → s ≡ status_of why) → (why ≡ ending.Fault → s ≡ status.Outside)
+    → s ≢ status.Outside → s ≡ status.Memory
 unprepared_memory words texts before now why s (inl refused) never is fault outside = absurd (never refused)
 unprepared_memory words texts before now why s (inr out) never is fault outside = by_ending why s out is fault outside
   where
-    by_ending : (why : Ending) (s : Status) → IsOutside before now why → (s ≢ status.Outside → s ≢ status.Memory → s ≡ status_of why) → (why ≡ ending.Fault → s ≡ status.Outside) → s ≢ status.Outside → s ≡ status.Memory
+    by_ending : (why : Ending) (s : Status) → IsOutside before now why
+        → (s ≢ status.Outside → s ≢ status.Memory → s ≡ status_of why)
+        → (why ≡ ending.Fault → s ≡ status.Outside) → s ≢ status.Outside → s ≡ status.Memory
     by_ending ending.Fault s out is fault outside = absurd (outside (fault refl))
     by_ending ending.NoMemory status.Memory out is fault outside = refl
     by_ending ending.NoMemory status.Done out is fault outside = is (λ e. cc) (λ e. cc)
@@ -495,7 +597,8 @@ unprepared_memory words texts before now why s (inr out) never is fault outside 
     by_ending (ending.Line number why) s out is fault outside = absurd out
 
 -- a line that was to be said was said, or there was no memory for it
-pub said_complete : (s : Status) → (s ≢ status.Outside → s ≢ status.Memory → s ≡ status.Done) → s ≢ status.Outside → (s ≡ status.Done) ⊎ (s ≡ status.Memory)
+pub said_complete : (s : Status) → (s ≢ status.Outside → s ≢ status.Memory → s ≡ status.Done)
+    → s ≢ status.Outside → (s ≡ status.Done) ⊎ (s ≡ status.Memory)
 said_complete status.Done is outside = inl refl
 said_complete status.Memory is outside = inr refl
 said_complete status.Outside is outside = absurd (outside refl)
@@ -522,7 +625,8 @@ refused_status words texts ending.NoMemory r = absurd r.4
 refused_status words texts ending.Fault r = absurd r.4
 refused_status words texts (ending.Line number why) r = absurd r.4
 
-refused_or_memory : (s : Status) → (s ≢ status.Outside → s ≢ status.Memory → s ≡ status.Refused) → s ≢ status.Outside → (s ≡ status.Refused) ⊎ (s ≡ status.Memory)
+refused_or_memory : (s : Status) → (s ≢ status.Outside → s ≢ status.Memory → s ≡ status.Refused)
+    → s ≢ status.Outside → (s ≡ status.Refused) ⊎ (s ≡ status.Memory)
 refused_or_memory status.Refused is outside = inl refl
 refused_or_memory status.Memory is outside = inr refl
 refused_or_memory status.Outside is outside = absurd (outside refl)
@@ -532,8 +636,11 @@ refused_or_memory status.Full is outside = inl (is outside (λ e. cc))
 refused_or_memory status.Device is outside = inl (is outside (λ e. cc))
 
 -- nothing is to be done: the request is refused, or there was no memory
-pub unprepared_refuses : (words : List (List ℕ)) (texts : Texts) (before now : ℕ) (why : Ending) (s : Status) → IsUnprepared words texts before now why → (s ≢ status.Outside → s ≢ status.Memory → s ≡ status_of why) → (why ≡ ending.Fault → s ≡ status.Outside) → s ≢ status.Outside → (s ≡ status.Refused) ⊎ (s ≡ status.Memory)
-unprepared_refuses words texts before now why s (inl refused) is fault outside = refused_or_memory s (λ o m. is o m ∙ refused_status words texts why refused) outside
+pub unprepared_refuses : (words : List (List ℕ)) (texts : Texts) (before now : ℕ) (why : Ending) (s : Status)
+    → IsUnprepared words texts before now why → (s ≢ status.Outside → s ≢ status.Memory → s ≡ status_of why)
+    → (why ≡ ending.Fault → s ≡ status.Outside) → s ≢ status.Outside → (s ≡ status.Refused) ⊎ (s ≡ status.Memory)
+unprepared_refuses words texts before now why s (inl refused) is fault outside =
+    refused_or_memory s (λ o m. is o m ∙ refused_status words texts why refused) outside
 unprepared_refuses words texts before now ending.Fault s (inr out) is fault outside = absurd (outside (fault refl))
 unprepared_refuses words texts before now ending.NoMemory status.Memory (inr out) is fault outside = inr refl
 unprepared_refuses words texts before now ending.NoMemory status.Refused (inr out) is fault outside = inl refl

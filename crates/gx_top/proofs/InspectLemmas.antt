@@ -47,7 +47,8 @@ pub record SameInspection {words : List (List ℕ)} {texts : Texts} (r q : IsToI
 
 pub one_inspection : (words : List (List ℕ)) (texts : Texts) (r q : IsToInspect words texts) → SameInspection r q
 one_inspection words texts r q =
-    let same = one_acceptance words texts (inspecting r.device) (inspecting q.device) r.schema q.schema r.definitions q.definitions r.typing q.typing r.accepted q.accepted in
+    let same = one_acceptance words texts (inspecting r.device) (inspecting q.device) r.schema q.schema
+    r.definitions q.definitions r.typing q.typing r.accepted q.accepted in
     record {
       devices = device_once r.device q.device same.actions;
       tasks = λ i. record { action = same.actions i; schema = same.schemas i; definitions = same.definitions i; typing = same.typings i };
@@ -86,7 +87,8 @@ IsStop status.Memory = Unit {0}
 IsStop status.Outside = Unit {0}
 IsStop other = ⊥
 
-uninspected_status : (t : Task) (device : List ℕ) (before : Content) (why : Ending) → IsUninspected t device before why → IsStop (status_of why)
+uninspected_status : (t : Task) (device : List ℕ) (before : Content) (why : Ending)
+    → IsUninspected t device before why → IsStop (status_of why)
 uninspected_status t device before why is = by_uninspected t device before (λ w. IsStop (status_of w)) why is (λ wrong found. tt) tt tt
 
 memory_device : {A : Type 0} → status.Device ≡ status.Memory → A
@@ -101,9 +103,11 @@ outside_device e = absurd (never e)
     never : status.Device ≡ status.Outside → ⊥
     never f = cc
 
-module _ (t : Task) (device : List ℕ) (old mid new : Content) (why : Ending) (is : IsUninspected t device old why) (unsaid : mid.now.said ≡ old.now.said) where
+module _ (t : Task) (device : List ℕ) (old mid new : Content) (why : Ending)
+    (is : IsUninspected t device old why) (unsaid : mid.now.said ≡ old.now.said) where
   -- a front of a line
-  cut_front : (line : List ℕ) → IsFoundText t device old new line → IsCut line memory_line mid new → SaysFront (IsFoundText t device old new) old new
+  cut_front : (line : List ℕ) → IsFoundText t device old new line → IsCut line memory_line mid new
+      → SaysFront (IsFoundText t device old new) old new
   cut_front line found (n, inl said) = (line, found, (n, said ∙ ap (λ s. s ++ take n line) unsaid))
   cut_front line found (n, inr said) = (memory_line, inr (inr refl), (n, said ∙ ap (λ s. s ++ take n memory_line) unsaid))
 
@@ -138,7 +142,8 @@ IsFoundOf t device before after (Ok text) = IsInspectText t device before after 
 IsFoundOf t device before after (Err why) = IsUninspected t device before why
 
 -- what is said then changes nothing of the device
-text_later : (t : Task) (device : List ℕ) (old mid new : Content) (text : List ℕ) → SameDevices mid new → IsInspectText t device old mid text → IsInspectText t device old new text
+text_later : (t : Task) (device : List ℕ) (old mid new : Content) (text : List ℕ) → SameDevices mid new
+    → IsInspectText t device old mid text → IsInspectText t device old new text
 text_later t device old mid new text same is = record {
   state = is.state;
   limit = is.limit;
@@ -153,12 +158,18 @@ text_later t device old mid new text same is = record {
   text_is = is.text_is;
 }
 
-told_row : (t : Task) (device : List ℕ) (old mid new : Content) (text : List ℕ) (s : Status) → IsInspectText t device old new text → mid.now.said ≡ old.now.said → IsTold (Ok text) mid new s → IsInspectedOr t device old new s
-told_row t device old mid new text s is unsaid (inl told) = subst (IsInspectedOr t device old new) (sym told.0) (text, is, told.1 ∙ ap (λ l. l ++ text) unsaid)
-told_row t device old mid new text s is unsaid (inr told) = subst (IsInspectedOr t device old new) (sym told.0) (text, inl is, (told.1.0, told.1.1 ∙ ap (λ l. l ++ take told.1.0 text) unsaid))
+told_row : (t : Task) (device : List ℕ) (old mid new : Content) (text : List ℕ) (s : Status)
+    → IsInspectText t device old new text → mid.now.said ≡ old.now.said → IsTold (Ok text) mid new s → IsInspectedOr t device old new s
+told_row t device old mid new text s is unsaid (inl told) =
+    subst (IsInspectedOr t device old new) (sym told.0) (text, is, told.1 ∙ ap (λ l. l ++ text) unsaid)
+told_row t device old mid new text s is unsaid (inr told) =
+    subst (IsInspectedOr t device old new) (sym told.0) (text, inl is, (told.1.0, told.1.1 ∙ ap (λ l. l ++ take told.1.0 text) unsaid))
 
-pub found_row : (t : Task) (device : List ℕ) (old mid new : Content) (found : Result (List ℕ) Ending) (s : Status) → IsFoundOf t device old mid found → mid.now.said ≡ old.now.said → SameDevices mid new → IsTold found mid new s → IsInspectedOr t device old new s
-found_row t device old mid new (Ok text) s is unsaid same told = told_row t device old mid new text s (text_later t device old mid new text same is) unsaid told
+pub found_row : (t : Task) (device : List ℕ) (old mid new : Content) (found : Result (List ℕ) Ending)
+    (s : Status) → IsFoundOf t device old mid found → mid.now.said ≡ old.now.said → SameDevices mid new
+    → IsTold found mid new s → IsInspectedOr t device old new s
+found_row t device old mid new (Ok text) s is unsaid same told =
+    told_row t device old mid new text s (text_later t device old mid new text same is) unsaid told
 found_row t device old mid new (Err why) s is unsaid same told = uninspected_row t device old mid new why is unsaid s told
 
 -- ---- how the request ends
@@ -175,7 +186,8 @@ inspect_said words old new status.Script is = absurd is.1
 inspect_said words old new status.Refused is = absurd is.1
 inspect_said words old new status.Full is = absurd is.1
 
-pub inspect_end : (words : List (List ℕ)) (old new : Content) (s : Status) → InspectsOr words old new s → new.script ≡ old.script → IsOutcome words old new s
+pub inspect_end : (words : List (List ℕ)) (old new : Content) (s : Status) → InspectsOr words old new s
+    → new.script ≡ old.script → IsOutcome words old new s
 inspect_end words old new s is unheard = record {
   said = inspect_said words old new s is;
   heard = λ done t task limit start from. absurd (task_not_inspected words old.aside.texts t task is.0);
@@ -187,15 +199,19 @@ inspect_end words old new s is unheard = record {
 -- ---- the status that is due
 
 -- a device that holds a valid state isn't wrong
-held_right : (device : List ℕ) (t : Task) (before : Content) (limit : Option Limits) (s : State) (wrong : DeviceWhy) → IsWrongOn device t before wrong → IsHeldOn t device before limit s → ⊥
+held_right : (device : List ℕ) (t : Task) (before : Content) (limit : Option Limits) (s : State)
+    (wrong : DeviceWhy) → IsWrongOn device t before wrong → IsHeldOn t device before limit s → ⊥
 held_right device t before limit s (device_why.Damaged block) is held = is.stateless limit s held
 held_right device t before limit s device_why.Missing is held = held_not_wrong device t before limit s device_why.Missing tt is held
 held_right device t before limit s device_why.Exists is held = held_not_wrong device t before limit s device_why.Exists tt is held
 held_right device t before limit s device_why.Size is held = held_not_wrong device t before limit s device_why.Size tt is held
 held_right device t before limit s device_why.NoDatabase is held = held_not_wrong device t before limit s device_why.NoDatabase tt is held
-held_right device t before limit s (device_why.OtherEquation place) is held = held_not_wrong device t before limit s (device_why.OtherEquation place) tt is held
+held_right device t before limit s (device_why.OtherEquation place) is held =
+    held_not_wrong device t before limit s (device_why.OtherEquation place) tt is held
 
-sound_status : (t : Task) (device : List ℕ) (old new : Content) (limit : Option Limits) (state : State) (s : Status) → IsHeldOn t device old limit state → IsInspectedOr t device old new s → s ≢ status.Outside → (s ≡ status.Done) ⊎ (s ≡ status.Memory)
+sound_status : (t : Task) (device : List ℕ) (old new : Content) (limit : Option Limits) (state : State)
+    (s : Status) → IsHeldOn t device old limit state → IsInspectedOr t device old new s → s ≢ status.Outside
+    → (s ≡ status.Done) ⊎ (s ≡ status.Memory)
 sound_status t device old new limit state status.Done held row outside = inl refl
 sound_status t device old new limit state status.Memory held row outside = inr refl
 sound_status t device old new limit state status.Device held row outside = absurd (held_right device t old limit state row.1.0 row.1.1 held)
@@ -204,7 +220,9 @@ sound_status t device old new limit state status.Script held row outside = absur
 sound_status t device old new limit state status.Refused held row outside = absurd row
 sound_status t device old new limit state status.Full held row outside = absurd row
 
-unsound_status : (t : Task) (device : List ℕ) (old new : Content) (s : Status) → ((limit : Option Limits) (state : State) → ¬ IsHeldOn t device old limit state) → IsInspectedOr t device old new s → s ≢ status.Outside → (s ≡ status.Device) ⊎ (s ≡ status.Memory)
+unsound_status : (t : Task) (device : List ℕ) (old new : Content) (s : Status)
+    → ((limit : Option Limits) (state : State) → ¬ IsHeldOn t device old limit state)
+    → IsInspectedOr t device old new s → s ≢ status.Outside → (s ≡ status.Device) ⊎ (s ≡ status.Memory)
 unsound_status t device old new status.Device none row outside = inl refl
 unsound_status t device old new status.Memory none row outside = inr refl
 unsound_status t device old new status.Done none row outside = absurd (none row.1.limit row.1.state row.1.held)
@@ -214,7 +232,8 @@ unsound_status t device old new status.Refused none row outside = absurd row
 unsound_status t device old new status.Full none row outside = absurd row
 
 -- the same, as another reading of the words has it
-row_of : (words : List (List ℕ)) (old new : Content) (s : Status) (r : IsToInspect words old.aside.texts) → InspectsOr words old new s → IsInspectedOr (inspected r) r.device old new s
+row_of : (words : List (List ℕ)) (old new : Content) (s : Status) (r : IsToInspect words old.aside.texts)
+    → InspectsOr words old new s → IsInspectedOr (inspected r) r.device old new s
 row_of words old new s r is =
     let same = one_inspection words old.aside.texts is.0 r in
     subst (λ (x : Task × List ℕ). IsInspectedOr x.0 x.1 old new s) (λ i. (same.tasks i, same.devices i)) is.1
@@ -227,8 +246,10 @@ inspect_due words old new s is due can outside = by_due due can
     by_due status.Done (inr (inl checkable)) = absurd (checked_not_inspected words old checkable is.0)
     by_due status.Done (inr (inr (inl make))) = absurd (made_not_inspected words old.aside.texts make.blocks make.request is.0)
     by_due status.Done (inr (inr (inr (inl (r, text, ends))))) = absurd (explained_not_inspected words old.aside.texts r is.0)
-    by_due status.Done (inr (inr (inr (inr (inr can))))) = absurd (inspected_not_worked words old.aside.texts can.blocks can.records is.0 can.request)
-    by_due status.Done (inr (inr (inr (inr (inl (r, limit, state, held)))))) = sound_status (inspected r) r.device old new limit state s held (row_of words old new s r is) outside
+    by_due status.Done (inr (inr (inr (inr (inr can))))) =
+        absurd (inspected_not_worked words old.aside.texts can.blocks can.records is.0 can.request)
+    by_due status.Done (inr (inr (inr (inr (inl (r, limit, state, held)))))) =
+        sound_status (inspected r) r.device old new limit state s held (row_of words old new s r is) outside
     by_due status.Script (number, why, inl (t, task, play)) = absurd (task_not_inspected words old.aside.texts t task is.0)
     by_due status.Script (number, why, inr (r, text, ends)) = absurd (explained_not_inspected words old.aside.texts r is.0)
     by_due status.Device (inl wrong) = absurd (wrong_not_inspected words old wrong.why wrong.wrong is.0)

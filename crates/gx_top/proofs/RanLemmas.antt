@@ -18,12 +18,13 @@ use Rattle.gx_play.specs.Say.{SameDevices}
 use Rattle.gx_requests.specs.Words.{Action, checking, trying, explaining, making, running, inspecting, request_words}
 use Rattle.gx_top.proofs.CompleteLemmas.{same_words}
 use Rattle.gx_top.proofs.EndLemmas.{IsStopStatus, stop_status}
-use Rattle.gx_top.proofs.StayLemmas.{devices_same}
+use Rattle.gx_top.proofs.StayLemmas.{devices_same, unprepared_devices}
 use Rattle.gx_operations.proofs.NameLemmas.{other_at}
 
 -- ---- a request that was refused
 
-finish_unrefused : (played : Result (Unit {0}) Ending) (mid new : Content) → IfErr played IsPlayEnding → IsFinished played mid new status.Refused → ⊥
+finish_unrefused : (played : Result (Unit {0}) Ending) (mid new : Content) → IfErr played IsPlayEnding
+    → IsFinished played mid new status.Refused → ⊥
 finish_unrefused (Ok x) mid new ends e = never e.0
   where
     never : status.Refused ≡ status.Done → ⊥
@@ -50,13 +51,19 @@ unopened_unrefused unopened.NoMemory mid new e = never (e.status_is (λ f. cc) (
 
 -- ---- what is left
 
-pub played_left : (words : List (List ℕ)) (device : List ℕ) (old middle opened mid new : Content) (played : Result (Unit {0}) Ending) (s : Status) → middle.now ≡ old.now → (blocks : List (List ℕ)) → device_at middle.now device ≡ Some blocks → ((wrong : DeviceWhy) → IsBefore wrong → IsWrong words old wrong → ⊥)
-    → Attaches device middle opened → opened.now.shelf.name ≡ Some device → mid.now.shelf ≡ opened.now.shelf → SameDevices mid new → IfErr played IsPlayEnding → IsFinished played mid new s → LeavesRun words device old new s
+pub played_left : (words : List (List ℕ)) (device : List ℕ) (old middle opened mid new : Content)
+    (played : Result (Unit {0}) Ending) (s : Status) → middle.now ≡ old.now → (blocks : List (List ℕ))
+    → device_at middle.now device ≡ Some blocks → ((wrong : DeviceWhy) → IsBefore wrong → IsWrong words old wrong → ⊥)
+    → Attaches device middle opened → opened.now.shelf.name ≡ Some device → mid.now.shelf ≡ opened.now.shelf
+    → SameDevices mid new → IfErr played IsPlayEnding → IsFinished played mid new s → LeavesRun words device old new s
 played_left words device old middle opened mid new played s before blocks there right attaches named shelf same ends finished = record {
-  refused = λ e. absurd (finish_unrefused played mid new ends (subst (IsFinished played mid new) e finished));
   wrong = λ outside wrong is. found_late wrong (λ early. right wrong early is);
   missing = λ none. absurd (never (sym none ∙ sym (ap (λ n. device_at n device) before) ∙ there));
-  others = λ other differ. other_at opened.now new.now device other named (same.shelf ∙ shelf) differ ∙ attaches.others other differ ∙ ap (λ n. device_at n other) before;
+  devices = record {
+    refused = λ e. absurd (finish_unrefused played mid new ends (subst (IsFinished played mid new) e finished));
+    others = λ other differ. other_at opened.now new.now device other named (same.shelf ∙ shelf) differ
+        ∙ attaches.others other differ ∙ ap (λ n. device_at n other) before;
+  };
 }
   where
     never : ◌≡◌ {A = Option (List (List ℕ))} None (Some blocks) → ⊥
@@ -71,8 +78,10 @@ played_left words device old middle opened mid new played s before blocks there 
     found_late (device_why.OtherEquation place) late = absurd (late tt)
 
 -- a device that is as it was stays so, however it is wrong
-pub stays_itself : (device : List ℕ) (old new : Content) → device_at new.now device ≡ device_at old.now device → (wrong : DeviceWhy) → StaysWrong wrong device old new
-stays_itself device old new same (device_why.OtherEquation place) = λ blocks there. (blocks, same ∙ there, (recovery_itself blocks, alike_itself blocks))
+pub stays_itself : (device : List ℕ) (old new : Content) → device_at new.now device ≡ device_at old.now device
+    → (wrong : DeviceWhy) → StaysWrong wrong device old new
+stays_itself device old new same (device_why.OtherEquation place) =
+    λ blocks there. (blocks, same ∙ there, (recovery_itself blocks, alike_itself blocks))
 stays_itself device old new same (device_why.Damaged block) = tt
 stays_itself device old new same device_why.Missing = same
 stays_itself device old new same device_why.Exists = same
@@ -80,12 +89,12 @@ stays_itself device old new same device_why.Size = same
 stays_itself device old new same device_why.NoDatabase = same
 
 -- nothing was attached
-pub unprepared_ran : (words : List (List ℕ)) (device : List ℕ) (old mid new : Content) (s : Status) → mid.now ≡ old.now → SameDevices mid new → LeavesRun words device old new s
+pub unprepared_ran : (words : List (List ℕ)) (device : List ℕ) (old mid new : Content) (s : Status)
+    → mid.now ≡ old.now → SameDevices mid new → LeavesRun words device old new s
 unprepared_ran words device old mid new s before same = record {
-  refused = λ e. record { blocks = same.blocks ∙ ap (λ n. n.blocks) before; shelf = same.shelf ∙ ap (λ n. n.shelf) before };
   wrong = λ outside wrong is. stays_itself device old new (stays_at device) wrong;
   missing = λ none. stays_at device ∙ none;
-  others = λ other differ. stays_at other;
+  devices = unprepared_devices device old mid new s before same;
 }
   where
     stays_at : (name : List ℕ) → device_at new.now name ≡ device_at old.now name
@@ -100,13 +109,19 @@ device_once a b e = ap device_or e
     device_or (running d) = d
     device_or other = a
 
-pub ran_by_words : (words : List (List ℕ)) (device other schema name equation term : List ℕ) (old new : Content) (s : Status) → words ≡ request_words (running device) schema equation → words ≡ request_words (running other) name term → LeavesRun (request_words (running device) schema equation) device old new s → LeavesRun words other old new s
+pub ran_by_words : (words : List (List ℕ)) (device other schema name equation term : List ℕ) (old new : Content)
+    (s : Status) → words ≡ request_words (running device) schema equation
+    → words ≡ request_words (running other) name term
+    → LeavesRun (request_words (running device) schema equation) device old new s → LeavesRun words other old new s
 ran_by_words words device other schema name equation term old new s is too left =
-    subst (λ d. LeavesRun words d old new s) (device_once device other (same_words words (running device) (running other) schema name equation term is too).actions)
+    subst (λ d. LeavesRun words d old new s)
+    (device_once device other (same_words words (running device) (running other) schema name equation term is too).actions)
     (subst (λ (ws : List (List ℕ)). LeavesRun ws device old new s) (sym is) left)
 
-pub not_ran : (words : List (List ℕ)) (a : Action) (schema equation : List ℕ) (old new : Content) (s : Status) → words ≡ request_words a schema equation → ((device : List ℕ) → a ≡ running device → ⊥) → LeavesRunBy words old new s
-not_ran words a schema equation old new s is never = λ device name term too free. absurd (never device (same_words words a (running device) schema name equation term is too).actions)
+pub not_ran : (words : List (List ℕ)) (a : Action) (schema equation : List ℕ) (old new : Content) (s : Status)
+    → words ≡ request_words a schema equation → ((device : List ℕ) → a ≡ running device → ⊥) → LeavesRunBy words old new s
+not_ran words a schema equation old new s is never =
+    λ device name term too free. absurd (never device (same_words words a (running device) schema name equation term is too).actions)
 
 pub check_is_no_run : (device : List ℕ) → checking ≡ running device → ⊥
 check_is_no_run device e = cc

@@ -24,12 +24,14 @@ use Rattle.gx_top.proofs.EntryLemmas.{full_by_state}
 use Rattle.gx_explain.proofs.BehindLemmas.{behind, front_behind}
 
 -- the answers of a play are those of the first lines that ran
-first_parts : (all : Lines) (ran : List (List ℕ)) (next : Result (Option (List ℕ)) LineWhy) → AreFirstLines all ran next → (later : List (List ℕ)) × (all.lines ≡ ran ++ later)
+first_parts : (all : Lines) (ran : List (List ℕ)) (next : Result (Option (List ℕ)) LineWhy)
+    → AreFirstLines all ran next → (later : List (List ℕ)) × (all.lines ≡ ran ++ later)
 first_parts all ran (Ok (Some line)) first = (line ∷ first.0, first.1)
 first_parts all ran (Ok None) first = ([], first.0 ∙ sym (append-nil ran))
 first_parts all ran (Err why) first = ([], first.0 ∙ sym (append-nil ran))
 
-abbrev all_first : (schema : Schema) (start : State) (script answers : List ℕ) (final : Playing) (end : End) → IsPlay schema start script answers final end → AreFirst schema start script answers
+abbrev all_first : (schema : Schema) (start : State) (script answers : List ℕ) (final : Playing) (end : End)
+    → IsPlay schema start script answers final end → AreFirst schema start script answers
 all_first schema start script answers final end play = record {
   ran = play.ran;
   later = (first_parts (script_lines script) play.ran play.next play.first).0;
@@ -38,12 +40,14 @@ all_first schema start script answers final end play = record {
   runs = play.runs;
 }
 
-module _ (schema : Schema) (ds : List DefinitionTree) (built : Built) (limit : Option Limits) (start : State) (Holds : State → Type 0) (trees : IsBuiltOf schema ds built) (old mid new : Content) where
+module _ (schema : Schema) (ds : List DefinitionTree) (built : Built) (limit : Option Limits) (start : State)
+    (Holds : State → Type 0) (trees : IsBuiltOf schema ds built) (old mid new : Content) where
   abbrev As : Result (Unit {0}) Ending → Type 0
   As = IsPlayedAs schema built limit start Holds old.script old.now.said mid.now.said
 
   by_end : (P : Ending → Type 0) (why : Ending) → As (Err why)
-      → ((number : ℕ) (reason : LineWhy) → IsPlayedOut schema start Holds old.script old.now.said mid.now.said (stopped number reason) → P (ending.Line number reason))
+      → ((number : ℕ) (reason : LineWhy)
+      → IsPlayedOut schema start Holds old.script old.now.said mid.now.said (stopped number reason) → P (ending.Line number reason))
       → (IsPlayedFirst schema start Holds old.script old.now.said mid.now.said → P ending.NoMemory)
       → (IsPlayedFull schema built limit start Holds old.script old.now.said mid.now.said → P ending.Full)
       → (IsPlayedFront schema start Holds old.script old.now.said mid.now.said → P ending.Fault)
@@ -64,7 +68,8 @@ module _ (schema : Schema) (ds : List DefinitionTree) (built : Built) (limit : O
   by_end P (ending.Made blocks pages) is line memory full fault = absurd is
 
   -- all of the script
-  pub done_row : IsPlayedOut schema start Holds old.script old.now.said new.now.said good → SaysKeeping (IsPlayText schema start old.script good) Holds old new
+  pub done_row : IsPlayedOut schema start Holds old.script old.now.said new.now.said good
+      → SaysKeeping (IsPlayText schema start old.script good) Holds old new
   done_row out = (
     out.answers,
     out.final.kept,
@@ -78,7 +83,9 @@ module _ (schema : Schema) (ds : List DefinitionTree) (built : Built) (limit : O
   abbrev Stopped : Type 0
   Stopped = SaysKeeping (IsStoppedText schema start old.script) Holds old new
 
-  stopped_line : (number : ℕ) (reason : LineWhy) → IsPlayedOut schema start Holds old.script old.now.said mid.now.said (stopped number reason) → new.now.said ≡ mid.now.said ++ line_of (ending.Line number reason) → Stopped
+  stopped_line : (number : ℕ) (reason : LineWhy)
+      → IsPlayedOut schema start Holds old.script old.now.said mid.now.said (stopped number reason)
+      → new.now.said ≡ mid.now.said ++ line_of (ending.Line number reason) → Stopped
   stopped_line number reason out said = (
     out.answers ++ line_of (ending.Line number reason),
     out.final.kept,
@@ -107,7 +114,8 @@ module _ (schema : Schema) (ds : List DefinitionTree) (built : Built) (limit : O
   abbrev Filled : Type 0
   Filled = SaysKeeping (IsFullText schema ds limit start old.script) Holds old new
 
-  full_text : (full : IsPlayedFull schema built limit start Holds old.script old.now.said mid.now.said) → IsFullText schema ds limit start old.script (full.answers ++ full_line) full.final.kept
+  full_text : (full : IsPlayedFull schema built limit start Holds old.script old.now.said mid.now.said)
+      → IsFullText schema ds limit start old.script (full.answers ++ full_line) full.final.kept
   full_text full = record {
     answers = full.answers;
     final = full.final;
@@ -144,10 +152,18 @@ module _ (schema : Schema) (ds : List DefinitionTree) (built : Built) (limit : O
   abbrev Short : Type 0
   Short = SaysKeeping (IsMemoryText schema start old.script) Holds old new
 
-  abbrev first_of_full : (full : IsPlayedFull schema built limit start Holds old.script old.now.said mid.now.said) → AreFirst schema start old.script full.answers
-  first_of_full full = record { ran = full.full.ran; later = full.full.later; parts = full.full.parts; final = full.final; runs = full.full.runs }
+  abbrev first_of_full : (full : IsPlayedFull schema built limit start Holds old.script old.now.said
+      mid.now.said) → AreFirst schema start old.script full.answers
+  first_of_full full = record {
+    ran = full.full.ran;
+    later = full.full.later;
+    parts = full.full.parts;
+    final = full.final;
+    runs = full.full.runs;
+  }
 
-  short : (answers : List ℕ) (first : AreFirst schema start old.script answers) → mid.now.said ≡ old.now.said ++ answers → Holds first.final.kept → new.now.said ≡ mid.now.said ++ memory_line → Short
+  short : (answers : List ℕ) (first : AreFirst schema start old.script answers)
+      → mid.now.said ≡ old.now.said ++ answers → Holds first.final.kept → new.now.said ≡ mid.now.said ++ memory_line → Short
   short answers first is holds said = (
     answers ++ memory_line,
     first.final.kept,
@@ -159,7 +175,8 @@ module _ (schema : Schema) (ds : List DefinitionTree) (built : Built) (limit : O
   pub short_row : (why : Ending) → As (Err why) → why ≢ ending.Fault → new.now.said ≡ mid.now.said ++ memory_line → Short
   short_row why is =
       by_end (λ w. w ≢ ending.Fault → new.now.said ≡ mid.now.said ++ memory_line → Short) why is
-      (λ number reason out other said. short out.answers (all_first schema start old.script out.answers out.final (stopped number reason) out.play) out.said out.holds said)
+      (λ number reason out other said. short out.answers
+      (all_first schema start old.script out.answers out.final (stopped number reason) out.play) out.said out.holds said)
       (λ first other said. short first.answers first.first first.said first.holds said)
       (λ full other said. short full.answers (first_of_full full) full.said full.holds said)
       (λ front other said. absurd (other refl))
@@ -173,7 +190,8 @@ module _ (schema : Schema) (ds : List DefinitionTree) (built : Built) (limit : O
   abbrev Front : Type 0
   Front = SaysFrontKeeping (IsUnfinishedText schema ds limit start old.script) Holds old new
 
-  short_front : (answers : List ℕ) (first : AreFirst schema start old.script answers) (n : ℕ) → mid.now.said ≡ old.now.said ++ answers → Holds first.final.kept → new.now.said ≡ mid.now.said ++ take n memory_line → Front
+  short_front : (answers : List ℕ) (first : AreFirst schema start old.script answers) (n : ℕ)
+      → mid.now.said ≡ old.now.said ++ answers → Holds first.final.kept → new.now.said ≡ mid.now.said ++ take n memory_line → Front
   short_front answers first n is holds said = (
     answers ++ memory_line,
     first.final.kept,
@@ -182,16 +200,23 @@ module _ (schema : Schema) (ds : List DefinitionTree) (built : Built) (limit : O
     holds,
   )
 
-  line_front : (number : ℕ) (reason : LineWhy) → IsPlayedOut schema start Holds old.script old.now.said mid.now.said (stopped number reason) → (n : ℕ) → new.now.said ≡ mid.now.said ++ take n (line_of (ending.Line number reason)) → Front
+  line_front : (number : ℕ) (reason : LineWhy)
+      → IsPlayedOut schema start Holds old.script old.now.said mid.now.said (stopped number reason) → (n : ℕ)
+      → new.now.said ≡ mid.now.said ++ take n (line_of (ending.Line number reason)) → Front
   line_front number reason out n said = (
     out.answers ++ line_of (ending.Line number reason),
     out.final.kept,
     inl (number, reason, record { answers = out.answers; final = out.final; play = out.play; text_is = refl; kept_is = refl }),
-    (length out.answers + n, front_behind old.now.said mid.now.said new.now.said out.answers (line_of (ending.Line number reason)) n out.said said),
+    (
+      length out.answers + n,
+      front_behind old.now.said mid.now.said new.now.said out.answers
+          (line_of (ending.Line number reason)) n out.said said,
+    ),
     out.holds,
   )
 
-  full_front : (full : IsPlayedFull schema built limit start Holds old.script old.now.said mid.now.said) (n : ℕ) → new.now.said ≡ mid.now.said ++ take n full_line → Front
+  full_front : (full : IsPlayedFull schema built limit start Holds old.script old.now.said mid.now.said) (n : ℕ)
+      → new.now.said ≡ mid.now.said ++ take n full_line → Front
   full_front full n said = (
     full.answers ++ full_line,
     full.final.kept,
@@ -203,14 +228,21 @@ module _ (schema : Schema) (ds : List DefinitionTree) (built : Built) (limit : O
   fault_front : IsPlayedFront schema start Holds old.script old.now.said mid.now.said → new.now.said ≡ mid.now.said → Cut
   fault_front front same = subst (λ said. IsPlayedFront schema start Holds old.script old.now.said said) (sym same) front
 
-  cut_of : (answers : List ℕ) (first : AreFirst schema start old.script answers) (line : List ℕ) → mid.now.said ≡ old.now.said ++ answers → Holds first.final.kept → IsCut line memory_line mid new → ((n : ℕ) → new.now.said ≡ mid.now.said ++ take n line → Front) → Front
+  cut_of : (answers : List ℕ) (first : AreFirst schema start old.script answers) (line : List ℕ)
+      → mid.now.said ≡ old.now.said ++ answers → Holds first.final.kept → IsCut line memory_line mid new
+      → ((n : ℕ) → new.now.said ≡ mid.now.said ++ take n line → Front) → Front
   cut_of answers first line is holds (n, inl said) own = own n said
   cut_of answers first line is holds (n, inr said) own = short_front answers first n is holds said
 
-  pub front_row : (why : Ending) → As (Err why) → (why ≡ ending.Fault → new.now.said ≡ mid.now.said) → IsCut (line_of why) memory_line mid new → Cut ⊎ Front
+  pub front_row : (why : Ending) → As (Err why) → (why ≡ ending.Fault → new.now.said ≡ mid.now.said)
+      → IsCut (line_of why) memory_line mid new → Cut ⊎ Front
   front_row why is =
       by_end (λ w. (w ≡ ending.Fault → new.now.said ≡ mid.now.said) → IsCut (line_of w) memory_line mid new → Cut ⊎ Front) why is
-      (λ number reason out same cut. inr (cut_of out.answers (all_first schema start old.script out.answers out.final (stopped number reason) out.play) (line_of (ending.Line number reason)) out.said out.holds cut (λ n said. line_front number reason out n said)))
-      (λ first same cut. inr (cut_of first.answers first.first memory_line first.said first.holds cut (λ n said. short_front first.answers first.first n first.said first.holds said)))
-      (λ full same cut. inr (cut_of full.answers (first_of_full full) full_line full.said full.holds cut (λ n said. full_front full n said)))
+      (λ number reason out same cut. inr (cut_of out.answers
+      (all_first schema start old.script out.answers out.final (stopped number reason) out.play)
+      (line_of (ending.Line number reason)) out.said out.holds cut (λ n said. line_front number reason out n said)))
+      (λ first same cut. inr (cut_of first.answers first.first memory_line first.said first.holds cut
+      (λ n said. short_front first.answers first.first n first.said first.holds said)))
+      (λ full same cut. inr (cut_of full.answers (first_of_full full) full_line full.said full.holds cut
+      (λ n said. full_front full n said)))
       (λ front same cut. inl (fault_front front (same refl)))

@@ -16,12 +16,12 @@ use Rattle.gx_play.specs.declared.status.Status.{Status}
 use Rattle.gx_play.specs.declared.status.Status.TheVariants as status
 use Rattle.gx_play.specs.Endings.{device_line, memory_line}
 use Rattle.gx_play.specs.Played.{SaysText, SaysFront}
-use Rattle.gx_play.specs.Say.{SameDevices}
 use Rattle.gx_requests.specs.Words.{inspecting, request_words}
 use Rattle.gx_requests.specs.Requests.{IsAccepted}
 use Rattle.gx_top.specs.Tasks.{Task, IsHeldOn, IsSettledOn}
 use Rattle.gx_top.specs.Devices.{IsWrongOn}
 use Rattle.gx_top.specs.Ran.{StaysWrong}
+use Rattle.gx_top.specs.Stays.{LeavesDevices}
 
 -- a request to inspect a device, whose texts are accepted and built
 pub record IsToInspect (words : List (List ℕ)) (texts : Texts) : Type 0 where
@@ -33,9 +33,12 @@ pub record IsToInspect (words : List (List ℕ)) (texts : Texts) : Type 0 where
 
 -- what the texts mean under which the device is read
 abbrev pub inspected : {words : List (List ℕ)} {texts : Texts} → IsToInspect words texts → Task
-inspected r =
-    record
-    { action = inspecting r.device; schema = r.schema; definitions = r.definitions; typing = r.typing }
+inspected r = record {
+  action = inspecting r.device;
+  schema = r.schema;
+  definitions = r.definitions;
+  typing = r.typing;
+}
 
 -- ---- what is said
 
@@ -100,7 +103,7 @@ IsStoredOn t device c maps =
 -- before.
 pub record LeavesInspected (words : List (List ℕ)) (device : List ℕ) (old new : Content)
     (s : Status) : Type 0 where
-  pub refused : s ≡ status.Refused → SameDevices old new
+  pub devices : LeavesDevices device old new s
   pub wrong : s ≢ status.Outside → (r : IsToInspect words old.aside.texts) (why : DeviceWhy)
       → IsWrongOn device (inspected r) old why → StaysWrong why device old new
   pub holds : s ≢ status.Outside
@@ -114,7 +117,6 @@ pub record LeavesInspected (words : List (List ℕ)) (device : List ℕ) (old ne
       → (blocks : List (List ℕ)) → device_at old.now device ≡ Some blocks
       → OfBlocks device new (ReadAlike blocks)
   pub missing : device_at old.now device ≡ None → device_at new.now device ≡ None
-  pub others : (other : List ℕ) → other ≢ device → device_at new.now other ≡ device_at old.now other
 
 -- the same where the words ask for it
 abbrev pub LeavesInspectedBy : List (List ℕ) → Content → Content → Status → Type 0

@@ -1,9 +1,9 @@
 pub mod Explained
 pub mod Tasks
 pub mod Devices
+pub mod Stays
 pub mod Made
 pub mod Ran
-pub mod Stays
 pub mod Inspected
 pub mod Found
 pub mod Worked

@@ -1,5 +1,5 @@
 -- What `make` leaves on the devices.
-use Rattle.std.specs.Prelude.{◌≡◌, ◌≢◌, ℕ, List, length, replicate, Some, None}
+use Rattle.std.specs.Prelude.{◌≡◌, ℕ, List, length, replicate, Some, None}
 use Rattle.std.specs.FinMap.{empty}
 use Rattle.gx_device.specs.Content.{Content, device_at}
 use Rattle.gx_schema.specs.Printing.{schema_text}
@@ -9,10 +9,10 @@ use Rattle.gx_store.specs.Device.{IsMadeOn, IsNoneOrEmpty}
 use Rattle.gx_store.specs.Store.{KeepsDevice}
 use Rattle.gx_play.specs.declared.status.Status.{Status}
 use Rattle.gx_play.specs.declared.status.Status.TheVariants as status
-use Rattle.gx_play.specs.Say.{SameDevices}
 use Rattle.gx_requests.specs.Words.{making, request_words, IsCounted}
 use Rattle.gx_top.specs.Tasks.{IsInternalOf}
 use Rattle.gx_top.specs.Devices.{IsToMake}
+use Rattle.gx_top.specs.Stays.{LeavesDevices}
 
 -- an empty database was made on the device that the words name, and there was none of that name
 pub record IsNewDatabase (words : List (List ℕ)) (old new : Content) : Type 0 where
@@ -32,10 +32,9 @@ pub record IsNewDatabase (words : List (List ℕ)) (old new : Content) : Type 0 
 pub record LeavesMade (words : List (List ℕ)) (device : List ℕ) (old new : Content)
     (s : Status) : Type 0 where
   pub done : s ≡ status.Done → IsNewDatabase words old new
-  pub refused : s ≡ status.Refused → SameDevices old new
+  pub devices : LeavesDevices device old new s
   pub wrong : s ≡ status.Device → device_at new.now device ≡ device_at old.now device
   pub there : KeepsDevice device old new
-  pub others : (other : List ℕ) → other ≢ device → device_at new.now other ≡ device_at old.now other
   pub opens : device_at old.now device ≡ None → (blocks : List (List ℕ))
       → device_at new.now device ≡ Some blocks
       → (count : ℕ) (r : IsToMake words old.aside.texts count)

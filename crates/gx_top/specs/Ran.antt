@@ -8,9 +8,9 @@ use Rattle.gx_play.specs.declared.ending.DeviceWhy.{DeviceWhy}
 use Rattle.gx_play.specs.declared.ending.DeviceWhy.TheVariants as device_why
 use Rattle.gx_play.specs.declared.status.Status.{Status}
 use Rattle.gx_play.specs.declared.status.Status.TheVariants as status
-use Rattle.gx_play.specs.Say.{SameDevices}
 use Rattle.gx_requests.specs.Words.{running, request_words}
 use Rattle.gx_top.specs.Devices.{IsWrong}
+use Rattle.gx_top.specs.Stays.{LeavesDevices}
 
 -- What is left of the device of that name, which is wrong in this way: all of it; of one with other
 -- texts, which reads as before, all but the blocks that recovery writes. Of a damaged one nothing
@@ -26,11 +26,10 @@ StaysWrong why device old new = device_at new.now device ≡ device_at old.now d
 -- the machine failed, none is made, and those of other names stay.
 pub record LeavesRun (words : List (List ℕ)) (device : List ℕ) (old new : Content)
     (s : Status) : Type 0 where
-  pub refused : s ≡ status.Refused → SameDevices old new
+  pub devices : LeavesDevices device old new s
   pub wrong : s ≢ status.Outside → (why : DeviceWhy) → IsWrong words old why
       → StaysWrong why device old new
   pub missing : device_at old.now device ≡ None → device_at new.now device ≡ None
-  pub others : (other : List ℕ) → other ≢ device → device_at new.now other ≡ device_at old.now other
 
 -- the same where the words ask for it
 abbrev pub LeavesRunBy : List (List ℕ) → Content → Content → Status → Type 0

@@ -1,7 +1,16 @@
--- What a request leaves that is on no device.
+-- What a request on a device leaves of the others, and what one leaves that is on none.
 use Rattle.std.specs.Prelude.{◌≡◌, ◌≢◌, ℕ, List, None}
 use Rattle.gx_device.specs.Content.{Content, device_at}
+use Rattle.gx_play.specs.declared.status.Status.{Status}
+use Rattle.gx_play.specs.declared.status.Status.TheVariants as status
+use Rattle.gx_play.specs.Say.{SameDevices}
 use Rattle.gx_requests.specs.Words.{Action, IsCounted, IsOnDevice, request_words}
+
+-- What each request on the device of that name leaves: all devices where it is refused, and those of
+-- other names always.
+pub record LeavesDevices (device : List ℕ) (old new : Content) (s : Status) : Type 0 where
+  pub refused : s ≡ status.Refused → SameDevices old new
+  pub others : (other : List ℕ) → other ≢ device → device_at new.now other ≡ device_at old.now other
 
 -- the words ask to check, to try or to explain, or they are no request
 abbrev pub AreOnNone : List (List ℕ) → Type 0

@@ -1,9 +1,8 @@
 -- What the program says of a request: the play of the script, what the checker says, what was made
 -- or found, why the request is refused or its device is wrong, or as much of it as can be said.
-use Rattle.std.specs.Prelude.{◌≡◌, ◌≢◌, ◌⊎◌, ℕ, ◌≤◌, List, [], ◌++◌, Option, Some}
+use Rattle.std.specs.Prelude.{◌≡◌, ◌≢◌, ◌⊎◌, ℕ, List, [], ◌++◌, Option, Some}
 use Rattle.std.specs.FinMap.{get}
 use Rattle.gx_device.specs.Content.{Content, Texts}
-use Rattle.gx_device.specs.Faults.{Rose}
 use Rattle.gx_ports.specs.LeafMaps.{Limits}
 use Rattle.gx_schema.specs.declared.schema.Schema.{Schema}
 use Rattle.gx_commands.specs.declared.command.LineWhy.{LineWhy}
@@ -172,12 +171,6 @@ IsDueStatus words before other = ⊥
 abbrev pub IsAsDue : List (List ℕ) → Content → Status → Type 0
 IsAsDue words before s = (due : Status) → IsDueStatus words before due → s ≢ status.Outside
     → (s ≡ due) ⊎ (s ≡ status.Memory)
-
--- `Outside` comes only where a call of the machine failed, and with any other status none did
-pub record CountsOutside (before now : ℕ) (s : Status) : Type 0 where
-  pub outside : s ≡ status.Outside → Rose before now
-  pub counted : s ≢ status.Outside → now ≡ before
-  pub later : before ≤ now
 
 -- ---- of two requests
 

@@ -1,5 +1,5 @@
 -- What `work` says of a workload, and what it leaves.
-use Rattle.std.specs.Prelude.{◌≡◌, ◌≢◌, ◌⊎◌, ℕ, List, length, Some, None}
+use Rattle.std.specs.Prelude.{◌≡◌, ◌⊎◌, ℕ, List, length, Some, None}
 use Rattle.gx_device.specs.Content.{Content, Texts, device_at}
 use Rattle.gx_schema.specs.declared.schema.Schema.{Schema}
 use Rattle.gx_schema.specs.Printing.{schema_text}
@@ -18,10 +18,10 @@ use Rattle.gx_play.specs.declared.status.Status.{Status}
 use Rattle.gx_play.specs.declared.status.Status.TheVariants as status
 use Rattle.gx_play.specs.Endings.{device_line, full_line, memory_line}
 use Rattle.gx_play.specs.Played.{SaysText, SaysFront, IsPlay, AreFirst, MayBeFull}
-use Rattle.gx_play.specs.Say.{SameDevices}
 use Rattle.gx_requests.specs.Words.{working, request_words, IsCount, IsRecordCount, IsCounted}
 use Rattle.gx_requests.specs.Requests.{IsAccepted}
 use Rattle.gx_top.specs.Tasks.{Task, IsSettledOn}
+use Rattle.gx_top.specs.Stays.{LeavesDevices}
 use Rattle.gx_operations.specs.Settled.{limits_on}
 use Rattle.gx_operations.specs.Making.{IsUnmakable}
 
@@ -40,9 +40,12 @@ pub record IsToWork (words : List (List ℕ)) (texts : Texts) (blocks records : 
 -- what the texts mean under which it is played
 abbrev pub worked : {words : List (List ℕ)} {texts : Texts} {blocks records : ℕ}
     → IsToWork words texts blocks records → Task
-worked r =
-    record
-    { action = working r.device r.digits r.number; schema = r.schema; definitions = r.definitions; typing = r.typing }
+worked r = record {
+  action = working r.device r.digits r.number;
+  schema = r.schema;
+  definitions = r.definitions;
+  typing = r.typing;
+}
 
 -- ---- what is said
 
@@ -147,14 +150,13 @@ HoldsWork t device records after blocks =
 -- After Memory one that wasn't there holds what first lines kept, or no database or an empty one.
 pub record LeavesWorked (words : List (List ℕ)) (device : List ℕ) (old new : Content)
     (s : Status) : Type 0 where
-  pub refused : s ≡ status.Refused → SameDevices old new
+  pub devices : LeavesDevices device old new s
   pub wrong : s ≡ status.Device → device_at new.now device ≡ device_at old.now device
   pub there : KeepsDevice device old new
   pub memory : s ≡ status.Memory → device_at old.now device ≡ None → (blocks : List (List ℕ))
       → device_at new.now device ≡ Some blocks
       → (count records : ℕ) (r : IsToWork words old.aside.texts count records)
       → HoldsWork (worked r) device records new blocks
-  pub others : (other : List ℕ) → other ≢ device → device_at new.now other ≡ device_at old.now other
 
 -- the same where the words ask for it
 abbrev pub LeavesWorkedBy : List (List ℕ) → Content → Content → Status → Type 0

@@ -1,7 +1,8 @@
 // The request to check two texts.
 ghost use Rattle.std.specs.Prelude.{◌≡◌, IsTrue};
+ghost use Rattle.gx_play.specs.Endings.{CountsOutside};
 ghost use Rattle.gx_requests.specs.Words.{checking, request_words};
-ghost use Rattle.gx_top.specs.Tries.{IsOutcome, IsAsDue, CountsOutside};
+ghost use Rattle.gx_top.specs.Fulfilled.{IsAnswered};
 
 use gx_device::Machine;
 use gx_play::{Ending, Status, end, summarize};
@@ -11,11 +12,9 @@ use std::alloc::Global;
 /// Says what leaves the equation has where both texts of these names are accepted, and the reason
 /// where they aren't. No script is heard, and no device is attached.
 pub fn check<M: Machine>(alloc: Global, schema: &str, equation: &str, machine: &mut M) -> Status
-    ensures said { IsTrue M.tells →
-        IsOutcome (request_words checking schema.now equation.now) (M.content machine.old)
+    ensures answered { IsTrue M.tells →
+        IsAnswered (request_words checking schema.now equation.now) (M.content machine.old)
         (M.content machine.new) result }
-    ensures due { IsTrue M.tells →
-        IsAsDue (request_words checking schema.now equation.now) (M.content machine.old) result }
     ensures shelf { (M.content machine.new).now.shelf ≡ (M.content machine.old).now.shelf }
     ensures failures { CountsOutside (M.faults machine.old) (M.faults machine.new) result }
 {

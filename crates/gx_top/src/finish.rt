@@ -1,15 +1,38 @@
-// How a script that was played, or leaves that were examined, end for the request.
-ghost use Rattle.std.specs.Prelude.{◌≡◌, ◌≢◌, ◌≤◌, ◌⊎◌, Ok, false, IsTrue, IsErrOf};
+// How a request ends: it is refused, its script was played, or its leaves were examined.
+ghost use Rattle.std.specs.Prelude.{◌≡◌, ◌≢◌, ◌≤◌, ◌⊎◌, List, ℕ, Ok, false, IsTrue, IsErrOf};
+ghost use Rattle.gx_device.specs.Content.{Content, SameContent};
 ghost use Rattle.gx_device.specs.Faults.{Rose};
 ghost use Rattle.gx_play.specs.Say.{OnlySays, SameDevices};
-ghost use Rattle.gx_play.specs.Endings.{IsFinished, is_fault};
+ghost use Rattle.gx_play.specs.Endings.{IsFinished, CountsOutside, is_fault, status_of};
+ghost use Rattle.gx_requests.specs.Requests.{IsUnprepared};
 ghost use Rattle.gx_top.specs.Found.{IsTold};
-ghost use Rattle.gx_top.specs.Tries.{CountsOutside};
+ghost use Rattle.gx_top.specs.Fulfilled.{IsAnswered};
 
 use gx_device::{Failed, Machine};
 use gx_play::{Ending, Status, end, say_all};
 use gx_values::Octets;
 use std::alloc::Global;
+
+/// Says why a request isn't carried out, and answers the status. No device was attached for it.
+pub fn refuse<M: Machine>(alloc: Global, ending: Ending<'_>, machine: M) -> (Status, M)
+    ensures answered { IsTrue M.tells →
+        (words : List (List ℕ)) (old : Content) (before now : ℕ) →
+        SameContent old (M.content machine) →
+        IsUnprepared words old.aside.texts before now ending.entry →
+        IsAnswered words old (M.content result.1) result.0 }
+    ensures status { result.0 ≢ Status.Outside → result.0 ≢ Status.Memory →
+        result.0 ≡ status_of ending.entry }
+    ensures fault { ending.entry ≡ Ending.Fault → result.0 ≡ Status.Outside }
+    ensures devices { SameDevices (M.content machine) (M.content result.1) }
+    ensures outside { result.0 ≡ Status.Outside →
+        (ending.entry ≡ Ending.Fault) ⊎ Rose (M.faults machine) (M.faults result.1) }
+    ensures counted { result.0 ≢ Status.Outside → M.faults result.1 ≡ M.faults machine }
+    ensures later { M.faults machine ≤ M.faults result.1 }
+{
+    let mut machine = machine;
+    let status = end(alloc, ending, &mut machine);
+    (status, machine)
+}
 
 /// Says the line of the end of a play, where it has one, and answers the status. After a failed
 /// call nothing is said.

@@ -1,12 +1,12 @@
 // The request to inspect a device.
 ghost use Rattle.gx_store.specs.Store.{CanAttach};
+ghost use Rattle.gx_play.specs.Endings.{CountsOutside};
 ghost use Rattle.gx_requests.specs.Words.{inspecting, request_words};
 ghost use Rattle.gx_requests.specs.Checked.{IsStored};
 ghost use Rattle.gx_top.specs.Inspected.{LeavesInspected};
-ghost use Rattle.gx_top.specs.Tries.{IsOutcome, IsAsDue, CountsOutside};
-ghost use Rattle.gx_top.specs.Fulfilled.{Fulfils};
+ghost use Rattle.gx_top.specs.Fulfilled.{IsFulfilled, Fulfils};
 
-use crate::finish::tell;
+use crate::finish::{refuse, tell};
 use gx_device::Machine;
 use gx_operations::examine_store;
 use gx_play::{Status, end};
@@ -27,25 +27,16 @@ pub fn inspect<M: Machine + Drop>(
     device: &str,
     machine: M,
 ) -> (Status, M)
-    ensures said { CanAttach M.tells (M.content machine) →
-        IsOutcome (request_words (inspecting device.now) schema.now equation.now)
-        (M.content machine)
+    ensures fulfilled { CanAttach M.tells (M.content machine) →
+        IsFulfilled (λ words. LeavesInspected words device.now)
+        (request_words (inspecting device.now) schema.now equation.now) (M.content machine)
         (M.content result.1) result.0 }
-    ensures due { CanAttach M.tells (M.content machine) →
-        IsAsDue (request_words (inspecting device.now) schema.now equation.now) (M.content machine)
-        result.0 }
-    ensures left { CanAttach M.tells (M.content machine) →
-        LeavesInspected (request_words (inspecting device.now) schema.now equation.now) device.now
-        (M.content machine) (M.content result.1) result.0 }
     ensures failures { CountsOutside (M.faults machine) (M.faults result.1) result.0 }
 {
     let mut machine = machine;
     match prepare_stored(alloc, schema, equation, &mut machine) {
         Ok(stored) => inspect_stored(alloc, stored, device, machine),
-        Err(ending) => {
-            let status = end(alloc, ending, &mut machine);
-            (status, machine)
-        }
+        Err(ending) => refuse(alloc, ending, machine),
     }
 }
 

@@ -1,10 +1,12 @@
 // The request to make a device with an empty database.
 ghost use Rattle.std.specs.Prelude.{List, ℕ};
 ghost use Rattle.gx_store.specs.Store.{CanAttach};
+ghost use Rattle.gx_play.specs.Endings.{CountsOutside};
 ghost use Rattle.gx_requests.specs.Words.{IsCount, making, request_words};
 ghost use Rattle.gx_top.specs.Made.{LeavesMade};
-ghost use Rattle.gx_top.specs.Tries.{IsOutcome, IsAsDue, CountsOutside};
+ghost use Rattle.gx_top.specs.Fulfilled.{IsFulfilled};
 
+use crate::finish::refuse;
 use gx_device::Machine;
 use gx_operations::make_stored;
 use gx_play::{Status, end};
@@ -24,18 +26,10 @@ pub fn make_database<M: Machine + Drop>(
     blocks: u32,
     machine: M,
 ) -> (Status, M)
-    ensures said { CanAttach M.tells (M.content machine) → (digits : List ℕ) →
-        IsCount digits blocks →
-        IsOutcome (request_words (making device.now digits) schema.now equation.now)
-        (M.content machine) (M.content result.1) result.0 }
-    ensures due { CanAttach M.tells (M.content machine) → (digits : List ℕ) →
-        IsCount digits blocks →
-        IsAsDue (request_words (making device.now digits) schema.now equation.now)
-        (M.content machine) result.0 }
-    ensures left { CanAttach M.tells (M.content machine) → (digits : List ℕ) →
-        IsCount digits blocks →
-        LeavesMade (request_words (making device.now digits) schema.now equation.now) device.now
-        (M.content machine) (M.content result.1) result.0 }
+    ensures fulfilled { CanAttach M.tells (M.content machine) → (digits : List ℕ) →
+        IsCount digits blocks → IsFulfilled (λ words. LeavesMade words device.now)
+        (request_words (making device.now digits) schema.now equation.now) (M.content machine)
+        (M.content result.1) result.0 }
     ensures failures { CountsOutside (M.faults machine) (M.faults result.1) result.0 }
 {
     let mut machine = machine;
@@ -45,9 +39,6 @@ pub fn make_database<M: Machine + Drop>(
             let status = end(alloc, ending, &mut machine);
             (status, machine)
         }
-        Err(ending) => {
-            let status = end(alloc, ending, &mut machine);
-            (status, machine)
-        }
+        Err(ending) => refuse(alloc, ending, machine),
     }
 }

@@ -1,5 +1,6 @@
 // A request from its words to its end.
 ghost use Rattle.std.specs.Prelude.{IsTrue};
+ghost use Rattle.gx_play.specs.Endings.{CountsOutside};
 ghost use Rattle.gx_requests.specs.Words.{texts_of};
 ghost use Rattle.gx_top.specs.Made.{LeavesMadeBy};
 ghost use Rattle.gx_top.specs.Ran.{LeavesRunBy};
@@ -7,17 +8,18 @@ ghost use Rattle.gx_top.specs.Inspected.{LeavesInspectedBy};
 ghost use Rattle.gx_top.specs.Worked.{LeavesWorkedBy};
 ghost use Rattle.gx_top.specs.Stays.{LeavesAllBy};
 ghost use Rattle.gx_requests.specs.Requests.{IsFree};
-ghost use Rattle.gx_top.specs.Tries.{IsOutcome, IsAsDue, CountsOutside};
+ghost use Rattle.gx_top.specs.Tries.{IsOutcome, IsAsDue};
 
 use crate::check::check;
 use crate::explain::explain;
+use crate::finish::refuse;
 use crate::inspect::inspect;
 use crate::make_database::make_database;
 use crate::run_script::run_script;
 use crate::try_script::try_script;
 use crate::work::work;
 use gx_device::Machine;
-use gx_play::{Ending, Status, end};
+use gx_play::{Ending, Status};
 use gx_requests::{Request, read_words};
 use std::alloc::Global;
 
@@ -159,9 +161,6 @@ pub fn top<M: Machine + Drop>(alloc: Global, words: &[String], machine: M) -> (S
                 records,
             },
         ) => work(alloc, equation, device, blocks, records, machine),
-        None => {
-            let status = end(alloc, Ending::Words, &mut machine);
-            (status, machine)
-        }
+        None => refuse(alloc, Ending::Words, machine),
     }
 }

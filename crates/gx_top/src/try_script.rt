@@ -1,12 +1,13 @@
 // The request to play a script under two texts.
 ghost use Rattle.std.specs.Prelude.{◌≡◌, IsTrue};
+ghost use Rattle.gx_play.specs.Endings.{CountsOutside};
 ghost use Rattle.gx_requests.specs.Words.{trying, request_words};
-ghost use Rattle.gx_top.specs.Tries.{IsOutcome, IsAsDue, CountsOutside};
+ghost use Rattle.gx_top.specs.Fulfilled.{IsAnswered};
 
-use crate::finish::finish;
+use crate::finish::{finish, refuse};
 use gx_device::Machine;
 use gx_operations::play_script;
-use gx_play::{Status, end};
+use gx_play::Status;
 use gx_requests::prepare_nodes;
 use std::alloc::Global;
 
@@ -18,11 +19,9 @@ pub fn try_script<M: Machine + Drop>(
     equation: &str,
     machine: M,
 ) -> (Status, M)
-    ensures said { IsTrue M.tells →
-        IsOutcome (request_words trying schema.now equation.now) (M.content machine)
+    ensures answered { IsTrue M.tells →
+        IsAnswered (request_words trying schema.now equation.now) (M.content machine)
         (M.content result.1) result.0 }
-    ensures due { IsTrue M.tells →
-        IsAsDue (request_words trying schema.now equation.now) (M.content machine) result.0 }
     ensures shelf { (M.content result.1).now.shelf ≡ (M.content machine).now.shelf }
     ensures failures { CountsOutside (M.faults machine) (M.faults result.1) result.0 }
 {
@@ -33,9 +32,6 @@ pub fn try_script<M: Machine + Drop>(
             let status = finish(alloc, played, &mut machine);
             (status, machine)
         }
-        Err(ending) => {
-            let status = end(alloc, ending, &mut machine);
-            (status, machine)
-        }
+        Err(ending) => refuse(alloc, ending, machine),
     }
 }

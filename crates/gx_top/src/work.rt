@@ -2,17 +2,17 @@
 ghost use Rattle.std.specs.Prelude.{◌≡◌, ◌≤◌, ℕ, List, [], IsTrue, IfOk};
 ghost use Rattle.gx_work.specs.Schema.{work_schema};
 ghost use Rattle.gx_store.specs.Store.{CanAttach};
+ghost use Rattle.gx_play.specs.Endings.{CountsOutside};
 ghost use Rattle.gx_requests.specs.Words.{working, request_words, AskOfOne, IsCount, IsRecordCount};
 ghost use Rattle.gx_requests.specs.Checked.{IsStored, IsStoredFor};
 ghost use Rattle.gx_requests.specs.Fetched.{Fetches, Prepares};
 ghost use Rattle.gx_top.specs.Worked.{LeavesWorked};
-ghost use Rattle.gx_top.specs.Tries.{IsOutcome, IsAsDue, CountsOutside};
-ghost use Rattle.gx_top.specs.Fulfilled.{Fulfils};
+ghost use Rattle.gx_top.specs.Fulfilled.{IsFulfilled, Fulfils};
 
-use crate::finish::tell;
+use crate::finish::{refuse, tell};
 use gx_device::Machine;
 use gx_operations::make_and_play;
-use gx_play::{Ending, Status, end};
+use gx_play::{Ending, Status};
 use gx_requests::{Stored, prepare_under};
 use gx_work::schema;
 use std::alloc::Global;
@@ -32,27 +32,17 @@ pub fn work<M: Machine + Drop>(
     machine: M,
 ) -> (Status, M)
     requires { records ≤ 10000 }
-    ensures said { CanAttach M.tells (M.content machine) → (digits number : List ℕ) →
+    ensures fulfilled { CanAttach M.tells (M.content machine) → (digits number : List ℕ) →
         IsCount digits blocks → IsRecordCount number records →
-        IsOutcome (request_words (working device.now digits number) [] equation.now)
-        (M.content machine) (M.content result.1) result.0 }
-    ensures due { CanAttach M.tells (M.content machine) → (digits number : List ℕ) →
-        IsCount digits blocks → IsRecordCount number records →
-        IsAsDue (request_words (working device.now digits number) [] equation.now)
-        (M.content machine) result.0 }
-    ensures left { CanAttach M.tells (M.content machine) → (digits number : List ℕ) →
-        IsCount digits blocks → IsRecordCount number records →
-        LeavesWorked (request_words (working device.now digits number) [] equation.now) device.now
-        (M.content machine) (M.content result.1) result.0 }
+        IsFulfilled (λ words. LeavesWorked words device.now)
+        (request_words (working device.now digits number) [] equation.now) (M.content machine)
+        (M.content result.1) result.0 }
     ensures failures { CountsOutside (M.faults machine) (M.faults result.1) result.0 }
 {
     let mut machine = machine;
     match prepare_work(alloc, equation, &mut machine) {
         Ok(stored) => work_stored(alloc, stored, device, blocks, records, machine),
-        Err(ending) => {
-            let status = end(alloc, ending, &mut machine);
-            (status, machine)
-        }
+        Err(ending) => refuse(alloc, ending, machine),
     }
 }
 

@@ -1,16 +1,23 @@
 use Rattle.std.proofs.Common.{ap, refl, ◌∙◌}
+use Rattle.gx_play.specs.declared.ending.Ending.TheVariants as ending
+use Rattle.gx_play.specs.Endings.{IsEnded}
 use Rattle.gx_requests.specs.Words.{checking, request_words}
 use Rattle.gx_requests.proofs.RequestLemmas.{summary}
-use Rattle.gx_top.proofs.EndLemmas.{unprepared_end, unprepared_due, check_end, check_due}
+use Rattle.gx_top.proofs.EndLemmas.{unprepared_answered, check_end, check_due}
 use Rattle.gx_top.proofs.check.check.Goals as goal
 
-pub returns-in-Ok-clause-said : goal.returns-in-Ok-clause-said
-returns-in-Ok-clause-said g c = λ told.
+pub returns-in-Ok-clause-answered : goal.returns-in-Ok-clause-answered
+returns-in-Ok-clause-answered g c = λ told.
     let words = request_words checking c.args.schema.now c.args.equation.now in
-    check_end words (g.M.Device.content c.args.machine.now) (g.M.Device.content c.read_texts.new.machine) (g.M.Device.content c.end.new.machine) c.summarize-summary.result c.end.result
-    (summary words _ c.in-Ok.checked c.summarize-summary.result ((c.in-Ok.ensures.accepted told).ready words checking (tt, refl)) c.summarize-summary.ensures)
-    (ap (λ n. n.said) c.in-Ok.ensures.fetches.same.now) c.in-Ok.ensures.fetches.same.script
-    (record {
+    let content = g.M.Device.content in
+    let old = content c.args.machine.now in
+    let mid = content c.read_texts.new.machine in
+    let new = content c.end.new.machine in
+    let same = c.in-Ok.ensures.fetches.same in
+    let is =
+    summary words _ c.in-Ok.checked c.summarize-summary.result ((c.in-Ok.ensures.accepted told).ready words checking (tt, refl))
+    c.summarize-summary.ensures in
+    let ended : IsEnded (ending.Accepted c.summarize-summary.result) mid new c.end.result = record {
       status_is = c.end.ensures.status;
       said = c.end.ensures.said told;
       memory = c.end.ensures.memory told;
@@ -18,43 +25,20 @@ returns-in-Ok-clause-said g c = λ told.
       fault = c.end.ensures.fault;
       silent = c.end.ensures.silent told;
       script = c.end.ensures.rest.script;
-    })
+    } in
+    record {
+      said = check_end words old mid new c.summarize-summary.result c.end.result is (ap (λ n. n.said) same.now)
+          same.script ended;
+      due = check_due words old mid new c.summarize-summary.result c.end.result is ended;
+    }
 
-pub returns-in-Ok-clause-due : goal.returns-in-Ok-clause-due
-returns-in-Ok-clause-due g c = λ told.
+pub returns-in-Err-clause-answered : goal.returns-in-Err-clause-answered
+returns-in-Err-clause-answered g c = λ told.
     let words = request_words checking c.args.schema.now c.args.equation.now in
-    check_due words (g.M.Device.content c.args.machine.now) (g.M.Device.content c.read_texts.new.machine) (g.M.Device.content c.end.new.machine) c.summarize-summary.result c.end.result
-    (summary words _ c.in-Ok.checked c.summarize-summary.result ((c.in-Ok.ensures.accepted told).ready words checking (tt, refl)) c.summarize-summary.ensures)
-    (record {
-      status_is = c.end.ensures.status;
-      said = c.end.ensures.said told;
-      memory = c.end.ensures.memory told;
-      cut = c.end.ensures.cut told;
-      fault = c.end.ensures.fault;
-      silent = c.end.ensures.silent told;
-      script = c.end.ensures.rest.script;
-    })
-
-pub returns-in-Err-clause-said : goal.returns-in-Err-clause-said
-returns-in-Err-clause-said g c = λ told.
-    let words = request_words checking c.args.schema.now c.args.equation.now in
-    unprepared_end words (g.M.Device.content c.args.machine.now) (g.M.Device.content c.read_texts.new.machine) (g.M.Device.content c.end-in-Err.new.machine) _ _ c.in-Err.ending c.end-in-Err.result
-    ((c.in-Err.ensures.accepted told).unprepared words checking (tt, refl)) c.in-Err.ensures.fetches.same c.end-in-Err.ensures.devices
-    (record {
-      status_is = c.end-in-Err.ensures.status;
-      said = c.end-in-Err.ensures.said told;
-      memory = c.end-in-Err.ensures.memory told;
-      cut = c.end-in-Err.ensures.cut told;
-      fault = c.end-in-Err.ensures.fault;
-      silent = c.end-in-Err.ensures.silent told;
-      script = c.end-in-Err.ensures.rest.script;
-    })
-
-pub returns-in-Err-clause-due : goal.returns-in-Err-clause-due
-returns-in-Err-clause-due g c = λ told.
-    let words = request_words checking c.args.schema.now c.args.equation.now in
-    unprepared_due words (g.M.Device.content c.args.machine.now) (g.M.Device.content c.read_texts.new.machine) (g.M.Device.content c.end-in-Err.new.machine) _ _ c.in-Err.ending c.end-in-Err.result
-    ((c.in-Err.ensures.accepted told).unprepared words checking (tt, refl))
+    unprepared_answered words (g.M.Device.content c.args.machine.now) (g.M.Device.content c.read_texts.new.machine)
+    (g.M.Device.content c.end-in-Err.new.machine) _ _ c.in-Err.ending c.end-in-Err.result
+    ((c.in-Err.ensures.accepted told).unprepared words checking (tt, refl)) c.in-Err.ensures.fetches.same
+    c.end-in-Err.ensures.devices
     (record {
       status_is = c.end-in-Err.ensures.status;
       said = c.end-in-Err.ensures.said told;

@@ -25,11 +25,15 @@ returns-in-Ok-clause-fulfilled g c = λ can words old same stored.
     let specs = c.deref.result.now in
     let whole = IsWhole store in
     let found = c.examine_store-found.result.0 in
-    let seen = typed_texts words c.args.device.now x old middle stored same (IsSeen c.args.device.now x middle opened mid (working_of store) whole found) schema equation specs c.as_slice.ensures c.as_slice-2.ensures (search rules) (record {
+    let seen = typed_texts words c.args.device.now x old middle stored same
+    (IsSeen c.args.device.now x middle opened mid (working_of store) whole found) schema equation specs
+    c.as_slice.ensures c.as_slice-2.ensures (search rules) (record {
       attaches = c.in-Ok.ensures.attaches can;
       named = c.in-Ok.ensures.named can;
       had = c.in-Ok.ensures.opened can;
-      reopens = λ whole blocks there. reopens_before c.args.device.now schema equation specs (working_of store) blocks opened (c.in-Ok.ensures.named can) (c.in-Ok.ensures.kept can refl blocks there) (c.in-Ok.ensures.settled can whole);
+      reopens = λ whole blocks there. reopens_before c.args.device.now schema equation specs
+          (working_of store) blocks opened (c.in-Ok.ensures.named can)
+          (c.in-Ok.ensures.kept can refl blocks there) (c.in-Ok.ensures.settled can whole);
       holds = λ blocks others there reopens. let is = c.in-Ok.ensures.holds can blocks others there reopens in (is.whole, sym is.working);
       alike = λ blocks there. c.in-Ok.ensures.kept can refl blocks there;
       untouched = c.examine_store-found.ensures.untouched can.told (c.in-Ok.ensures.just_opened can).steady;
@@ -38,14 +42,27 @@ returns-in-Ok-clause-fulfilled g c = λ can words old same stored.
       settled = λ whole.
           subst (λ (ms : List LeafMap). IsSettled schema equation specs ms mid.now.blocks) (c.in-Ok.ensures.just_opened can).kept_is
           (subst (λ (k : List LeafSpec). IsSettled schema equation k (kept_of store) mid.now.blocks) c.in-Ok.ensures.specs
-          (c.examine_store-found.ensures.settled (schema, equation) (subst (λ k. IsHeadOf schema equation k (head_of store)) (sym c.in-Ok.ensures.specs) (c.in-Ok.ensures.head can)) ((c.in-Ok.ensures.just_opened can).was_whole whole)));
+          (c.examine_store-found.ensures.settled (schema, equation)
+          (subst (λ k. IsHeadOf schema equation k (head_of store)) (sym c.in-Ok.ensures.specs)
+          (c.in-Ok.ensures.head can)) ((c.in-Ok.ensures.just_opened can).was_whole whole)));
     }) in
-    let row : InspectsOr words old after c.tell-status.result = (Request words c.args.device.now x old middle stored same, examined_row words c.args.device.now x old middle stored same opened mid (working_of store) whole found seen after c.tell-status.result c.tell-status.ensures.devices (c.tell-status.ensures.told can.told)) in
+    let row : InspectsOr words old after c.tell-status.result = (
+      Request words c.args.device.now x old middle
+          stored same,
+      examined_row words c.args.device.now x old middle stored same opened mid
+          (working_of store) whole found seen after c.tell-status.result c.tell-status.ensures.devices
+          (c.tell-status.ensures.told can.told),
+    ) in
     record {
-      said = inspect_end words old after c.tell-status.result row
-          (examined_script words c.args.device.now x old middle stored same opened mid (working_of store) whole found seen after c.tell-status.ensures.rest.script);
-      due = inspect_due words old after c.tell-status.result row;
-      left = examined_left words c.args.device.now x old middle stored same opened mid (working_of store) whole found seen after c.tell-status.result c.tell-status.ensures.devices (c.tell-status.ensures.told can.told);
+      answered = record {
+        said = inspect_end words old after c.tell-status.result row
+            (examined_script words c.args.device.now x old middle stored same opened mid
+            (working_of store) whole found seen after c.tell-status.ensures.rest.script);
+        due = inspect_due words old after c.tell-status.result row;
+      };
+      left = examined_left words c.args.device.now x old middle stored same opened mid
+          (working_of store) whole found seen after c.tell-status.result c.tell-status.ensures.devices
+          (c.tell-status.ensures.told can.told);
     }
 
 pub returns-in-Err-clause-fulfilled : goal.returns-in-Err-clause-fulfilled
@@ -55,12 +72,16 @@ returns-in-Err-clause-fulfilled g c = λ can words old same stored.
     let mid = content c.in-Err.machine in
     let after = content c.end-status.new.machine in
     let x = c.args.stored in
-    let un = typed_texts words c.args.device.now x old middle stored same (λ schema equation specs. IsUnopened c.args.device.now schema equation specs middle c.in-Err.why) c.as_slice.result.now c.as_slice-2.result.now c.deref.result.now c.as_slice.ensures c.as_slice-2.ensures (search rules) (c.in-Err.ensures.unopened can) in
+    let un = typed_texts words c.args.device.now x old middle stored same
+    (λ schema equation specs. IsUnopened c.args.device.now schema equation specs middle c.in-Err.why)
+    c.as_slice.result.now c.as_slice-2.result.now c.deref.result.now c.as_slice.ensures c.as_slice-2.ensures
+    (search rules) (c.in-Err.ensures.unopened can) in
     let built : c.deref.result.now ≡ c.args.stored.built.specs = first_of (search rules, cc) in
     let kinds : c.deref.result.now ≡ stored.typing.specs = built ∙ stored.specs_are in
     let tried : IsTried c.args.device.now stored.typing.specs middle mid c.in-Err.why = record {
       attaches = c.in-Err.ensures.attaches can;
-      no_database = λ goes blocks there none. c.in-Err.ensures.no_database can goes blocks there (subst (λ (ks : List LeafSpec). ¬ HaveDatabase ks blocks) (sym kinds) none);
+      no_database = λ goes blocks there none. c.in-Err.ensures.no_database can goes blocks there
+          (subst (λ (ks : List LeafSpec). ¬ HaveDatabase ks blocks) (sym kinds) none);
       absent = c.in-Err.ensures.absent can;
       kept = c.in-Err.ensures.kept can;
       recovered = c.in-Err.ensures.recovered can;
@@ -74,10 +95,19 @@ returns-in-Err-clause-fulfilled g c = λ can words old same stored.
       silent = c.end-status.ensures.silent can.told;
       script = c.end-status.ensures.rest.script;
     }) in
-    let row : InspectsOr words old after c.end-status.result = (Request words c.args.device.now x old middle stored same, unopened_row words c.args.device.now x old middle stored same mid after c.in-Err.why c.end-status.result tried c.end-status.ensures.devices un ended) in
+    let row : InspectsOr words old after c.end-status.result = (
+      Request words c.args.device.now x old middle
+          stored same,
+      unopened_row words c.args.device.now x old middle stored same mid after c.in-Err.why
+          c.end-status.result tried c.end-status.ensures.devices un ended,
+    ) in
     record {
-      said = inspect_end words old after c.end-status.result row
-          (unopened_script words c.args.device.now x old middle stored same mid after c.in-Err.why c.end-status.result tried c.end-status.ensures.devices un ended);
-      due = inspect_due words old after c.end-status.result row;
-      left = unopened_left words c.args.device.now x old middle stored same mid after c.in-Err.why c.end-status.result tried c.end-status.ensures.devices un ended;
+      answered = record {
+        said = inspect_end words old after c.end-status.result row
+            (unopened_script words c.args.device.now x old middle stored same mid after c.in-Err.why
+            c.end-status.result tried c.end-status.ensures.devices un ended);
+        due = inspect_due words old after c.end-status.result row;
+      };
+      left = unopened_left words c.args.device.now x old middle stored same mid after c.in-Err.why
+          c.end-status.result tried c.end-status.ensures.devices un ended;
     }
