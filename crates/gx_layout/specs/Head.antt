@@ -2,6 +2,7 @@
 use Rattle.std.specs.Prelude.{◌≡◌, ◌≢◌, ◌≤◌, ◌<◌, ◌+◌, ◌*◌, ◌-◌, ◌/◌, ◌%◌, ℕ, List, [], ◌∷◌, ◌++◌, length, take, drop, replicate, get_or, codes, Option, MatchOption}
 use Rattle.std.specs.Int.{w16, to_be_bytes}
 use Rattle.gx_device.specs.Quiet.{IsPrefix}
+use Rattle.gx_device.specs.declared.device.TheConstants.{BLOCK_LEN}
 
 -- the bytes that the first block of a database begins with
 abbrev pub magic : List ℕ
@@ -22,7 +23,7 @@ text_area schema equation =
 
 -- block i of those that hold these bytes
 abbrev pub block_in : List ℕ → ℕ → List ℕ
-block_in area i = take 4096 (drop (4096 * i) area)
+block_in area i = take BLOCK_LEN (drop (BLOCK_LEN * i) area)
 
 abbrev pub text_blocks : List ℕ → List ℕ → List (List ℕ)
 text_blocks schema equation =
@@ -39,7 +40,7 @@ IsFormatted n = (1 ≤ n) × (n < 7)
 
 -- byte q of the text blocks of a head
 abbrev pub text_at : List (List ℕ) → ℕ → ℕ
-text_at head q = get_or (get_or head (1 + q / 4096) []) (q % 4096) 0
+text_at head q = get_or (get_or head (1 + q / BLOCK_LEN) []) (q % BLOCK_LEN) 0
 
 -- the first place of the text area in which the bytes differ, or none
 abbrev pub DifferFirst : (ℕ → ℕ) → (ℕ → ℕ) → Option ℕ → Type 0

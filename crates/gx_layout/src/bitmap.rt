@@ -4,24 +4,29 @@ ghost use Rattle.gx_device.specs.Content.{block_of};
 ghost use Rattle.gx_device.specs.Crash.{Through, Outside};
 ghost use Rattle.gx_device.specs.Faults.{IsCounted};
 ghost use Rattle.gx_layout.specs.Layout.{OnlyBlocks, Names, has_bit};
+ghost use Rattle.gx_device.specs.declared.device.TheConstants.{BLOCK_LEN};
+ghost use Rattle.gx_layout.specs.declared.bitmap.TheConstants.{MAX_PAGES};
 
-use gx_device::{Device, Failed};
+use gx_device::{BLOCK_LEN, Device, Failed};
+
+/// The most pages of a device: as many as the bitmap has bits.
+pub const MAX_PAGES: usize = 8 * BLOCK_LEN;
 
 fn set_bit(bits: &mut [u8], p: usize)
-    requires room { length bits.old ≡ 4096 }
-    requires below { p < 32768 }
+    requires room { length bits.old ≡ BLOCK_LEN }
+    requires below { p < MAX_PAGES }
     ensures set { has_bit bits.new p ≡ true }
     ensures others { (q : ℕ) → q ≢ p → has_bit bits.new q ≡ has_bit bits.old q }
 {
     bits[p / 8] |= 1 << (7 - p % 8);
 }
 
-fn bitmap_of(changed: &[bool]) -> [u8; 4096]
-    requires { length changed.now ≤ 32768 }
+fn bitmap_of(changed: &[bool]) -> [u8; BLOCK_LEN]
+    requires { length changed.now ≤ MAX_PAGES }
     ensures named { Names changed.now result (length changed.now) }
     ensures others { (p : ℕ) → length changed.now ≤ p → has_bit result p ≡ false }
 {
-    let mut bits = [0; 4096];
+    let mut bits = [0; BLOCK_LEN];
     for p in 0..changed.len() {
         if changed[p] {
             set_bit(&mut bits, p);
@@ -33,7 +38,7 @@ fn bitmap_of(changed: &[bool]) -> [u8; 4096]
 /// Writes the bitmap of the changed pages, which names no other.
 pub fn write_bitmap<D: Device>(device: &mut D, changed: &[bool]) -> Result<(), Failed>
     requires room { 2 < D.size device.old }
-    requires limit { length changed.now ≤ 32768 }
+    requires limit { length changed.now ≤ MAX_PAGES }
     ensures written { IsTrue D.tells →
         OnOk result
         (Names changed.now (block_of (D.content device.new).now 2) (length changed.now)) }

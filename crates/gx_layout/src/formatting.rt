@@ -7,13 +7,13 @@ ghost use Rattle.gx_device.specs.Faults.{IsCounted};
 ghost use Rattle.gx_layout.specs.Layout.{OnlyBlocks, head_of, is_open, has_bit};
 ghost use Rattle.gx_layout.specs.Head.{text_area, text_blocks, block_in, IsText, IsFormatted};
 ghost use Rattle.gx_layout.specs.Besides.{IsImageBesides};
+ghost use Rattle.gx_device.specs.declared.device.TheConstants.{BLOCK_LEN};
+ghost use Rattle.gx_layout.specs.declared.formatting.TheConstants.{MAX_TEXTS_LEN};
 
 use crate::bitmap::write_bitmap;
 use crate::gate::set_gate;
 use gx_bytes::overwrite;
-use gx_device::{Device, Failed};
-
-pub(crate) const BLOCK_LEN: usize = 4096;
+use gx_device::{BLOCK_LEN, Device, Failed};
 
 const TEXT_AREA_LEN: usize = 16384;
 
@@ -22,6 +22,9 @@ pub(crate) const FIRST_TEXT_BLOCK: u32 = 3;
 pub(crate) const TEXT_BLOCKS: u32 = 4;
 
 const LENGTH_LEN: usize = 2;
+
+/// The most bytes of the two texts: with their lengths they fill the text blocks.
+pub const MAX_TEXTS_LEN: usize = TEXT_AREA_LEN - 2 * LENGTH_LEN;
 
 // The length of a text, as it is written.
 fn length_bytes(text: &[u8]) -> [u8; LENGTH_LEN]
@@ -33,7 +36,7 @@ fn length_bytes(text: &[u8]) -> [u8; LENGTH_LEN]
 
 // The bytes of the text blocks.
 pub(crate) fn text_area(schema: &[u8], equation: &[u8]) -> [u8; TEXT_AREA_LEN]
-    requires { length schema.now + length equation.now ≤ 16380 }
+    requires { length schema.now + length equation.now ≤ MAX_TEXTS_LEN }
     ensures { result ≡ text_area schema.now equation.now }
 {
     let mut area = [0; TEXT_AREA_LEN];
@@ -49,7 +52,7 @@ pub(crate) fn text_block(area: &[u8], i: u32) -> &[u8]
     requires below { i < 4 }
     requires bytes { length area.now ≡ 16384 }
     ensures is { result.now ≡ block_in area.now i }
-    ensures long { length result.now ≡ 4096 }
+    ensures long { length result.now ≡ BLOCK_LEN }
 {
     let at = BLOCK_LEN * i as usize;
     &area[at..at + BLOCK_LEN]
@@ -75,7 +78,7 @@ fn write_texts<D: Device>(device: &mut D, area: &[u8]) -> Result<(), Failed>
 // Writes all blocks of an empty layout.
 fn lay_out<D: Device>(device: &mut D, schema: &[u8], equation: &[u8]) -> Result<(), Failed>
     requires room { 7 ≤ D.size device.old }
-    requires texts { length schema.now + length equation.now ≤ 16380 }
+    requires texts { length schema.now + length equation.now ≤ MAX_TEXTS_LEN }
     ensures head { IsTrue D.tells → OnOk result (head_of (D.content device.new).now.blocks
         ≡ block_of (D.content device.old).now 0 ∷ text_blocks schema.now equation.now) }
     ensures closed { IsTrue D.tells →
@@ -97,7 +100,7 @@ fn lay_out<D: Device>(device: &mut D, schema: &[u8], equation: &[u8]) -> Result<
 /// The block of the magic and the pages stay as they are.
 pub fn format<D: Device>(device: &mut D, schema: &[u8], equation: &[u8]) -> Result<(), Failed>
     requires room { 7 ≤ D.size device.old }
-    requires texts { length schema.now + length equation.now ≤ 16380 }
+    requires texts { length schema.now + length equation.now ≤ MAX_TEXTS_LEN }
     ensures head { IsTrue D.tells → OnOk result (head_of (D.content device.new).now.blocks
         ≡ block_of (D.content device.old).now 0 ∷ text_blocks schema.now equation.now) }
     ensures closed { IsTrue D.tells →

@@ -5,7 +5,7 @@ ghost use Rattle.gx_device.specs.Crash.{Through, Outside, LeavesOnly};
 ghost use Rattle.gx_device.specs.Faults.{IsCounted};
 ghost use Rattle.gx_layout.specs.Layout.{View, StandsFor, Either, AtRest, IsReady, IsOpened, OnlyBlocks, is_open};
 
-use gx_device::{Device, Failed};
+use gx_device::{BLOCK_LEN, Device, Failed};
 
 /// Writes the gate.
 pub fn set_gate<D: Device>(device: &mut D, opened: bool) -> Result<(), Failed>
@@ -18,7 +18,7 @@ pub fn set_gate<D: Device>(device: &mut D, opened: bool) -> Result<(), Failed>
     ensures size { D.size device.new ≡ D.size device.old }
     ensures faults { IsCounted (D.faults device.old) (D.faults device.new) result }
 {
-    let mut gate = [0; 4096];
+    let mut gate = [0; BLOCK_LEN];
     gate[0] = if opened { 0xA5 } else { 0 };
     device.write_block(1, &gate)
 }

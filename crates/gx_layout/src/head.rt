@@ -8,7 +8,7 @@ ghost use Rattle.gx_layout.specs.Head.{HasMagic};
 ghost use Rattle.gx_layout.specs.Besides.{IsUnsealed};
 
 use gx_bytes::overwrite;
-use gx_device::{Device, Failed};
+use gx_device::{BLOCK_LEN, Device, Failed};
 
 // The bytes that the first block of a database begins with.
 const MAGIC: &[u8] = b"GENESIS1";
@@ -28,15 +28,15 @@ pub(crate) fn has_magic<D: Device>(device: &mut D) -> Result<bool, Failed>
     ensures size { D.size device.new ≡ D.size device.old }
     ensures faults { IsCounted (D.faults device.old) (D.faults device.new) result }
 {
-    let mut block = [0; 4096];
+    let mut block = [0; BLOCK_LEN];
     device.read_block(0, &mut block)?;
     Ok(begins_with_magic(&block))
 }
 
-fn magic_block() -> [u8; 4096]
+fn magic_block() -> [u8; BLOCK_LEN]
     ensures { HasMagic result }
 {
-    let mut block = [0; 4096];
+    let mut block = [0; BLOCK_LEN];
     overwrite(&mut block, 0, MAGIC);
     block
 }

@@ -9,8 +9,8 @@ mod head;
 mod recovery;
 mod texts;
 
-pub use bitmap::write_bitmap;
-pub use formatting::format;
+pub use bitmap::{MAX_PAGES, write_bitmap};
+pub use formatting::{MAX_TEXTS_LEN, format};
 pub use gate::{close_gate, open_gate, set_gate};
 pub use head::seal;
 pub use recovery::recover;

@@ -6,14 +6,16 @@ ghost use Rattle.gx_device.specs.Crash.{Through, Outside, LeavesOnly};
 ghost use Rattle.gx_layout.specs.Layout.{View, is_open, has_bit, IsIn, flags, StandsFor, ReadsAs, AtRest, IsReady, IsOpened, CopiedBelow, OnlyBlocks};
 ghost use Rattle.gx_layout.specs.Head.{HasMagic};
 ghost use Rattle.gx_layout.specs.Recovered.{Recovers, IsOfRecovery};
+ghost use Rattle.gx_device.specs.declared.device.TheConstants.{BLOCK_LEN};
+ghost use Rattle.gx_layout.specs.declared.bitmap.TheConstants.{MAX_PAGES};
 
 use crate::gate::close_gate;
 use crate::head::has_magic;
-use gx_device::{Device, Failed};
+use gx_device::{BLOCK_LEN, Device, Failed};
 
 fn bit_of(bitmap: &[u8], p: usize) -> bool
-    requires room { length bitmap.now ≡ 4096 }
-    requires below { p < 32768 }
+    requires room { length bitmap.now ≡ BLOCK_LEN }
+    requires below { p < MAX_PAGES }
     ensures { result ≡ has_bit bitmap.now p }
 {
     bitmap[p / 8] >> (7 - p % 8) & 1 == 1
@@ -27,7 +29,7 @@ fn is_gate_open<D: Device>(device: &mut D) -> Result<bool, Failed>
     ensures size { D.size device.new ≡ D.size device.old }
     ensures faults { IsCounted (D.faults device.old) (D.faults device.new) result }
 {
-    let mut gate = [0; 4096];
+    let mut gate = [0; BLOCK_LEN];
     device.read_block(1, &mut gate)?;
     Ok(gate[0] == 0xA5)
 }
@@ -44,15 +46,15 @@ fn copy_page<D: Device>(device: &mut D, slot: u32, home: u32) -> Result<(), Fail
     ensures size { D.size device.new ≡ D.size device.old }
     ensures faults { IsCounted (D.faults device.old) (D.faults device.new) result }
 {
-    let mut page = [0; 4096];
+    let mut page = [0; BLOCK_LEN];
     device.read_block(slot, &mut page)?;
     device.write_block(home, &page)
 }
 
 fn copy_home<D: Device>(device: &mut D, bitmap: &[u8], pages: u32) -> Result<(), Failed>
     requires room { 7 + 2 * pages ≤ D.size device.old }
-    requires limit { pages ≤ 32768 }
-    requires bits { length bitmap.now ≡ 4096 }
+    requires limit { pages ≤ MAX_PAGES }
+    requires bits { length bitmap.now ≡ BLOCK_LEN }
     ensures copied { IsTrue D.tells →
         OnOk result
         (CopiedBelow pages pages bitmap.now (D.content device.old).now (D.content device.new).now) }
@@ -74,7 +76,7 @@ fn copy_home<D: Device>(device: &mut D, bitmap: &[u8], pages: u32) -> Result<(),
 // Where the gate is open, the pages that the bitmap names go home.
 fn bring_back<D: Device>(device: &mut D, pages: u32) -> Result<(), Failed>
     requires room { 7 + 2 * pages ≤ D.size device.old }
-    requires limit { pages ≤ 32768 }
+    requires limit { pages ≤ MAX_PAGES }
     ensures images { IsTrue D.tells → (v : View) → length v.pages ≡ pages →
         NonePending (D.content device.old) → ReadsAs (D.content device.old).now v
         → is_open (block_of (D.content device.old).now 1) ≡ true →
@@ -92,7 +94,7 @@ fn bring_back<D: Device>(device: &mut D, pages: u32) -> Result<(), Failed>
     ensures size { D.size device.new ≡ D.size device.old }
     ensures faults { IsCounted (D.faults device.old) (D.faults device.new) result }
 {
-    let mut bitmap = [0; 4096];
+    let mut bitmap = [0; BLOCK_LEN];
     device.read_block(2, &mut bitmap)?;
     copy_home(device, &bitmap, pages)?;
     device.sync()
@@ -103,7 +105,7 @@ fn bring_back<D: Device>(device: &mut D, pages: u32) -> Result<(), Failed>
 /// A crash at any moment leaves the same pages.
 fn settle<D: Device>(device: &mut D, pages: u32) -> Result<(), Failed>
     requires room { 7 + 2 * pages ≤ D.size device.old }
-    requires limit { pages ≤ 32768 }
+    requires limit { pages ≤ MAX_PAGES }
     ensures images { IsTrue D.tells → (v : View) → length v.pages ≡ pages →
         NonePending (D.content device.old) → ReadsAs (D.content device.old).now v
         → LeavesOnly (StandsFor v) (D.content device.old) (D.content device.new) }
@@ -129,7 +131,7 @@ fn settle<D: Device>(device: &mut D, pages: u32) -> Result<(), Failed>
 /// the same pages. Without the magic no block is written, whatever is answered.
 pub fn recover<D: Device>(device: &mut D, pages: u32) -> Result<bool, Failed>
     requires room { 7 + 2 * pages ≤ D.size device.old }
-    requires limit { pages ≤ 32768 }
+    requires limit { pages ≤ MAX_PAGES }
     ensures magic { IsTrue D.tells → IfOk result
         (λ found. IsTrue found ↔ HasMagic (block_of (D.content device.old).now 0)) }
     ensures images { IsTrue D.tells → (v : View) → length v.pages ≡ pages →

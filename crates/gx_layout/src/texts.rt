@@ -4,9 +4,10 @@ ghost use Rattle.gx_device.specs.Faults.{IsCounted};
 ghost use Rattle.gx_layout.specs.Layout.{head_of};
 ghost use Rattle.gx_layout.specs.Head.{DifferFirst, text_at, text_area};
 ghost use Rattle.gx_layout.specs.Calm.{OnlyReads};
+ghost use Rattle.gx_layout.specs.declared.formatting.TheConstants.{MAX_TEXTS_LEN};
 
-use crate::formatting::{BLOCK_LEN, FIRST_TEXT_BLOCK, TEXT_BLOCKS, text_area, text_block};
-use gx_device::{Device, Failed};
+use crate::formatting::{FIRST_TEXT_BLOCK, TEXT_BLOCKS, text_area, text_block};
+use gx_device::{BLOCK_LEN, Device, Failed};
 
 // The first place in which two blocks differ.
 fn first_difference(xs: &[u8], ys: &[u8]) -> Option<usize>
@@ -32,7 +33,7 @@ pub fn texts_differ<D: Device>(
     equation: &[u8],
 ) -> Result<Option<u16>, Failed>
     requires room { 7 ≤ D.size device.old }
-    requires texts { length schema.now + length equation.now ≤ 16380 }
+    requires texts { length schema.now + length equation.now ≤ MAX_TEXTS_LEN }
     ensures place { IsTrue D.tells →
         IfOk result (DifferFirst (text_at (head_of (D.content device.old).now.blocks))
         (λ q. slice_index_or (text_area schema.now equation.now) q 0)) }
