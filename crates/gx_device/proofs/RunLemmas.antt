@@ -20,8 +20,18 @@ joined Q old mid new first then = record {
 
 -- one call
 pub ticked : (Q : Moment → Type 0) (old new : Content) → Ticks old new → Q old.now → Q new.now → Through Q old new
-ticked Q old new (inl on) before after = record { between = old.now ∷ []; past = on; each = All-cons Q old.now [] before (All-nil Q); now = after }
-ticked Q old new (inr same) before after = record { between = []; past = ap (λ (c : Content). c.past) same ∙ sym (append-nil old.past); each = All-nil Q; now = after }
+ticked Q old new (inl on) before after = record {
+  between = old.now ∷ [];
+  past = on;
+  each = All-cons Q old.now [] before (All-nil Q);
+  now = after;
+}
+ticked Q old new (inr same) before after = record {
+  between = [];
+  past = ap (λ (c : Content). c.past) same ∙ sym (append-nil old.past);
+  each = All-nil Q;
+  now = after;
+}
 
 -- a weaker fact
 pub weakened : (Q R : Moment → Type 0) → ((m : Moment) → Q m → R m) → (old new : Content) → Through Q old new → Through R old new
@@ -55,9 +65,11 @@ outside_more free more f old m o = record {
 }
 
 -- one run after another, each outside of the same blocks
-pub outside_joined : (free : ℕ → Type 0) (old mid new : Content) → Through (Outside free old.now) old mid → Through (Outside free mid.now) mid new → Through (Outside free old.now) old new
+pub outside_joined : (free : ℕ → Type 0) (old mid new : Content) → Through (Outside free old.now) old mid
+    → Through (Outside free mid.now) mid new → Through (Outside free old.now) old new
 outside_joined free old mid new first then =
-    joined (Outside free old.now) old mid new first (weakened (Outside free mid.now) (Outside free old.now) (λ m o. outside_twice free old.now mid.now m first.now o) mid new then)
+    joined (Outside free old.now) old mid new first
+    (weakened (Outside free mid.now) (Outside free old.now) (λ m o. outside_twice free old.now mid.now m first.now o) mid new then)
 
 -- a write to a free block
 pub outside_write : (free : ℕ → Type 0) (n : ℕ) (old new : Content) → free n → Writes n old new → Through (Outside free old.now) old new
@@ -65,12 +77,16 @@ outside_write free n old new is w = ticked (Outside free old.now) old new w.time
   count = ap (λ (l : List (List ℕ)). length l) w.blocks ∙ length-set old.now.blocks n w.bytes;
   said = w.said;
   shelf = w.shelf;
-  blocks = λ k taken. ap (λ (l : List (List ℕ)). get_or l k []) w.blocks ∙ get_or-set_other old.now.blocks n k w.bytes [] (λ (same : k ≡ n). taken (subst free (sym same) is));
-  pending = λ k taken. ap (λ (l : List Bool). get_or l k false) w.pending ∙ get_or-set_other old.now.pending n k w.flag false (λ (same : k ≡ n). taken (subst free (sym same) is));
+  blocks = λ k taken. ap (λ (l : List (List ℕ)). get_or l k []) w.blocks
+      ∙ get_or-set_other old.now.blocks n k w.bytes [] (λ (same : k ≡ n). taken (subst free (sym same) is));
+  pending = λ k taken. ap (λ (l : List Bool). get_or l k false) w.pending
+      ∙ get_or-set_other old.now.pending n k w.flag false (λ (same : k ≡ n). taken (subst free (sym same) is));
 })
 
 -- what a moment leaves is no more than what another did
-pub no_more : (old m : Moment) → length m.blocks ≡ length old.blocks → m.said ≡ old.said → m.shelf ≡ old.shelf → ((n : ℕ) → block_of m n ≡ block_of old n) → ((n : ℕ) → is_pending old n ≡ false → is_pending m n ≡ false) → (P : Image → Type 0) → EachImage P old → EachImage P m
+pub no_more : (old m : Moment) → length m.blocks ≡ length old.blocks → m.said ≡ old.said → m.shelf ≡ old.shelf
+    → ((n : ℕ) → block_of m n ≡ block_of old n) → ((n : ℕ) → is_pending old n ≡ false → is_pending m n ≡ false) → (P : Image → Type 0)
+    → EachImage P old → EachImage P m
 no_more old m count said shelf blocks pending P leaves image is = leaves image (record {
   said = is.said ∙ said;
   shelf = is.shelf ∙ shelf;
@@ -81,8 +97,11 @@ no_more old m count said shelf blocks pending P leaves image is = leaves image (
 -- a sync keeps what may be left
 pub synced : (P : Image → Type 0) (old new : Content) → Syncs old new → EachImage P old.now → LeavesOnly P old new
 synced P old new s leaves = ticked (EachImage P) old new s.time leaves
-    (no_more old.now new.now (ap (λ (l : List (List ℕ)). length l) s.blocks) s.said s.shelf (λ n. ap (λ (l : List (List ℕ)). get_or l n []) s.blocks) s.kept P leaves)
+    (no_more old.now new.now (ap (λ (l : List (List ℕ)). length l) s.blocks) s.said s.shelf
+    (λ n. ap (λ (l : List (List ℕ)). get_or l n []) s.blocks) s.kept P leaves)
 
 -- a run outside of free blocks that keeps a fact from which the images follow, and the fact at its end
-pub guarded : (free : ℕ → Type 0) (F : Moment → Type 0) (P : Image → Type 0) (old new : Content) → ((m : Moment) → Outside free old.now m → F m) → ((m : Moment) → F m → EachImage P m) → Through (Outside free old.now) old new → LeavesOnly P old new
+pub guarded : (free : ℕ → Type 0) (F : Moment → Type 0) (P : Image → Type 0) (old new : Content)
+    → ((m : Moment) → Outside free old.now m → F m) → ((m : Moment) → F m → EachImage P m) → Through (Outside free old.now) old new
+    → LeavesOnly P old new
 guarded free F P old new keeps leaves run = weakened (Outside free old.now) (EachImage P) (λ m o. leaves m (keeps m o)) old new run
