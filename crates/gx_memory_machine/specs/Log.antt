@@ -5,11 +5,12 @@ use Rattle.std.specs.Option.{option_map_or}
 use Rattle.gx_memory_machine.specs.declared.trace.Step.{Step}
 use Rattle.gx_memory_machine.specs.declared.trace.Step.TheVariants.{Still, Write, Sync, Say, Open, Make}
 use Rattle.gx_device.specs.Content.{Moment, Devices, zero_blocks}
+use Rattle.gx_device.specs.declared.device.TheConstants.{BLOCK_LEN}
 
 -- how many of the kept bytes a call has
 abbrev pub uses : Step → ℕ
 uses Still = 0
-uses (Write n) = 4096
+uses (Write n) = BLOCK_LEN
 uses Sync = 0
 uses (Say k) = k
 uses (Open k) = k
@@ -42,8 +43,12 @@ with_block m n bytes = record {
 
 abbrev pub all_synced : Moment → Moment
 all_synced m =
-    record
-    { blocks = m.blocks; pending = replicate (length m.pending) false; said = m.said; shelf = m.shelf }
+    record {
+      blocks = m.blocks;
+      pending = replicate (length m.pending) false;
+      said = m.said;
+      shelf = m.shelf;
+    }
 
 abbrev pub with_said : Moment → List ℕ → Moment
 with_said m piece =
@@ -52,7 +57,7 @@ with_said m piece =
 -- the moment after a call, which has the first of these bytes
 abbrev pub advance : Moment → Step → List ℕ → Moment
 advance m Still bytes = m
-advance m (Write n) bytes = with_block m n (take 4096 bytes)
+advance m (Write n) bytes = with_block m n (take BLOCK_LEN bytes)
 advance m Sync bytes = all_synced m
 advance m (Say k) bytes = with_said m (take k bytes)
 advance m (Open k) bytes = with_device m (take k bytes) (blocks_in m.shelf.devices (take k bytes))

@@ -22,8 +22,13 @@ impl Model for Counter {
 
     ghost Value = { Counts };
 
-    ghost view = { λ c. record
-        { faults = c.faults; calls = c.calls; failing = c.failing.items; spare_calls = c.spare_calls; spare_bytes = c.spare_bytes } };
+    ghost view = { λ c. record {
+      faults = c.faults;
+      calls = c.calls;
+      failing = c.failing.items;
+      spare_calls = c.spare_calls;
+      spare_bytes = c.spare_bytes;
+    } };
 
     // Each spare call has its number.
     ghost invariant = { λ c. c.calls + c.spare_calls < 2 ^ 32 };
@@ -68,8 +73,10 @@ impl Counter {
     pub fn reserve(&mut self, calls: u32, bytes: u32) -> Result<(), NoMemory>
         ensures ok { OnOk result
             (self.new
-            ≡ record self.old
-            { spare_calls = max self.old.spare_calls calls; spare_bytes = max self.old.spare_bytes bytes }) }
+            ≡ record self.old {
+              spare_calls = max self.old.spare_calls calls;
+              spare_bytes = max self.old.spare_bytes bytes;
+            }) }
         ensures err { OnErr result (self.new ≡ self.old) }
     {
         if calls > u32::MAX - self.calls {

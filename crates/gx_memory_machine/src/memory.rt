@@ -1,25 +1,28 @@
-// A machine in memory, which tells everything. Tests give it texts and a script, and make its calls fail.
+// A machine in memory, which tells everything. Tests give it texts and a script, and make its calls
+// fail.
 ghost use Rattle.std.specs.Prelude.{◌≡◌, ◌⊎◌, ◌≤◌, ◌<◌, ◌+◌, ◌^◌, ◌||◌, [], ◌∷◌, ◌++◌, ℕ, not, length, min, max, true, false, IsTrue, Some, None, Ok, IfOk, OnOk, OnErr, IsErrOf, IsSomeAnd, IsSome, is_err, if◌then◌else◌};
 ghost use Rattle.std.specs.FinMap.{insert, get};
 ghost use Rattle.gx_device.specs.Content.{Ticks, OnlyTime, Writes, Written, Syncs, NonePending, SameContent, Hears, Listens, Says, Speaks, IsOpened, IsMade, block_of, device_at};
 ghost use Rattle.gx_device.specs.Faults.{Rose, HasCause, Counted, is_fault, is_attach_fault};
 ghost use Rattle.gx_memory_machine.specs.Counts.{fails, called, is_short, is_used_up, fails_itself, is_given, numbered};
 ghost use Rattle.gx_memory_machine.specs.Memory.{empty_machine, content_of, past_after, passed_itself};
+ghost use Rattle.gx_device.specs.declared.device.TheConstants.{BLOCK_LEN};
 
 use crate::counter::Counter;
 use crate::names::find;
 use crate::trace::Trace;
-use gx_device::{AttachStop, Device, Failed, FetchStop, Machine, NoMemory};
+use gx_device::{AttachStop, BLOCK_LEN, Device, Failed, FetchStop, Machine, NoMemory};
 use std::alloc::Global;
 use std::collections::BTreeMap;
 use std::marker::Model;
 
 /// A machine in memory, for tests.
 ///
-/// Its calls as a device and a machine but `blocks` are numbered from 0, and those given to `fail_at`
-/// fail. Its record has room for so many calls, which is 0 until `reserve`: each call of a device uses
-/// one spare call, `write_block` uses 4,096 spare bytes, and `say` as many as the piece has. A call whose
-/// room is short fails without a number or a moment, and changes nothing but the count of faults.
+/// Its calls as a device and a machine but `blocks` are numbered from 0, and those given to
+/// `fail_at` fail. Its record has room for so many calls, which is 0 until `reserve`: each call of
+/// a device uses one spare call, `write_block` uses 4,096 spare bytes, and `say` as many as the
+/// piece has. A call whose room is short fails without a number or a moment, and changes nothing
+/// but the count of faults.
 #[derive(Drop)]
 pub struct MemoryMachine {
     texts: BTreeMap<Vec<u8>, Vec<u8>>,
@@ -39,10 +42,17 @@ impl Model for MemoryMachine {
 
     ghost coded = { Prim.hlevel (codes, coded_texts, coded_devices) };
 
-    ghost view = { λ m. record { texts = texts_of m.texts.entries; script = drop m.heard m.script.items; now = m.trace.now; past = m.trace.past; counts = m.counter } };
+    ghost view = { λ m. record {
+      texts = texts_of m.texts.entries;
+      script = drop m.heard m.script.items;
+      now = m.trace.now;
+      past = m.trace.past;
+      counts = m.counter;
+    } };
 
     // There is room for the spare calls and their bytes.
-    ghost invariant = { λ m. (m.heard ≤ vec_len m.script) × (m.counter.spare_calls ≤ m.trace.calls) × (m.counter.spare_bytes ≤ m.trace.bytes) };
+    ghost invariant = { λ m. (m.heard ≤ vec_len m.script)
+        × (m.counter.spare_calls ≤ m.trace.calls) × (m.counter.spare_bytes ≤ m.trace.bytes) };
 }
 
 impl MemoryMachine {
@@ -61,7 +71,8 @@ impl MemoryMachine {
 
     /// Sets the text of that name. After `NoMemory` the machine is as before.
     pub fn add_text(&mut self, alloc: Global, name: &str, bytes: &[u8]) -> Result<(), NoMemory>
-        ensures ok { OnOk result (self.new ≡ record self.old { texts = insert self.old.texts name.now bytes.now }) }
+        ensures ok { OnOk result (self.new
+            ≡ record self.old { texts = insert self.old.texts name.now bytes.now }) }
         ensures err { OnErr result (self.new ≡ self.old) }
     {
         let name = name.as_bytes().to_vec(alloc)?;
@@ -82,7 +93,11 @@ impl MemoryMachine {
 
     /// Makes the call of that number fail. After `NoMemory` the machine is as before.
     pub fn fail_at(&mut self, alloc: Global, call: u32) -> Result<(), NoMemory>
-        ensures ok { OnOk result (self.new ≡ record self.old { counts = record self.old.counts { failing = self.old.counts.failing ++ call ∷ [] } }) }
+        ensures ok { OnOk result (self.new ≡ record self.old {
+          counts = record self.old.counts {
+            failing = self.old.counts.failing ++ call ∷ [];
+          };
+        }) }
         ensures err { OnErr result (self.new ≡ self.old) }
     {
         let _ = alloc;
@@ -92,7 +107,12 @@ impl MemoryMachine {
     /// Makes room for at least so many calls and so many bytes. After `NoMemory`, which also says
     /// that the calls would be more than 4,294,967,295 in all, the machine is as before.
     pub fn reserve(&mut self, alloc: Global, calls: u32, bytes: u32) -> Result<(), NoMemory>
-        ensures ok { OnOk result (self.new ≡ record self.old { counts = record self.old.counts { spare_calls = max self.old.counts.spare_calls calls; spare_bytes = max self.old.counts.spare_bytes bytes } }) }
+        ensures ok { OnOk result (self.new ≡ record self.old {
+          counts = record self.old.counts {
+            spare_calls = max self.old.counts.spare_calls calls;
+            spare_bytes = max self.old.counts.spare_bytes bytes;
+          };
+        }) }
         ensures err { OnErr result (self.new ≡ self.old) }
     {
         let _ = alloc;
@@ -110,8 +130,8 @@ impl MemoryMachine {
     }
 }
 
-// Counts a call of a device with so many bytes, and answers whether it goes on. A call that has a number
-// and doesn't go on takes its moment here.
+// Counts a call of a device with so many bytes, and answers whether it goes on. A call that has a
+// number and doesn't go on takes its moment here.
 fn begins(counter: &mut Counter, trace: &mut Trace, bytes: usize) -> bool
     requires places { counter.old.spare_calls ≤ trace.old.calls }
     requires room { counter.old.spare_bytes ≤ trace.old.bytes }
@@ -120,7 +140,9 @@ fn begins(counter: &mut Counter, trace: &mut Trace, bytes: usize) -> bool
     ensures cause { Counted result counter.old.faults counter.new.faults }
     ensures room_for { result ≡ true → is_short counter.old bytes ≡ false }
     ensures now { trace.new.now ≡ trace.old.now }
-    ensures past { trace.new.past ≡ (if result || is_short counter.old bytes then trace.old.past else trace.old.past ++ trace.old.now ∷ []) }
+    ensures past { trace.new.past
+        ≡ (if result || is_short counter.old bytes then trace.old.past
+        else trace.old.past ++ trace.old.now ∷ []) }
     ensures place { result ≡ true → counter.new.spare_calls < trace.new.calls }
     ensures bytes { result ≡ true → counter.new.spare_bytes + bytes ≤ trace.new.bytes }
     ensures places { counter.new.spare_calls ≤ trace.new.calls }
@@ -136,8 +158,8 @@ fn begins(counter: &mut Counter, trace: &mut Trace, bytes: usize) -> bool
     true
 }
 
-// Gives a call that takes its own room its number, and answers whether it goes on. Its moment is still
-// to come.
+// Gives a call that takes its own room its number, and answers whether it goes on. Its moment is
+// still to come.
 fn begins_itself(counter: &mut Counter, trace: &mut Trace, bytes: usize) -> Result<bool, NoMemory>
     requires places { counter.old.spare_calls ≤ trace.old.calls }
     requires room { counter.old.spare_bytes ≤ trace.old.bytes }
@@ -184,7 +206,7 @@ impl Device for MemoryMachine {
 
     fn read_block(&mut self, n: u32, into: &mut [u8]) -> Result<(), Failed>
         requires below { n < length self.old.now.blocks }
-        requires room { length into.old ≡ 4096 }
+        requires room { length into.old ≡ BLOCK_LEN }
         ensures block { OnOk result (into.new ≡ block_of self.old.now n) }
         ensures rest { OnlyTime (content_of self.old) (content_of self.new) }
         ensures size { length self.new.now.blocks ≡ length self.old.now.blocks }
@@ -206,21 +228,23 @@ impl Device for MemoryMachine {
 
     fn write_block(&mut self, n: u32, from: &[u8]) -> Result<(), Failed>
         requires below { n < length self.old.now.blocks }
-        requires room { length from.now ≡ 4096 }
-        ensures block { OnOk result (Written n from.now (content_of self.old) (content_of self.new)) }
+        requires room { length from.now ≡ BLOCK_LEN }
+        ensures block { OnOk result
+            (Written n from.now (content_of self.old) (content_of self.new)) }
         ensures rest { Writes n (content_of self.old) (content_of self.new) }
         ensures size { length self.new.now.blocks ≡ length self.old.now.blocks }
         ensures cause { HasCause self.old.counts.faults self.new.counts.faults result }
         ensures counted { OnOk result (self.new.counts.faults ≡ self.old.counts.faults) }
 
-        // It fails exactly where its room is short or its number was given, and then changes no block.
+        // It fails exactly where its room is short or its number was given, and then changes no
+        // block.
         ensures same { OnErr result (self.new.now ≡ self.old.now) }
-        ensures fails { is_err result ≡ fails self.old.counts 4096 }
-        ensures counts { self.new.counts ≡ called self.old.counts 4096 }
-        ensures past { self.new.past ≡ past_after self.old 4096 }
+        ensures fails { is_err result ≡ fails self.old.counts BLOCK_LEN }
+        ensures counts { self.new.counts ≡ called self.old.counts BLOCK_LEN }
+        ensures past { self.new.past ≡ past_after self.old BLOCK_LEN }
     {
         self.trace.are_whole();
-        if !begins(&mut self.counter, &mut self.trace, 4096) {
+        if !begins(&mut self.counter, &mut self.trace, BLOCK_LEN) {
             return Err(Failed);
         }
         self.trace.write(n, from);
@@ -229,7 +253,8 @@ impl Device for MemoryMachine {
 
     fn sync(&mut self) -> Result<(), Failed>
         ensures none_pending { OnOk result (NonePending (content_of self.new)) }
-        ensures still_pending { OnErr result ((content_of self.new).now.pending ≡ (content_of self.old).now.pending) }
+        ensures still_pending { OnErr result ((content_of self.new).now.pending
+            ≡ (content_of self.old).now.pending) }
         ensures rest { Syncs (content_of self.old) (content_of self.new) }
         ensures size { length self.new.now.blocks ≡ length self.old.now.blocks }
         ensures cause { HasCause self.old.counts.faults self.new.counts.faults result }
@@ -250,15 +275,18 @@ impl Device for MemoryMachine {
     fn hear(&mut self, into: &mut [u8]) -> Result<usize, Failed>
         requires { 0 < length into.old }
         ensures bound { IfOk result (λ n. n ≤ length into.new) }
-        ensures heard { IfOk result (λ n. Hears n into.new (content_of self.old) (content_of self.new)) }
-        ensures not_heard { OnErr result ((content_of self.new).script ≡ (content_of self.old).script) }
+        ensures heard { IfOk result
+            (λ n. Hears n into.new (content_of self.old) (content_of self.new)) }
+        ensures not_heard { OnErr result ((content_of self.new).script
+            ≡ (content_of self.old).script) }
         ensures rest { Listens (content_of self.old) (content_of self.new) }
         ensures time { Ticks (content_of self.old) (content_of self.new) }
         ensures size { length self.new.now.blocks ≡ length self.old.now.blocks }
         ensures cause { HasCause self.old.counts.faults self.new.counts.faults result }
         ensures counted { OnOk result (self.new.counts.faults ≡ self.old.counts.faults) }
 
-        // It gives as many bytes as fit, and fails exactly where its room is short or its number was given.
+        // It gives as many bytes as fit, and fails exactly where its room is short or its number
+        // was given.
         ensures fills { IfOk result (λ n. n ≡ min (length into.old) (length self.old.script)) }
         ensures fails { is_err result ≡ fails self.old.counts 0 }
         ensures counts { self.new.counts ≡ called self.old.counts 0 }
@@ -276,16 +304,21 @@ impl Device for MemoryMachine {
 
     fn say(&mut self, from: &[u8]) -> Result<usize, Failed>
         ensures bound { IfOk result (λ n. n ≤ length from.now) }
-        ensures said { IfOk result (λ n. Says n from.now (content_of self.old) (content_of self.new)) }
-        ensures not_said { OnErr result ((content_of self.new).now.said ≡ (content_of self.old).now.said) }
+        ensures said { IfOk result
+            (λ n. Says n from.now (content_of self.old) (content_of self.new)) }
+        ensures not_said { OnErr result ((content_of self.new).now.said
+            ≡ (content_of self.old).now.said) }
         ensures rest { Speaks (content_of self.old) (content_of self.new) }
         ensures time { Ticks (content_of self.old) (content_of self.new) }
         ensures size { length self.new.now.blocks ≡ length self.old.now.blocks }
         ensures cause { HasCause self.old.counts.faults self.new.counts.faults result }
-        ensures counted { IfOk result (λ n. 0 < n → self.new.counts.faults ≡ self.old.counts.faults) }
-        ensures none_taken { result ≡ Ok 0 → 0 < length from.now → Rose self.old.counts.faults self.new.counts.faults }
+        ensures counted { IfOk result
+            (λ n. 0 < n → self.new.counts.faults ≡ self.old.counts.faults) }
+        ensures none_taken { result ≡ Ok 0 → 0 < length from.now →
+            Rose self.old.counts.faults self.new.counts.faults }
 
-        // It takes the whole piece, and fails exactly where its room is short or its number was given.
+        // It takes the whole piece, and fails exactly where its room is short or its number
+        // was given.
         ensures whole { IfOk result (λ n. n ≡ length from.now) }
         ensures fails { is_err result ≡ fails self.old.counts (length from.now) }
         ensures counts { self.new.counts ≡ called self.old.counts (length from.now) }
@@ -301,21 +334,30 @@ impl Device for MemoryMachine {
 
 impl Machine for MemoryMachine {
     fn fetch(&mut self, alloc: Global, name: &str, limit: u32) -> Result<Vec<u8>, FetchStop>
-        ensures text { IfOk result (λ text. get (content_of self.old).aside.texts name.now ≡ Some text.items) }
+        ensures text { IfOk result
+            (λ text. get (content_of self.old).aside.texts name.now ≡ Some text.items) }
         ensures bound { IfOk result (λ text. length text.items ≤ limit) }
-        ensures missing { IsErrOf result FetchStop.Missing → get (content_of self.old).aside.texts name.now ≡ None }
-        ensures too_long { IsErrOf result FetchStop.TooLong → IsSomeAnd (get (content_of self.old).aside.texts name.now) (λ text. limit < length text) }
-        ensures fault { IsErrOf result FetchStop.Fault → Rose self.old.counts.faults self.new.counts.faults }
-        ensures counted { is_fault result ≡ false → self.new.counts.faults ≡ self.old.counts.faults }
+        ensures missing { IsErrOf result FetchStop.Missing →
+            get (content_of self.old).aside.texts name.now ≡ None }
+        ensures too_long { IsErrOf result FetchStop.TooLong →
+            IsSomeAnd (get (content_of self.old).aside.texts name.now)
+            (λ text. limit < length text) }
+        ensures fault { IsErrOf result FetchStop.Fault →
+            Rose self.old.counts.faults self.new.counts.faults }
+        ensures counted { is_fault result ≡ false →
+            self.new.counts.faults ≡ self.old.counts.faults }
         ensures later { self.old.counts.faults ≤ self.new.counts.faults }
         ensures rest { SameContent (content_of self.old) (content_of self.new) }
         ensures time { Ticks (content_of self.old) (content_of self.new) }
         ensures size { length self.new.now.blocks ≡ length self.old.now.blocks }
 
-        // It takes its own room, and where there is memory it fails exactly where its number was given.
+        // It takes its own room, and where there is memory it fails exactly where its number
+        // was given.
         ensures fails { IsErrOf result FetchStop.Fault → IsTrue (fails_itself self.old.counts) }
-        ensures given { IsTrue (fails_itself self.old.counts) → IsErrOf result FetchStop.Fault ⊎ IsErrOf result FetchStop.NoMemory }
-        ensures machine { (self.new ≡ passed_itself self.old) ⊎ (IsErrOf result FetchStop.NoMemory × (self.new ≡ self.old)) }
+        ensures given { IsTrue (fails_itself self.old.counts) →
+            IsErrOf result FetchStop.Fault ⊎ IsErrOf result FetchStop.NoMemory }
+        ensures machine { (self.new ≡ passed_itself self.old)
+            ⊎ (IsErrOf result FetchStop.NoMemory × (self.new ≡ self.old)) }
     {
         let Ok(goes_on) = begins_itself(&mut self.counter, &mut self.trace, 0) else {
             return Err(FetchStop::NoMemory);
@@ -335,23 +377,32 @@ impl Machine for MemoryMachine {
 
     // One device is attached at most: a second `attach` answers `NoMemory` and does nothing.
     fn attach(&mut self, alloc: Global, name: &str, make: Option<u32>) -> Result<(), AttachStop>
-        ensures opened { (content_of self.old).now.shelf.name ≡ None → make ≡ None → OnOk result (IsOpened name.now (content_of self.old) (content_of self.new)) }
-        ensures made { (content_of self.old).now.shelf.name ≡ None → (n : ℕ) → make ≡ Some n → OnOk result (IsMade n name.now (content_of self.old) (content_of self.new)) }
+        ensures opened { (content_of self.old).now.shelf.name ≡ None → make ≡ None →
+            OnOk result (IsOpened name.now (content_of self.old) (content_of self.new)) }
+        ensures made { (content_of self.old).now.shelf.name ≡ None → (n : ℕ) → make ≡ Some n →
+            OnOk result (IsMade n name.now (content_of self.old) (content_of self.new)) }
         ensures missing { IsErrOf result AttachStop.Missing → make ≡ None }
-        ensures absent { IsErrOf result AttachStop.Missing → device_at (content_of self.old).now name.now ≡ None }
+        ensures absent { IsErrOf result AttachStop.Missing →
+            device_at (content_of self.old).now name.now ≡ None }
         ensures exists { IsErrOf result AttachStop.Exists → IsSome make }
-        ensures present { IsErrOf result AttachStop.Exists → IsSome (device_at (content_of self.old).now name.now) }
+        ensures present { IsErrOf result AttachStop.Exists →
+            IsSome (device_at (content_of self.old).now name.now) }
         ensures refused { OnErr result (SameContent (content_of self.old) (content_of self.new)) }
         ensures time { Ticks (content_of self.old) (content_of self.new) }
         ensures size { OnErr result (length self.new.now.blocks ≡ length self.old.now.blocks) }
-        ensures fault { IsErrOf result AttachStop.Fault → Rose self.old.counts.faults self.new.counts.faults }
-        ensures counted { is_attach_fault result ≡ false → self.new.counts.faults ≡ self.old.counts.faults }
+        ensures fault { IsErrOf result AttachStop.Fault →
+            Rose self.old.counts.faults self.new.counts.faults }
+        ensures counted { is_attach_fault result ≡ false →
+            self.new.counts.faults ≡ self.old.counts.faults }
         ensures later { self.old.counts.faults ≤ self.new.counts.faults }
 
-        // It takes its own room, and where there is memory it fails exactly where its number was given.
+        // It takes its own room, and where there is memory it fails exactly where its number
+        // was given.
         ensures fails { IsErrOf result AttachStop.Fault → IsTrue (fails_itself self.old.counts) }
-        ensures given { IsTrue (fails_itself self.old.counts) → IsErrOf result AttachStop.Fault ⊎ IsErrOf result AttachStop.NoMemory }
-        ensures counts { (self.new.counts ≡ numbered self.old.counts) ⊎ (IsErrOf result AttachStop.NoMemory × (self.new ≡ self.old)) }
+        ensures given { IsTrue (fails_itself self.old.counts) →
+            IsErrOf result AttachStop.Fault ⊎ IsErrOf result AttachStop.NoMemory }
+        ensures counts { (self.new.counts ≡ numbered self.old.counts)
+            ⊎ (IsErrOf result AttachStop.NoMemory × (self.new ≡ self.old)) }
     {
         if self.trace.is_attached() {
             return Err(AttachStop::NoMemory);

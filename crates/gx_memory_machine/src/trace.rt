@@ -4,9 +4,10 @@ ghost use Rattle.gx_device.specs.Content.{nothing_told, zero_blocks, block_of, H
 ghost use Rattle.gx_memory_machine.specs.Log.{with_block, all_synced, with_said, with_device};
 ghost use Rattle.gx_memory_machine.specs.Names.{by_name};
 ghost use Rattle.gx_memory_machine.specs.Trace.{Adds, AreFew, HasAttachCause, blocks_given, attaching};
+ghost use Rattle.gx_device.specs.declared.device.TheConstants.{BLOCK_LEN};
 
 use crate::names::find;
-use gx_device::{AttachStop, NoMemory};
+use gx_device::{AttachStop, BLOCK_LEN, NoMemory};
 use std::alloc::{AllocError, Global};
 use std::collections::BTreeMap;
 use std::marker::Model;
@@ -25,9 +26,9 @@ pub enum Step {
 /// What stands now, and what stood at each earlier moment.
 #[derive(Drop)]
 pub struct Trace {
-    start: BTreeMap<Vec<u8>, Vec<[u8; 4096]>>,
+    start: BTreeMap<Vec<u8>, Vec<[u8; BLOCK_LEN]>>,
     name: Option<Vec<u8>>,
-    blocks: Vec<[u8; 4096]>,
+    blocks: Vec<[u8; BLOCK_LEN]>,
     pending: Vec<bool>,
     said: Vec<u8>,
     steps: Vec<Step>,
@@ -47,8 +48,12 @@ impl Model for Trace {
     ghost coded = { Prim.hlevel (codes, coded_devices) };
 
     ghost view = { λ t. record {
-      now = record
-          { blocks = t.blocks.items; pending = t.pending.items; said = t.said.items; shelf = shelf_of t.name (by_name t.start.entries) };
+      now = record {
+        blocks = t.blocks.items;
+        pending = t.pending.items;
+        said = t.said.items;
+        shelf = shelf_of t.name (by_name t.start.entries);
+      };
       past = earlier (first (by_name t.start.entries)) t.steps.items t.written.items;
       calls = vec_capacity t.steps - vec_len t.steps;
       bytes = min (vec_capacity t.written - vec_len t.written)
@@ -56,8 +61,12 @@ impl Model for Trace {
     } };
 
     ghost invariant = { λ t. IsTrace (first (by_name t.start.entries)) t.steps.items t.written.items
-        (record
-        { blocks = t.blocks.items; pending = t.pending.items; said = t.said.items; shelf = shelf_of t.name (by_name t.start.entries) }) };
+        (record {
+          blocks = t.blocks.items;
+          pending = t.pending.items;
+          said = t.said.items;
+          shelf = shelf_of t.name (by_name t.start.entries);
+        }) };
 }
 
 // Puts bytes at the end, for which there is room.
@@ -94,8 +103,9 @@ fn clear(flags: &mut Vec<bool>)
 }
 
 // Each block has its size.
-fn are_whole(blocks: &[[u8; 4096]])
-    ensures { (n : ℕ) → n < length blocks.now → length (slice_index_or blocks.now n []) ≡ 4096 }
+fn are_whole(blocks: &[[u8; BLOCK_LEN]])
+    ensures { (n : ℕ) → n < length blocks.now →
+        length (slice_index_or blocks.now n []) ≡ BLOCK_LEN }
 {}
 
 impl Trace {
@@ -149,7 +159,7 @@ impl Trace {
     /// Reads a block.
     pub fn read(&self, n: u32, into: &mut [u8])
         requires below { n < length self.now.now.blocks }
-        requires room { length into.old ≡ 4096 }
+        requires room { length into.old ≡ BLOCK_LEN }
         ensures { into.new ≡ block_of self.now.now n }
     {
         into.copy_from_slice(&self.blocks[n as usize]);
@@ -180,10 +190,10 @@ impl Trace {
     /// A block is written.
     pub fn write(&mut self, n: u32, from: &[u8])
         requires below { n < length self.old.now.blocks }
-        requires block { length from.now ≡ 4096 }
+        requires block { length from.now ≡ BLOCK_LEN }
         requires place { 0 < self.old.calls }
-        requires room { 4096 ≤ self.old.bytes }
-        ensures { Adds 4096 (with_block self.old.now n from.now) self.old self.new }
+        requires room { BLOCK_LEN ≤ self.old.bytes }
+        ensures { Adds BLOCK_LEN (with_block self.old.now n from.now) self.old self.new }
     {
         note(
             &mut self.steps,
@@ -224,11 +234,11 @@ impl Trace {
 #[derive(Drop)]
 struct Drive {
     name: Vec<u8>,
-    blocks: Vec<[u8; 4096]>,
+    blocks: Vec<[u8; BLOCK_LEN]>,
     pending: Vec<bool>,
 }
 
-fn copied(alloc: Global, blocks: &[[u8; 4096]]) -> Result<Vec<[u8; 4096]>, AllocError>
+fn copied(alloc: Global, blocks: &[[u8; BLOCK_LEN]]) -> Result<Vec<[u8; BLOCK_LEN]>, AllocError>
     ensures { IfOk result (λ copy. copy.items ≡ blocks.now) }
 {
     let mut copy = Vec::new(alloc);
@@ -236,22 +246,22 @@ fn copied(alloc: Global, blocks: &[[u8; 4096]]) -> Result<Vec<[u8; 4096]>, Alloc
     Ok(copy)
 }
 
-fn zeros(alloc: Global, count: u32) -> Result<Vec<[u8; 4096]>, AllocError>
+fn zeros(alloc: Global, count: u32) -> Result<Vec<[u8; BLOCK_LEN]>, AllocError>
     ensures zeros { IfOk result (λ blocks. blocks.items ≡ zero_blocks count) }
     ensures few { IfOk result (λ blocks. length blocks.items < 2 ^ 32) }
 {
     let mut blocks = Vec::new(alloc);
-    blocks.resize(count as usize, [0; 4096])?;
+    blocks.resize(count as usize, [0; BLOCK_LEN])?;
     Ok(blocks)
 }
 
 // The blocks of a device of that name: those that it has, or so many new ones.
 fn blocks_of(
     alloc: Global,
-    start: &BTreeMap<Vec<u8>, Vec<[u8; 4096]>>,
+    start: &BTreeMap<Vec<u8>, Vec<[u8; BLOCK_LEN]>>,
     name: &[u8],
     make: Option<u32>,
-) -> Result<Vec<[u8; 4096]>, AttachStop>
+) -> Result<Vec<[u8; BLOCK_LEN]>, AttachStop>
     ensures blocks { IfOk result
         (λ blocks. blocks.items ≡ blocks_given (by_name start.now.entries) name.now make) }
     ensures few { AreFew (by_name start.now.entries) →
@@ -266,7 +276,7 @@ fn blocks_of(
     }
 }
 
-fn prepare(alloc: Global, name: &[u8], blocks: Vec<[u8; 4096]>) -> Result<Drive, NoMemory>
+fn prepare(alloc: Global, name: &[u8], blocks: Vec<[u8; BLOCK_LEN]>) -> Result<Drive, NoMemory>
     ensures name { IfOk result (λ drive. drive.name.items ≡ name.now) }
     ensures blocks { IfOk result (λ drive. drive.blocks ≡ blocks) }
     ensures pending { IfOk result (λ drive. drive.pending.items
