@@ -20,13 +20,15 @@ module _ (bits : List ℕ) (p : ℕ) (room : length bits ≡ 4096) (below : p < 
   others q other = elim (cases_eq (q / 8) (p / 8)) [
     | inl same ↦
         ap (λ (b : ℕ). bit_at b (7 - q % 8) == 1) (get_or-set_same' same)
-        ∙ ap (λ (b : ℕ). b == 1) (bit_at_set_other w8 (get_or bits (p / 8) 0) (7 - p % 8) (omega arith) (7 - q % 8) (λ (e : 7 - q % 8 ≡ 7 - p % 8). other (omega arith)))
+        ∙ ap (λ (b : ℕ). b == 1) (bit_at_set_other w8 (get_or bits (p / 8) 0) (7 - p % 8) (omega arith) (7 - q % 8)
+        (λ (e : 7 - q % 8 ≡ 7 - p % 8). other (omega arith)))
         ∙ ap (λ (k : ℕ). bit_at (get_or bits k 0) (7 - q % 8) == 1) (sym same)
     | inr apart ↦ ap (λ (b : ℕ). bit_at b (7 - q % 8) == 1) (get_or-set_other bits (p / 8) (q / 8) byte 0 apart)
   ]
     where
       get_or-set_same' : q / 8 ≡ p / 8 → get_or (set bits (p / 8) byte) (q / 8) 0 ≡ byte
-      get_or-set_same' same = ap (λ (k : ℕ). get_or (set bits (p / 8) byte) k 0) same ∙ get_or-set_same bits (p / 8) byte 0 (omega (arith, room, below))
+      get_or-set_same' same =
+          ap (λ (k : ℕ). get_or (set bits (p / 8) byte) k 0) same ∙ get_or-set_same bits (p / 8) byte 0 (omega (arith, room, below))
 
 zeros : (n k : ℕ) → get_or {A = ℕ} (replicate {A = ℕ} n 0) k 0 ≡ 0
 zeros n k = elim (cases_lt k n) [

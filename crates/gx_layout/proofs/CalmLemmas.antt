@@ -18,13 +18,15 @@ prefix_twice : (xs ys zs : List ℕ) → IsPrefix xs ys → IsPrefix ys zs → I
 prefix_twice xs ys zs p q = (p.0 ++ q.0, q.1 ∙ ap (λ (l : List ℕ). l ++ q.0) p.1 ∙ append_assoc xs p.0 q.0)
 
 -- what was said may grow
-quiet_longer : (v : View) (start : Moment) (last longer : List ℕ) → IsPrefix last longer → (m : Moment) → EachImage (IsQuiet (Shows v.head v.pages) start last) m → EachImage (IsQuiet (Shows v.head v.pages) start longer) m
+quiet_longer : (v : View) (start : Moment) (last longer : List ℕ) → IsPrefix last longer → (m : Moment)
+    → EachImage (IsQuiet (Shows v.head v.pages) start last) m → EachImage (IsQuiet (Shows v.head v.pages) start longer) m
 quiet_longer v start last longer p m leaves image is =
     let q = leaves image is in
     record { is = q.is; begins = q.begins; goes_on = prefix_twice image.said last longer q.goes_on p; shelf = q.shelf }
 
 -- a call after which it is at rest with the same pages, and no less is said
-pub calm_tick : (start : Content) (v : View) (old new : Content) → Ticks old new → AtRest new.now (with_said v new.now.said) → IsPrefix old.now.said new.now.said → Calm start v old → Calm start v new
+pub calm_tick : (start : Content) (v : View) (old new : Content) → Ticks old new → AtRest new.now (with_said v new.now.said)
+    → IsPrefix old.now.said new.now.said → Calm start v old → Calm start v new
 calm_tick start v old new (inl on) rest longer calm =
     let first = start.now.said in
     let Q : Moment → Type 0 = EachImage (IsQuiet (Shows v.head v.pages) start.now new.now.said) in
@@ -47,7 +49,8 @@ calm_listens start v old new time l calm = calm_tick start v old new time
     (prefix_same old.now.said new.now.said (ap (λ (x : Moment). x.said) l.now)) calm
 
 -- the same blocks are at rest, whatever is said
-rest_said : (v : View) (a b : Moment) → b.blocks ≡ a.blocks → b.pending ≡ a.pending → b.shelf ≡ a.shelf → AtRest a (with_said v a.said) → AtRest b (with_said v b.said)
+rest_said : (v : View) (a b : Moment) → b.blocks ≡ a.blocks → b.pending ≡ a.pending → b.shelf ≡ a.shelf → AtRest a (with_said v a.said)
+    → AtRest b (with_said v b.said)
 rest_said v a b blocks pending shelf rest =
     let kept : (n : ℕ) → is_pending a n ≡ false → is_pending b n ≡ false = λ n is. ap (λ (l : List Bool). get_or l n false) pending ∙ is in
     let same : (n : ℕ) → block_of b n ≡ block_of a n = λ n. ap (λ (l : List (List ℕ)). get_or l n []) blocks in
@@ -62,26 +65,46 @@ rest_said v a b blocks pending shelf rest =
       };
       gate_kept = kept 1 rest.gate_kept;
       gate = ap is_open (same 1) ∙ rest.gate;
-      homes = λ p below. record { kept = kept (home (length v.pages) p) (rest.homes p below).kept; reads = same (home (length v.pages) p) ∙ (rest.homes p below).reads };
+      homes = λ p below. record {
+        kept = kept (home (length v.pages) p) (rest.homes p below).kept;
+        reads = same (home (length v.pages) p) ∙ (rest.homes p below).reads;
+      };
     }
 
 -- say, whatever it answers
 pub calm_speaks : (start : Content) (v : View) (old new : Content) → Ticks old new → Speaks old new → Calm start v old → Calm start v new
-calm_speaks start v old new time s calm = calm_tick start v old new time (rest_said v old.now new.now s.blocks s.pending s.shelf calm.now) (s.more, s.said) calm
+calm_speaks start v old new time s calm =
+    calm_tick start v old new time (rest_said v old.now new.now s.blocks s.pending s.shelf calm.now) (s.more, s.said) calm
 
 -- at rest, with what was said at that moment
 pub rest_own : (v : View) (m : Moment) → AtRest m v → AtRest m (with_said v m.said)
 rest_own v m rest = record {
-  fits = record { count = rest.fits.count; room = rest.fits.room; head_kept = rest.fits.head_kept; head = rest.fits.head; said = refl; shelf = rest.fits.shelf };
+  fits = record {
+    count = rest.fits.count;
+    room = rest.fits.room;
+    head_kept = rest.fits.head_kept;
+    head = rest.fits.head;
+    said = refl;
+    shelf = rest.fits.shelf;
+  };
   gate_kept = rest.gate_kept;
   gate = rest.gate;
   homes = rest.homes;
 }
 
 -- where no page has changed, it is at rest with the working pages
-pub rest_new : (m : Moment) (v : View) (pages : List (List ℕ)) (changed : List Bool) → length v.pages ≡ length pages → SameButChanged changed v.pages pages → ((p : ℕ) → get_or changed p false ≡ false) → AtRest m (with_said v m.said) → AtRest m (with_said (with_pages v pages) m.said)
+pub rest_new : (m : Moment) (v : View) (pages : List (List ℕ)) (changed : List Bool) → length v.pages ≡ length pages
+    → SameButChanged changed v.pages pages → ((p : ℕ) → get_or changed p false ≡ false) → AtRest m (with_said v m.said)
+    → AtRest m (with_said (with_pages v pages) m.said)
 rest_new m v pages changed counts same none rest = record {
-  fits = record { count = sym counts ∙ rest.fits.count; room = rest.fits.room; head_kept = rest.fits.head_kept; head = rest.fits.head; said = refl; shelf = rest.fits.shelf };
+  fits = record {
+    count = sym counts ∙ rest.fits.count;
+    room = rest.fits.room;
+    head_kept = rest.fits.head_kept;
+    head = rest.fits.head;
+    said = refl;
+    shelf = rest.fits.shelf;
+  };
   gate_kept = rest.gate_kept;
   gate = rest.gate;
   homes = λ p below.
@@ -93,7 +116,8 @@ rest_new m v pages changed counts same none rest = record {
 }
 
 -- a page that is spilled to its slot
-pub calm_spill : (start : Content) (v : View) (n : ℕ) (old new : Content) → 7 ≤ n → n < 7 + length v.pages → Writes n old new → Calm start v old → Calm start v new
+pub calm_spill : (start : Content) (v : View) (n : ℕ) (old new : Content) → 7 ≤ n → n < 7 + length v.pages → Writes n old new
+    → Calm start v old → Calm start v new
 calm_spill start v n old new low high w calm =
     let run = outside_write (λ k. k ≡ n) n old new refl w in
     calm_tick start v old new w.time

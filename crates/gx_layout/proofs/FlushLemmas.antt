@@ -24,10 +24,12 @@ same_block c d s n = ap (λ (l : List (List ℕ)). get_or l n []) s.blocks
 module _ (kept : View) (a d : Content) (rest : AtRest a.now kept) (f : Flushes (λ n. n ≡ 2) a d) where
   pub bitmap_leaves : LeavesOnly (StandsFor kept) a d
   bitmap_leaves =
-      let first = guarded (λ n. n ≡ 2) (λ m. AtRest m kept) (StandsFor kept) a f.written (λ m o. rest_bitmap a.now m kept o rest) (λ m r. rest_leaves m kept r) f.run in
+      let first = guarded (λ n. n ≡ 2) (λ m. AtRest m kept) (StandsFor kept) a f.written (λ m o. rest_bitmap a.now m kept o rest)
+      (λ m r. rest_leaves m kept r) f.run in
       joined (EachImage (StandsFor kept)) a f.written d first (synced (StandsFor kept) f.written d f.synced first.now)
 
-  pub bitmap_ready : (pages : List (List ℕ)) (changed : List Bool) → length kept.pages ≡ length pages → length changed ≡ length pages → SameButChanged changed kept.pages pages → Holds 7 pages changed a.now
+  pub bitmap_ready : (pages : List (List ℕ)) (changed : List Bool) → length kept.pages ≡ length pages → length changed ≡ length pages
+      → SameButChanged changed kept.pages pages → Holds 7 pages changed a.now
       → NonePending d → Names changed (block_of d.now 2) (length changed) → IsReady d.now kept (with_pages kept pages) changed
   bitmap_ready pages changed counts flags same held none names =
       log_ready f.written d f.synced none kept pages changed counts flags (rest_bitmap a.now f.written.now kept f.run.now rest) same
@@ -35,7 +37,8 @@ module _ (kept : View) (a d : Content) (rest : AtRest a.now kept) (f : Flushes (
       (held_past 2 7 pages changed a.now f.written.now (omega arith) f.run.now held)
 
 -- homes of changed pages are written behind the open gate
-module _ (v : View) (changed : List Bool) (free : ℕ → Type 0) (within : (n : ℕ) → free n → IsIn (7 + length v.pages) changed n) (a d : Content) (o : IsOpened a.now v changed) (f : Flushes free a d) where
+module _ (v : View) (changed : List Bool) (free : ℕ → Type 0) (within : (n : ℕ) → free n → IsIn (7 + length v.pages) changed n)
+    (a d : Content) (o : IsOpened a.now v changed) (f : Flushes free a d) where
   here : Through (Outside (IsIn (7 + length v.pages) changed) a.now) a f.written
   here = run_more free (IsIn (7 + length v.pages) changed) within a f.written f.run
 

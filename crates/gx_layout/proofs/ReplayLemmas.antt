@@ -25,7 +25,8 @@ pub reads_replayed : (c : Content) → ReadsAs c.now (view_now (replayed_pages c
 reads_replayed c = record { pages = replays c.now.blocks; head = refl; said = refl; shelf = refl }
 
 -- at rest the homes are the pages
-pub rest_homes : (m : Moment) (v : View) (P : ℕ) → length v.pages ≡ P → 7 + 2 * P ≤ length m.blocks → AtRest m v → take P (drop (7 + P) m.blocks) ≡ v.pages
+pub rest_homes : (m : Moment) (v : View) (P : ℕ) → length v.pages ≡ P → 7 + 2 * P ≤ length m.blocks → AtRest m v
+    → take P (drop (7 + P) m.blocks) ≡ v.pages
 rest_homes m v P count room rest =
     let homes = take P (drop (7 + P) m.blocks) in
     let long : length homes ≡ P = omega (arith, length-take P (drop (7 + P) m.blocks), length-drop (7 + P) m.blocks, room) in
@@ -38,7 +39,8 @@ rest_homes m v P count room rest =
     ∙ get_or_default v.pages k [] d (omega (arith, under, count)))
 
 -- where it is at rest with some pages, it is calm from now on with the pages at home
-pub rest_calm : (c : Content) (v : View) (P : ℕ) → length v.pages ≡ P → 7 + 2 * P ≤ length c.now.blocks → AtRest c.now v → Calm c (kept_view P c) c
+pub rest_calm : (c : Content) (v : View) (P : ℕ) → length v.pages ≡ P → 7 + 2 * P ≤ length c.now.blocks → AtRest c.now v
+    → Calm c (kept_view P c) c
 rest_calm c v P count room rest =
     let own : Fits c.now (record { pages = v.pages; head = head_of c.now.blocks; said = c.now.said; shelf = c.now.shelf }) = record {
       count = rest.fits.count;
@@ -49,7 +51,12 @@ rest_calm c v P count room rest =
       shelf = refl;
     } in
     calm_now (kept_view P c) c
-    (subst (λ (pages : List (List ℕ)). AtRest c.now (record { pages = pages; head = head_of c.now.blocks; said = c.now.said; shelf = c.now.shelf }))
+    (subst (λ (pages : List (List ℕ)). AtRest c.now (record {
+      pages = pages;
+      head = head_of c.now.blocks;
+      said = c.now.said;
+      shelf = c.now.shelf;
+    }))
     (sym (rest_homes c.now v P count room rest))
     (record { fits = own; gate_kept = rest.gate_kept; gate = rest.gate; homes = rest.homes }))
     refl
@@ -58,7 +65,8 @@ pub homes_long : (P : ℕ) (blocks : List (List ℕ)) → 7 + 2 * P ≤ length b
 homes_long P blocks room = omega (arith, length-take P (drop (7 + P) blocks), length-drop (7 + P) blocks, room)
 
 -- where nothing is pending, behind a closed gate
-pub closed_calm : (c : Content) (P : ℕ) → P ≡ pages_of (length c.now.blocks) → 7 ≤ length c.now.blocks → NonePending c → is_open (block_of c.now 1) ≡ false → Calm c (kept_view P c) c
+pub closed_calm : (c : Content) (P : ℕ) → P ≡ pages_of (length c.now.blocks) → 7 ≤ length c.now.blocks → NonePending c
+    → is_open (block_of c.now 1) ≡ false → Calm c (kept_view P c) c
 closed_calm c P count room none closed =
     let long : length (kept_view P c).pages ≡ P = homes_long P c.now.blocks (omega (arith, count, room)) in
     calm_now (kept_view P c) c (record {
@@ -73,7 +81,8 @@ closed_calm c P count room none closed =
     }) refl
 
 -- the homes stay where the blocks past the head do
-pub homes_apart : (P : ℕ) (xs ys : List (List ℕ)) → length ys ≡ length xs → ((n : ℕ) → 7 ≤ n → get_or ys n [] ≡ get_or xs n []) → take P (drop (7 + P) ys) ≡ take P (drop (7 + P) xs)
+pub homes_apart : (P : ℕ) (xs ys : List (List ℕ)) → length ys ≡ length xs → ((n : ℕ) → 7 ≤ n → get_or ys n [] ≡ get_or xs n [])
+    → take P (drop (7 + P) ys) ≡ take P (drop (7 + P) xs)
 homes_apart P xs ys count same =
     let long = length-take P (drop (7 + P) ys) in
     let wide = length-take P (drop (7 + P) xs) in
@@ -84,4 +93,5 @@ homes_apart P xs ys count same =
     let within : 7 + P + k < length ys = omega (arith, long, down, lt) in
     get_or-take P (drop (7 + P) ys) k d under ∙ get_or-drop (7 + P) ys k d ∙ get_or_default ys (7 + P + k) d [] within
     ∙ same (7 + P + k) (omega arith)
-    ∙ get_or_default xs (7 + P + k) [] d (omega (arith, within, count)) ∙ sym (get_or-drop (7 + P) xs k d) ∙ sym (get_or-take P (drop (7 + P) xs) k d under))
+    ∙ get_or_default xs (7 + P + k) [] d (omega (arith, within, count)) ∙ sym (get_or-drop (7 + P) xs k d)
+    ∙ sym (get_or-take P (drop (7 + P) xs) k d under))

@@ -14,10 +14,12 @@ pub has_magic : (block zeros : List ℕ) → block ≡ overwritten zeros 0 magic
 has_magic block zeros is = (drop (0 + length magic) zeros, is)
 
 -- the block was written, and then synced
-pub magic_stands : (block : List ℕ) (a b c : Content) → 0 < length a.now.blocks → Written 0 block a b → Syncs b c → HasMagic block → HasMagic (block_of c.now 0)
+pub magic_stands : (block : List ℕ) (a b c : Content) → 0 < length a.now.blocks → Written 0 block a b → Syncs b c → HasMagic block
+    → HasMagic (block_of c.now 0)
 magic_stands block a b c room w s is =
     let at : block_of c.now 0 ≡ block =
-    ap (λ (l : List (List ℕ)). get_or l 0 []) s.blocks ∙ ap (λ (l : List (List ℕ)). get_or l 0 []) w.blocks ∙ get_or-set_same a.now.blocks 0 block [] room in
+    ap (λ (l : List (List ℕ)). get_or l 0 []) s.blocks ∙ ap (λ (l : List (List ℕ)). get_or l 0 []) w.blocks
+    ∙ get_or-set_same a.now.blocks 0 block [] room in
     (is.0, at ∙ is.1)
 
 module _ (v : View) (a m : Moment) (rest : AtRest a v) (o : Outside (λ n. n ≡ 0) a m) (image : Image) (is : IsImage m image) where
@@ -53,7 +55,8 @@ module _ (v : View) (a m : Moment) (rest : AtRest a v) (o : Outside (λ n. n ≡
 
 pub unsealed_images : (v : View) (a b : Content) → AtRest a.now v → Writes 0 a b → LeavesOnly (IsUnsealed v) a b
 unsealed_images v a b rest w =
-    weakened (Outside (λ n. n ≡ 0) a.now) (EachImage (IsUnsealed v)) (λ m o image is. unsealed v a.now m rest o image is) a b (outside_write (λ n. n ≡ 0) 0 a b refl w)
+    weakened (Outside (λ n. n ≡ 0) a.now) (EachImage (IsUnsealed v)) (λ m o image is. unsealed v a.now m rest o image is) a b
+    (outside_write (λ n. n ≡ 0) 0 a b refl w)
 
 pub unsealed_synced : (v : View) (a b c : Content) → AtRest a.now v → Writes 0 a b → Syncs b c → LeavesOnly (IsUnsealed v) a c
 unsealed_synced v a b c rest w s =

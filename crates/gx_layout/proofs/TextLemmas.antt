@@ -34,11 +34,13 @@ head_text blocks k below = elim (cases_eq k 0) [
   ]
 ]
   where
-    at : (j : ℕ) → get_or (head_of blocks) (1 + j) [] ≡ get_or blocks (3 + j) [] → k ≡ j → get_or (head_of blocks) (1 + k) [] ≡ get_or blocks (3 + k) []
+    at : (j : ℕ) → get_or (head_of blocks) (1 + j) [] ≡ get_or blocks (3 + j) [] → k ≡ j
+        → get_or (head_of blocks) (1 + k) [] ≡ get_or blocks (3 + k) []
     at j is e = ap (λ (n : ℕ). get_or (head_of blocks) (1 + n) []) e ∙ is ∙ ap (λ (n : ℕ). get_or blocks (3 + n) []) (sym e)
 
 -- text block i was read, and stands beside block i of an area
-module _ (m : Moment) (area : List ℕ) (i : ℕ) (below : i < 4) (block part : List ℕ) (block_is : block ≡ block_of m (3 + i)) (part_is : part ≡ block_in area i) where
+module _ (m : Moment) (area : List ℕ) (i : ℕ) (below : i < 4) (block part : List ℕ) (block_is : block ≡ block_of m (3 + i))
+    (part_is : part ≡ block_in area i) where
   byte : (k : ℕ) → k < 4096 → text_at (head_of m.blocks) (4096 * i + k) ≡ get_or block k 0
   byte k lt =
       let d : (4096 * i + k) / 4096 ≡ i = omega (arith, lt) in
@@ -48,10 +50,12 @@ module _ (m : Moment) (area : List ℕ) (i : ℕ) (below : i < 4) (block part : 
       ∙ ap (λ (l : List ℕ). get_or l k 0) (head_text m.blocks i below ∙ sym block_is)
 
   other : (k : ℕ) → k < 4096 → get_or area (4096 * i + k) 0 ≡ get_or part k 0
-  other k lt = sym (ap (λ (l : List ℕ). get_or l k 0) part_is ∙ get_or-take 4096 (drop (4096 * i) area) k 0 lt ∙ get_or-drop (4096 * i) area k 0)
+  other k lt =
+      sym (ap (λ (l : List ℕ). get_or l k 0) part_is ∙ get_or-take 4096 (drop (4096 * i) area) k 0 lt ∙ get_or-drop (4096 * i) area k 0)
 
   module _ (so_far : (q : ℕ) → q < 4096 * i → text_at (head_of m.blocks) q ≡ get_or area q 0) where
-    upto : (at : ℕ) → at ≤ 4096 → ((k : ℕ) → k < at → get_or block k 0 ≡ get_or part k 0) → (q : ℕ) → q < 4096 * i + at → text_at (head_of m.blocks) q ≡ get_or area q 0
+    upto : (at : ℕ) → at ≤ 4096 → ((k : ℕ) → k < at → get_or block k 0 ≡ get_or part k 0) → (q : ℕ) → q < 4096 * i + at
+        → text_at (head_of m.blocks) q ≡ get_or area q 0
     upto at within same q lt = elim (cases_lt q (4096 * i)) [
       | inl low ↦ so_far q low
       | inr past ↦ (
@@ -62,7 +66,8 @@ module _ (m : Moment) (area : List ℕ) (i : ℕ) (below : i < 4) (block part : 
           subst (λ (n : ℕ). text_at (head_of m.blocks) n ≡ get_or area n 0) here (byte k k_in ∙ same k k_at ∙ sym (other k k_in)))
     ]
 
-    pub more_same : ((k : ℕ) → k < 4096 → get_or block k 0 ≡ get_or part k 0) → (q : ℕ) → q < 4096 * (i + 1) → text_at (head_of m.blocks) q ≡ get_or area q 0
+    pub more_same : ((k : ℕ) → k < 4096 → get_or block k 0 ≡ get_or part k 0) → (q : ℕ) → q < 4096 * (i + 1)
+        → text_at (head_of m.blocks) q ≡ get_or area q 0
     more_same same q lt = upto 4096 (omega arith) same q (omega (arith, lt))
 
     pub differ_here : (at : ℕ) → at < 4096 → get_or block at 0 ≢ get_or part at 0 → ((k : ℕ) → k < at → get_or block k 0 ≡ get_or part k 0)

@@ -19,8 +19,12 @@ pub record Calm (start : Content) (v : View) (c : Content) : Type 0 where
 -- the pages at home as they read, and the head
 abbrev pub kept_view : ℕ → Content → View
 kept_view P c =
-    record
-    { pages = take P (drop (7 + P) c.now.blocks); head = head_of c.now.blocks; said = []; shelf = c.now.shelf }
+    record {
+      pages = take P (drop (7 + P) c.now.blocks);
+      head = head_of c.now.blocks;
+      said = [];
+      shelf = c.now.shelf;
+    }
 
 -- reads, which change nothing and keep what is calm
 pub record OnlyReads (old new : Content) : Type 0 where

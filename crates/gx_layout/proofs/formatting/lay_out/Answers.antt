@@ -14,7 +14,8 @@ returns-clause-run g c = laid_texts _ _ _ c.set_gate.ensures.run c.write_bitmap.
 pub returns-clause-head : goal.returns-clause-head
 returns-clause-head g c told =
     on_ok_weaker c.write_texts.result
-    (λ texts. laid_head c.text_area.result (text_area c.args.schema.now c.args.equation.now) _ (g.D.Device.content c.write_texts.new.device) c.text_area.ensures
+    (λ texts. laid_head c.text_area.result (text_area c.args.schema.now c.args.equation.now) _
+    (g.D.Device.content c.write_texts.new.device) c.text_area.ensures
     (blocks_twice IsFormatted _ (g.D.Device.content c.write_bitmap.new.device) _
     (blocks_twice IsFormatted _ (g.D.Device.content c.set_gate.new.device) _
     (blocks_more (λ n. n ≡ 1) IsFormatted (λ n is. (omega (arith, is), omega (arith, is))) _ _ c.set_gate.ensures.rest)

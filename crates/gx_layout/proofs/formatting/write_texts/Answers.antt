@@ -17,8 +17,10 @@ loop-i-preserved g c =
     record {
       size = c.write_block.ensures.size ∙ so_far.size;
       faults = c.in_ok-write_block.ensures.counted ∙ so_far.faults;
-      run = outside_joined IsText _ mid _ so_far.run (outside_write IsText (3 + c.loop-i.i) _ _ (omega arith, omega (arith, c.loop-i-test.true)) c.write_block.ensures.rest);
-      rest = blocks_twice IsText _ mid _ so_far.rest (blocks_write IsText (3 + c.loop-i.i) _ _ (omega arith, omega (arith, c.loop-i-test.true)) c.write_block.ensures.rest);
+      run = outside_joined IsText _ mid _ so_far.run (outside_write IsText (3 + c.loop-i.i) _ _
+          (omega arith, omega (arith, c.loop-i-test.true)) c.write_block.ensures.rest);
+      rest = blocks_twice IsText _ mid _ so_far.rest (blocks_write IsText (3 + c.loop-i.i) _ _
+          (omega arith, omega (arith, c.loop-i-test.true)) c.write_block.ensures.rest);
       texts = λ told. more_texts c.args.area.now c.loop-i.i c.text_block.result.now mid (g.D.Device.content c.write_block.new.self)
           (omega (arith, c.loop-i-test.true, c.requires.room, so_far.size, g.met.D.Device.sized c.loop-i.device told))
           c.text_block.ensures.is (c.in_ok-write_block.ensures.block told) (so_far.texts told);

@@ -12,13 +12,16 @@ returns-in_err-set_gate-clause-images g c told v changed ready = only_one v _ _ 
 
 pub returns-clause-images : goal.returns-clause-images
 returns-clause-images g c told v changed ready =
-    only_one v _ _ (gate_synced v v changed _ (g.D.Device.content c.set_gate.new.device) _ ready (c.set_gate.ensures.run) (c.sync.ensures.rest))
+    only_one v _ _ (gate_synced v v changed _ (g.D.Device.content c.set_gate.new.device) _ ready (c.set_gate.ensures.run)
+    (c.sync.ensures.rest))
 
 pub returns-clause-at_rest : goal.returns-clause-at_rest
 returns-clause-at_rest g c told v changed ready =
     let content = g.D.Device.content in
-    let after_gate = ready_gate (content c.args.device.now).now (content c.set_gate.new.device).now v v changed (c.set_gate.ensures.run).now ready in
-    on_ok_weaker c.sync.result (λ none. gate_closed (content c.set_gate.new.device) (content c.sync.new.self) (c.sync.ensures.rest) none v changed after_gate (c.in_ok-set_gate.ensures.written told))
+    let after_gate =
+    ready_gate (content c.args.device.now).now (content c.set_gate.new.device).now v v changed (c.set_gate.ensures.run).now ready in
+    on_ok_weaker c.sync.result (λ none. gate_closed (content c.set_gate.new.device) (content c.sync.new.self)
+    (c.sync.ensures.rest) none v changed after_gate (c.in_ok-set_gate.ensures.written told))
     (c.sync.ensures.none_pending told)
 
 pub returns-clause-rest : goal.returns-clause-rest
@@ -27,4 +30,5 @@ returns-clause-rest g c =
 
 pub returns-clause-closed : goal.returns-clause-closed
 returns-clause-closed g c told =
-    same_after c.sync.result (ap (λ (l : List (List ℕ)). is_open (get_or l 1 [])) c.sync.ensures.rest.blocks ∙ c.in_ok-set_gate.ensures.written told)
+    same_after c.sync.result (ap (λ (l : List (List ℕ)). is_open (get_or l 1 [])) c.sync.ensures.rest.blocks
+    ∙ c.in_ok-set_gate.ensures.written told)

@@ -15,8 +15,10 @@ returns-clause-images g c told kept new changed ready =
 pub returns-clause-opened : goal.returns-clause-opened
 returns-clause-opened g c told kept new changed ready =
     let content = g.D.Device.content in
-    let after_gate = ready_gate (content c.args.device.now).now (content c.set_gate.new.device).now kept new changed (c.set_gate.ensures.run).now ready in
-    on_ok_weaker c.sync.result (λ none. gate_opened (content c.set_gate.new.device) (content c.sync.new.self) (c.sync.ensures.rest) none kept new changed after_gate (c.in_ok-set_gate.ensures.written told))
+    let after_gate = ready_gate (content c.args.device.now).now (content c.set_gate.new.device).now kept new changed
+    (c.set_gate.ensures.run).now ready in
+    on_ok_weaker c.sync.result (λ none. gate_opened (content c.set_gate.new.device) (content c.sync.new.self)
+    (c.sync.ensures.rest) none kept new changed after_gate (c.in_ok-set_gate.ensures.written told))
     (c.sync.ensures.none_pending told)
 
 pub returns-clause-rest : goal.returns-clause-rest

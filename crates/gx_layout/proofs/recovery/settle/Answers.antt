@@ -10,12 +10,14 @@ use Rattle.gx_layout.proofs.recovery.settle.Goals as goal
 pub returns-in_err-is_gate_open-clause-images : goal.returns-in_err-is_gate_open-clause-images
 returns-in_err-is_gate_open-clause-images g c told v counts none reads =
     let a = g.D.Device.content c.args.device.now in
-    read_images (StandsFor v) a _ (c.is_gate_open.ensures.rest) (found_leaves a v (room_of a c.args.pages (omega (arith, g.met.D.Device.sized c.args.device.now told, c.requires.room))) none reads)
+    read_images (StandsFor v) a _ (c.is_gate_open.ensures.rest)
+    (found_leaves a v (room_of a c.args.pages (omega (arith, g.met.D.Device.sized c.args.device.now told, c.requires.room))) none reads)
 
 pub returns-else-branch-clause-images : goal.returns-else-branch-clause-images
 returns-else-branch-clause-images g c told v counts none reads =
     let a = g.D.Device.content c.args.device.now in
-    read_images (StandsFor v) a _ (c.is_gate_open.ensures.rest) (found_leaves a v (room_of a c.args.pages (omega (arith, g.met.D.Device.sized c.args.device.now told, c.requires.room))) none reads)
+    read_images (StandsFor v) a _ (c.is_gate_open.ensures.rest)
+    (found_leaves a v (room_of a c.args.pages (omega (arith, g.met.D.Device.sized c.args.device.now told, c.requires.room))) none reads)
 
 pub returns-in_err-bring_back-clause-images : goal.returns-in_err-bring_back-clause-images
 returns-in_err-bring_back-clause-images g c told v counts none reads =
@@ -23,11 +25,13 @@ returns-in_err-bring_back-clause-images g c told v counts none reads =
     let a = content c.args.device.now in
     let b = content c.is_gate_open.new.device in
     let r = c.is_gate_open.ensures.rest in
-    let first = read_images (StandsFor v) a b r (found_leaves a v (room_of a c.args.pages (omega (arith, g.met.D.Device.sized c.args.device.now told, c.requires.room))) none reads) in
+    let first = read_images (StandsFor v) a b r (found_leaves a v
+    (room_of a c.args.pages (omega (arith, g.met.D.Device.sized c.args.device.now told, c.requires.room))) none reads) in
     let none_b = still_none a b r none in
     let reads_b = still_reads a b v r reads in
     let gate_b = still_gate a b true r (c.in_ok-is_gate_open.ensures.gate told ∙ c.if-branch.true) in
-    joined (EachImage (StandsFor v)) a b (content c.bring_back.new.device) first (c.bring_back.ensures.images told v counts none_b reads_b gate_b)
+    joined (EachImage (StandsFor v)) a b (content c.bring_back.new.device) first
+    (c.bring_back.ensures.images told v counts none_b reads_b gate_b)
 
 pub returns-in_err-close_gate-clause-images : goal.returns-in_err-close_gate-clause-images
 returns-in_err-close_gate-clause-images g c told v counts none reads =
@@ -35,13 +39,16 @@ returns-in_err-close_gate-clause-images g c told v counts none reads =
     let a = content c.args.device.now in
     let b = content c.is_gate_open.new.device in
     let r = c.is_gate_open.ensures.rest in
-    let first = read_images (StandsFor v) a b r (found_leaves a v (room_of a c.args.pages (omega (arith, g.met.D.Device.sized c.args.device.now told, c.requires.room))) none reads) in
+    let first = read_images (StandsFor v) a b r (found_leaves a v
+    (room_of a c.args.pages (omega (arith, g.met.D.Device.sized c.args.device.now told, c.requires.room))) none reads) in
     let none_b = still_none a b r none in
     let reads_b = still_reads a b v r reads in
     let gate_b = still_gate a b true r (c.in_ok-is_gate_open.ensures.gate told ∙ c.if-branch.true) in
-    let back = joined (EachImage (StandsFor v)) a b (content c.bring_back.new.device) first (c.bring_back.ensures.images told v counts none_b reads_b gate_b) in
+    let back = joined (EachImage (StandsFor v)) a b (content c.bring_back.new.device) first
+    (c.bring_back.ensures.images told v counts none_b reads_b gate_b) in
     let ready = c.in_ok-bring_back.ensures.ready told v counts none_b reads_b gate_b in
-    joined (EachImage (StandsFor v)) a (content c.bring_back.new.device) (content c.close_gate.new.device) back (c.close_gate.ensures.images told v (flags (block_of b.now 2) c.args.pages) ready)
+    joined (EachImage (StandsFor v)) a (content c.bring_back.new.device) (content c.close_gate.new.device) back
+    (c.close_gate.ensures.images told v (flags (block_of b.now 2) c.args.pages) ready)
 
 pub returns-in_ok-close_gate-clause-images : goal.returns-in_ok-close_gate-clause-images
 returns-in_ok-close_gate-clause-images g c told v counts none reads =
@@ -49,13 +56,16 @@ returns-in_ok-close_gate-clause-images g c told v counts none reads =
     let a = content c.args.device.now in
     let b = content c.is_gate_open.new.device in
     let r = c.is_gate_open.ensures.rest in
-    let first = read_images (StandsFor v) a b r (found_leaves a v (room_of a c.args.pages (omega (arith, g.met.D.Device.sized c.args.device.now told, c.requires.room))) none reads) in
+    let first = read_images (StandsFor v) a b r (found_leaves a v
+    (room_of a c.args.pages (omega (arith, g.met.D.Device.sized c.args.device.now told, c.requires.room))) none reads) in
     let none_b = still_none a b r none in
     let reads_b = still_reads a b v r reads in
     let gate_b = still_gate a b true r (c.in_ok-is_gate_open.ensures.gate told ∙ c.if-branch.true) in
-    let back = joined (EachImage (StandsFor v)) a b (content c.bring_back.new.device) first (c.bring_back.ensures.images told v counts none_b reads_b gate_b) in
+    let back = joined (EachImage (StandsFor v)) a b (content c.bring_back.new.device) first
+    (c.bring_back.ensures.images told v counts none_b reads_b gate_b) in
     let ready = c.in_ok-bring_back.ensures.ready told v counts none_b reads_b gate_b in
-    joined (EachImage (StandsFor v)) a (content c.bring_back.new.device) (content c.close_gate.new.device) back (c.close_gate.ensures.images told v (flags (block_of b.now 2) c.args.pages) ready)
+    joined (EachImage (StandsFor v)) a (content c.bring_back.new.device) (content c.close_gate.new.device) back
+    (c.close_gate.ensures.images told v (flags (block_of b.now 2) c.args.pages) ready)
 
 pub returns-in_ok-close_gate-clause-at_rest : goal.returns-in_ok-close_gate-clause-at_rest
 returns-in_ok-close_gate-clause-at_rest g c told v counts none reads =
@@ -63,7 +73,8 @@ returns-in_ok-close_gate-clause-at_rest g c told v counts none reads =
     let a = content c.args.device.now in
     let b = content c.is_gate_open.new.device in
     let r = c.is_gate_open.ensures.rest in
-    let first = read_images (StandsFor v) a b r (found_leaves a v (room_of a c.args.pages (omega (arith, g.met.D.Device.sized c.args.device.now told, c.requires.room))) none reads) in
+    let first = read_images (StandsFor v) a b r (found_leaves a v
+    (room_of a c.args.pages (omega (arith, g.met.D.Device.sized c.args.device.now told, c.requires.room))) none reads) in
     let none_b = still_none a b r none in
     let reads_b = still_reads a b v r reads in
     let gate_b = still_gate a b true r (c.in_ok-is_gate_open.ensures.gate told ∙ c.if-branch.true) in
@@ -82,7 +93,8 @@ returns-in_err-bring_back-clause-touched g c told =
     let a = content c.args.device.now in
     let b = content c.is_gate_open.new.device in
     let r = c.is_gate_open.ensures.rest in
-    settled_home c.args.pages a b _ r (still_gate a b true r (c.in_ok-is_gate_open.ensures.gate told ∙ c.if-branch.true)) (c.bring_back.ensures.touched told)
+    settled_home c.args.pages a b _ r (still_gate a b true r (c.in_ok-is_gate_open.ensures.gate told ∙ c.if-branch.true))
+    (c.bring_back.ensures.touched told)
 
 pub returns-in_err-close_gate-clause-touched : goal.returns-in_err-close_gate-clause-touched
 returns-in_err-close_gate-clause-touched g c told =
@@ -90,7 +102,8 @@ returns-in_err-close_gate-clause-touched g c told =
     let a = content c.args.device.now in
     let b = content c.is_gate_open.new.device in
     let r = c.is_gate_open.ensures.rest in
-    settled_gate c.args.pages a b _ r (still_gate a b true r (c.in_ok-is_gate_open.ensures.gate told ∙ c.if-branch.true)) _ (c.bring_back.ensures.touched told) c.close_gate.ensures.rest
+    settled_gate c.args.pages a b _ r (still_gate a b true r (c.in_ok-is_gate_open.ensures.gate told ∙ c.if-branch.true)) _
+    (c.bring_back.ensures.touched told) c.close_gate.ensures.rest
 
 pub returns-in_ok-close_gate-clause-touched : goal.returns-in_ok-close_gate-clause-touched
 returns-in_ok-close_gate-clause-touched g c told =
@@ -98,7 +111,8 @@ returns-in_ok-close_gate-clause-touched g c told =
     let a = content c.args.device.now in
     let b = content c.is_gate_open.new.device in
     let r = c.is_gate_open.ensures.rest in
-    settled_gate c.args.pages a b _ r (still_gate a b true r (c.in_ok-is_gate_open.ensures.gate told ∙ c.if-branch.true)) _ (c.bring_back.ensures.touched told) c.close_gate.ensures.rest
+    settled_gate c.args.pages a b _ r (still_gate a b true r (c.in_ok-is_gate_open.ensures.gate told ∙ c.if-branch.true)) _
+    (c.bring_back.ensures.touched told) c.close_gate.ensures.rest
 
 pub returns-in_err-bring_back-clause-silent : goal.returns-in_err-bring_back-clause-silent
 returns-in_err-bring_back-clause-silent g c =
@@ -106,8 +120,10 @@ returns-in_err-bring_back-clause-silent g c =
 
 pub returns-in_err-close_gate-clause-silent : goal.returns-in_err-close_gate-clause-silent
 returns-in_err-close_gate-clause-silent g c =
-    silent_twice _ _ _ (silent_twice _ _ _ (blocks_read (λ n. Unit {0}) _ _ c.is_gate_open.ensures.rest).silent c.bring_back.ensures.silent) c.close_gate.ensures.rest.silent
+    silent_twice _ _ _ (silent_twice _ _ _
+    (blocks_read (λ n. Unit {0}) _ _ c.is_gate_open.ensures.rest).silent c.bring_back.ensures.silent) c.close_gate.ensures.rest.silent
 
 pub returns-in_ok-close_gate-clause-silent : goal.returns-in_ok-close_gate-clause-silent
 returns-in_ok-close_gate-clause-silent g c =
-    silent_twice _ _ _ (silent_twice _ _ _ (blocks_read (λ n. Unit {0}) _ _ c.is_gate_open.ensures.rest).silent c.bring_back.ensures.silent) c.close_gate.ensures.rest.silent
+    silent_twice _ _ _ (silent_twice _ _ _
+    (blocks_read (λ n. Unit {0}) _ _ c.is_gate_open.ensures.rest).silent c.bring_back.ensures.silent) c.close_gate.ensures.rest.silent

@@ -6,10 +6,12 @@ use Rattle.gx_layout.proofs.TextLemmas.{one_read, reads_twice, more_same, differ
 use Rattle.gx_layout.proofs.texts.texts_differ.Goals as goal
 
 pub returns-in_err-read_block-clause-reads : goal.returns-in_err-read_block-clause-reads
-returns-in_err-read_block-clause-reads g c = reads_twice _ (g.D.Device.content c.loop-i.device) _ c.loop-i.invariant.reads (one_read _ _ c.read_block.ensures.rest)
+returns-in_err-read_block-clause-reads g c =
+    reads_twice _ (g.D.Device.content c.loop-i.device) _ c.loop-i.invariant.reads (one_read _ _ c.read_block.ensures.rest)
 
 pub returns-in-Some-clause-reads : goal.returns-in-Some-clause-reads
-returns-in-Some-clause-reads g c = reads_twice _ (g.D.Device.content c.loop-i.device) _ c.loop-i.invariant.reads (one_read _ _ c.read_block.ensures.rest)
+returns-in-Some-clause-reads g c =
+    reads_twice _ (g.D.Device.content c.loop-i.device) _ c.loop-i.invariant.reads (one_read _ _ c.read_block.ensures.rest)
 
 pub returns-in-Some-clause-place : goal.returns-in-Some-clause-place
 returns-in-Some-clause-place g c told =
@@ -23,10 +25,13 @@ returns-in-Some-clause-place g c told =
     let part = c.text_block.result.now in
     let low : i < 4 = c.loop-i-test.true in
     let wide : length block ≡ 4096 = search rules in
-    let block_is : block ≡ block_of old.now (3 + i) = c.in_ok-read_block.ensures.block told ∙ ap (λ (m : Moment). block_of m (3 + i)) inv.reads.now in
+    let block_is : block ≡ block_of old.now (3 + i) =
+    c.in_ok-read_block.ensures.block told ∙ ap (λ (m : Moment). block_of m (3 + i)) inv.reads.now in
     let found = c.in-Some.ensures in
-    subst (λ (a : List ℕ). DifferFirst (text_at (head_of old.now.blocks)) (λ q. get_or a q 0) (Some (4096 * i + c.in-Some.at))) c.text_area-area.ensures
-    (differ_here old.now area i low block part block_is c.text_block.ensures.is (inv.same told) c.in-Some.at (let lt = found.0 in omega (arith, lt, wide)) found.1 found.2)
+    subst (λ (a : List ℕ). DifferFirst (text_at (head_of old.now.blocks)) (λ q. get_or a q 0)
+    (Some (4096 * i + c.in-Some.at))) c.text_area-area.ensures
+    (differ_here old.now area i low block part block_is c.text_block.ensures.is (inv.same told) c.in-Some.at
+    (let lt = found.0 in omega (arith, lt, wide)) found.1 found.2)
 
 pub loop-i-preserved : goal.loop-i-preserved
 loop-i-preserved g c =
@@ -46,6 +51,8 @@ loop-i-preserved g c =
           let part = c.text_block.result.now in
           let low : i < 4 = c.loop-i-test.true in
           let wide : length block ≡ 4096 = search rules in
-          let block_is : block ≡ block_of old.now (3 + i) = c.in_ok-read_block.ensures.block told ∙ ap (λ (m : Moment). block_of m (3 + i)) inv.reads.now in
-          more_same old.now area i low block part block_is c.text_block.ensures.is (inv.same told) (λ k lt. c.in_default.ensures k (omega (arith, lt, wide)));
+          let block_is : block ≡ block_of old.now (3 + i) =
+          c.in_ok-read_block.ensures.block told ∙ ap (λ (m : Moment). block_of m (3 + i)) inv.reads.now in
+          more_same old.now area i low block part block_is c.text_block.ensures.is (inv.same told)
+          (λ k lt. c.in_default.ensures k (omega (arith, lt, wide)));
     }
