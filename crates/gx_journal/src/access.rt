@@ -6,6 +6,7 @@ ghost use Rattle.gx_journal.specs.DeviceCalls.{HasPlaces, ReadsOnly};
 ghost use Rattle.gx_journal.specs.Sources.{SamePages};
 ghost use Rattle.gx_journal.specs.Working.{size_in, page_in, IsUnchangedIn};
 ghost use Rattle.gx_journal.specs.WorkingCalls.{IsBacked, WritesSlots, KeepsWorking};
+ghost use Rattle.gx_device.specs.declared.device.TheConstants.{BLOCK_LEN};
 
 use crate::room::{make_room, reserve};
 use crate::working::WorkingPages;
@@ -16,7 +17,7 @@ use gx_frames::{Call, Frames};
 fn put(frames: &mut Frames, p: u32, from: &[u8])
     requires below { p < frames.old.pages }
     requires free { IsResident frames.old p ⊎ HasFreeFrame frames.old }
-    requires size { length from.now ≡ 4096 }
+    requires size { length from.now ≡ BLOCK_LEN }
     ensures { frames.new
         ≡ with_residents frames.old (record { page = p; bytes = from.now; changed = true }
         ∷ without p frames.old.resident) }
@@ -35,7 +36,7 @@ pub(crate) fn write<D: Device>(
     from: &[u8],
 ) -> Result<(), Failed>
     requires below { p < size_in working.old }
-    requires bytes { length from.now ≡ 4096 }
+    requires bytes { length from.now ≡ BLOCK_LEN }
     requires backed { IsBacked D.Device device.old working.old }
     ensures page { IsTrue D.tells →
         OnOk result (page_in (size_in working.old) (D.content device.new) working.new p
@@ -63,7 +64,7 @@ fn fetch<D: Device>(
     into: &mut [u8],
 ) -> Result<(), Failed>
     requires below { p < pages }
-    requires bytes { length into.old ≡ 4096 }
+    requires bytes { length into.old ≡ BLOCK_LEN }
     requires places { HasPlaces D.Device device.old pages }
     ensures page { IsTrue D.tells →
         OnOk result
@@ -86,7 +87,7 @@ pub(crate) fn read<D: Device>(
     into: &mut [u8],
 ) -> Result<(), Failed>
     requires below { p < size_in working.old }
-    requires bytes { length into.old ≡ 4096 }
+    requires bytes { length into.old ≡ BLOCK_LEN }
     requires backed { IsBacked D.Device device.old working.old }
     ensures page { IsTrue D.tells →
         OnOk result

@@ -9,6 +9,8 @@ ghost use Rattle.gx_layout.specs.Head.{HasMagic, IsFormatted, DifferFirst, text_
 ghost use Rattle.gx_layout.specs.Besides.{IsImageBesides, IsUnsealed};
 ghost use Rattle.gx_layout.specs.Recovered.{Recovers, IsOfRecovery, replayed_pages, view_now};
 ghost use Rattle.gx_journal.specs.Sources.{IsCached};
+ghost use Rattle.gx_device.specs.declared.device.TheConstants.{BLOCK_LEN};
+ghost use Rattle.gx_layout.specs.declared.formatting.TheConstants.{MAX_TEXTS_LEN};
 
 use crate::access::{read, write};
 use crate::commit::commit;
@@ -129,7 +131,7 @@ impl<D: Device> Journal<D> {
         requires most { frames ≤ 1024 }
         requires blocks { 7 ≤ D.size device }
         requires limit { D.size device ≤ 65543 }
-        requires texts { length schema.now + length equation.now ≤ 16380 }
+        requires texts { length schema.now + length equation.now ≤ MAX_TEXTS_LEN }
         ensures kept { IfOk result
             (λ j. kept_of j ≡ homes_told D.tells (size_of j) (D.content device)) }
         ensures working { IfOk result (λ j. working_of j ≡ kept_of j) }
@@ -184,7 +186,7 @@ impl<D: Device> Journal<D> {
     /// texts; None where it has them. The text area is the bytes of the text blocks: the lengths of
     /// the texts, the texts, and zeros.
     pub fn texts_differ(&mut self, schema: &[u8], equation: &[u8]) -> Result<Option<u16>, Failed>
-        requires { length schema.now + length equation.now ≤ 16380 }
+        requires { length schema.now + length equation.now ≤ MAX_TEXTS_LEN }
         ensures place { IsTrue D.tells → IfOk result (DifferFirst (text_at (head_blocks self.old))
             (λ q. slice_index_or (text_area schema.now equation.now) q 0)) }
         ensures working { working_of self.new ≡ working_of self.old }
@@ -216,7 +218,7 @@ impl<D: Device> Journal<D> {
     /// Reads a page as it was written last. After `Failed` the slice may hold anything.
     pub fn read_page(&mut self, p: u32, into: &mut [u8]) -> Result<(), Failed>
         requires below { p < size_of self.old }
-        requires bytes { length into.old ≡ 4096 }
+        requires bytes { length into.old ≡ BLOCK_LEN }
         ensures page { IsTrue D.tells →
             OnOk result (into.new ≡ slice_index_or (working_of self.old) p []) }
         ensures working { working_of self.new ≡ working_of self.old }
@@ -232,7 +234,7 @@ impl<D: Device> Journal<D> {
     /// Writes a page. After `Failed` the working pages are as before.
     pub fn write_page(&mut self, p: u32, from: &[u8]) -> Result<(), Failed>
         requires below { p < size_of self.old }
-        requires bytes { length from.now ≡ 4096 }
+        requires bytes { length from.now ≡ BLOCK_LEN }
         ensures page { IsTrue D.tells →
             OnOk result (working_of self.new ≡ slice_set (working_of self.old) p from.now) }
         ensures failed { OnErr result (working_of self.new ≡ working_of self.old) }

@@ -5,8 +5,9 @@ ghost use Rattle.gx_layout.specs.Layout.{View, Names, home, is_open};
 ghost use Rattle.gx_journal.specs.DeviceCalls.{HasPlaces, TouchesOnly, WritesOnly, FlushesOnly};
 ghost use Rattle.gx_journal.specs.Publishing.{SameResidents, AreCopiedHome, IsPrepared, Replaces, IsInSlot, AreInSlots, AreSpilled};
 ghost use Rattle.gx_journal.specs.Sources.{IsHomeOf, IsCommitted};
+ghost use Rattle.gx_layout.specs.declared.bitmap.TheConstants.{MAX_PAGES};
 
-use gx_device::{Device, Failed};
+use gx_device::{BLOCK_LEN, Device, Failed};
 use gx_frames::Frames;
 use gx_layout::{close_gate, open_gate, write_bitmap};
 
@@ -19,7 +20,7 @@ fn copy_home<D: Device>(device: &mut D, pages: u32, p: u32) -> Result<(), Failed
         ≡ block_of (D.content device.old).now (7 + p)) }
     ensures writes { WritesOnly D.Device (λ n. n ≡ home pages p) device.old device.new result }
 {
-    let mut page = [0; 4096];
+    let mut page = [0; BLOCK_LEN];
     device.read_block(7 + p, &mut page)?;
     device.write_block(7 + pages + p, &page)
 }
@@ -72,7 +73,7 @@ fn write_homes<D: Device>(
 
 // The bitmap names the spilled pages.
 fn log<D: Device>(device: &mut D, spilled: &Vec<bool>) -> Result<(), Failed>
-    requires few { length spilled.now.items ≤ 32768 }
+    requires few { length spilled.now.items ≤ MAX_PAGES }
     requires room { 2 < D.size device.old }
     ensures names { IsTrue D.tells →
         OnOk result (Names spilled.now.items (block_of (D.content device.new).now 2)

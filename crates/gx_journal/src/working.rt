@@ -2,6 +2,7 @@
 ghost use Rattle.std.specs.Prelude.{◌≡◌, ◌≤◌, [], false, length, replicate, vec_capacity, IfOk};
 ghost use Rattle.gx_layout.specs.Layout.{pages_of};
 ghost use Rattle.gx_journal.specs.Sources.{IsListed};
+ghost use Rattle.gx_layout.specs.declared.bitmap.TheConstants.{MAX_PAGES};
 
 use gx_device::NoMemory;
 use gx_frames::Frames;
@@ -14,7 +15,7 @@ pub(crate) struct WorkingPages {
     pub(crate) frames: Frames,
     pub(crate) spilled: Vec<bool>,
     pub(crate) listed: Vec<u32>,
-    ghost few: { length spilled.items ≤ 32768 },
+    ghost few: { length spilled.items ≤ MAX_PAGES },
     ghost pages: { frames.pages ≡ length spilled.items },
     ghost named: { IsListed spilled.items listed.items },
     ghost space: { length spilled.items ≤ vec_capacity listed },
