@@ -11,7 +11,8 @@ use Rattle.gx_journal.proofs.SourceLemmas.{find_past}
 cleaned_other : (p : ℕ) (r : Resident) (rs : List Resident) → r.page ≢ p → cleaned p (r ∷ rs) ≡ r ∷ cleaned p rs
 cleaned_other p r rs ne = rw (eqb_other r.page p ne)
 
-pub find_cleaned : (p : ℕ) (rs : List Resident) (r : Resident) → find_page p rs ≡ Some r → (x : Resident) × (find_page p (cleaned p rs) ≡ Some x) × (x.bytes ≡ r.bytes) × (x.changed ≡ false)
+pub find_cleaned : (p : ℕ) (rs : List Resident) (r : Resident) → find_page p rs ≡ Some r
+    → (x : Resident) × (find_page p (cleaned p rs) ≡ Some x) × (x.bytes ≡ r.bytes) × (x.changed ≡ false)
 find_cleaned p [] r is = absurd (let e : ◌≡◌ {A = Option Resident} None (Some r) = is in cc)
 find_cleaned p (y ∷ rs) r is = elim (eqb_tells y.page p) [
   | inl same ↦ (let x : Resident = record { page = y.page; bytes = y.bytes; changed = false } in (
@@ -29,7 +30,8 @@ find_cleaned_other p q [] ne = refl
 find_cleaned_other p q (y ∷ rs) ne = elim (eqb_tells y.page p) [
   | inl same ↦ (let x : Resident = record { page = y.page; bytes = y.bytes; changed = false } in
       let off : y.page ≢ q = λ e. ne (sym same.1 ∙ e) in
-      ap (find_page q) (cleaned_here p y rs same.1) ∙ find_past q x (cleaned p rs) off ∙ find_cleaned_other p q rs ne ∙ sym (find_past q y rs off))
+      ap (find_page q) (cleaned_here p y rs same.1) ∙ find_past q x (cleaned p rs) off ∙ find_cleaned_other p q rs ne
+      ∙ sym (find_past q y rs off))
   | inr other ↦ ap (find_page q) (cleaned_other p y rs other.1) ∙ (elim (eqb_tells y.page q) [
     | inl at ↦ find_here q y (cleaned p rs) at.1 ∙ sym (find_here q y rs at.1)
     | inr off ↦ find_past q y (cleaned p rs) off.1 ∙ find_cleaned_other p q rs ne ∙ sym (find_past q y rs off.1)

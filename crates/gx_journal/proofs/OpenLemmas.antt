@@ -12,7 +12,8 @@ use Rattle.gx_journal.proofs.PageLemmas.{pages_same}
 use Rattle.gx_journal.proofs.PublishLemmas.{moved_cached, moved_pages}
 use Rattle.gx_journal.specs.State.{blank, pages_told, homes_told, head_told, CalmSince}
 
-module _ (tells : Bool) (told : IsTrue tells) (P : ℕ) (c : Content) (v : View) (count : length v.pages ≡ P) (room : 7 + 2 * P ≤ length c.now.blocks) (rest : AtRest c.now v) where
+module _ (tells : Bool) (told : IsTrue tells) (P : ℕ) (c : Content) (v : View) (count : length v.pages ≡ P)
+    (room : 7 + 2 * P ≤ length c.now.blocks) (rest : AtRest c.now v) where
   pub opened_kept : homes_told tells P c ≡ v.pages
   opened_kept = ap (λ (b : Bool). homes_told b P c) told ∙ rest_homes c.now v P count room rest
 
@@ -27,10 +28,12 @@ module _ (tells : Bool) (told : IsTrue tells) (P : ℕ) (c : Content) (v : View)
 -- a device that is laid out
 pub formatted_kept : (tells : Bool) (P : ℕ) (a c : Content) → OnlyBlocks IsFormatted a c → homes_told tells P c ≡ homes_told tells P a
 formatted_kept tells P a c o = ap (λ (pages : List (List ℕ)). if tells then pages else blank P)
-    (homes_apart P a.now.blocks c.now.blocks o.count (λ n high. o.blocks n (λ (f : IsFormatted n). (let low = f.1 in absurd (omega (arith, low, high))))))
+    (homes_apart P a.now.blocks c.now.blocks o.count (λ n high. o.blocks n
+    (λ (f : IsFormatted n). (let low = f.1 in absurd (omega (arith, low, high))))))
 
 -- nothing is pending behind a closed gate
-pub closed_since : (tells : Bool) (P : ℕ) (c : Content) → IsTrue tells → P ≡ pages_of (length c.now.blocks) → 7 ≤ length c.now.blocks → NonePending c → is_open (block_of c.now 1) ≡ false → (failed : Bool) → failed ≡ false → CalmSince tells failed P c c
+pub closed_since : (tells : Bool) (P : ℕ) (c : Content) → IsTrue tells → P ≡ pages_of (length c.now.blocks) → 7 ≤ length c.now.blocks
+    → NonePending c → is_open (block_of c.now 1) ≡ false → (failed : Bool) → failed ≡ false → CalmSince tells failed P c c
 closed_since tells P c told count room none closed failed steady = record {
   told = told;
   steady = steady;
@@ -62,21 +65,26 @@ module _ (P : ℕ) (old new : Content) (o : OnlyBlocks (λ n. n ≡ 0) old new) 
       let at_home = past (home P q) (omega arith) in
       λ i. if get_or spilled q false then slot i else at_home i
 
-  pub sealed_cached : (spilled : List Bool) (rs : List Resident) → IsCached P old.now.blocks spilled rs → IsCached P new.now.blocks spilled rs
+  pub sealed_cached : (spilled : List Bool) (rs : List Resident) → IsCached P old.now.blocks spilled rs
+      → IsCached P new.now.blocks spilled rs
   sealed_cached spilled rs = moved_cached P old.now.blocks new.now.blocks spilled spilled rs rs (λ q. refl) (sealed_stored spilled)
 
-  pub sealed_pages : (tells : Bool) (spilled : List Bool) (rs : List Resident) → pages_told tells P new spilled rs ≡ pages_told tells P old spilled rs
+  pub sealed_pages : (tells : Bool) (spilled : List Bool) (rs : List Resident)
+      → pages_told tells P new spilled rs ≡ pages_told tells P old spilled rs
   sealed_pages tells spilled rs = pages_same tells P P old new spilled spilled rs rs refl
       (λ told. moved_pages P old.now.blocks new.now.blocks spilled spilled rs rs (λ q. refl) (sealed_stored spilled))
 
-  pub sealed_calm : (tells failed : Bool) (start : Content) → CalmSince tells failed P start old → NonePending new → CalmSince tells failed P new new
+  pub sealed_calm : (tells failed : Bool) (start : Content) → CalmSince tells failed P start old → NonePending new
+      → CalmSince tells failed P new new
   sealed_calm tells failed start is none =
       let rest = is.calm.now in
-      closed_since tells P new is.told (sym is.count ∙ rest.fits.count ∙ ap pages_of (sym o.count)) (omega (arith, rest.fits.room, o.count)) none
+      closed_since tells P new is.told (sym is.count ∙ rest.fits.count ∙ ap pages_of (sym o.count))
+      (omega (arith, rest.fits.room, o.count)) none
       (ap is_open (past 1 (omega arith)) ∙ rest.gate) failed is.steady
 
 -- calm says that the kept pages are at rest
-pub calm_rest : (tells failed : Bool) (P : ℕ) (start c : Content) → CalmSince tells failed P start c → AtRest c.now (view_now (homes_told tells P c) c)
+pub calm_rest : (tells failed : Bool) (P : ℕ) (start c : Content) → CalmSince tells failed P start c
+    → AtRest c.now (view_now (homes_told tells P c) c)
 calm_rest tells failed P start c is =
     subst (λ (pages : List (List ℕ)). AtRest c.now (view_now pages c)) (sym (ap (λ (b : Bool). homes_told b P c) is.told)) is.calm.now
 

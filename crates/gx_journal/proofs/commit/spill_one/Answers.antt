@@ -13,7 +13,8 @@ pub clean-requires-clause-resident : goal.clean-requires-clause-resident
 clean-requires-clause-resident g c =
     let rs = c.args.working.now.frames.resident in
     let r = changed_at (find_page c.args.p rs) c.requires.changed in
-    some_found c.args.p c.spill.new.working.frames.resident r.0 (front_found c.args.p rs _ (ap (λ (x : Pool). x.resident) c.spill.ensures.frames) c.args.p ∙ r.1)
+    some_found c.args.p c.spill.new.working.frames.resident r.0
+    (front_found c.args.p rs _ (ap (λ (x : Pool). x.resident) c.spill.ensures.frames) c.args.p ∙ r.1)
 
 pub returns-clause-clean : goal.returns-clause-clean
 returns-clause-clean g c h =
@@ -34,8 +35,10 @@ returns-clause-still g c q not h =
     let order = front_found p rs ss (ap (λ (x : Pool). x.resident) c.spill.ensures.frames) in
     let x = find_cleaned p ss r.0 (order p ∙ r.1) in
     elim (eqb_tells p q) [
-      | inl same ↦ unchanged_at (find_page q c.clean.new.self.resident) x.0 (ap (λ (y : Pool). find_page q y.resident) c.clean.ensures ∙ ap (λ (k : ℕ). find_page k (cleaned p ss)) (sym same.1) ∙ x.1) x.3 h
-      | inr other ↦ not (subst (λ (o : Option Resident). IsSomeAnd o (λ y. IsTrue y.changed)) (ap (λ (y : Pool). find_page q y.resident) c.clean.ensures ∙ find_cleaned_other p q ss other.1 ∙ order q) h)
+      | inl same ↦ unchanged_at (find_page q c.clean.new.self.resident) x.0
+          (ap (λ (y : Pool). find_page q y.resident) c.clean.ensures ∙ ap (λ (k : ℕ). find_page k (cleaned p ss)) (sym same.1) ∙ x.1) x.3 h
+      | inr other ↦ not (subst (λ (o : Option Resident). IsSomeAnd o (λ y. IsTrue y.changed))
+          (ap (λ (y : Pool). find_page q y.resident) c.clean.ensures ∙ find_cleaned_other p q ss other.1 ∙ order q) h)
     ]
 
 pub returns-clause-keeps : goal.returns-clause-keeps

@@ -8,7 +8,9 @@ returns-clause-working g c =
     let old = c.args.self.now in
     let P = length old.working.spilled.items in
     let now = g.D.Device.content old.device in
-    pages_home g.D.Device.tells P (length c.forget.new.working.spilled.items) now c.forget.new.working.spilled.items c.forget.new.working.frames.resident c.forget.ensures.long
+    pages_home g.D.Device.tells P
+    (length c.forget.new.working.spilled.items) now c.forget.new.working.spilled.items
+    c.forget.new.working.frames.resident c.forget.ensures.long
     (λ told. omega (arith, old.room, g.met.D.Device.sized old.device told))
     (λ told. c.forget.ensures.same P now (old.cached told))
 
@@ -16,4 +18,5 @@ pub invariant_of-self-clause-cached : goal.invariant_of-self-clause-cached
 invariant_of-self-clause-cached g c told =
     let old = c.args.self.now in
     let now = g.D.Device.content old.device in
-    subst (λ (P : ℕ). IsCachedIn P now c.forget.new.working) (sym c.forget.ensures.long) (c.forget.ensures.cached (length old.working.spilled.items) now (old.cached told))
+    subst (λ (P : ℕ). IsCachedIn P now c.forget.new.working) (sym c.forget.ensures.long)
+    (c.forget.ensures.cached (length old.working.spilled.items) now (old.cached told))

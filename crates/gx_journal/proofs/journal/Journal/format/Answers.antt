@@ -14,7 +14,8 @@ returns-in-Ok-format-clause-kept g c =
     let content = g.D.Device.content in
     let j = c.over.result in
     formatted_kept g.D.Device.tells (length j.working.spilled.items) (content c.args.device) (content j.device)
-    (subst (λ (x : Content). OnlyBlocks IsFormatted (content c.args.device) x) (sym (ap content c.over.ensures.device)) c.format.ensures.rest)
+    (subst (λ (x : Content). OnlyBlocks IsFormatted (content c.args.device) x)
+    (sym (ap content c.over.ensures.device)) c.format.ensures.rest)
 
 pub returns-in-Ok-format-clause-calm : goal.returns-in-Ok-format-clause-calm
 returns-in-Ok-format-clause-calm g c told =
@@ -39,7 +40,8 @@ returns-in-Ok-format-clause-head g c told =
 pub returns-in-Ok-format-clause-images : goal.returns-in-Ok-format-clause-images
 returns-in-Ok-format-clause-images g c =
     let content = g.D.Device.content in
-    subst (λ (x : Content). LeavesOnly (IsImageBesides IsFormatted (content c.args.device).now) (content c.args.device) x) (sym (ap content c.over.ensures.device)) c.format.ensures.images
+    subst (λ (x : Content). LeavesOnly (IsImageBesides IsFormatted (content c.args.device).now) (content c.args.device) x)
+    (sym (ap content c.over.ensures.device)) c.format.ensures.images
 
 pub returns-in-Ok-format-clause-faults : goal.returns-in-Ok-format-clause-faults
 returns-in-Ok-format-clause-faults g c =

@@ -13,13 +13,17 @@ invariant_of-self g c =
       limit = omega (arith, old.limit, c.hear.ensures.size);
       count = old.count ∙ ap pages_of (sym c.hear.ensures.size);
       closed = λ told steady. ap (λ (m : Moment). is_open (block_of m 1)) c.hear.ensures.rest.now ∙ old.closed told steady;
-      cached = λ told. still_cached (g.D.Device.content old.device) (g.D.Device.content c.hear.new.self) (ap (λ (m : Moment). m.blocks) c.hear.ensures.rest.now) (length old.working.spilled.items) old.working.spilled.items old.working.frames.resident (old.cached told);
+      cached = λ told. still_cached (g.D.Device.content old.device) (g.D.Device.content c.hear.new.self)
+          (ap (λ (m : Moment). m.blocks) c.hear.ensures.rest.now)
+          (length old.working.spilled.items) old.working.spilled.items old.working.frames.resident (old.cached told);
     }
 
 pub returns-clause-working : goal.returns-clause-working
 returns-clause-working g c =
     let old = c.args.self.now in
-    still_pages (g.D.Device.content old.device) (g.D.Device.content c.hear.new.self) (ap (λ (m : Moment). m.blocks) c.hear.ensures.rest.now) g.D.Device.tells (length old.working.spilled.items) old.working.spilled.items old.working.frames.resident
+    still_pages (g.D.Device.content old.device) (g.D.Device.content c.hear.new.self)
+    (ap (λ (m : Moment). m.blocks) c.hear.ensures.rest.now) g.D.Device.tells
+    (length old.working.spilled.items) old.working.spilled.items old.working.frames.resident
 
 pub returns-clause-keeps : goal.returns-clause-keeps
 returns-clause-keeps g c =
@@ -34,5 +38,7 @@ returns-clause-keeps g c =
       size = refl;
       blocks = c.hear.ensures.size;
       steady = refl;
-      calm = λ start. still_calm before after blocks g.D.Device.tells old.failed P start (ap (λ (m : Moment). m.shelf) c.hear.ensures.rest.now) (λ v. calm_listens start v before after c.hear.ensures.time c.hear.ensures.rest);
+      calm = λ start. still_calm before after blocks g.D.Device.tells old.failed P start
+          (ap (λ (m : Moment). m.shelf) c.hear.ensures.rest.now)
+          (λ v. calm_listens start v before after c.hear.ensures.time c.hear.ensures.rest);
     }

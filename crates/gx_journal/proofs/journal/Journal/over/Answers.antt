@@ -15,7 +15,8 @@ returns-clause-working g c =
     (λ told. omega (arith, c.requires.blocks, g.met.D.Device.sized c.args.device told))
     (λ told. all_home P content.now.blocks working.spilled.items rs
     (none_set P working.spilled.items c.requires.unspilled)
-    (λ q r is. absurd (let e : ◌≡◌ {A = Option Resident} None (Some r) = sym (ap (λ (l : List Resident). find_page q l) c.requires.absent) ∙ is in cc)))
+    (λ q r is. absurd (let e : ◌≡◌ {A = Option Resident} None (Some r) =
+    sym (ap (λ (l : List Resident). find_page q l) c.requires.absent) ∙ is in cc)))
 
 pub returns-clause-unchanged : goal.returns-clause-unchanged
 returns-clause-unchanged g c =

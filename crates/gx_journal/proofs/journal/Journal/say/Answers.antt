@@ -12,13 +12,15 @@ invariant_of-self g c =
       limit = omega (arith, old.limit, c.say.ensures.size);
       count = old.count ∙ ap pages_of (sym c.say.ensures.size);
       closed = λ told steady. ap (λ (l : List (List ℕ)). is_open (get_or l 1 [])) c.say.ensures.rest.blocks ∙ old.closed told steady;
-      cached = λ told. still_cached (g.D.Device.content old.device) (g.D.Device.content c.say.new.self) c.say.ensures.rest.blocks (length old.working.spilled.items) old.working.spilled.items old.working.frames.resident (old.cached told);
+      cached = λ told. still_cached (g.D.Device.content old.device) (g.D.Device.content c.say.new.self) c.say.ensures.rest.blocks
+          (length old.working.spilled.items) old.working.spilled.items old.working.frames.resident (old.cached told);
     }
 
 pub returns-clause-working : goal.returns-clause-working
 returns-clause-working g c =
     let old = c.args.self.now in
-    still_pages (g.D.Device.content old.device) (g.D.Device.content c.say.new.self) c.say.ensures.rest.blocks g.D.Device.tells (length old.working.spilled.items) old.working.spilled.items old.working.frames.resident
+    still_pages (g.D.Device.content old.device) (g.D.Device.content c.say.new.self) c.say.ensures.rest.blocks g.D.Device.tells
+    (length old.working.spilled.items) old.working.spilled.items old.working.frames.resident
 
 pub returns-clause-keeps : goal.returns-clause-keeps
 returns-clause-keeps g c =
@@ -33,5 +35,6 @@ returns-clause-keeps g c =
       size = refl;
       blocks = c.say.ensures.size;
       steady = refl;
-      calm = λ start. still_calm before after blocks g.D.Device.tells old.failed P start c.say.ensures.rest.shelf (λ v. calm_speaks start v before after c.say.ensures.time c.say.ensures.rest);
+      calm = λ start. still_calm before after blocks g.D.Device.tells old.failed P start c.say.ensures.rest.shelf
+          (λ v. calm_speaks start v before after c.say.ensures.time c.say.ensures.rest);
     }

@@ -14,7 +14,8 @@ invariant_of-self g c =
       limit = omega (arith, old.limit, c.seal.ensures.size);
       count = old.count ∙ ap pages_of (sym c.seal.ensures.size);
       closed = λ told steady. ap is_open (c.seal.ensures.rest.blocks 1 (λ (e : 1 ≡ 0). absurd (omega (arith, e)))) ∙ old.closed told steady;
-      cached = λ told. sealed_cached (length old.working.spilled.items) _ _ c.seal.ensures.rest old.working.spilled.items old.working.frames.resident (old.cached told);
+      cached = λ told. sealed_cached (length old.working.spilled.items) _ _ c.seal.ensures.rest
+          old.working.spilled.items old.working.frames.resident (old.cached told);
     }
 
 pub returns-clause-kept : goal.returns-clause-kept
@@ -26,12 +27,14 @@ returns-clause-texts g c = sealed_texts (length c.args.self.now.working.spilled.
 pub returns-clause-working : goal.returns-clause-working
 returns-clause-working g c =
     let old = c.args.self.now in
-    sealed_pages (length old.working.spilled.items) _ _ c.seal.ensures.rest g.D.Device.tells old.working.spilled.items old.working.frames.resident
+    sealed_pages (length old.working.spilled.items) _ _ c.seal.ensures.rest g.D.Device.tells
+    old.working.spilled.items old.working.frames.resident
 
 pub returns-clause-calm : goal.returns-clause-calm
 returns-clause-calm g c start is =
     let old = c.args.self.now in
-    on_ok_weaker c.seal.result (λ none. sealed_calm (length old.working.spilled.items) _ _ c.seal.ensures.rest g.D.Device.tells old.failed start is none)
+    on_ok_weaker c.seal.result
+    (λ none. sealed_calm (length old.working.spilled.items) _ _ c.seal.ensures.rest g.D.Device.tells old.failed start is none)
     (c.seal.ensures.none_pending is.told)
 
 pub returns-clause-images : goal.returns-clause-images
