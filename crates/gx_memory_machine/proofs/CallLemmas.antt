@@ -10,7 +10,8 @@ use Rattle.gx_memory_machine.specs.Trace.{blocks_given, is_there}
 use Rattle.gx_memory_machine.proofs.LogLemmas.{no_flag}
 
 -- a call takes its moment, or has none
-pub ticks : (none : Bool) (old new : Content) → new.now ≡ old.now → new.script ≡ old.script → new.aside ≡ old.aside → new.past ≡ (if none then old.past else old.past ++ old.now ∷ []) → Ticks old new
+pub ticks : (none : Bool) (old new : Content) → new.now ≡ old.now → new.script ≡ old.script → new.aside ≡ old.aside
+    → new.past ≡ (if none then old.past else old.past ++ old.now ∷ []) → Ticks old new
 ticks true old new now script aside past = inr (λ i. record { now = now i; script = script i; aside = aside i; past = past i })
 ticks false old new now script aside past = inl past
 
@@ -43,8 +44,10 @@ no_blocks None is = refl
 no_blocks (Some b) is = absurd (let e : ◌≡◌ {A = Bool} true false = is in cc)
 
 -- a device is attached, where none was
-module _ (old new : Content) (given name : List ℕ) (make : Option ℕ) (before : Moment) (named : given ≡ name) (was : before ≡ old.now) (script : new.script ≡ old.script) (aside : new.aside ≡ old.aside) (none : old.now.shelf.name ≡ None)
-    (now : new.now ≡ with_device before given (blocks_given before.shelf.devices given make)) (there : is_there before.shelf.devices given ≡ is_none make) where
+module _ (old new : Content) (given name : List ℕ) (make : Option ℕ) (before : Moment) (named : given ≡ name) (was : before ≡ old.now)
+    (script : new.script ≡ old.script) (aside : new.aside ≡ old.aside) (none : old.now.shelf.name ≡ None)
+    (now : new.now ≡ with_device before given (blocks_given before.shelf.devices given make))
+    (there : is_there before.shelf.devices given ≡ is_none make) where
   after : new.now ≡ with_device old.now name (blocks_given old.now.shelf.devices name make)
   after = now ∙ (λ i. with_device (was i) (named i) (blocks_given (was i).shelf.devices (named i) make))
 
@@ -70,12 +73,14 @@ module _ (old new : Content) (given name : List ℕ) (make : Option ℕ) (before
   pub is_opened : make ≡ None → IsOpened name old new
   is_opened opens = record {
     blocks = blocks_in old.now.shelf.devices name;
-    was = ap (λ (d : Devices). get d name) all_devices ∙ some_blocks (get old.now.shelf.devices name) (was_there ∙ ap (λ (o : Option ℕ). is_none o) opens);
+    was = ap (λ (d : Devices). get d name) all_devices ∙ some_blocks (get old.now.shelf.devices name)
+        (was_there ∙ ap (λ (o : Option ℕ). is_none o) opens);
     attached = is_attached (blocks_in old.now.shelf.devices name) (ap (blocks_given old.now.shelf.devices name) opens);
   }
 
   pub is_made : (n : ℕ) → make ≡ Some n → IsMade n name old new
   is_made n makes = record {
-    free = ap (λ (d : Devices). get d name) all_devices ∙ no_blocks (get old.now.shelf.devices name) (was_there ∙ ap (λ (o : Option ℕ). is_none o) makes);
+    free = ap (λ (d : Devices). get d name) all_devices ∙ no_blocks (get old.now.shelf.devices name)
+        (was_there ∙ ap (λ (o : Option ℕ). is_none o) makes);
     attached = is_attached (zero_blocks n) (ap (blocks_given old.now.shelf.devices name) makes);
   }

@@ -12,4 +12,10 @@ returns-clause-ok c =
     ap texts_of c.in_ok-insert.ensures.entries
     ∙ set_named c.self.inside.texts.entries c.in_ok-name.name c.in_ok-bytes.bytes
     ∙ (λ i. insert (c.self.view_is i).texts (name i) (bytes i)) in
-    λ i. record { texts = texts i; script = (c.self.view_is i).script; now = (c.self.view_is i).now; past = (c.self.view_is i).past; counts = (c.self.view_is i).counts }
+    λ i. record {
+      texts = texts i;
+      script = (c.self.view_is i).script;
+      now = (c.self.view_is i).now;
+      past = (c.self.view_is i).past;
+      counts = (c.self.view_is i).counts;
+    }

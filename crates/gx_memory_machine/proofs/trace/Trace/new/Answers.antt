@@ -9,7 +9,12 @@ pub invariant_of-result : goal.invariant_of-result
 invariant_of-result c =
     let start = first (by_name c.new.result.entries) in
     record {
-      is = (λ i. record { blocks = c.new-2.ensures.items i; pending = c.new-3.ensures.items i; said = c.new-4.ensures.items i; shelf = record { name = None; devices = by_name c.new.result.entries } })
+      is = (λ i. record {
+        blocks = c.new-2.ensures.items i;
+        pending = c.new-3.ensures.items i;
+        said = c.new-4.ensures.items i;
+        shelf = record { name = None; devices = by_name c.new.result.entries };
+      })
           ∙ sym (ap (λ (l : List Step). latest start l c.new-6.result.items) c.new-5.ensures.items);
       total = ap (λ (l : List ℕ). length l) c.new-6.ensures.items ∙ sym (ap total c.new-5.ensures.items);
       flags = ap (λ (l : List Bool). length l) c.new-3.ensures.items ∙ sym (ap (λ (l : List (List ℕ)). length l) c.new-2.ensures.items);
