@@ -6,4 +6,11 @@ use Rattle.gx_journal.specs.Journal.{Keeps}
 
 module _ {D : Type 0} {g : device.Ghosts D} where
   pub keeps_joined : {a b c : Journal D g} → Keeps a b → Keeps b c → Keeps a c
-  keeps_joined x y = record { kept = y.kept ∙ x.kept; head = y.head ∙ x.head; size = y.size ∙ x.size; blocks = y.blocks ∙ x.blocks; steady = y.steady ∙ x.steady; calm = λ start h. y.calm start (x.calm start h) }
+  keeps_joined x y = record {
+    kept = y.kept ∙ x.kept;
+    head = y.head ∙ x.head;
+    size = y.size ∙ x.size;
+    blocks = y.blocks ∙ x.blocks;
+    steady = y.steady ∙ x.steady;
+    calm = λ start h. y.calm start (x.calm start h);
+  }

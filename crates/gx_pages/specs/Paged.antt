@@ -25,8 +25,13 @@ module _ {D : Type 0} {g : device.Ghosts D} where
   -- the blocks are all of the device
   abbrev pub ground_of : Journal D g → Ground
   ground_of j =
-      record
-      { size = size_of j; tables = 16; blocks = g.size (device_of j); first = 7 + size_of j; head = head_blocks j }
+      record {
+        size = size_of j;
+        tables = 16;
+        blocks = g.size (device_of j);
+        first = 7 + size_of j;
+        head = head_blocks j;
+      }
 
   -- what a call keeps of the journal, and how it counts faults
   pub record KeepsJournal {T E : Type 0} (old new : Journal D g)

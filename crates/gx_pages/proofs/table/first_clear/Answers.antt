@@ -10,6 +10,8 @@ loop-page-preserved c =
     let old = c.loop-page.numbers in
     let new = c.set_number.new.table in
     record {
-      own = own_more old new c.loop-page.page c.loop-page-test.array_long (omega (arith, c.loop-page-test.true)) c.set_number.ensures c.loop-page.invariant.own;
-      free = free_still old new c.loop-page.page c.loop-page-test.array_long (omega (arith, c.loop-page-test.true)) c.set_number.ensures c.loop-page.invariant.free;
+      own = own_more old new c.loop-page.page c.loop-page-test.array_long
+          (omega (arith, c.loop-page-test.true)) c.set_number.ensures c.loop-page.invariant.own;
+      free = free_still old new c.loop-page.page c.loop-page-test.array_long
+          (omega (arith, c.loop-page-test.true)) c.set_number.ensures c.loop-page.invariant.free;
     }

@@ -9,13 +9,15 @@ use Rattle.gx_pages.proofs.paged.PagedPages.claim.Goals as goal
 pub returns-in_default-clause-full : goal.returns-in_default-clause-full
 returns-in_default-clause-full g c told full =
     let j = c.args.self.now.journal in
-    none_free (ground_of j) (working_of j) c.in_ok-page.field-0 (count_pages j) (omega (arith, count_pages j, j.working.few)) c.in_default.is (c.in_ok-page.ensures.free told)
+    none_free (ground_of j) (working_of j) c.in_ok-page.field-0 (count_pages j)
+    (omega (arith, count_pages j, j.working.few)) c.in_default.is (c.in_ok-page.ensures.free told)
 
 pub returns-clause-claimed : goal.returns-clause-claimed
 returns-clause-claimed g c told =
     let j = c.args.self.now.journal in
     let between = c.find_free.new.journal in
-    claimed_since (ground_of j) (ground_of between) (working_of j) (working_of between) (working_of c.set_owner.new.journal) c.in-Some.page c.args.owner (count_pages j) refl c.find_free.ensures.working
+    claimed_since (ground_of j) (ground_of between) (working_of j) (working_of between)
+    (working_of c.set_owner.new.journal) c.in-Some.page c.args.owner (count_pages j) refl c.find_free.ensures.working
     (MatchOption-at_some _ _ c.in-Some.page c.in-Some.is c.in_ok-page.ensures.past)
     (MatchOption-at_some _ _ c.in-Some.page c.in-Some.is (c.in_ok-page.ensures.free told))
     (c.in_ok-set_owner.ensures.owned told)

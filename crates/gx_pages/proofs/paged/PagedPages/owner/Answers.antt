@@ -9,7 +9,8 @@ use Rattle.gx_pages.proofs.paged.PagedPages.owner.Goals as goal
 pub returns-clause-owner : goal.returns-clause-owner
 returns-clause-owner g c told =
     let j = c.args.self.now.journal in
-    IfOk-weaker c.owner.result _ _ (λ owner is. owner_listed (working_of j) c.args.page owner (omega (arith, count_pages j, c.requires.page)) is) (c.owner.ensures.owner told)
+    IfOk-weaker c.owner.result _ _ (λ owner is. owner_listed (working_of j) c.args.page owner
+    (omega (arith, count_pages j, c.requires.page)) is) (c.owner.ensures.owner told)
 
 pub returns-clause-reads : goal.returns-clause-reads
 returns-clause-reads g c = record {
