@@ -43,7 +43,8 @@ reopens_alike schema equation specs maps old new same is = record {
 }
 
 -- recovered blocks read as those that were there
-pub recovered_alike : (tells : Bool) (P : ℕ) (old new : Content) → IsTrue tells → length new.now.blocks ≡ length old.now.blocks → 7 ≤ length old.now.blocks
+pub recovered_alike : (tells : Bool) (P : ℕ) (old new : Content) → IsTrue tells → length new.now.blocks ≡ length old.now.blocks
+    → 7 ≤ length old.now.blocks
     → head_told tells new ≡ head_of old.now.blocks → P ≡ pages_of (length new.now.blocks) → is_open (block_of new.now 1) ≡ false
     → homes_told tells P new ≡ replayed_pages old.now.blocks → ReadAlike old.now.blocks new.now.blocks
 recovered_alike tells P old new told count room head many gate kept = record {
@@ -53,13 +54,15 @@ recovered_alike tells P old new told count room head many gate kept = record {
 }
 
 -- no block is written where there is no journal, unless a call failed
-pub unwritten_by : (why : NoJournal) (old new : List (List ℕ)) → (why ≡ journal.NoDatabase → new ≡ old) → (why ≡ journal.NoMemory → new ≡ old)
+pub unwritten_by : (why : NoJournal) (old new : List (List ℕ)) → (why ≡ journal.NoDatabase → new ≡ old)
+    → (why ≡ journal.NoMemory → new ≡ old)
     → not (is_fault (no_journal why)) ≡ true → new ≡ old
 unwritten_by journal.Fault old new none memory goes = absurd (let f : false ≡ true = goes in cc)
 unwritten_by journal.NoMemory old new none memory goes = memory refl
 unwritten_by journal.NoDatabase old new none memory goes = none refl
 
-pub refused_alike : (why : NoJournal) (old new : List (List ℕ)) → (why ≡ journal.NoDatabase → new ≡ old) → (why ≡ journal.NoMemory → new ≡ old)
+pub refused_alike : (why : NoJournal) (old new : List (List ℕ)) → (why ≡ journal.NoDatabase → new ≡ old)
+    → (why ≡ journal.NoMemory → new ≡ old)
     → not (is_fault (no_journal why)) ≡ true → ReadAlike old new
 refused_alike why old new none memory goes = alike_same old new (unwritten_by why old new none memory goes)
 
@@ -76,7 +79,8 @@ headed (Err e) H schema equation specs blocks opened head leaves = tt
 pub recovery_itself : (blocks : List (List ℕ)) → IsRecoveryOf blocks blocks
 recovery_itself blocks = record { count = refl; others = λ n not. refl }
 
-pub recovery_of : (size : ℕ) (old new : Content) → size ≡ length old.now.blocks → OnlyBlocks (IsOfRecovery (pages_of size) old.now.blocks) old new
+pub recovery_of : (size : ℕ) (old new : Content) → size ≡ length old.now.blocks
+    → OnlyBlocks (IsOfRecovery (pages_of size) old.now.blocks) old new
     → IsRecoveryOf old.now.blocks new.now.blocks
 recovery_of size old new same o = record {
   count = o.count;

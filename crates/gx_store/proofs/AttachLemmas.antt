@@ -22,11 +22,13 @@ pub some_same : {A : Type 0} (a b : A) → Some a ≡ Some b → a ≡ b
 some_same {A = A} a b e = ap (λ (o : Option A). option_map_or (λ (x : A). x) o a) e
 
 -- the blocks of the device are those that are attached
-pub attached_blocks : (name : List ℕ) (blocks : List (List ℕ)) (old new : Content) → device_at old.now name ≡ Some blocks → IsOpened name old new → blocks ≡ new.now.blocks
+pub attached_blocks : (name : List ℕ) (blocks : List (List ℕ)) (old new : Content) → device_at old.now name ≡ Some blocks
+    → IsOpened name old new → blocks ≡ new.now.blocks
 attached_blocks name blocks old new was o = some_same blocks o.blocks (sym was ∙ o.was) ∙ sym o.attached.blocks_are
 
 -- a device whose blocks were left is as it was
-pub left_alone : (name : List ℕ) (old mid last : Content) → old.now.shelf.name ≡ None → IsOpened name old mid → Silent mid last → last.now.blocks ≡ mid.now.blocks
+pub left_alone : (name : List ℕ) (old mid last : Content) → old.now.shelf.name ≡ None → IsOpened name old mid → Silent mid last
+    → last.now.blocks ≡ mid.now.blocks
     → device_at last.now name ≡ device_at old.now name
 left_alone name old mid last free o silent same =
     attached_at name o.blocks old mid last free o.attached silent
@@ -35,10 +37,14 @@ left_alone name old mid last free o silent same =
 
 pub counted_refusal : (stop : AttachStop) (a b : ℕ) → a ≤ b → (stop ≡ attach.Fault → Rose a b) → ((stop ≡ attach.Fault → ⊥) → b ≡ a)
     → Counted (not (is_fault (not_attached stop))) a b
-counted_refusal attach.Fault a b later rose same = record { later = later; rose = λ e. rose refl; same = λ e. absurd (let f : false ≡ true = e in cc) }
+counted_refusal attach.Fault a b later rose same =
+    record { later = later; rose = λ e. rose refl; same = λ e. absurd (let f : false ≡ true = e in cc) }
 counted_refusal attach.Missing a b later rose same =
-    let still = same (λ (e : attach.Missing ≡ attach.Fault). cc) in record { later = later; rose = λ e. absurd (let f : true ≡ false = e in cc); same = λ e. still }
+    let still = same (λ (e : attach.Missing ≡ attach.Fault). cc) in
+    record { later = later; rose = λ e. absurd (let f : true ≡ false = e in cc); same = λ e. still }
 counted_refusal attach.Exists a b later rose same =
-    let still = same (λ (e : attach.Exists ≡ attach.Fault). cc) in record { later = later; rose = λ e. absurd (let f : true ≡ false = e in cc); same = λ e. still }
+    let still = same (λ (e : attach.Exists ≡ attach.Fault). cc) in
+    record { later = later; rose = λ e. absurd (let f : true ≡ false = e in cc); same = λ e. still }
 counted_refusal attach.NoMemory a b later rose same =
-    let still = same (λ (e : attach.NoMemory ≡ attach.Fault). cc) in record { later = later; rose = λ e. absurd (let f : true ≡ false = e in cc); same = λ e. still }
+    let still = same (λ (e : attach.NoMemory ≡ attach.Fault). cc) in
+    record { later = later; rose = λ e. absurd (let f : true ≡ false = e in cc); same = λ e. still }

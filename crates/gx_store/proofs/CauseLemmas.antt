@@ -32,10 +32,15 @@ counted_still a b same = record {
 }
 
 module _ (schema equation : List ℕ) (specs : List LeafSpec) (blocks : List (List ℕ)) where
-  pub unread_on : (head : List (List ℕ)) (why : Unopened) → IsSize specs (length blocks) → HasMagic (get_or blocks 0 []) → head ≡ head_of blocks
+  pub unread_on : (head : List (List ℕ)) (why : Unopened) → IsSize specs (length blocks) → HasMagic (get_or blocks 0 [])
+      → head ≡ head_of blocks
       → AreUnread schema equation head why → AreUnopened schema equation specs blocks why
-  unread_on head (unopened.OtherTexts place) size magic same differ =
-      (size, magic, subst (λ (h : List (List ℕ)). DifferFirst (text_at h) (λ q. slice_index_or (text_area schema equation) q 0) (Some place)) same differ)
+  unread_on head (unopened.OtherTexts place) size magic same differ = (
+    size,
+    magic,
+    subst (λ (h : List (List ℕ)). DifferFirst (text_at h) (λ q. slice_index_or (text_area schema equation) q 0)
+        (Some place)) same differ,
+  )
   unread_on head unopened.Fault size magic same none = tt
   unread_on head unopened.NoMemory size magic same none = tt
   unread_on head unopened.Missing size magic same none = absurd none
@@ -49,7 +54,8 @@ module _ (schema equation : List ℕ) (specs : List LeafSpec) (blocks : List (Li
   unrecovered journal.NoMemory size none = tt
   unrecovered journal.NoDatabase size none = (size, none refl)
 
-  pub unopened_on : (name : List ℕ) (before : Content) (why : Unopened) → device_at before.now name ≡ Some blocks → AreUnopened schema equation specs blocks why
+  pub unopened_on : (name : List ℕ) (before : Content) (why : Unopened) → device_at before.now name ≡ Some blocks
+      → AreUnopened schema equation specs blocks why
       → IsUnopened name schema equation specs before why
   unopened_on name before unopened.Missing was are = absurd are
   unopened_on name before unopened.Exists was are = absurd are
@@ -59,7 +65,8 @@ module _ (schema equation : List ℕ) (specs : List LeafSpec) (blocks : List (Li
   unopened_on name before unopened.NoDatabase was are = (blocks, was, are)
   unopened_on name before (unopened.OtherTexts place) was are = (blocks, was, are)
 
-pub unread_touched : (schema equation : List ℕ) (head : List (List ℕ)) (why : Unopened) → AreUnread schema equation head why → is_untouched why ≡ true → ⊥
+pub unread_touched : (schema equation : List ℕ) (head : List (List ℕ)) (why : Unopened) → AreUnread schema equation head why
+    → is_untouched why ≡ true → ⊥
 unread_touched schema equation head (unopened.OtherTexts place) is e = cc
 unread_touched schema equation head unopened.Fault is e = cc
 unread_touched schema equation head unopened.NoMemory is e = cc
@@ -82,5 +89,6 @@ refused_by attach.Fault name schema equation specs before absent exists = tt
 refused_by attach.NoMemory name schema equation specs before absent exists = tt
 
 -- the size that was asked for is that of the blocks
-pub sized_by : (specs : List LeafSpec) (long size asked : ℕ) (r : Bool) → size ≡ long → asked ≡ size → (IsTrue r ↔ IsSize specs asked) → r ≡ true → IsSize specs long
+pub sized_by : (specs : List LeafSpec) (long size asked : ℕ) (r : Bool) → size ≡ long → asked ≡ size → (IsTrue r ↔ IsSize specs asked)
+    → r ≡ true → IsSize specs long
 sized_by specs long size asked r sized is test so = subst (λ (n : ℕ). IsSize specs n) (is ∙ sized) (test.0 so)

@@ -90,7 +90,8 @@ module _ (a b : Ground) (size : a.size ≡ b.size) (tables : a.tables ≡ b.tabl
     map_is = h.map_is;
   }
 
-  file_there : (kind : LeafKind) (place : Place) (sheets : Sheets) (m : LeafMap) → IsFileOf kind a place sheets m → IsFileOf kind b place sheets m
+  file_there : (kind : LeafKind) (place : Place) (sheets : Sheets) (m : LeafMap) → IsFileOf kind a place sheets m
+      → IsFileOf kind b place sheets m
   file_there kinds.Heap place sheets m h = heap_there place sheets m h
   file_there (kinds.Hash buckets) place sheets m h = hash_there place sheets m h
   file_there kinds.Isam place sheets m h = isam_there place sheets m h
@@ -118,7 +119,8 @@ module _ (a b : Ground) (size : a.size ≡ b.size) (tables : a.tables ≡ b.tabl
     each = λ leaf place at. (let h = l.each leaf place at in (h.0, file_there place.spec.kind place sheets h.0 h.1));
   }
 
-  pub maps_moved : (specs : List LeafSpec) (maps : List LeafMap) (sheets : Sheets) → AreMaps a specs maps sheets → AreMaps b specs maps sheets
+  pub maps_moved : (specs : List LeafSpec) (maps : List LeafMap) (sheets : Sheets) → AreMaps a specs maps sheets
+      → AreMaps b specs maps sheets
   maps_moved specs maps sheets is =
       let same : places_of a specs ≡ places_of b specs = ap (λ (n : ℕ). places_from n 1 specs) tables in
       record {

@@ -50,12 +50,19 @@ module _ (base : Ground) (specs : List LeafSpec) (maps : List LeafMap) (sheets :
     holds_maps told steady ground working kept places = record {
       working = maps_at (v.ground s.pages) s.places.items (v.working s.pages) ground places working;
       kept = maps_at (v.ground s.pages) s.places.items (v.kept s.pages) ground places kept;
-      whole = record { told = told; settled = steady; laid = laid_at (v.ground s.pages) s.places.items (v.working s.pages) ground places working };
-      was_whole = record { told = told; settled = steady; laid = laid_at (v.ground s.pages) s.places.items (v.kept s.pages) ground places kept };
+      whole = record {
+        told = told;
+        settled = steady;
+        laid = laid_at (v.ground s.pages) s.places.items
+            (v.working s.pages) ground places working;
+      };
+      was_whole =
+          record { told = told; settled = steady; laid = laid_at (v.ground s.pages) s.places.items (v.kept s.pages) ground places kept };
     }
 
 -- where the numbers and the head are those of the blocks, so is the ground
-pub ground_same : (blocks : List (List ℕ)) (size count : ℕ) (head : List (List ℕ)) → size ≡ pages_of (length blocks) → count ≡ length blocks → head ≡ head_of blocks
+pub ground_same : (blocks : List (List ℕ)) (size count : ℕ) (head : List (List ℕ)) → size ≡ pages_of (length blocks) → count ≡ length blocks
+    → head ≡ head_of blocks
     → ground_on blocks ≡ record { size = size; tables = 16; blocks = count; first = 7 + size; head = head }
 ground_same blocks size count head e n h =
     let es = sym e in
@@ -69,7 +76,8 @@ pub maps_opened : (blocks : List (List ℕ)) (specs : List LeafSpec) (maps : Lis
     → AreMaps (ground_on blocks) specs maps (sheets_of (replayed_pages blocks))
     → AreMaps (record { size = size; tables = 16; blocks = count; first = 7 + size; head = head }) specs maps (sheets_of pages)
 maps_opened blocks specs maps size count head pages es en eh ep are =
-    subst (λ (ps : List (List ℕ)). AreMaps (record { size = size; tables = 16; blocks = count; first = 7 + size; head = head }) specs maps (sheets_of ps)) (sym ep)
+    subst (λ (ps : List (List ℕ)). AreMaps (record { size = size; tables = 16; blocks = count; first = 7 + size; head = head }) specs maps
+    (sheets_of ps)) (sym ep)
     (subst (λ (b : Ground). AreMaps b specs maps (sheets_of (replayed_pages blocks))) (ground_same blocks size count head es en eh) are)
 
 module _ {M : Type 0} {g : device.Ghosts M} where
@@ -83,7 +91,8 @@ module _ {M : Type 0} {g : device.Ghosts M} where
   module _ {v : page_view.Ghosts (Paged M g)} where
     -- what leaves hold that have been made
     pub made_maps : (s : PagedLeaves (Paged M g) v) (base : Ground) (specs : List LeafSpec) (maps : List LeafMap) → v.ground s.pages ≡ base
-        → s.places.items ≡ places_of base specs → leaves.working_of s ≡ maps → leaves.IsWhole s → AreMaps base specs maps (v.working s.pages)
+        → s.places.items ≡ places_of base specs → leaves.working_of s ≡ maps → leaves.IsWhole s
+        → AreMaps base specs maps (v.working s.pages)
     made_maps s base specs maps ground places working whole = record {
       laid = subst (λ (b : Ground). AreLaid b (places_of base specs) (v.working s.pages)) ground
           (subst (λ (ps : List Place). AreLaid (v.ground s.pages) ps (v.working s.pages)) places whole.laid);
@@ -100,7 +109,8 @@ module _ {M : Type 0} {g : device.Ghosts M} where
       (steadies : (p : Paged M g) → IsSteady (journal_of p) → v.steady p) where
     pub adopted : IsTrue v.tells → (j k : Journal M g) → Keeps j k → working_of k ≡ working_of j → working_of j ≡ kept_of j → IsSteady j
         → (specs : List LeafSpec) (maps : List LeafMap) → AreMaps (ground_of j) specs maps (kept_sheets j)
-        → (s : PagedLeaves (Paged M g) v) → journal_of (leaves.pages_of s) ≡ k → leaves.places_in s ≡ places_of (ground_of k) specs → HoldsMaps maps s
+        → (s : PagedLeaves (Paged M g) v) → journal_of (leaves.pages_of s) ≡ k → leaves.places_in s ≡ places_of (ground_of k) specs
+        → HoldsMaps maps s
     adopted told j k keeps same kept steady specs maps are s is places =
         holds_maps (ground_of j) specs maps (kept_sheets j) are s told
         (steadies s.pages (ap (λ (x : Journal M g). x.failed) is ∙ keeps.steady ∙ steady))
@@ -114,7 +124,8 @@ module _ {M : Type 0} {g : device.Ghosts M} where
         → (s : PagedLeaves (Paged M g) v) → journal_of (leaves.pages_of s) ≡ k → IsJustOpened s
     adopted_just j k keeps same kept steady s is =
         let sheets : v.working s.pages ≡ v.kept s.pages =
-        works s.pages ∙ ap working_sheets is ∙ ap sheets_of (same ∙ kept ∙ sym keeps.kept) ∙ sym (ap kept_sheets is) ∙ sym (keeps_sheets s.pages) in
+        works s.pages ∙ ap working_sheets is ∙ ap sheets_of (same ∙ kept ∙ sym keeps.kept) ∙ sym (ap kept_sheets is)
+        ∙ sym (keeps_sheets s.pages) in
         record {
           steady = steadies s.pages (ap (λ (x : Journal M g). x.failed) is ∙ keeps.steady ∙ steady);
           kept_is = ap (λ (x : Sheets). maps_of (v.ground s.pages) s.places.items x) (sym sheets);

@@ -37,7 +37,8 @@ unlaid_on specs count unopened.Size is = absurd is
 unlaid_on specs count unopened.NoDatabase is = is
 unlaid_on specs count (unopened.OtherTexts place) is = is
 
-pub unmade_on : (name : List ℕ) (count : ℕ) (specs : List LeafSpec) (before : Content) (why : Unopened) → IsUnmadeOn specs count why → IsUnmade name count specs before why
+pub unmade_on : (name : List ℕ) (count : ℕ) (specs : List LeafSpec) (before : Content) (why : Unopened) → IsUnmadeOn specs count why
+    → IsUnmade name count specs before why
 unmade_on name count specs before unopened.Fault is = tt
 unmade_on name count specs before unopened.NoMemory is = tt
 unmade_on name count specs before unopened.Size is = is
@@ -47,7 +48,8 @@ unmade_on name count specs before unopened.NoDatabase is = is
 unmade_on name count specs before (unopened.OtherTexts place) is = is
 
 pub unmade_by : (stop : AttachStop) (name : List ℕ) (count : ℕ) (specs : List LeafSpec) (before : Content) → IsSize specs count
-    → (stop ≡ attach.Missing → ⊥) → (stop ≡ attach.Exists → IsSome (device_at before.now name)) → IsUnmade name count specs before (not_attached stop)
+    → (stop ≡ attach.Missing → ⊥) → (stop ≡ attach.Exists → IsSome (device_at before.now name))
+    → IsUnmade name count specs before (not_attached stop)
 unmade_by attach.Missing name count specs before size missing present = missing refl
 unmade_by attach.Exists name count specs before size missing present = (size, present refl)
 unmade_by attach.Fault name count specs before size missing present = tt
@@ -61,7 +63,8 @@ counted_leaves stop.Full before now is = absurd is
 counted_leaves (stop.Damaged block) before now is = absurd is
 
 -- a refusal on the attached device comes after blocks were written, where the size is right
-pub unmade_touched : (specs : List LeafSpec) (count : ℕ) (why : Unopened) → IsSize specs count → IsUnmadeOn specs count why → is_untouched why ≡ true → ⊥
+pub unmade_touched : (specs : List LeafSpec) (count : ℕ) (why : Unopened) → IsSize specs count → IsUnmadeOn specs count why
+    → is_untouched why ≡ true → ⊥
 unmade_touched specs count unopened.Size size are so = are size
 unmade_touched specs count unopened.Fault size are so = let f : false ≡ true = so in cc
 unmade_touched specs count unopened.NoMemory size are so = let f : false ≡ true = so in cc

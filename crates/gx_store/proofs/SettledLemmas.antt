@@ -19,7 +19,8 @@ use Rattle.gx_store.specs.Device.{AreMaps, AreTexts, IsDatabase, IsSettled, Reop
 use Rattle.gx_store.proofs.GroundLemmas.{maps_moved}
 
 -- the text blocks of a device, byte by byte
-pub texts_read : (c : Content) (schema equation : List ℕ) → drop 1 (head_of c.now.blocks) ≡ text_blocks schema equation → AreTexts schema equation (head_of c.now.blocks)
+pub texts_read : (c : Content) (schema equation : List ℕ) → drop 1 (head_of c.now.blocks) ≡ text_blocks schema equation
+    → AreTexts schema equation (head_of c.now.blocks)
 texts_read c schema equation is =
     let area = text_area schema equation in
     let m = c.now in
@@ -28,13 +29,17 @@ texts_read c schema equation is =
     let e2 : block_of m 5 ≡ block_in area 2 = ap (λ (l : List (List ℕ)). get_or l 2 []) is in
     let e3 : block_of m 6 ≡ block_in area 3 = ap (λ (l : List (List ℕ)). get_or l 3 []) is in
     let none : (q : ℕ) → q < 4096 * 0 → text_at (head_of m.blocks) q ≡ get_or area q 0 = λ q low. absurd (omega (arith, low)) in
-    let t0 = more_same m area 0 (omega arith) (block_of m 3) (block_in area 0) refl refl none (λ k lt. ap (λ (l : List ℕ). get_or l k 0) e0) in
-    let t1 = more_same m area 1 (omega arith) (block_of m 4) (block_in area 1) refl refl t0 (λ k lt. ap (λ (l : List ℕ). get_or l k 0) e1) in
-    let t2 = more_same m area 2 (omega arith) (block_of m 5) (block_in area 2) refl refl t1 (λ k lt. ap (λ (l : List ℕ). get_or l k 0) e2) in
+    let t0 = more_same m area 0 (omega arith) (block_of m 3) (block_in area 0) refl refl none
+    (λ k lt. ap (λ (l : List ℕ). get_or l k 0) e0) in
+    let t1 = more_same m area 1 (omega arith) (block_of m 4) (block_in area 1) refl refl t0
+    (λ k lt. ap (λ (l : List ℕ). get_or l k 0) e1) in
+    let t2 = more_same m area 2 (omega arith) (block_of m 5) (block_in area 2) refl refl t1
+    (λ k lt. ap (λ (l : List ℕ). get_or l k 0) e2) in
     more_same m area 3 (omega arith) (block_of m 6) (block_in area 3) refl refl t2 (λ k lt. ap (λ (l : List ℕ). get_or l k 0) e3)
 
 -- behind a closed gate the pages are those at home
-pub home_replayed : (blocks : List (List ℕ)) → 7 ≤ length blocks → is_open (get_or blocks 1 []) ≡ false → home_pages blocks ≡ replayed_pages blocks
+pub home_replayed : (blocks : List (List ℕ)) → 7 ≤ length blocks → is_open (get_or blocks 1 []) ≡ false
+    → home_pages blocks ≡ replayed_pages blocks
 home_replayed blocks room gate =
     let P = pages_of (length blocks) in
     let homes = home_pages blocks in
@@ -54,12 +59,15 @@ settled_reopens schema equation specs maps blocks is =
     (home_replayed blocks (let least = is.database.size.least in omega (arith, least)) is.gate) is.database
 
 -- the kept pages are those at home
-pub homes_are : (tells : Bool) (P : ℕ) (c : Content) → IsTrue tells → P ≡ pages_of (length c.now.blocks) → homes_told tells P c ≡ home_pages c.now.blocks
+pub homes_are : (tells : Bool) (P : ℕ) (c : Content) → IsTrue tells → P ≡ pages_of (length c.now.blocks)
+    → homes_told tells P c ≡ home_pages c.now.blocks
 homes_are tells P c told many = ap (λ (b : Bool). homes_told b P c) told ∙ ap (λ (n : ℕ). take n (drop (7 + n) c.now.blocks)) many
 
 -- Behind a closed gate the blocks hold what the kept pages hold.
-pub closed_settled : (schema equation : List ℕ) (specs : List LeafSpec) (maps : List LeafMap) (tells : Bool) (P : ℕ) (c : Content) → IsTrue tells
-    → P ≡ pages_of (length c.now.blocks) → is_open (block_of c.now 1) ≡ false → length c.now.blocks ≤ most_blocks → 16 + root_pages specs ≤ P
+pub closed_settled : (schema equation : List ℕ) (specs : List LeafSpec) (maps : List LeafMap) (tells : Bool) (P : ℕ) (c : Content)
+    → IsTrue tells
+    → P ≡ pages_of (length c.now.blocks) → is_open (block_of c.now 1) ≡ false → length c.now.blocks ≤ most_blocks
+    → 16 + root_pages specs ≤ P
     → HasMagic (get_or (head_told tells c) 0 []) → AreTexts schema equation (head_told tells c)
     → (base : Ground) → base.size ≡ P → base.tables ≡ 16 → AreMaps base specs maps (sheets_of (homes_told tells P c))
     → IsSettled schema equation specs maps c.now.blocks

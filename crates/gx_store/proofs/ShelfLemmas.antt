@@ -39,7 +39,8 @@ named_at m name named =
     ∙ fin.get-insert nat_list_cmp_total m.shelf.devices name m.blocks name
     ∙ ap (λ (b : Bool). cond b (Some m.blocks) (fin.get m.shelf.devices name)) (tied name)
 
-module _ (name : List ℕ) (blocks : List (List ℕ)) (a b c : Content) (free : a.now.shelf.name ≡ None) (at : IsAttached name blocks a b) (silent : Silent b c) where
+module _ (name : List ℕ) (blocks : List (List ℕ)) (a b c : Content) (free : a.now.shelf.name ≡ None) (at : IsAttached name blocks a b)
+    (silent : Silent b c) where
   pub attached_named : c.now.shelf.name ≡ Some name
   attached_named = ap (λ (s : Shelf). s.name) silent.shelf ∙ at.named
 
@@ -53,7 +54,8 @@ module _ (name : List ℕ) (blocks : List (List ℕ)) (a b c : Content) (free : 
     aside = silent.aside ∙ at.aside;
     others = λ other differ.
         ap (λ n. fin.get (with_named n c.now.blocks c.now.shelf.devices) other) attached_named
-        ∙ ap (λ (d : Devices). fin.get (with_named (Some name) c.now.blocks d) other) (ap (λ (s : Shelf). s.devices) silent.shelf ∙ at.others)
+        ∙ ap (λ (d : Devices). fin.get (with_named (Some name) c.now.blocks d) other)
+        (ap (λ (s : Shelf). s.devices) silent.shelf ∙ at.others)
         ∙ other_named a.now.shelf.devices name c.now.blocks other differ
         ∙ ap (λ n. fin.get (with_named n a.now.blocks a.now.shelf.devices) other) (sym free);
   }

@@ -25,8 +25,13 @@ pub record IsSize (specs : List LeafSpec) (blocks : ℕ) : Type 0 where
 -- how many pages and blocks there are, and of which database
 abbrev pub ground_on : List (List ℕ) → Ground
 ground_on blocks =
-    record
-    { size = pages_of (length blocks); tables = 16; blocks = length blocks; first = 7 + pages_of (length blocks); head = head_of blocks }
+    record {
+      size = pages_of (length blocks);
+      tables = 16;
+      blocks = length blocks;
+      first = 7 + pages_of (length blocks);
+      head = head_of blocks;
+    }
 
 -- the bytes of the text blocks of a head are the lengths of these two texts, the texts, and zeros
 abbrev pub AreTexts : List ℕ → List ℕ → List (List ℕ) → Type 0

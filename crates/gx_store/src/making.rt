@@ -4,6 +4,7 @@ ghost use Rattle.std.specs.FinMap.{empty};
 ghost use Rattle.gx_device.specs.Content.{device_at, block_of, Silent};
 ghost use Rattle.gx_device.specs.Faults.{Counted};
 ghost use Rattle.gx_layout.specs.Head.{HasMagic, text_blocks};
+ghost use Rattle.gx_layout.specs.declared.formatting.TheConstants.{MAX_TEXTS_LEN};
 ghost use Rattle.gx_leaves.specs.Kinds.{are_built};
 ghost use Rattle.gx_leaves.specs.Places.{IsRoomFor};
 ghost use Rattle.gx_journal.specs.Journal.{IsSteady, device_of, content_of, working_of, kept_of, head_blocks};
@@ -43,7 +44,7 @@ pub fn make<M: Machine + Drop>(
     equation: &[u8],
     specs: &[LeafSpec],
 ) -> (Result<(), Unopened>, M)
-    requires texts { length schema.now + length equation.now ≤ 16380 }
+    requires texts { length schema.now + length equation.now ≤ MAX_TEXTS_LEN }
     requires few { length specs.now ≤ 255 }
     requires built { IsTrue (are_built specs.now) }
     ensures made { CanAttach M.tells (M.content machine) → OnOk result.0
@@ -91,7 +92,7 @@ fn make_attached<M: Machine + Drop>(
     equation: &[u8],
     specs: &[LeafSpec],
 ) -> (Result<(), Unopened>, M)
-    requires texts { length schema.now + length equation.now ≤ 16380 }
+    requires texts { length schema.now + length equation.now ≤ MAX_TEXTS_LEN }
     requires few { length specs.now ≤ 255 }
     requires built { IsTrue (are_built specs.now) }
     ensures made { IsTrue M.tells → OnOk result.0

@@ -2,6 +2,7 @@
 ghost use Rattle.std.specs.Prelude.{◌≡◌, ◌+◌, ◌≤◌, ℕ, List, Some, None, true, length, IsTrue, IfOk, IfErr, OnOk};
 ghost use Rattle.gx_device.specs.Content.{device_at, Silent};
 ghost use Rattle.gx_device.specs.Faults.{Counted};
+ghost use Rattle.gx_layout.specs.declared.formatting.TheConstants.{MAX_TEXTS_LEN};
 ghost use Rattle.gx_ports.specs.LeafMaps.{LeafMap};
 ghost use Rattle.gx_leaves.specs.Kinds.{are_built};
 ghost use Rattle.gx_leaves.specs.Places.{specs_of, places_of, IsRoomFor};
@@ -40,7 +41,7 @@ pub fn open<M: Machine + Drop>(
     equation: &[u8],
     specs: &[LeafSpec],
 ) -> Result<Store<M>, (M, Unopened)>
-    requires texts { length schema.now + length equation.now ≤ 16380 }
+    requires texts { length schema.now + length equation.now ≤ MAX_TEXTS_LEN }
     requires few { length specs.now ≤ 255 }
     requires built { IsTrue (are_built specs.now) }
     ensures holds { CanAttach M.tells (M.content machine) →
@@ -104,7 +105,7 @@ pub fn open_attached<M: Machine + Drop>(
     equation: &[u8],
     specs: &[LeafSpec],
 ) -> Result<Store<M>, (M, Unopened)>
-    requires texts { length schema.now + length equation.now ≤ 16380 }
+    requires texts { length schema.now + length equation.now ≤ MAX_TEXTS_LEN }
     requires few { length specs.now ≤ 255 }
     requires built { IsTrue (are_built specs.now) }
     ensures holds { IsTrue M.tells → (maps : List LeafMap) →
@@ -154,7 +155,7 @@ fn open_journal<M: Machine + Drop>(
     equation: &[u8],
     specs: &[LeafSpec],
 ) -> Result<Store<M>, (M, Unopened)>
-    requires texts { length schema.now + length equation.now ≤ 16380 }
+    requires texts { length schema.now + length equation.now ≤ MAX_TEXTS_LEN }
     requires room { IsRoomFor (ground_of journal) specs.now }
     ensures holds { IsTrue M.tells → working_of journal ≡ kept_of journal → IsSteady journal →
         (maps : List LeafMap) →

@@ -15,10 +15,12 @@ use Rattle.gx_store.proofs.making.make_in.Goals as goal
 
 pub returns-in-Ok-clause-made : goal.returns-in-Ok-clause-made
 returns-in-Ok-clause-made g c = λ told steady free.
-    let all : IsAllFree (ground_of (journal_of c.args.pages)) (working_sheets (journal_of c.args.pages)) = record { own = free.own; free = free.free } in
+    let all : IsAllFree (ground_of (journal_of c.args.pages)) (working_sheets (journal_of c.args.pages)) =
+    record { own = free.own; free = free.free } in
     let base = ground_of (journal_of c.args.pages) in
     let maps = replicate (length c.args.specs.now) empty in
-    subst (λ x. AreMaps base c.args.specs.now maps (working_sheets x)) (sym (c.into_journal.ensures ∙ ap (λ p. journal_of p) c.into_pages.ensures))
+    subst (λ x. AreMaps base c.args.specs.now maps (working_sheets x))
+    (sym (c.into_journal.ensures ∙ ap (λ p. journal_of p) c.into_pages.ensures))
     (made_maps c.in-Ok.leaves base c.args.specs.now maps c.in-Ok.ensures.keeps.ground c.in-Ok.ensures.places
     (c.in-Ok.ensures.working told all) (c.in-Ok.ensures.whole told all steady))
 

@@ -16,7 +16,8 @@ use Rattle.gx_store.proofs.making.make_leaves.Goals as goal
 
 pub make_in-requires : goal.make_in-requires
 make_in-requires g c = record {
-  room = subst (λ (b : Ground). IsRoomFor b c.args.specs.now) (sym (ground_kept c.args.journal (journal_of c.in-Ok.pages) c.in-Ok.ensures.keeps.keeps)) c.requires.room;
+  room = subst (λ (b : Ground). IsRoomFor b c.args.specs.now)
+      (sym (ground_kept c.args.journal (journal_of c.in-Ok.pages) c.in-Ok.ensures.keeps.keeps)) c.requires.room;
 }
 
 pub returns-in-Ok-clause-made : goal.returns-in-Ok-clause-made
@@ -24,7 +25,8 @@ returns-in-Ok-clause-made g c = λ told steady.
     let k = journal_of c.in-Ok.pages in
     let keeps = c.in-Ok.ensures.keeps.keeps in
     let same = ground_kept c.args.journal k keeps in
-    subst (λ (b : Ground). IfOk c.make_in.result (λ j. AreMaps b c.args.specs.now (replicate (length c.args.specs.now) empty) (working_sheets j))) same
+    subst (λ (b : Ground). IfOk c.make_in.result (λ j. AreMaps b c.args.specs.now (replicate (length c.args.specs.now) empty)
+    (working_sheets j))) same
     (c.make_in.ensures.made told (keeps.steady ∙ steady)
     (subst (λ (b : Ground). IsAllFree b (working_sheets k)) (sym same) (c.in-Ok.ensures.free told)))
 
@@ -43,7 +45,8 @@ returns-in-Ok-clause-head g c =
     IfErr-weaker c.make_in.result _ _ (λ e is. is ∙ c.in-Ok.ensures.keeps.keeps.head) c.make_in.ensures.head
 
 pub returns-in-Ok-clause-silent : goal.returns-in-Ok-clause-silent
-returns-in-Ok-clause-silent g c = silent_after _ (content_of (journal_of c.in-Ok.pages)) _ c.in-Ok.ensures.keeps.silent c.make_in.ensures.silent
+returns-in-Ok-clause-silent g c =
+    silent_after _ (content_of (journal_of c.in-Ok.pages)) _ c.in-Ok.ensures.keeps.silent c.make_in.ensures.silent
 
 pub returns-in-Ok-clause-faults : goal.returns-in-Ok-clause-faults
 returns-in-Ok-clause-faults g c = counted_after _ _ _ _ c.in-Ok.ensures.keeps.faults.same c.make_in.ensures.faults

@@ -16,7 +16,9 @@ returns-in-Ok-clause-settled g c = λ told steady schema equation texts.
     let j = c.args.journal in
     let k = c.in-Ok.journal in
     on_ok_weaker c.publish.result.0
-    (λ is. grounded j k (working_of k) (g.M.Device.content c.publish.result.1).now.blocks c.in-Ok.ensures.ground is schema equation c.args.specs.now _ texts c.requires.room (c.in-Ok.ensures.made told steady))
+    (λ is. grounded j k (working_of k)
+    (g.M.Device.content c.publish.result.1).now.blocks c.in-Ok.ensures.ground is schema equation
+    c.args.specs.now _ texts c.requires.room (c.in-Ok.ensures.made told steady))
     (c.publish.ensures.settled told (c.in-Ok.ensures.steady.0 steady))
 
 pub returns-in-Ok-clause-left : goal.returns-in-Ok-clause-left

@@ -15,12 +15,15 @@ returns-in-Ok-clause-settled g c = λ told steady.
     let new = c.commit.new.self in
     let there = c.in-Ok.ensures.steady.0 steady in
     on_ok_weaker c.seal.result.0
-    (λ magic. published old new (g.M.Device.content c.seal.result.1).now.blocks c.commit.ensures.head c.commit.ensures.size c.in-Ok.ensures.kept (c.seal.ensures.settled told there magic))
+    (λ magic. published old new
+    (g.M.Device.content c.seal.result.1).now.blocks c.commit.ensures.head c.commit.ensures.size c.in-Ok.ensures.kept
+    (c.seal.ensures.settled told there magic))
     (c.seal.ensures.magic told)
 
 pub returns-in-Ok-clause-left : goal.returns-in-Ok-clause-left
 returns-in-Ok-clause-left g c = λ told steady none magic.
-    published c.args.journal c.commit.new.self (g.M.Device.content c.seal.result.1).now.blocks c.commit.ensures.head c.commit.ensures.size c.in-Ok.ensures.kept
+    published c.args.journal c.commit.new.self
+    (g.M.Device.content c.seal.result.1).now.blocks c.commit.ensures.head c.commit.ensures.size c.in-Ok.ensures.kept
     (c.seal.ensures.settled told (c.in-Ok.ensures.steady.0 steady) magic)
 
 pub returns-in-Ok-clause-blocks : goal.returns-in-Ok-clause-blocks

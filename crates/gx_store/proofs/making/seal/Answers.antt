@@ -17,7 +17,8 @@ returns-in-Ok-clause-settled g c = λ told steady magic.
     let old = c.args.journal in
     let new = c.seal.new.self in
     subst (λ d. Publishes old (kept_of old) (g.M.Device.content d).now.blocks) (sym c.into_device.ensures)
-    (sealed_settled old new told (g.met.M.Device.sized new.device told) (c.seal.ensures.steady.0 steady) c.seal.ensures.size c.seal.ensures.kept c.seal.ensures.texts
+    (sealed_settled old new told (g.met.M.Device.sized new.device told)
+    (c.seal.ensures.steady.0 steady) c.seal.ensures.size c.seal.ensures.kept c.seal.ensures.texts
     (subst (λ d. HasMagic (block_of (g.M.Device.content d).now 0)) c.into_device.ensures magic))
 
 pub returns-in-Ok-clause-blocks : goal.returns-in-Ok-clause-blocks
@@ -30,5 +31,6 @@ returns-in-Err-clause-settled g c = λ told steady magic.
     let old = c.args.journal in
     let new = c.seal.new.self in
     subst (λ d. Publishes old (kept_of old) (g.M.Device.content d).now.blocks) (sym c.into_device-in-Err.ensures)
-    (sealed_settled old new told (g.met.M.Device.sized new.device told) (c.seal.ensures.steady.0 steady) c.seal.ensures.size c.seal.ensures.kept c.seal.ensures.texts
+    (sealed_settled old new told (g.met.M.Device.sized new.device told)
+    (c.seal.ensures.steady.0 steady) c.seal.ensures.size c.seal.ensures.kept c.seal.ensures.texts
     (subst (λ d. HasMagic (block_of (g.M.Device.content d).now 0)) c.into_device-in-Err.ensures magic))

@@ -13,7 +13,8 @@ use Rattle.gx_store.proofs.opening.open.Goals as goal
 
 pub returns-in-Err-clause-unopened : goal.returns-in-Err-clause-unopened
 returns-in-Err-clause-unopened g c = λ can.
-    subst (λ w. IsUnopened c.args.name.now c.args.schema.now c.args.equation.now c.args.specs.now (g.M.Device.content c.args.machine) w) (sym c.into.ensures)
+    subst (λ w. IsUnopened c.args.name.now c.args.schema.now c.args.equation.now c.args.specs.now (g.M.Device.content c.args.machine) w)
+    (sym c.into.ensures)
     (refused_by c.in-Err.stop c.args.name.now c.args.schema.now c.args.equation.now c.args.specs.now (g.M.Device.content c.args.machine)
     (λ e. c.attach.ensures.absent can.told (c.in-Err.is ∙ ap (λ s. Err s) e))
     (λ e. let some = c.attach.ensures.exists (c.in-Err.is ∙ ap (λ s. Err s) e) in cc))
@@ -42,14 +43,19 @@ pub returns-clause-opened : goal.returns-clause-opened
 returns-clause-opened g c = λ can.
     let o = c.in_default.ensures.opened can.told can.free refl in
     on_ok_weaker c.open_attached.result
-    (λ a. (o.blocks, o.was, subst (λ (bs : List (List ℕ)). AreOpened c.args.schema.now c.args.equation.now c.args.specs.now bs) o.attached.blocks_are a))
+    (λ a. (
+      o.blocks,
+      o.was,
+      subst (λ (bs : List (List ℕ)). AreOpened c.args.schema.now c.args.equation.now c.args.specs.now bs) o.attached.blocks_are a,
+    ))
     (c.open_attached.ensures.opened can.told)
 
 pub returns-clause-unopened : goal.returns-clause-unopened
 returns-clause-unopened g c = λ can.
     let o = c.in_default.ensures.opened can.told can.free refl in
     IfErr-weaker c.open_attached.result _ _
-    (λ e a. unopened_on c.args.schema.now c.args.equation.now c.args.specs.now o.blocks c.args.name.now (g.M.Device.content c.args.machine) e.1 o.was
+    (λ e a. unopened_on c.args.schema.now c.args.equation.now c.args.specs.now o.blocks c.args.name.now
+    (g.M.Device.content c.args.machine) e.1 o.was
     (subst (λ (bs : List (List ℕ)). AreUnopened c.args.schema.now c.args.equation.now c.args.specs.now bs e.1) o.attached.blocks_are a))
     (c.open_attached.ensures.unopened can.told)
 
@@ -57,8 +63,10 @@ pub returns-clause-untouched : goal.returns-clause-untouched
 returns-clause-untouched g c = λ can.
     let o = c.in_default.ensures.opened can.told can.free refl in
     if_err_with c.open_attached.result _ _
-    (λ e is same none. left_alone c.args.name.now (g.M.Device.content c.args.machine) (g.M.Device.content c.attach.new.self) (g.M.Device.content e.0) can.free o
-    (subst (λ r. Silent (g.M.Device.content c.attach.new.self) (g.M.Device.content (machine_left r))) is c.open_attached.ensures.silent) (same none))
+    (λ e is same none. left_alone c.args.name.now (g.M.Device.content c.args.machine) (g.M.Device.content c.attach.new.self)
+    (g.M.Device.content e.0) can.free o
+    (subst (λ r. Silent (g.M.Device.content c.attach.new.self) (g.M.Device.content (machine_left r))) is c.open_attached.ensures.silent)
+    (same none))
     (c.open_attached.ensures.untouched can.told)
 
 pub returns-clause-no_database : goal.returns-clause-no_database
@@ -80,13 +88,15 @@ pub returns-clause-named : goal.returns-clause-named
 returns-clause-named g c = λ can.
     let o = c.in_default.ensures.opened can.told can.free refl in
     if_ok_with c.open_attached.result _
-    (λ s is. attached_named c.args.name.now o.blocks (g.M.Device.content c.args.machine) (g.M.Device.content c.attach.new.self) _ can.free o.attached
+    (λ s is. attached_named c.args.name.now o.blocks (g.M.Device.content c.args.machine)
+    (g.M.Device.content c.attach.new.self) _ can.free o.attached
     (subst (λ r. Silent (g.M.Device.content c.attach.new.self) (g.M.Device.content (machine_left r))) is c.open_attached.ensures.silent))
 
 pub returns-clause-attaches : goal.returns-clause-attaches
 returns-clause-attaches g c = λ can.
     let o = c.in_default.ensures.opened can.told can.free refl in
-    attached_rest c.args.name.now o.blocks (g.M.Device.content c.args.machine) (g.M.Device.content c.attach.new.self) _ can.free o.attached c.open_attached.ensures.silent
+    attached_rest c.args.name.now o.blocks (g.M.Device.content c.args.machine)
+    (g.M.Device.content c.attach.new.self) _ can.free o.attached c.open_attached.ensures.silent
 
 pub returns-in-Err-clause-kept : goal.returns-in-Err-clause-kept
 returns-in-Err-clause-kept g c = λ can goes blocks was.
@@ -107,7 +117,8 @@ returns-clause-kept g c = λ can goes blocks was.
     let last = g.M.Device.content (machine_left c.open_attached.result) in (
       last.now.blocks,
       attached_at c.args.name.now o.blocks old mid last can.free o.attached c.open_attached.ensures.silent,
-      subst (λ (bs : List (List ℕ)). ReadAlike bs last.now.blocks) (sym (attached_blocks c.args.name.now blocks old mid was o)) (c.open_attached.ensures.kept can.told goes),
+      subst (λ (bs : List (List ℕ)). ReadAlike bs last.now.blocks) (sym (attached_blocks c.args.name.now blocks old mid was o))
+          (c.open_attached.ensures.kept can.told goes),
     )
 
 pub returns-in-Err-clause-recovered : goal.returns-in-Err-clause-recovered
@@ -122,5 +133,6 @@ returns-clause-recovered g c = λ can blocks was.
     let last = g.M.Device.content (machine_left c.open_attached.result) in (
       last.now.blocks,
       attached_at c.args.name.now o.blocks old mid last can.free o.attached c.open_attached.ensures.silent,
-      subst (λ (bs : List (List ℕ)). IsRecoveryOf bs last.now.blocks) (sym (attached_blocks c.args.name.now blocks old mid was o)) (c.open_attached.ensures.recovered can.told),
+      subst (λ (bs : List (List ℕ)). IsRecoveryOf bs last.now.blocks) (sym (attached_blocks c.args.name.now blocks old mid was o))
+          (c.open_attached.ensures.recovered can.told),
     )

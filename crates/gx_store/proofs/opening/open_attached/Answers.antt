@@ -75,7 +75,8 @@ pub returns-in-Ok-clause-no_database : goal.returns-in-Ok-clause-no_database
 returns-in-Ok-clause-no_database g c = λ told goes none.
     absurd (none (record {
       size = sized_by c.args.specs.now (length (g.M.Device.content c.args.machine).now.blocks) (g.M.Device.size c.args.machine)
-          c.blocks-2.result c.is_size.result (g.met.M.Device.sized c.args.machine told) c.blocks-2.ensures.count c.is_size.ensures c.if-not-is_size.false;
+          c.blocks-2.result c.is_size.result
+          (g.met.M.Device.sized c.args.machine told) c.blocks-2.ensures.count c.is_size.ensures c.if-not-is_size.false;
       magic = c.in-Ok.ensures.magic told;
     }))
 
@@ -135,12 +136,14 @@ returns-in-Ok-clause-settled g c = λ told.
     let schema = c.args.schema.now in
     let equation = c.args.equation.now in
     if_ok_both c.open_journal.result (λ s. IsJustOpened s) (λ s. IsHeadOf schema equation c.args.specs.now (leaves.head_of s))
-    (λ s. leaves.IsWhole s → IsSettled schema equation c.args.specs.now (leaves.working_of s) (g.M.Device.content (machine_of s)).now.blocks)
+    (λ s. leaves.IsWhole s → IsSettled schema equation c.args.specs.now (leaves.working_of s)
+    (g.M.Device.content (machine_of s)).now.blocks)
     (λ s just head whole.
     let j = journal_of (leaves.pages_of s) in
     subst (λ specs. IsSettled schema equation specs (leaves.working_of s) (content_of j).now.blocks) head.leaves
     (subst (λ maps. IsSettled schema equation (specs_of (leaves.places_in s)) maps (content_of j).now.blocks) just.kept_is
-    (journal_settled j told (g.met.M.Device.sized j.device told) just.steady schema equation (specs_of (leaves.places_in s)) (leaves.kept_of s) head.magic head.texts
+    (journal_settled j told (g.met.M.Device.sized j.device told) just.steady schema equation (specs_of (leaves.places_in s))
+    (leaves.kept_of s) head.magic head.texts
     s.laid_out.room.room
     (maps_placed (ground_of j) (leaves.places_in s) (kept_sheets j) s.laid_out.places_are (just.was_whole whole).laid))))
     (c.open_journal.ensures.just_opened c.in-Ok.ensures.working c.in-Ok.ensures.steady)
