@@ -7,15 +7,16 @@ use Rattle.std.specs.List.{AllPairs}
 use Rattle.std.specs.Ordering.{nat_cmp}
 use Rattle.std.specs.declared.cmp.Ordering.TheVariants.{Less}
 use Rattle.gx_bytes.specs.Records.{records, HoldsRecordCount}
+use Rattle.gx_bnode.specs.declared.format.TheConstants.{MAX_SEPARATOR_LEN}
 
 -- a separator and the page number of the child right of it
 pub record Branch : Type 0 where
   pub separator : List ℕ
   pub child : ℕ
 
--- a separator has at most 400 bytes
+-- a separator has at most MAX_SEPARATOR_LEN bytes
 pub record IsFit (branch : Branch) : Type 0 where
-  pub separator : length branch.separator ≤ 400
+  pub separator : length branch.separator ≤ MAX_SEPARATOR_LEN
   pub child : branch.child < 2 ^ 32
 
 -- a branch is written as the length of its separator, the separator, and the child

@@ -1,7 +1,9 @@
 -- Inner pages: what the bytes of a page say, and which bytes are one.
 use Rattle.std.specs.Prelude.{ℕ, ◌+◌, ◌<◌, ◌≤◌, List, ◌∷◌, length, map}
 use Rattle.std.specs.List.{sum_by}
+use Rattle.gx_bytes.specs.declared.page.TheConstants.{PAGE_LEN}
 use Rattle.gx_bytes.specs.Page.{IsRecordPage, records_of, number_of}
+use Rattle.gx_bnode.specs.declared.format.TheConstants.{MAX_SEPARATOR_LEN}
 use Rattle.gx_bnode.specs.Branches.{Branch, IsFit, AreAscending, branch_bytes, first_branch}
 
 -- the separators of some branches
@@ -40,6 +42,6 @@ children_of bytes = first_of bytes ∷ map (λ branch. branch.child) (branches_o
 abbrev pub used_by : List (List ℕ) → ℕ
 used_by separators = 8 + sum_by (λ separator. 6 + length separator) separators
 
--- a separator of 400 bytes and its child fit beside these
+-- a separator of MAX_SEPARATOR_LEN bytes and its child fit beside these
 abbrev pub HasRoom : List (List ℕ) → Type 0
-HasRoom separators = used_by separators + (6 + 400) ≤ 4096
+HasRoom separators = used_by separators + (6 + MAX_SEPARATOR_LEN) ≤ PAGE_LEN

@@ -3,6 +3,7 @@ ghost use Rattle.std.specs.Prelude.{◌≡◌, ◌+◌, ◌^◌, ◌<◌, ◌≤
 ghost use Rattle.std.specs.List.{sum_by};
 ghost use Rattle.gx_bytes.specs.Parts.{overwritten};
 ghost use Rattle.gx_bytes.specs.Records.{SplitsRecord};
+ghost use Rattle.gx_bnode.specs.declared.format.TheConstants.{MAX_SEPARATOR_LEN};
 ghost use Rattle.gx_bnode.specs.Branches.{IsFit, HoldsCount, branch_bytes, branch_len, branches_in, lent};
 
 use gx_bytes::{overwrite, split_u16, split_u32};
@@ -36,7 +37,7 @@ pub fn split_branch(bytes: &[u8]) -> Option<((&[u8], u32), &[u8])>
 
 /// The number of bytes that a branch with this separator takes.
 pub(crate) fn branch_len(separator: &[u8]) -> usize
-    requires { length separator.now ≤ 400 }
+    requires { length separator.now ≤ MAX_SEPARATOR_LEN }
     ensures { result ≡ 6 + length separator.now }
 {
     LENGTH_LEN + separator.len() + CHILD_LEN
@@ -44,7 +45,7 @@ pub(crate) fn branch_len(separator: &[u8]) -> usize
 
 /// Writes a branch over the bytes from place `at` on.
 pub(crate) fn write_branch(bytes: &mut [u8], at: usize, separator: &[u8], child: u32)
-    requires short { length separator.now ≤ 400 }
+    requires short { length separator.now ≤ MAX_SEPARATOR_LEN }
     requires room { at + (6 + length separator.now) ≤ length bytes.old }
     ensures { bytes.new
         ≡ overwritten bytes.old at

@@ -4,7 +4,9 @@ ghost use Rattle.std.specs.Cmp.Lexicographic.{slice_cmp};
 ghost use Rattle.std.specs.List.{All, count_by, insert, remove};
 ghost use Rattle.std.specs.Ordering.{nat_cmp, is_le};
 ghost use Rattle.std.specs.declared.cmp.Ordering.TheVariants.{Less};
+ghost use Rattle.gx_bytes.specs.declared.page.TheConstants.{PAGE_LEN};
 ghost use Rattle.gx_bytes.specs.Page.{used};
+ghost use Rattle.gx_bnode.specs.declared.format.TheConstants.{MAX_SEPARATOR_LEN};
 ghost use Rattle.gx_bnode.specs.Branches.{AreAscending, branch_len};
 ghost use Rattle.gx_bnode.specs.Page.{IsInnerPage, HasRoom, branches_of, children_of, first_of, separators_of};
 
@@ -19,11 +21,11 @@ use gx_order::is_below;
 /// The byte that an inner page begins with.
 pub const KIND: u8 = 0x49;
 
-/// Makes an inner page of one separator, of at most 400 bytes, between two children. The page has
-/// 4,096 bytes, of any values.
+/// Makes an inner page of one separator, of at most `MAX_SEPARATOR_LEN` bytes, between two children.
+/// The page has 4,096 bytes, of any values.
 pub fn make_inner(page: &mut [u8], left: u32, key: &[u8], right: u32)
-    requires size { length page.old ≡ 4096 }
-    requires short { length key.now ≤ 400 }
+    requires size { length page.old ≡ PAGE_LEN }
+    requires short { length key.now ≤ MAX_SEPARATOR_LEN }
     ensures page { IsInnerPage page.new }
     ensures separators { separators_of page.new ≡ key.now ∷ [] }
     ensures children { children_of page.new ≡ left ∷ right ∷ [] }
@@ -91,7 +93,7 @@ pub fn child_of(page: &[u8], key: &[u8]) -> u16
     place
 }
 
-/// Whether a separator of 400 bytes fits.
+/// Whether a separator of `MAX_SEPARATOR_LEN` bytes fits.
 pub fn has_room(page: &[u8]) -> bool
     requires { IsInnerPage page.now }
     ensures { IsTrue result ↔ HasRoom (separators_of page.now) }
@@ -99,13 +101,13 @@ pub fn has_room(page: &[u8]) -> bool
     HEADER_LEN + branches_len(page_body(page), separators(page)) + MAX_BRANCH_LEN <= PAGE_LEN
 }
 
-/// Puts a separator of at most 400 bytes at place `i`, and a child right of it. The page has room,
-/// and the separators still ascend.
+/// Puts a separator of at most `MAX_SEPARATOR_LEN` bytes at place `i`, and a child right of it. The
+/// page has room, and the separators still ascend.
 pub fn insert(page: &mut [u8], i: u16, key: &[u8], right: u32)
     requires page { IsInnerPage page.old }
     requires room { HasRoom (separators_of page.old) }
     requires place { i ≤ length (separators_of page.old) }
-    requires short { length key.now ≤ 400 }
+    requires short { length key.now ≤ MAX_SEPARATOR_LEN }
     requires ascending { AreAscending (insert (separators_of page.old) i key.now) }
     ensures page { IsInnerPage page.new }
     ensures separators { separators_of page.new ≡ insert (separators_of page.old) i key.now }

@@ -1,6 +1,7 @@
 // The split of an inner page.
 ghost use Rattle.std.specs.Prelude.{◌≡◌, ◌+◌, ◌<◌, ◌≤◌, ◌∷◌, ◌++◌, length, take};
 ghost use Rattle.std.specs.List.{sum_by};
+ghost use Rattle.gx_bytes.specs.declared.page.TheConstants.{PAGE_LEN};
 ghost use Rattle.gx_bnode.specs.Branches.{branch_len};
 ghost use Rattle.gx_bnode.specs.Page.{IsInnerPage, HasRoom, branches_of, children_of, separators_of};
 
@@ -17,7 +18,7 @@ const HALF: usize = (PAGE_LEN - HEADER_LEN) / 2;
 pub fn split(page: &mut [u8], right: &mut [u8]) -> KeyBuf
     requires page { IsInnerPage page.old }
     requires full { ¬ (HasRoom (separators_of page.old)) }
-    requires size { length right.old ≡ 4096 }
+    requires size { length right.old ≡ PAGE_LEN }
     ensures left { IsInnerPage page.new }
     ensures right { IsInnerPage right.new }
     ensures separators { separators_of page.old ≡ separators_of page.new ++ result

@@ -1,5 +1,6 @@
 // Which bytes are an inner page.
 ghost use Rattle.std.specs.Prelude.{◌≡◌, ◌<◌, ◌↔◌, IsTrue, length};
+ghost use Rattle.gx_bytes.specs.declared.page.TheConstants.{PAGE_LEN};
 ghost use Rattle.gx_bnode.specs.Page.{IsInnerPage};
 ghost use Rattle.gx_bnode.specs.Scan.{HoldsAscending};
 
@@ -10,7 +11,7 @@ use gx_order::is_below;
 
 /// Whether the bytes are an inner page. The page has 4,096 bytes, of any values.
 pub fn is_inner(page: &[u8]) -> bool
-    requires { length page.now ≡ 4096 }
+    requires { length page.now ≡ PAGE_LEN }
     ensures { IsTrue result ↔ IsInnerPage page.now }
 {
     let count = record_count(page);

@@ -7,16 +7,17 @@ use Rattle.std.specs.List.{AllPairs}
 use Rattle.std.specs.Ordering.{nat_cmp}
 use Rattle.std.specs.declared.cmp.Ordering.TheVariants.{Less}
 use Rattle.gx_bytes.specs.Records.{records, HoldsRecordCount}
+use Rattle.gx_slots.specs.declared.format.TheConstants.{MAX_KEY_LEN, MAX_ENTRY_LEN}
 
 -- a key and the body stored under it
 pub record Entry : Type 0 where
   pub key : List ℕ
   pub body : List ℕ
 
--- a key has at most 400 bytes, and a key and its body have at most 1,000 together
+-- a key has at most MAX_KEY_LEN bytes, and a key and its body have at most MAX_ENTRY_LEN together
 pub record IsFit (entry : Entry) : Type 0 where
-  pub key : length entry.key ≤ 400
-  pub whole : length entry.key + length entry.body ≤ 1000
+  pub key : length entry.key ≤ MAX_KEY_LEN
+  pub whole : length entry.key + length entry.body ≤ MAX_ENTRY_LEN
 
 -- an entry is written as the lengths of its key and of its body, the key, and the body
 unfoldable pub entry_bytes : Entry → List ℕ

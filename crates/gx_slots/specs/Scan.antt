@@ -2,6 +2,7 @@
 use Rattle.std.specs.Prelude.{◌≡◌, ℕ, ◌+◌, ◌*◌, ◌%◌, List, length, Bool, false, true, slice_index_or}
 use Rattle.std.specs.List.{All, fold}
 use Rattle.gx_bytes.specs.Records.{HoldsRecords, HoldsAscendingRecords}
+use Rattle.gx_slots.specs.declared.validity.TheConstants.{HASHES}
 use Rattle.gx_slots.specs.Entries.{Entry, IsFit, AreDistinct, entry_bytes}
 
 -- the bytes begin with n entries, and no key stands twice among them
@@ -15,9 +16,9 @@ pub record HoldsDistinct (n : ℕ) (bytes : List ℕ) : Type 0 where
 abbrev pub HoldsAscending : ℕ → List ℕ → Type 0
 HoldsAscending = HoldsAscendingRecords entry_bytes IsFit (λ entry. entry.key)
 
--- a hash of a key, below 4096
+-- a hash of a key, below HASHES
 abbrev pub hash_of : List ℕ → ℕ
-hash_of key = fold (λ hash byte. (hash * 839 + byte) % 4096) 0 key
+hash_of key = fold (λ hash byte. (hash * 839 + byte) % HASHES) 0 key
 
 -- the flags are set at the hashes of the keys of these entries
 abbrev pub HasSeen : List Bool → List Entry → Type 0

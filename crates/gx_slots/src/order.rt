@@ -4,6 +4,7 @@ ghost use Rattle.std.specs.Cmp.Lexicographic.{slice_cmp};
 ghost use Rattle.std.specs.List.{All, HoldsAt};
 ghost use Rattle.std.specs.Ordering.{nat_cmp, is_le};
 ghost use Rattle.std.specs.declared.cmp.Ordering.TheVariants.{Less};
+ghost use Rattle.gx_bytes.specs.declared.page.TheConstants.{PAGE_LEN};
 ghost use Rattle.gx_slots.specs.Entries.{AreAscending};
 ghost use Rattle.gx_slots.specs.Page.{IsEntryPage, IsAscendingPage, entries_of};
 ghost use Rattle.gx_slots.specs.Scan.{HoldsAscending};
@@ -15,7 +16,7 @@ use gx_order::is_below;
 
 /// Whether the bytes are an entry page whose keys ascend. The page has 4,096 bytes, of any values.
 pub fn is_ascending(page: &[u8]) -> bool
-    requires { length page.now ≡ 4096 }
+    requires { length page.now ≡ PAGE_LEN }
     ensures { IsTrue result ↔ IsAscendingPage page.now }
 {
     if !has_kind(page, KIND) {

@@ -2,6 +2,7 @@
 ghost use Rattle.std.specs.Prelude.{◌≡◌, ◌≢◌, ◌↔◌, ◌+◌, ◌<◌, ◌≤◌, [], length, take, IfSome, IfNone, IsTrue};
 ghost use Rattle.std.specs.Bool.{OnTrue, OnFalse};
 ghost use Rattle.std.specs.List.{All, HoldsAt, insert, remove};
+ghost use Rattle.gx_bytes.specs.declared.page.TheConstants.{PAGE_LEN};
 ghost use Rattle.gx_slots.specs.Entries.{IsFit, lent};
 ghost use Rattle.gx_slots.specs.Page.{IsEntryPage, entries_of, next_of, used_by};
 
@@ -17,7 +18,7 @@ pub const KIND: u8 = 0x44;
 
 /// Makes an empty entry page, with no next page. The page has 4,096 bytes, of any values.
 pub fn clear(page: &mut [u8])
-    requires { length page.old ≡ 4096 }
+    requires { length page.old ≡ PAGE_LEN }
     ensures page { IsEntryPage page.new }
     ensures entries { entries_of page.new ≡ [] }
     ensures next { next_of page.new ≡ NONE }
@@ -79,8 +80,9 @@ pub fn entry(page: &[u8], i: u16) -> (&[u8], &[u8])
 }
 
 /// Puts an entry at place `i`, which is at most the count. The key isn't on the page and has at
-/// most 400 bytes, and the key and the body have at most 1,000 together. False exactly where the
-/// entry doesn't fit, and then nothing changes. A page with at most three entries always has room.
+/// most `MAX_KEY_LEN` bytes, and the key and the body have at most `MAX_ENTRY_LEN` together. False
+/// exactly where the entry doesn't fit, and then nothing changes. A page with at most three entries
+/// always has room.
 pub fn add(page: &mut [u8], i: u16, key: &[u8], body: &[u8]) -> bool
     requires page { IsEntryPage page.old }
     requires place { i ≤ length (entries_of page.old) }
@@ -89,7 +91,7 @@ pub fn add(page: &mut [u8], i: u16, key: &[u8], body: &[u8]) -> bool
     ensures page { IsEntryPage page.new }
     ensures room { IsTrue result ↔
         (used_by (insert (entries_of page.old) i (record { key = key.now; body = body.now }))
-        ≤ 4096) }
+        ≤ PAGE_LEN) }
     ensures few { length (entries_of page.old) ≤ 3 → IsTrue result }
     ensures added { OnTrue result
         (entries_of page.new

@@ -1,6 +1,7 @@
 // The split of an entry page.
 ghost use Rattle.std.specs.Prelude.{◌≡◌, ◌+◌, ◌<◌, ◌≤◌, length, take, drop};
 ghost use Rattle.std.specs.List.{sum_by};
+ghost use Rattle.gx_bytes.specs.declared.page.TheConstants.{PAGE_LEN};
 ghost use Rattle.gx_slots.specs.Entries.{entry_len};
 ghost use Rattle.gx_slots.specs.Page.{IsEntryPage, entries_of, next_of};
 
@@ -16,7 +17,7 @@ const HALF: usize = (PAGE_LEN - HEADER_LEN) / 2;
 pub fn split(page: &mut [u8], i: u16, right: &mut [u8])
     requires page { IsEntryPage page.old }
     requires place { i ≤ length (entries_of page.old) }
-    requires size { length right.old ≡ 4096 }
+    requires size { length right.old ≡ PAGE_LEN }
     ensures left { IsEntryPage page.new }
     ensures right { IsEntryPage right.new }
     ensures front { entries_of page.new ≡ take i (entries_of page.old) }

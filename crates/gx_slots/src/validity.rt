@@ -1,6 +1,8 @@
 // Which bytes are an entry page.
 ghost use Rattle.std.specs.Prelude.{◌≡◌, ◌≢◌, ◌<◌, ◌↔◌, false, true, IsTrue, length, slice_index_or};
 ghost use Rattle.std.specs.List.{All};
+ghost use Rattle.gx_bytes.specs.declared.page.TheConstants.{PAGE_LEN};
+ghost use Rattle.gx_slots.specs.declared.validity.TheConstants.{HASHES};
 ghost use Rattle.gx_slots.specs.Entries.{HoldsCount, entries_in};
 ghost use Rattle.gx_slots.specs.Scan.{HasSeen, HoldsDistinct, hash_of};
 ghost use Rattle.gx_slots.specs.Page.{IsEntryPage};
@@ -19,7 +21,7 @@ const HASH_FACTOR: usize = 839;
 
 /// Whether the bytes are an entry page. The page has 4,096 bytes, of any values.
 pub fn is_entries(page: &[u8]) -> bool
-    requires { length page.now ≡ 4096 }
+    requires { length page.now ≡ PAGE_LEN }
     ensures { IsTrue result ↔ IsEntryPage page.now }
 {
     has_kind(page, KIND) && are_entries(page_body(page), record_count(page))
@@ -46,7 +48,7 @@ fn are_entries(bytes: &[u8], count: u16) -> bool
 // Whether none of the first `place` entries has the key. `seen` tells which hashes of keys came
 // before: the entries are looked through only where that of the key did.
 fn is_new(seen: &mut [bool], bytes: &[u8], place: u16, key: &[u8]) -> bool
-    requires len { length seen.old ≡ 4096 }
+    requires len { length seen.old ≡ HASHES }
     requires held { HoldsCount place bytes.now }
     requires seen { HasSeen seen.old (entries_in place bytes.now) }
     ensures other { IsTrue result ↔
@@ -64,7 +66,7 @@ fn is_new(seen: &mut [bool], bytes: &[u8], place: u16, key: &[u8]) -> bool
 
 fn hash(key: &[u8]) -> usize
     ensures value { result ≡ hash_of key.now }
-    ensures bound { result < 4096 }
+    ensures bound { result < HASHES }
 {
     let mut hash = 0;
     for byte in key {
