@@ -1,5 +1,6 @@
 -- What a call that reads a page of a tree gives.
 use Rattle.std.specs.Prelude.{◌≡◌, ℕ, List, length, Result, IsTrue, OnOk, IfOk, IsErrOf}
+use Rattle.gx_ports.specs.declared.pages.TheConstants.{PAGE_LEN}
 use Rattle.gx_ports.specs.declared.page_view.PageView.{Ghosts}
 use Rattle.gx_ports.specs.declared.stop.Stop.{Stop}
 use Rattle.gx_ports.specs.declared.stop.Stop.TheVariants.{Full, NoMemory}
@@ -14,7 +15,7 @@ use Rattle.gx_btree.specs.Bplus.{IsTreePage, bytes_at}
 pub record ReadsTreePage {S : Type 0} (g : Ghosts S) (HasShape : Shape → List ℕ → Type 0) (page : ℕ)
     (bytes_read : List ℕ) (old new : S) (result : Result Shape Stop) : Type 0
   where
-    pub bytes : length bytes_read ≡ 4096
+    pub bytes : length bytes_read ≡ PAGE_LEN
     pub past : OnOk result (IsPast (g.ground old) page)
     pub shape : IfOk result (λ shape. HasShape shape bytes_read)
     pub read : IsTrue g.tells → OnOk result (bytes_at (g.working old) page ≡ bytes_read)

@@ -2,6 +2,7 @@
 ghost use Rattle.std.specs.Prelude.{◌≡◌, ◌↔◌, ◌++◌, ◌∷◌, [], None, false, ◌<◌, length, replicate, IsTrue, OnOk, IfOk, IsErrOf};
 ghost use Rattle.std.specs.Bool.{OnTrue};
 ghost use Rattle.gx_ports.specs.declared.kinds.LeafKind.TheVariants as kinds;
+ghost use Rattle.gx_ports.specs.declared.pages.TheConstants.{PAGE_LEN};
 ghost use Rattle.gx_ports.specs.FileCalls.{ChecksFile};
 ghost use Rattle.gx_ports.specs.Files.{IsPlace, EndsFile, IsWhole};
 ghost use Rattle.gx_ports.specs.PageCalls.{ReadsPages};
@@ -146,7 +147,7 @@ fn read_unseen<P: Pages>(
 ) -> Result<Shape, Stop>
     requires above { part.now.above < (P.ground pages.old).size }
     requires seen { length seen.now ≡ (P.ground pages.old).size }
-    requires bytes { length page.old ≡ 4096 }
+    requires bytes { length page.old ≡ PAGE_LEN }
     ensures shape { IfOk result (λ shape. Shows shape page.new) }
     ensures read { IsTrue P.tells →
         OnOk result (bytes_at (P.working pages.old) part.now.page ≡ page.new) }

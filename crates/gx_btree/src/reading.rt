@@ -1,5 +1,6 @@
 // Pages of a tree, as they are read.
 ghost use Rattle.std.specs.Prelude.{◌≡◌, ◌<◌, ◌↔◌, None, Some, length, IsTrue, MatchOption};
+ghost use Rattle.gx_ports.specs.declared.pages.TheConstants.{PAGE_LEN};
 ghost use Rattle.gx_bnode.specs.Page.{IsInnerPage, first_of, branches_of};
 ghost use Rattle.gx_btree.specs.Bplus.{Shows, Seems};
 ghost use Rattle.gx_btree.specs.Reading.{ReadsTreePage};
@@ -28,7 +29,7 @@ pub fn read_page<P: Pages>(
     into: &mut [u8],
 ) -> Result<Shape, Stop>
     requires from { from < (P.ground pages.old).size }
-    requires bytes { length into.old ≡ 4096 }
+    requires bytes { length into.old ≡ PAGE_LEN }
     ensures { ReadsTreePage P.PageView Shows page into.new pages.old pages.new result }
 {
     if page < pages.tables() || page >= pages.pages() {
@@ -43,7 +44,7 @@ pub fn read_page<P: Pages>(
 
 // What the bytes are. None where they are no page of a tree.
 fn shape_of(page: &[u8]) -> Option<Shape>
-    requires { length page.now ≡ 4096 }
+    requires { length page.now ≡ PAGE_LEN }
     ensures { MatchOption result ((shape : Shape) → ¬ Shows shape page.now)
         (λ shape. Shows shape page.now) }
 {
@@ -66,7 +67,7 @@ pub(crate) fn read_kind<P: Pages>(
     into: &mut [u8],
 ) -> Result<Shape, Stop>
     requires from { from < (P.ground pages.old).size }
-    requires bytes { length into.old ≡ 4096 }
+    requires bytes { length into.old ≡ PAGE_LEN }
     ensures { ReadsTreePage P.PageView Seems page into.new pages.old pages.new result }
 {
     if page < pages.tables() || page >= pages.pages() {
@@ -81,7 +82,7 @@ pub(crate) fn read_kind<P: Pages>(
 
 // What the bytes are, if they are a page of a tree, by their header alone.
 fn kind_of(page: &[u8]) -> Option<Shape>
-    requires { length page.now ≡ 4096 }
+    requires { length page.now ≡ PAGE_LEN }
     ensures { (shape : Shape) → Shows shape page.now → result ≡ Some shape }
 {
     if has_kind(page, gx_bnode::KIND) {

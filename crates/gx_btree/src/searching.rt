@@ -2,6 +2,7 @@
 ghost use Rattle.std.specs.Prelude.{◌≡◌, length, IsTrue, OnOk, IfOk, IsErrOf, IsSomeAnd};
 ghost use Rattle.gx_ports.specs.Files.{IsPlace, Holds, EndsFile, IsWhole};
 ghost use Rattle.gx_ports.specs.declared.kinds.LeafKind.TheVariants as kinds;
+ghost use Rattle.gx_ports.specs.declared.pages.TheConstants.{PAGE_LEN};
 ghost use Rattle.gx_ports.specs.LeafMaps.{LeafMap};
 ghost use Rattle.gx_ports.specs.PageCalls.{ReadsPages};
 ghost use Rattle.gx_ports.specs.Sheets.{IsPast};
@@ -36,8 +37,8 @@ pub(crate) fn find<P: Pages>(
 ) -> Result<Way, Stop>
     requires kind { place.now.spec.kind ≡ kinds.Bplus }
     requires place { IsPlace (P.ground pages.old) place.now }
-    requires bytes { length page.old ≡ 4096 }
-    ensures bytes { length page.new ≡ 4096 }
+    requires bytes { length page.old ≡ PAGE_LEN }
+    ensures bytes { length page.new ≡ PAGE_LEN }
     ensures past { IfOk result (λ way. IsPast (P.ground pages.old) way.page) }
     ensures shown { (map : LeafMap) →
         Holds P.PageView (IsBplus (P.ground pages.old) place.now) pages.old map →
@@ -74,7 +75,7 @@ pub(crate) fn find<P: Pages>(
 // The child on the way to a key, and the nearest separator behind it, else the bound of the page.
 // None only where the bytes are no inner page.
 fn way_on(page: &[u8], key: &[u8], bound: Option<KeyBuf>) -> Option<Way>
-    requires { length page.now ≡ 4096 }
+    requires { length page.now ≡ PAGE_LEN }
     ensures { IsInnerPage page.now → IsSomeAnd result (λ way.
         (way.page ≡ child_for (first_of page.now) (branches_of page.now) key.now)
         × (way.bound ≡ bound_for (branches_of page.now) key.now bound)) }

@@ -4,6 +4,7 @@ ghost use Rattle.std.specs.Bool.{OnFalse};
 ghost use Rattle.std.specs.Cmp.Lexicographic.{slice_cmp};
 ghost use Rattle.std.specs.Ordering.{nat_cmp, is_le, is_gt};
 ghost use Rattle.gx_ports.specs.declared.kinds.LeafKind.TheVariants as kinds;
+ghost use Rattle.gx_ports.specs.declared.pages.TheConstants.{PAGE_LEN};
 ghost use Rattle.gx_ports.specs.FileCalls.{SelectsInFile};
 ghost use Rattle.gx_ports.specs.Files.{IsPlace};
 ghost use Rattle.gx_ports.specs.LeafMaps.{Extends};
@@ -56,7 +57,7 @@ pub fn select<P: Pages>(
 // Appends the entries of a page inside the span, from a key on. Those behind the span aren't looked
 // at. False only where the bytes are no entry page.
 fn give(page: &[u8], from: &[u8], span: &Span, out: &mut Entries) -> Result<bool, NoMemory>
-    requires { length page.now ≡ 4096 }
+    requires { length page.now ≡ PAGE_LEN }
     ensures ok { IsAscendingPage page.now → OnOk result (out.new
         ≡ out.old ++ given_from from.now span.now.lo span.now.hi (entries_of page.now)) }
     ensures sound { IsAscendingPage page.now → IfOk result (λ sound. IsTrue sound) }

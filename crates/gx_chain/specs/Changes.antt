@@ -2,6 +2,7 @@
 use Rattle.std.specs.Prelude.{◌≡◌, ◌≢◌, ◌↔◌, ◌⊎◌, ℕ, ◌<◌, ◌≤◌, List, [], ◌∷◌, length, slice_get, Some, IsTrue}
 use Rattle.std.specs.List.{All, Contains, HoldsAt, insert, remove}
 use Rattle.gx_bytes.specs.declared.page.TheConstants.{NONE}
+use Rattle.gx_ports.specs.declared.pages.TheConstants.{PAGE_LEN}
 use Rattle.gx_ports.specs.declared.page_view.PageView.{Ghosts}
 use Rattle.gx_ports.specs.Sheets.{Sheets, Ground, IsClaimed, IsOwnedAnew}
 use Rattle.gx_slots.specs.Entries.{Entry}
@@ -25,7 +26,7 @@ pub record HasKey (sheets : Sheets) (page : ℕ) (key : List ℕ) : Type 0 where
 -- no entry has the key, and one with this body has room behind them
 pub record HasRoomFor (entries : List Entry) (key body : List ℕ) : Type 0 where
   pub other : All (λ entry. entry.key ≢ key) entries
-  pub room : used_by (insert entries (length entries) (record { key = key; body = body })) ≤ 4096
+  pub room : used_by (insert entries (length entries) (record { key = key; body = body })) ≤ PAGE_LEN
 
 -- an entry page has such room
 pub record HasRoom (sheets : Sheets) (page : ℕ) (key body : List ℕ) : Type 0 where

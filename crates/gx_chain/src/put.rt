@@ -65,8 +65,8 @@ fn put_away<P: Pages>(
     requires least { 1 ≤ owner }
     requires most { owner ≤ MAX_OWNER }
     requires bytes { length page.old ≡ PAGE_LEN }
-    requires key { length key.now ≤ 400 }
-    requires entry { length key.now + length body.now ≤ 1000 }
+    requires key { length key.now ≤ MAX_KEY_LEN }
+    requires entry { length key.now + length body.now ≤ MAX_ENTRY_LEN }
     ensures put { IsTrue P.tells → (first : ℕ) (before : List ℕ) →
         IsReady (P.ground pages.old) owner (P.working pages.old) first key.now body.now away before →
         OnOk result

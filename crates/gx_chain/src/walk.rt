@@ -1,5 +1,6 @@
 // A walk along a chain, to where an entry is to be put.
 ghost use Rattle.std.specs.Prelude.{◌≡◌, ◌+◌, ◌≤◌, ℕ, List, length, IsTrue, IfOk, IsErrOf};
+ghost use Rattle.gx_ports.specs.declared.leaves.TheConstants.{MAX_KEY_LEN, MAX_ENTRY_LEN};
 ghost use Rattle.gx_ports.specs.declared.pages.TheConstants.{PAGE_LEN};
 ghost use Rattle.gx_ports.specs.Files.{EndsFile};
 ghost use Rattle.gx_ports.specs.PageCalls.{ReadsPages};
@@ -50,8 +51,8 @@ pub(crate) enum Spot {
 /// the bytes may be any entry page with the same next page.
 fn try_entry(page: &mut [u8], key: &[u8], body: &[u8]) -> Trial
     requires page { IsEntryPage page.old }
-    requires key { length key.now ≤ 400 }
-    requires entry { length key.now + length body.now ≤ 1000 }
+    requires key { length key.now ≤ MAX_KEY_LEN }
+    requires entry { length key.now + length body.now ≤ MAX_ENTRY_LEN }
     ensures trial { IsTrial result (entries_of page.old) (entries_of page.new) key.now body.now }
     ensures page { IsEntryPage page.new }
     ensures next { next_of page.new ≡ next_of page.old }
@@ -99,8 +100,8 @@ pub(crate) fn find_spot<P: Pages>(
 ) -> Result<Spot, Stop>
     requires first { IsPast (P.ground pages.old) first }
     requires bytes { length page.old ≡ PAGE_LEN }
-    requires key { length key.now ≤ 400 }
-    requires entry { length key.now + length body.now ≤ 1000 }
+    requires key { length key.now ≤ MAX_KEY_LEN }
+    requires entry { length key.now + length body.now ≤ MAX_ENTRY_LEN }
     ensures found { IsTrue P.tells → (owner : ℕ) (all : List ℕ) →
         IsChain (P.ground pages.old) owner (P.working pages.old) first all → IfOk result
         (λ spot. IsSpot (P.working pages.old) key.now body.now all page.new spot) }

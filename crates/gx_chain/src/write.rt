@@ -2,6 +2,7 @@
 ghost use Rattle.std.specs.Prelude.{◌≡◌, ◌≢◌, ◌↔◌, ◌+◌, ◌≤◌, length, IsTrue, OnOk, IsErrOf};
 ghost use Rattle.std.specs.Bool.{OnTrue};
 ghost use Rattle.std.specs.List.{insert};
+ghost use Rattle.gx_ports.specs.declared.leaves.TheConstants.{MAX_KEY_LEN, MAX_ENTRY_LEN};
 ghost use Rattle.gx_ports.specs.declared.pages.TheConstants.{PAGE_LEN};
 ghost use Rattle.gx_ports.specs.Files.{EndsFile};
 ghost use Rattle.gx_ports.specs.PageCalls.{KeepsPages};
@@ -18,8 +19,8 @@ use gx_slots::{add, clear, count, find, set_next, take};
 /// then nothing changes.
 pub(crate) fn add_last(page: &mut [u8], key: &[u8], body: &[u8]) -> bool
     requires page { IsEntryPage page.old }
-    requires key { length key.now ≤ 400 }
-    requires entry { length key.now + length body.now ≤ 1000 }
+    requires key { length key.now ≤ MAX_KEY_LEN }
+    requires entry { length key.now + length body.now ≤ MAX_ENTRY_LEN }
     ensures page { IsEntryPage page.new }
     ensures room { IsTrue result ↔ HasRoomFor (entries_of page.old) key.now body.now }
     ensures added { OnTrue result
@@ -71,8 +72,8 @@ pub(crate) fn add_to<P: Pages>(
 ) -> Result<(), Stop>
     requires number { IsPast (P.ground pages.old) number }
     requires bytes { length page.old ≡ PAGE_LEN }
-    requires key { length key.now ≤ 400 }
-    requires entry { length key.now + length body.now ≤ 1000 }
+    requires key { length key.now ≤ MAX_KEY_LEN }
+    requires entry { length key.now + length body.now ≤ MAX_ENTRY_LEN }
     ensures added { IsTrue P.tells → OnOk result
         (IsAdded number key.now body.now (P.working pages.old) (P.working pages.new)) }
     ensures len { length page.new ≡ PAGE_LEN }
@@ -103,8 +104,8 @@ pub(crate) fn append<P: Pages>(
     requires last { IsPast (P.ground pages.old) last }
     requires fresh { IsPast (P.ground pages.old) fresh }
     requires bytes { length page.old ≡ PAGE_LEN }
-    requires key { length key.now ≤ 400 }
-    requires entry { length key.now + length body.now ≤ 1000 }
+    requires key { length key.now ≤ MAX_KEY_LEN }
+    requires entry { length key.now + length body.now ≤ MAX_ENTRY_LEN }
     ensures appended { IsTrue P.tells → last ≢ fresh → OnOk result
         (IsAppended last fresh key.now body.now (P.working pages.old) (P.working pages.new)) }
     ensures keeps { KeepsPages P.PageView pages.old pages.new }

@@ -9,6 +9,7 @@ use Rattle.std.specs.Ordering.{is_le}
 use Rattle.std.specs.declared.cmp.Ordering.TheVariants.{Less}
 use Rattle.gx_bytes.specs.Page.{count_of}
 use Rattle.gx_bytes.specs.Records.{records, HoldsRecordCount, HoldsAscendingRecords}
+use Rattle.gx_ports.specs.declared.pages.TheConstants.{PAGE_LEN}
 use Rattle.gx_ports.specs.Keyed.{key_cmp}
 
 -- a separator is written as its length, in two bytes, and its bytes
@@ -61,7 +62,7 @@ separators_of bytes = separators_in (bucket_count bytes - 1) (behind_firsts byte
 
 -- the bytes are an index page
 pub record IsIndexPage (bytes : List ℕ) : Type 0 where
-  pub size : length bytes ≡ 4096
+  pub size : length bytes ≡ PAGE_LEN
   pub kind : slice_index bytes 0 ≡ 0x58
   pub blank : slice_index bytes 1 ≡ 0
   pub some : 1 ≤ bucket_count bytes

@@ -2,6 +2,7 @@
 use Rattle.std.specs.Prelude.{◌≡◌, ℕ, ◌+◌, ◌-◌, ◌*◌, ◌<◌, ◌≤◌, List, length, drop, map, slice_get, slice_index, slice_index_or, Some}
 use Rattle.std.specs.declared.cmp.Ordering.TheVariants.{Less}
 use Rattle.gx_bytes.specs.Records.{HoldsRecords}
+use Rattle.gx_ports.specs.declared.pages.TheConstants.{PAGE_LEN}
 use Rattle.gx_ports.specs.declared.leaves.Entry.{Entry as LeafEntry}
 use Rattle.gx_ports.specs.Keyed.{key_cmp}
 use Rattle.gx_slots.specs.Entries.{IsFit}
@@ -23,7 +24,7 @@ pub record AreOrdered (entries : List LeafEntry) : Type 0 where
 
 -- the bytes begin as an index page of so many buckets
 pub record HasFront (bytes : List ℕ) (count : ℕ) : Type 0 where
-  pub size : length bytes ≡ 4096
+  pub size : length bytes ≡ PAGE_LEN
   pub kind : slice_index bytes 0 ≡ 0x58
   pub blank : slice_index bytes 1 ≡ 0
   pub count_is : bucket_count bytes ≡ count
@@ -31,7 +32,7 @@ pub record HasFront (bytes : List ℕ) (count : ℕ) : Type 0 where
 -- behind the first pages of so many buckets stand the first keys of the buckets, and the first four
 -- bytes are as they were
 pub record HasSeparators (old new : List ℕ) (keys : List (List ℕ)) (count : ℕ) : Type 0 where
-  pub size : length new ≡ 4096
+  pub size : length new ≡ PAGE_LEN
   pub front : (i : ℕ) → i < 4 → slice_index_or new i 0 ≡ slice_index_or old i 0
   pub separators : List (List ℕ)
   pub number : length separators + 1 ≡ count

@@ -3,6 +3,7 @@ ghost use Rattle.std.specs.Prelude.{◌≡◌, ◌≢◌, ◌↔◌, ℕ, ◌+�
 ghost use Rattle.std.specs.Ordering.{is_le};
 ghost use Rattle.gx_bytes.specs.Records.{SplitsRecord};
 ghost use Rattle.gx_bytes.specs.declared.page.TheConstants.{NONE};
+ghost use Rattle.gx_ports.specs.declared.pages.TheConstants.{PAGE_LEN};
 ghost use Rattle.gx_ports.specs.Keyed.{key_cmp};
 ghost use Rattle.gx_isam_index.specs.Index.{IsFit, HoldsAscending, IsIndexPage, behind_firsts, bucket_count, bucket_of, first_of, last_bucket, lent, separator_bytes, separators_of};
 
@@ -23,7 +24,7 @@ pub(crate) const FIRST_LEN: usize = 4;
 
 /// Makes an index page of one bucket, which has no page. The page has 4,096 bytes, of any values.
 pub fn clear_index(page: &mut [u8])
-    requires { length page.old ≡ 4096 }
+    requires { length page.old ≡ PAGE_LEN }
     ensures page { IsIndexPage page.new }
     ensures one { bucket_count page.new ≡ 1 }
     ensures first { first_of page.new 0 ≡ NONE }
@@ -33,7 +34,7 @@ pub fn clear_index(page: &mut [u8])
 
 /// Whether the bytes are an index page. The page has 4,096 bytes, of any values.
 pub fn is_index(page: &[u8]) -> bool
-    requires { length page.now ≡ 4096 }
+    requires { length page.now ≡ PAGE_LEN }
     ensures { IsTrue result ↔ IsIndexPage page.now }
 {
     let count = record_count(page);
@@ -118,7 +119,7 @@ pub fn last_bucket(page: &[u8], hi: &[u8]) -> u16
 
 // The bytes behind the first pages of so many buckets.
 fn behind_firsts(page: &[u8], count: u16) -> &[u8]
-    requires size { length page.now ≡ 4096 }
+    requires size { length page.now ≡ PAGE_LEN }
     requires count { count ≤ 64 }
     requires counted { count ≡ bucket_count page.now }
     ensures { result.now ≡ behind_firsts page.now }
