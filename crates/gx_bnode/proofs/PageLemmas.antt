@@ -120,7 +120,11 @@ body_holds bytes body page behind =
 
 pub body_count : (bytes body : List ℕ) (count : ℕ) → IsInnerPage bytes → body ≡ drop 8 bytes
     → count ≡ length (branches_of bytes) → HoldsCount count body
-body_count bytes body count page behind counted = record { held = branches_of bytes; count = sym counted; holds = body_holds bytes body page behind }
+body_count bytes body count page behind counted = record {
+  held = branches_of bytes;
+  count = sym counted;
+  holds = body_holds bytes body page behind;
+}
 
 pub body_branches : (bytes body : List ℕ) (count : ℕ) → IsInnerPage bytes → body ≡ drop 8 bytes
     → count ≡ length (branches_of bytes) → branches_in count body ≡ branches_of bytes
@@ -133,7 +137,12 @@ pub page_first : (first : ℕ) (branches : List Branch) (bytes : List ℕ)
     → IsPageOf first branches bytes → (other : ℕ) (new : List ℕ) → other < 2 ^ 32
     → new ≡ overwritten bytes 4 (to_be_bytes w32 other) → length new ≡ 4096
     → IsPageOf other branches new
-page_first first branches bytes is other new fits new_is size = record { page = pages.page_numbered branch_format 0x49 branches first bytes is.page other new fits new_is size; some = is.some; ascending = is.ascending }
+page_first first branches bytes is other new fits new_is size =
+    record {
+      page = pages.page_numbered branch_format 0x49 branches first bytes is.page other new fits new_is size;
+      some = is.some;
+      ascending = is.ascending;
+    }
 
 -- a branch put at a place
 pub page_added : (first : ℕ) (branches : List Branch) (bytes : List ℕ)
@@ -167,7 +176,8 @@ page_taken first branches bytes is i at behind end d moved new below several at_
       new below at_is behind_is end_is moved_is new_is size;
   some = omega (arith, length-remove branches i below);
   ascending = subst AreAscending (sym (map-remove (λ b. b.separator) branches i))
-      (all_pairs_remove (λ a b. slice_cmp nat_cmp a b ≡ Less) (separators_in branches) i (omega (arith, separators_count branches)) is.ascending);
+      (all_pairs_remove (λ a b. slice_cmp nat_cmp a b ≡ Less) (separators_in branches) i (omega (arith, separators_count branches))
+      is.ascending);
 }
 
 -- how many bytes the branches behind the header take

@@ -23,7 +23,10 @@ use Rattle.gx_bnode.proofs.PageLemmas.{page_of, separators_len}
 -- a page without room is more than half full
 pub full_is : (branches : List Branch) → (HasRoom (separators_in branches) → ⊥)
     → 3682 < sum_by branch_len branches
-full_is branches full = elim (cases_lt 3682 (sum_by branch_len branches)) [ inl more ↦ more | inr less ↦ absurd (full (omega (arith, less, separators_len branches))) ]
+full_is branches full = elim (cases_lt 3682 (sum_by branch_len branches)) [
+  | inl more ↦ more
+  | inr less ↦ absurd (full (omega (arith, less, separators_len branches)))
+]
 
 -- the branches on both sides of the one across the middle
 pub sides : (branches : List Branch) (place : ℕ) (d : Branch) → All IsFit branches
@@ -37,8 +40,22 @@ sides branches place d fit below full most before across =
     let more = sum_by_more branch_len branches place d below in
     let short = (fit place d below).separator in
     let whole = sum_by-take-drop branch_len branches (place + 1) in
-    let first : 0 < place = elim (cases_lt 0 place) [ inl some ↦ some | inr none ↦ absurd (omega (arith, more, short, across, ap (λ (n : ℕ). sum_by branch_len (take n branches)) (let n : place ≡ 0 = omega (arith, none) in n))) ] in
-    let last : place + 1 < length branches = elim (cases_lt (place + 1) (length branches)) [ inl some ↦ some | inr none ↦ absurd (omega (arith, more, short, before, full, ap (sum_by branch_len) (take_all (place + 1) branches none))) ] in
+    let first : 0 < place = elim (cases_lt 0 place) [
+      | inl some ↦ some
+      | inr none ↦
+          absurd (omega (
+            arith,
+            more,
+            short,
+            across,
+            ap (λ (n : ℕ). sum_by branch_len (take n branches))
+                (let n : place ≡ 0 = omega (arith, none) in n),
+          ))
+    ] in
+    let last : place + 1 < length branches = elim (cases_lt (place + 1) (length branches)) [
+      | inl some ↦ some
+      | inr none ↦ absurd (omega (arith, more, short, before, full, ap (sum_by branch_len) (take_all (place + 1) branches none)))
+    ] in
     (first, last, omega (arith, whole, across, most))
 
 -- the left page, which counts the branches before the middle

@@ -39,12 +39,18 @@ none_inside bytes part high none =
 first_up_to : (es : List Entry) (d x : Entry) → Ascending es → In x es
     → IsUpTo (get_or es 0 d).key x.key
 first_up_to [] d x up i = absurd i
-first_up_to (e ∷ es) d x up i = elim i [ inl s ↦ subst (λ (y : Entry). IsUpTo e.key y.key) (sym s) (up_to_itself e.key) | inr j ↦ below_is_up_to e.key x.key (up.0 x j) ]
+first_up_to (e ∷ es) d x up i = elim i [
+  | inl s ↦ subst (λ (y : Entry). IsUpTo e.key y.key) (sym s) (up_to_itself e.key)
+  | inr j ↦ below_is_up_to e.key x.key (up.0 x j)
+]
 
 last_above : (es : List Entry) (d x : Entry) (n : ℕ) → length es ≡ n + 1 → Ascending es → In x es
     → IsUpTo x.key (get_or es n d).key
 last_above [] d x n len up i = absurd i
-last_above (e ∷ []) d x zero len up i = elim i [ inl s ↦ subst (λ (y : Entry). IsUpTo y.key e.key) (sym s) (up_to_itself e.key) | inr j ↦ absurd j ]
+last_above (e ∷ []) d x zero len up i = elim i [
+  | inl s ↦ subst (λ (y : Entry). IsUpTo y.key e.key) (sym s) (up_to_itself e.key)
+  | inr j ↦ absurd j
+]
 last_above (e ∷ []) d x (suc n) len up i = absurd (omega (arith, len))
 last_above (e ∷ f ∷ es) d x zero len up i = absurd (omega (arith, len))
 last_above (e ∷ f ∷ es) d x (suc n) len up i =

@@ -36,7 +36,10 @@ module _ (p : ℕ) where
   in_more xs ys q i = elim (in_cases q xs ys i) [ inl a ↦ in_left q xs (p ∷ ys) a | inr b ↦ in_right q xs (p ∷ ys) (inr b) ]
 
   pub in_less : (xs ys : List ℕ) (q : ℕ) → In q (xs ++ p ∷ ys) → (q ≡ p) ⊎ In q (xs ++ ys)
-  in_less xs ys q i = elim (in_cases q xs (p ∷ ys) i) [ inl a ↦ inr (in_left q xs ys a) | inr b ↦ elim b [ inl e ↦ inl e | inr c ↦ inr (in_right q xs ys c) ] ]
+  in_less xs ys q i = elim (in_cases q xs (p ∷ ys) i) [
+    | inl a ↦ inr (in_left q xs ys a)
+    | inr b ↦ elim b [ inl e ↦ inl e | inr c ↦ inr (in_right q xs ys c) ]
+  ]
 
   pub in_here : (xs ys : List ℕ) → In p (xs ++ p ∷ ys)
   in_here xs ys = in_right p xs (p ∷ ys) (inl refl)
@@ -45,8 +48,13 @@ module _ (p : ℕ) where
       → AreUnique (xs ++ ys) × (In p (xs ++ ys) → ⊥)
   unique_less [] ys u = (u.1, u.0)
   unique_less (x ∷ xs) ys u =
-      let h = unique_less xs ys u.1 in
-      (((λ i. u.0 (in_more xs ys x i)), h.0), λ i. elim i [ inl e ↦ u.0 (subst (λ z. In z (xs ++ p ∷ ys)) e (in_here xs ys)) | inr j ↦ h.1 j ])
+      let h = unique_less xs ys u.1 in (
+        ((λ i. u.0 (in_more xs ys x i)), h.0),
+        λ i. elim i [
+          | inl e ↦ u.0 (subst (λ z. In z (xs ++ p ∷ ys)) e (in_here xs ys))
+          | inr j ↦ h.1 j
+        ],
+      )
 
   unique_more : (xs ys : List ℕ) → AreUnique (xs ++ ys) → (In p (xs ++ ys) → ⊥)
       → AreUnique (xs ++ p ∷ ys)
@@ -66,7 +74,10 @@ unique_right (x ∷ xs) ys u = unique_right xs ys u.1
 
 unique_apart : (xs ys : List ℕ) → AreUnique (xs ++ ys) → (q : ℕ) → In q xs → In q ys → ⊥
 unique_apart [] ys u q i j = i
-unique_apart (x ∷ xs) ys u q i j = elim i [ inl e ↦ u.0 (in_right x xs ys (subst (λ z. In z ys) e j)) | inr k ↦ unique_apart xs ys u.1 q k j ]
+unique_apart (x ∷ xs) ys u q i j = elim i [
+  | inl e ↦ u.0 (in_right x xs ys (subst (λ z. In z ys) e j))
+  | inr k ↦ unique_apart xs ys u.1 q k j
+]
 
 unique_both : (xs ys : List ℕ) → AreUnique xs → AreUnique ys → ((q : ℕ) → In q xs → In q ys → ⊥)
     → AreUnique (xs ++ ys)
@@ -121,7 +132,10 @@ module _ (ground : Ground) (owner : ℕ) (sheets : Sheets) (seen : List Bool) (p
         past = λ q i. l.past q (in_more p xs ys q i);
         all = λ q o. elim (cases_eq q p) [
           | inl e ↦ inl (ap (slice_get (slice_set seen p true)) e ∙ marked_here)
-          | inr d ↦ elim (l.all q o) [ inl is ↦ inl (marked_other q d ∙ is) | inr i ↦ elim (in_less p xs ys q i) [ inl e ↦ absurd (d e) | inr j ↦ inr j ] ]
+          | inr d ↦ elim (l.all q o) [
+            | inl is ↦ inl (marked_other q d ∙ is)
+            | inr i ↦ elim (in_less p xs ys q i) [ inl e ↦ absurd (d e) | inr j ↦ inr j ]
+          ]
         ];
       }
 
@@ -277,10 +291,15 @@ at_kids p above low high first (b ∷ bs) (t ∷ ts) a out =
       ordered =
           (h.ordered, filled, (λ x i. (h.bounds x i).1), (λ x i. (k.bounds x i).0), k.ordered);
       bounds = λ x i. elim (in_cases x (entries t) (kids_entries k.kids) i) [
-        | inl j ↦ ((h.bounds x j).0, under_below x.key some.0.key high (below_up_to x.key b.separator some.0.key (h.bounds x j).1 (k.bounds some.0 some.1).0) (k.bounds some.0 some.1).1)
+        | inl j ↦ (
+          (h.bounds x j).0,
+          under_below x.key some.0.key high
+              (below_up_to x.key b.separator some.0.key (h.bounds x j).1 (k.bounds some.0 some.1).0) (k.bounds some.0 some.1).1,
+        )
         | inr j ↦ (
           below_is_up_to low x.key
-              (below_up_to low b.separator x.key (up_to_below low filled.0.key b.separator (h.bounds filled.0 filled.1).0 (h.bounds filled.0 filled.1).1) (k.bounds x j).0),
+              (below_up_to low b.separator x.key
+              (up_to_below low filled.0.key b.separator (h.bounds filled.0 filled.1).0 (h.bounds filled.0 filled.1).1) (k.bounds x j).0),
           (k.bounds x j).1,
         )
       ];
@@ -372,12 +391,15 @@ module _ (ground : Ground) (owner : ℕ) (sheets : Sheets) (parts : List Part) (
       subst (λ x. ShowsEntries x es) (sym is) (shows_entries bytes shown) in
       record {
         trees = rest.trees ++ leaf part.page es ∷ [];
-        stand = at_both p parts (part ∷ []) high rest.trees (leaf part.page es ∷ []) rest.stand
-            (record { page_is = refl; stands = shows; ordered = entries_up bytes shown; filled = next.inside.0; bounds = next.inside.1 }, tt);
+        stand = at_both p parts (part ∷ []) high rest.trees (leaf part.page es ∷ []) rest.stand (
+          record { page_is = refl; stands = shows; ordered = entries_up bytes shown; filled = next.inside.0; bounds = next.inside.1 },
+          tt,
+        );
         left =
             subst (AreLeft ground owner sheets seen)
             (sym (pages_append rest.trees (leaf part.page es ∷ [])))
-            (left_more ground owner sheets seen part.page (pages_of rest.trees) [] below next.owned next.past next.unseen (subst (AreLeft ground owner sheets marks) (sym (append-nil (pages_of rest.trees))) rest.left));
+            (left_more ground owner sheets seen part.page (pages_of rest.trees) [] below next.owned next.past next.unseen
+            (subst (AreLeft ground owner sheets marks) (sym (append-nil (pages_of rest.trees))) rest.left));
       }
 
   inner_next : (bytes : List ℕ) → p part.page ≡ bytes → Shows shapes.Inner bytes → Rest
@@ -439,8 +461,16 @@ module _ (ground : Ground) (owner : ℕ) (sheets : Sheets) (parts : List Part) (
       (subst (ShowsInner (p part.page) first) (sym k.branches_are) shows) in
       record {
         trees = b.before ++ tree ∷ [];
-        stand = at_both p parts (part ∷ []) high b.before (tree ∷ []) b.stand_before
-            (record { page_is = refl; stands = (at_page, k.stand); ordered = k.ordered; filled = λ _. some_key k.kids k.ordered; bounds = k.bounds }, tt);
+        stand = at_both p parts (part ∷ []) high b.before (tree ∷ []) b.stand_before (
+          record {
+            page_is = refl;
+            stands = (at_page, k.stand);
+            ordered = k.ordered;
+            filled = λ _. some_key k.kids k.ordered;
+            bounds = k.bounds;
+          },
+          tt,
+        );
         left = subst (AreLeft ground owner sheets seen)
             (ap (λ ps. pages_of b.before ++ part.page ∷ ps) (sym (append-nil (kids_pages k.kids)))
             ∙ sym (pages_append b.before (tree ∷ [])))
@@ -480,7 +510,16 @@ module _ (ground : Ground) (place : Place) (sheets : Sheets) (seen : List Bool)
       let ps = sym (append-nil (pages b.tree)) in
       record {
         trees = b.tree ∷ [];
-        stand = (record { page_is = b.whole.root_is; stands = b.whole.stands; ordered = b.whole.ordered; filled = λ d. absurd (d refl); bounds = λ x i. (nothing_up_to x.key, tt) }, tt);
+        stand = (
+          record {
+            page_is = b.whole.root_is;
+            stands = b.whole.stands;
+            ordered = b.whole.ordered;
+            filled = λ d. absurd (d refl);
+            bounds = λ x i. (nothing_up_to x.key, tt);
+          },
+          tt,
+        );
         left = subst (AreLeft ground place.owner sheets seen) ps (record {
           unique = tree_unique b.tree b.whole.apart;
           unseen = λ q i. none q;
@@ -540,7 +579,8 @@ first_left ground owner sheets part parts high seen rest = go rest.trees rest.st
       → AreLeft ground owner sheets seen (pages_of ts)
       → (q : ℕ) × (q < ground.size) × (slice_get seen q ≢ Some true)
   go [] a l = absurd a
-  go (t ∷ ts) a l = let i = in_left (page_of t) (pages t) (pages_of ts) (top_in t) in (page_of t, (l.past (page_of t) i).below, l.unseen (page_of t) i)
+  go (t ∷ ts) a l = let i = in_left (page_of t) (pages t) (pages_of ts) (top_in t) in
+      (page_of t, (l.past (page_of t) i).below, l.unseen (page_of t) i)
 
 -- so many different pages were seen
 pub record AreSeen (size : ℕ) (seen : List Bool) (steps : ℕ) : Type 0 where
@@ -569,6 +609,7 @@ pub seen_few : (ground : Ground) (owner : ℕ) (sheets : Sheets) (part : Part) (
     → HasRest ground owner sheets (part ∷ parts) high seen → steps < ground.size
 seen_few ground owner sheets part parts high seen steps a rest =
     let f = first_left ground owner sheets part parts high seen rest in
-    let few_pages = few ground.size (f.0 ∷ a.done) ((λ i. f.2 (a.marked f.0 i)), a.unique) (λ q i. elim i [ inl e ↦ (let b = f.1 in omega (arith, e, b)) | inr j ↦ a.below q j ]) in
+    let few_pages = few ground.size (f.0 ∷ a.done) ((λ i. f.2 (a.marked f.0 i)), a.unique)
+    (λ q i. elim i [ inl e ↦ (let b = f.1 in omega (arith, e, b)) | inr j ↦ a.below q j ]) in
     let m = a.many in
     omega (arith, few_pages, m)

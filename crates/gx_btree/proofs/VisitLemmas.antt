@@ -115,7 +115,8 @@ module _ {S : Type 0} (g : Ghosts S) (owner : ℕ) (part : Part) (p : S) (old : 
         let b = high ∙ passed.high in
         record {
           rest = (
-            (λ r. rest_same ground owner sheets _ new.parts.items _ new.high _ new.seen.items (sym a) (sym b) (sym seen) (to_behind ground owner sheets old.parts.items part old.high old.seen.items below shape bytes (read told) shown r).1),
+            (λ r. rest_same ground owner sheets _ new.parts.items _ new.high _ new.seen.items (sym a) (sym b) (sym seen)
+                (to_behind ground owner sheets old.parts.items part old.high old.seen.items below shape bytes (read told) shown r).1),
             (λ r. from_behind ground owner sheets old.parts.items part old.high old.seen.items below shape bytes (read told) shown
                 (record { owned = unseen.0; past = past; unseen = unseen.1; inside = inside })
                 (rest_same ground owner sheets new.parts.items _ new.high _ new.seen.items _ a b seen r)),
@@ -162,9 +163,12 @@ module _ {S : Type 0} (g : Ghosts S) (place : Place) (start : S) where
         below = λ part i. elim (subst (In part) parts i)
             [ inl e ↦ (let s = ap (λ (w : Part). w.above) e in omega (arith, s, below)) | inr n ↦ absurd n ];
         rest = λ told. (
-          (λ whole. rest_same ground place.owner sheets (root_part place.root ∷ []) visits.parts.items None visits.high visits.seen.items visits.seen.items (sym parts) (sym high) refl
+          (λ whole. rest_same ground place.owner sheets (root_part place.root ∷ []) visits.parts.items None visits.high visits.seen.items
+              visits.seen.items (sym parts) (sym high) refl
               (whole_rest ground place sheets visits.seen.items none whole.0 whole.1.file)),
-          (λ r. let w = rest_whole ground place sheets visits.seen.items none (rest_same ground place.owner sheets visits.parts.items (root_part place.root ∷ []) visits.high None visits.seen.items visits.seen.items parts high refl r) in
+          (λ r. let w = rest_whole ground place sheets visits.seen.items none
+              (rest_same ground place.owner sheets visits.parts.items (root_part place.root ∷ []) visits.high None visits.seen.items
+              visits.seen.items parts high refl r) in
               (w.0, record { told = told; file = w.1 })),
         );
         seen = λ told. record
@@ -192,7 +196,8 @@ module _ {S : Type 0} (g : Ghosts S) (place : Place) (start : S) where
               w.1.told,
               subst (λ (x : Ground). HasRest x place.owner (g.working now)
                   (old.parts.items ++ part ∷ []) old.high old.seen.items) (sym v.reads.keeps.ground)
-                  (subst (λ (s : Sheets). HasRest (g.ground start) place.owner s (old.parts.items ++ part ∷ []) old.high old.seen.items) (sym v.reads.working) (next_there w.1.told w)),
+                  (subst (λ (s : Sheets). HasRest (g.ground start) place.owner s (old.parts.items ++ part ∷ []) old.high old.seen.items)
+                  (sym v.reads.working) (next_there w.1.told w)),
             )) e
 
         pub part_below : part.above < (g.ground now).size
@@ -225,14 +230,16 @@ module _ {S : Type 0} (g : Ghosts S) (place : Place) (start : S) where
               below = λ w i. let k = below w i in omega (arith, k, size);
               rest = λ told. (
                 (λ whole. (there told).rest.0 (next_there told whole)),
-                (λ r. (v.rest told).1 (rest_same (g.ground start) place.owner (g.working start) _ visits.parts.items _ visits.high _ visits.seen.items (sym parts) high seen ((there told).rest.1 r))),
+                (λ r. (v.rest told).1 (rest_same (g.ground start) place.owner (g.working start) _ visits.parts.items _ visits.high _
+                    visits.seen.items (sym parts) high seen ((there told).rest.1 r))),
               );
               seen = λ told.
                   let t = there told in
                   let less = t.past.below in
                   let many = v.marks in
                   subst (λ (s : List Bool). AreSeen (g.ground start).size s (steps + 1)) (sym t.seen)
-                  (seen_more (g.ground start).size old.seen.items steps part.page (subst (λ (s : List Bool). AreSeen (g.ground start).size s steps) (sym seen) (v.seen told)) t.unseen less
+                  (seen_more (g.ground start).size old.seen.items steps part.page
+                  (subst (λ (s : List Bool). AreSeen (g.ground start).size s steps) (sym seen) (v.seen told)) t.unseen less
                   (subst (λ (s : List Bool). part.page < length s) (sym seen) (omega (arith, less, many))));
             }
 
@@ -241,8 +248,11 @@ module _ {S : Type 0} (g : Ghosts S) (place : Place) (start : S) where
       visiting_all none told =
           let ground = g.ground start in
           let sheets = g.working start in (
-            (λ whole. rest_seen ground place.owner sheets visits.high visits.seen.items (subst (λ (ws : List Part). HasRest ground place.owner sheets ws visits.high visits.seen.items) none ((v.rest told).0 whole))),
-            (λ all. (v.rest told).1 (subst (λ (ws : List Part). HasRest ground place.owner sheets ws visits.high visits.seen.items) (sym none) (seen_rest ground place.owner sheets visits.high visits.seen.items all))),
+            (λ whole. rest_seen ground place.owner sheets visits.high visits.seen.items
+                (subst (λ (ws : List Part). HasRest ground place.owner sheets ws visits.high visits.seen.items) none
+                ((v.rest told).0 whole))),
+            (λ all. (v.rest told).1 (subst (λ (ws : List Part). HasRest ground place.owner sheets ws visits.high visits.seen.items)
+                (sym none) (seen_rest ground place.owner sheets visits.high visits.seen.items all))),
           )
 
       rest_steps : (parts : List Part) → visits.parts.items ≡ parts → (parts ≢ []) → IsTrue g.tells

@@ -63,10 +63,18 @@ linked_push s t first (q ∷ qs) last fresh each page hung new_page none l =
 module _ (ground : Ground) (owner first : ℕ) (s t : Sheets) (pages : List ℕ)
     (same : (q : ℕ) → Contains pages q → bytes_at t q ≡ bytes_at s q) where
   pub same_on : (k b : List ℕ) → IsOn s pages k b → IsOn t pages k b
-  same_on k b on = record { page = on.page; among = on.among; here = subst (λ (x : List ℕ). Contains (entries_of x) (record { key = k; body = b })) (sym (same on.page on.among)) on.here }
+  same_on k b on = record {
+    page = on.page;
+    among = on.among;
+    here = subst (λ (x : List ℕ). Contains (entries_of x) (record { key = k; body = b })) (sym (same on.page on.among)) on.here;
+  }
 
   pub same_on_back : (k b : List ℕ) → IsOn t pages k b → IsOn s pages k b
-  same_on_back k b on = record { page = on.page; among = on.among; here = subst (λ (x : List ℕ). Contains (entries_of x) (record { key = k; body = b })) (same on.page on.among) on.here }
+  same_on_back k b on = record {
+    page = on.page;
+    among = on.among;
+    here = subst (λ (x : List ℕ). Contains (entries_of x) (record { key = k; body = b })) (same on.page on.among) on.here;
+  }
 
   pub same_chain : ((q : ℕ) → Contains pages q → slice_get t.owners q ≡ Some owner)
       → IsChain ground owner s first pages → IsChain ground owner t first pages
@@ -159,13 +167,26 @@ module _ (ground : Ground) (owner : ℕ) (s t : Sheets) (first : ℕ) (pages : L
         | inr old ↦ inr (old.0, record { page = p; among = among; here = old.1 })
       ]
       | inr d ↦ (let here = to_old on.page _ d on.here in
-          inr
-          (λ same. absent on.page b d on.among (subst (λ (x : List ℕ). Contains (entries_at s on.page) (record { key = x; body = b })) same here), record { page = on.page; among = on.among; here = here }))
+          inr (
+            λ same. absent on.page b d on.among
+                (subst (λ (x : List ℕ). Contains (entries_at s on.page) (record { key = x; body = b })) same here),
+            record { page = on.page; among = on.among; here = here },
+          ))
     ],
     λ put. elim put [
-      | inl here ↦ record { page = p; among = among; here = subst (λ (x : List Entry). Contains x (record { key = k; body = b })) (sym w.entries_are) (from k b (inl here)) }
+      | inl here ↦ record {
+        page = p;
+        among = among;
+        here = subst (λ (x : List Entry). Contains x (record { key = k; body = b })) (sym w.entries_are) (from k b (inl here));
+      }
       | inr old ↦ elim (cases_eq old.1.page p) [
-        | inl e ↦ record { page = p; among = among; here = subst (λ (x : List Entry). Contains x (record { key = k; body = b })) (sym w.entries_are) (from k b (inr (old.0, subst (λ (n : ℕ). Contains (entries_at s n) (record { key = k; body = b })) e old.1.here))) }
+        | inl e ↦ record {
+          page = p;
+          among = among;
+          here = subst (λ (x : List Entry). Contains x (record { key = k; body = b }))
+              (sym w.entries_are)
+              (from k b (inr (old.0, subst (λ (n : ℕ). Contains (entries_at s n) (record { key = k; body = b })) e old.1.here)));
+        }
         | inr d ↦ record { page = old.1.page; among = old.1.among; here = to_new old.1.page _ d old.1.here }
       ]
     ],

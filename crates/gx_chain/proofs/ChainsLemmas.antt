@@ -36,7 +36,12 @@ pub below_to : (pages : ℕ → List ℕ) (n q : ℕ) → Contains (pages_below 
     → IsOfChain pages n q
 below_to pages zero q c = absurd (contains_none q c)
 below_to pages (suc n) q c = elim (Contains-append_cases (pages_below pages n) (pages n) q c) [
-  | inl before ↦ (let r = below_to pages n q before in let less = r.below in record { bucket = r.bucket; below = omega (arith, less); among = r.among })
+  | inl before ↦
+      (let r = below_to pages n q before in let less = r.below in record {
+        bucket = r.bucket;
+        below = omega (arith, less);
+        among = r.among;
+      })
   | inr here ↦ record { bucket = n; below = omega arith; among = here }
 ]
 
@@ -51,13 +56,16 @@ below_from pages (suc n) i q less c = elim (cases_eq i n) [
 pub on_below : (s : Sheets) (pages : ℕ → List ℕ) (n : ℕ) (k b : List ℕ)
     → IsOn s (pages_below pages n) k b ↔ IsOnChain s pages n k b
 on_below s pages n k b = (
-  λ on. (let r = below_to pages n on.page on.among in record { bucket = r.bucket; below = r.below; on = record { page = on.page; among = r.among; here = on.here } }),
+  λ on. (let r = below_to pages n on.page on.among in
+      record { bucket = r.bucket; below = r.below; on = record { page = on.page; among = r.among; here = on.here } }),
   λ on. record
       { page = on.on.page; among = below_from pages n on.bucket on.on.page on.below on.on.among; here = on.on.here },
 )
 
 -- what the chains have, the pages in the list have
-pub map_below : (s : Sheets) (pages : ℕ → List ℕ) (count : ℕ) (map : LeafMap) → ((k b : List ℕ) → (fin.get map k ≡ Some b) ↔ IsOnChain s pages count k b) → (k b : List ℕ) → (fin.get map k ≡ Some b) ↔ IsOn s (pages_below pages count) k b
+pub map_below : (s : Sheets) (pages : ℕ → List ℕ) (count : ℕ) (map : LeafMap)
+    → ((k b : List ℕ) → (fin.get map k ≡ Some b) ↔ IsOnChain s pages count k b) → (k b : List ℕ) → (fin.get map k ≡ Some b)
+    ↔ IsOn s (pages_below pages count) k b
 map_below s pages count map there k b =
     let both = on_below s pages count k b in (
       λ is. both.1 ((there k b).0 is),

@@ -42,10 +42,14 @@ has_inserted : (ks : List (Vec ℕ)) (v : Vec ℕ) (k : List ℕ)
     → has_key (insert_key vec_cmp ks v) k ≡ (eq_by_cmp key_cmp k v.items || has_key ks k)
 has_inserted [] v k = refl
 has_inserted (x ∷ xs) v k =
-    elim (key_cmp v.items x.items) as (λ r. key_cmp v.items x.items ≡ r → has_key (match_ordering r (v ∷ x ∷ xs) (x ∷ xs) (x ∷ insert_key vec_cmp xs v)) k ≡ (eq_by_cmp key_cmp k v.items || has_key (x ∷ xs) k)) [
+    elim (key_cmp v.items x.items) as (λ r. key_cmp v.items x.items ≡ r
+    → has_key (match_ordering r (v ∷ x ∷ xs) (x ∷ xs) (x ∷ insert_key vec_cmp xs v)) k
+    ≡ (eq_by_cmp key_cmp k v.items || has_key (x ∷ xs) k)) [
       | Less ↦ λ _. refl
-      | Equal ↦ λ e. doubled (eq_by_cmp key_cmp k v.items) (eq_by_cmp key_cmp k x.items) (has_key xs k) (ap (eq_by_cmp key_cmp k) (only_equal v.items x.items e))
-      | Greater ↦ λ _. ap (λ b. eq_by_cmp key_cmp k x.items || b) (has_inserted xs v k) ∙ moved (eq_by_cmp key_cmp k x.items) (eq_by_cmp key_cmp k v.items) (has_key xs k)
+      | Equal ↦ λ e. doubled (eq_by_cmp key_cmp k v.items) (eq_by_cmp key_cmp k x.items) (has_key xs k)
+          (ap (eq_by_cmp key_cmp k) (only_equal v.items x.items e))
+      | Greater ↦ λ _. ap (λ b. eq_by_cmp key_cmp k x.items || b) (has_inserted xs v k)
+          ∙ moved (eq_by_cmp key_cmp k x.items) (eq_by_cmp key_cmp k v.items) (has_key xs k)
     ] refl
 
 -- ---- the keys of entries are added
@@ -91,7 +95,11 @@ module _ (done : List Entry) (e : Entry) (old mid : List (Vec ℕ)) (h : HasAdde
         ];
         those = λ key. (
           λ now. elim (or_cases (eq_by_cmp key_cmp key v.items) (has_key mid key) (sym (has key) ∙ now)) [
-            | inl same ↦ inl (e.body, subst (λ (k : List ℕ). Contains (done ++ e ∷ []) (record { key = k; body = e.body })) (sym (same_key key v.items same ∙ is)) (Contains-push done e))
+            | inl same ↦ inl (
+              e.body,
+              subst (λ (k : List ℕ). Contains (done ++ e ∷ []) (record { key = k; body = e.body }))
+                  (sym (same_key key v.items same ∙ is)) (Contains-push done e),
+            )
             | inr was ↦ elim ((h.those key).0 was) [
               | inl before ↦ inl (before.0, Contains-append_left done (e ∷ []) (record { key = key; body = before.0 }) before.1)
               | inr first ↦ inr first
@@ -100,7 +108,8 @@ module _ (done : List Entry) (e : Entry) (old mid : List (Vec ℕ)) (h : HasAdde
           λ c. has key ∙ elim c [
             | inl among ↦ elim (key_cases key among) [
               | inl before ↦ or_right (eq_by_cmp key_cmp key v.items) (has_key mid key) ((h.those key).1 (inl before))
-              | inr same ↦ or_left (eq_by_cmp key_cmp key v.items) (has_key mid key) (subst (λ (k : List ℕ). eq_by_cmp key_cmp k v.items ≡ true) (is ∙ sym same) (tied v.items))
+              | inr same ↦ or_left (eq_by_cmp key_cmp key v.items) (has_key mid key)
+                  (subst (λ (k : List ℕ). eq_by_cmp key_cmp k v.items ≡ true) (is ∙ sym same) (tied v.items))
             ]
             | inr first ↦ or_right (eq_by_cmp key_cmp key v.items) (has_key mid key) ((h.those key).1 (inr first))
           ],
@@ -113,7 +122,8 @@ module _ (done : List Entry) (e : Entry) (old mid : List (Vec ℕ)) (h : HasAdde
       let among : IsKeyOf entries e.key =
       (e.body, subst (λ (es : List Entry). Contains es e) (sym all) (contains_middle done e rest)) in
       elim ((h.those e.key).0 (ap (has_key mid) (sym is) ∙ has)) [
-        | inl before ↦ absurd (distinct_before done e (record { key = e.key; body = before.0 }) rest (subst AreDistinct all distinct) before.1 refl)
+        | inl before ↦
+            absurd (distinct_before done e (record { key = e.key; body = before.0 }) rest (subst AreDistinct all distinct) before.1 refl)
         | inr first ↦ record { key = e.key; among = among; shared = first }
       ]
 

@@ -45,14 +45,23 @@ module _ (lo hi : List ℕ) where
   to_page : (es : List Entry) (k b : List ℕ) → Contains (inside_of lo hi es) (listed k b)
       → (is_inside lo hi k ≡ true) × Contains es (page_entry k b)
   to_page [] k b c = absurd (contains_none (listed k b) c)
-  to_page (e ∷ es) k b c = elim (is_inside lo hi e.key) as (λ t. is_inside lo hi e.key ≡ t → Contains (map leaf_entry (cond t (e ∷ filter (λ (x : Entry). is_inside lo hi x.key) es) (filter (λ (x : Entry). is_inside lo hi x.key) es))) (listed k b) → (is_inside lo hi k ≡ true) × Contains (e ∷ es) (page_entry k b)) [
-    | true ↦ λ is at. elim (contains_cases (leaf_entry e) (listed k b) (inside_of lo hi es) at) [
-      | inl same ↦ (let this : e ≡ page_entry k b = λ i. record { key = ap (λ (x : LeafEntry). x.key) same i; body = ap (λ (x : LeafEntry). x.body) same i } in
-          (subst (λ (x : Entry). is_inside lo hi x.key ≡ true) this is, subst (λ (x : Entry). Contains (x ∷ es) (page_entry k b)) (sym this) (contains_here (page_entry k b) es)))
-      | inr later ↦ (let r = to_page es k b later in (r.0, contains_later e (page_entry k b) es r.1))
-    ]
-    | false ↦ λ _ at. (let r = to_page es k b at in (r.0, contains_later e (page_entry k b) es r.1))
-  ] refl c
+  to_page (e ∷ es) k b c = elim (is_inside lo hi e.key) as (λ t. is_inside lo hi e.key ≡ t
+      → Contains (map leaf_entry (cond t (e ∷ filter (λ (x : Entry). is_inside lo hi x.key) es)
+      (filter (λ (x : Entry). is_inside lo hi x.key) es))) (listed k b) → (is_inside lo hi k ≡ true) × Contains (e ∷ es) (page_entry k b)) [
+        | true ↦ λ is at. elim (contains_cases (leaf_entry e) (listed k b) (inside_of lo hi es) at) [
+          | inl same ↦
+              (let this : e ≡ page_entry k b = λ i. record {
+                key = ap (λ (x : LeafEntry). x.key) same i;
+                body = ap (λ (x : LeafEntry). x.body) same i;
+              } in (
+                subst (λ (x : Entry). is_inside lo hi x.key ≡ true) this is,
+                subst (λ (x : Entry). Contains (x ∷ es) (page_entry k b))
+                    (sym this) (contains_here (page_entry k b) es),
+              ))
+          | inr later ↦ (let r = to_page es k b later in (r.0, contains_later e (page_entry k b) es r.1))
+        ]
+        | false ↦ λ _ at. (let r = to_page es k b at in (r.0, contains_later e (page_entry k b) es r.1))
+      ] refl c
 
   from_page : (es : List Entry) (k b : List ℕ) → is_inside lo hi k ≡ true
       → Contains es (page_entry k b) → Contains (inside_of lo hi es) (listed k b)
@@ -62,9 +71,13 @@ module _ (lo hi : List ℕ) where
         subst (λ t. Contains (map leaf_entry (cond t
         (e ∷ filter (λ (x : Entry). is_inside lo hi x.key) es)
         (filter (λ (x : Entry). is_inside lo hi x.key) es))) (listed k b)) (sym inside)
-        (subst (λ (x : Entry). Contains (leaf_entry x ∷ inside_of lo hi es) (listed k b)) (sym same) (contains_here (listed k b) (inside_of lo hi es))))
+        (subst (λ (x : Entry). Contains (leaf_entry x ∷ inside_of lo hi es) (listed k b)) (sym same)
+        (contains_here (listed k b) (inside_of lo hi es))))
     | inr later ↦ (let rest = from_page es k b is later in
-        elim (is_inside lo hi e.key) as (λ t. Contains (map leaf_entry (cond t (e ∷ filter (λ (x : Entry). is_inside lo hi x.key) es) (filter (λ (x : Entry). is_inside lo hi x.key) es))) (listed k b)) [
+        elim (is_inside lo hi e.key) as
+        (λ t. Contains
+        (map leaf_entry (cond t (e ∷ filter (λ (x : Entry). is_inside lo hi x.key) es) (filter (λ (x : Entry). is_inside lo hi x.key) es)))
+        (listed k b)) [
           | true ↦ contains_later (leaf_entry e) (listed k b) (inside_of lo hi es) rest
           | false ↦ rest
         ])
@@ -77,7 +90,9 @@ module _ (lo hi : List ℕ) where
     to_pages [] k b c = absurd (contains_none (listed k b) c)
     to_pages (p ∷ ps) k b c = elim (Contains-append_cases (inside_of lo hi (entries_at s p)) (inside_on s lo hi ps) (listed k b) c) [
       | inl here ↦ (let r = to_page (entries_at s p) k b here in (r.0, record { page = p; among = contains_here p ps; here = r.1 }))
-      | inr later ↦ (let r = to_pages ps k b later in (r.0, record { page = r.1.page; among = contains_later p r.1.page ps r.1.among; here = r.1.here }))
+      | inr later ↦
+          (let r = to_pages ps k b later in
+          (r.0, record { page = r.1.page; among = contains_later p r.1.page ps r.1.among; here = r.1.here }))
     ]
 
     from_pages : (pages : List ℕ) (k b : List ℕ) (q : ℕ) → is_inside lo hi k ≡ true
@@ -88,7 +103,8 @@ module _ (lo hi : List ℕ) where
       | inl same ↦ Contains-append_left (inside_of lo hi (entries_at s p)) (inside_on s lo hi ps) (listed k b)
           (from_page (entries_at s p) k b is
           (subst (λ n. Contains (entries_at s n) (page_entry k b)) (sym same) at))
-      | inr later ↦ Contains-append_right (inside_of lo hi (entries_at s p)) (inside_on s lo hi ps) (listed k b) (from_pages ps k b q is later at)
+      | inr later ↦ Contains-append_right (inside_of lo hi (entries_at s p)) (inside_on s lo hi ps) (listed k b)
+          (from_pages ps k b q is later at)
     ]
 
 -- ---- no key stands twice
@@ -123,7 +139,8 @@ apart_joined (k ∷ ks) qs a b off = (
   recursion_from_All (λ q. eq_by_cmp key_cmp k q ≡ false) (ks ++ qs)
       (All-append (λ q. eq_by_cmp key_cmp k q ≡ false) ks qs
       (All-from_recursion (λ q. eq_by_cmp key_cmp k q ≡ false) ks a.0)
-      (λ i d below. different k (get_or qs i d) (λ same. off k (contains_here k ks) (subst (Contains qs) (sym same) (Contains-get_or qs i d below))))),
+      (λ i d below. different k (get_or qs i d)
+      (λ same. off k (contains_here k ks) (subst (Contains qs) (sym same) (Contains-get_or qs i d below))))),
   apart_joined ks qs a.1 b (λ q in_ks in_qs. off q (contains_later k q ks in_ks) in_qs),
 )
 
@@ -193,7 +210,11 @@ ascends es up apart = sorted_from_all_adjacent nat_list_cmp_total (map key_of es
 
 pub chain_apart : (ground : Ground) (owner first : ℕ) (s : Sheets) (pages : List ℕ)
     → IsChain ground owner s first pages → ArePagesApart s pages
-chain_apart ground owner first s pages chain = record { once = chain.once; each = λ p c. linked_page s first pages p chain.linked c; apart = chain.apart }
+chain_apart ground owner first s pages chain = record {
+  once = chain.once;
+  each = λ p c. linked_page s first pages p chain.linked c;
+  apart = chain.apart;
+}
 
 -- what was found on pages, put in order
 pub collected : (s : Sheets) (pages : List ℕ) (lo hi : List ℕ) (found entries : List LeafEntry)
@@ -206,10 +227,12 @@ collected s pages lo hi found entries h is moved up =
     let apart = pages_apart lo hi s pages h.once (λ p c. page_distinct s p (h.each p c)) h.apart in
     record {
       ascending = ascends entries up
-          (IsDistinct-IsPermutation (eq_by_cmp key_cmp) (eq_by_cmp_equiv nat_list_cmp_total).symm (map key_of (inside_on s lo hi pages)) (map key_of entries) (IsPermutation-map key_of (inside_on s lo hi pages) entries those) apart);
+          (IsDistinct-IsPermutation (eq_by_cmp key_cmp) (eq_by_cmp_equiv nat_list_cmp_total).symm (map key_of (inside_on s lo hi pages))
+          (map key_of entries) (IsPermutation-map key_of (inside_on s lo hi pages) entries those) apart);
       those = λ k b. (
         λ c. to_pages lo hi s pages k b
-            (Contains-permutation entries (inside_on s lo hi pages) (listed k b) (IsPermutation-sym (inside_on s lo hi pages) entries those) c),
+            (Contains-permutation entries (inside_on s lo hi pages) (listed k b)
+            (IsPermutation-sym (inside_on s lo hi pages) entries those) c),
         λ on. Contains-permutation (inside_on s lo hi pages) entries (listed k b) those
             (from_pages lo hi s pages k b on.1.page on.0 on.1.among on.1.here),
       );

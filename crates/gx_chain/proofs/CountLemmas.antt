@@ -78,7 +78,9 @@ keys_few sheets (p ∷ ps) m once has apart =
     let less = fin.remove m w.0 in
     let ih = keys_few sheets ps less (pairs_tail p ps once)
     (λ q c. (let v = has q (contains_later p q ps c) in
-    let other : v.0 ≢ w.0 = λ e. pairs_head p ps once (subst (Contains ps) (apart q p w.0 v.1 w.1 (contains_later p q ps c) (contains_here p ps) (subst (λ (x : List ℕ). Contains (entries_at sheets q) (record { key = x; body = v.1 })) e v.2) w.2) c) in (
+    let other : v.0 ≢ w.0 = λ e. pairs_head p ps once
+    (subst (Contains ps) (apart q p w.0 v.1 w.1 (contains_later p q ps c) (contains_here p ps)
+    (subst (λ (x : List ℕ). Contains (entries_at sheets q) (record { key = x; body = v.1 })) e v.2) w.2) c) in (
       v.0,
       v.1,
       v.2,
@@ -106,7 +108,8 @@ pub chain_few : (ground : Ground) (owner : ℕ) (sheets : Sheets) (first : ℕ) 
 chain_few ground owner sheets first [] m chain map_is = omega arith
 chain_few ground owner sheets first (p ∷ ps) m chain map_is =
     let h = keys_few sheets ps m (pairs_tail p ps chain.once)
-    (λ q c. (let f = first_of (entries_at sheets q) (chain.filled q (contains_later p q ps c) (λ e. pairs_head p ps chain.once (subst (Contains ps) (e ∙ chain.linked.0) c))) in
+    (λ q c. (let f = first_of (entries_at sheets q)
+    (chain.filled q (contains_later p q ps c) (λ e. pairs_head p ps chain.once (subst (Contains ps) (e ∙ chain.linked.0) c))) in
     (f.0, f.1, f.2, map_is f.0 f.1 (record { page = q; among = contains_later p q ps c; here = f.2 }))))
     (λ q r k b c in_q in_r. chain.apart q r k b c (contains_later p q ps in_q) (contains_later p r ps in_r)) in
     omega (arith, h)

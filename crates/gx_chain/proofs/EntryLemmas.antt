@@ -20,8 +20,10 @@ module _ (es : List Entry) (i : ℕ) (key : List ℕ) (distinct : AreDistinct es
         | inl lt ↦ (let read = sym (get_or-remove_below es i e k lt in_i) ∙ is in
             (λ same. distinct k i e lt in_i (ap (λ (x : Entry). x.key) read ∙ same ∙ sym (there e)), (k, omega (arith, lt, in_i), read)))
         | inr ge ↦ (let read = sym (get_or-remove_above es i e k ge in_i) ∙ is in
-            let inside : k + 1 < length es = omega (arith, short, below) in
-            (λ same. distinct i (k + 1) e (omega (arith, ge)) inside (there e ∙ sym same ∙ sym (ap (λ (x : Entry). x.key) read)), (k + 1, inside, read)))
+            let inside : k + 1 < length es = omega (arith, short, below) in (
+              λ same. distinct i (k + 1) e (omega (arith, ge)) inside (there e ∙ sym same ∙ sym (ap (λ (x : Entry). x.key) read)),
+              (k + 1, inside, read),
+            ))
       ]
 
   pub less_to : (e : Entry) → Contains (remove es i) e → (e.key ≢ key) × Contains es e
@@ -41,8 +43,12 @@ module _ (es : List Entry) (i : ℕ) (key : List ℕ) (distinct : AreDistinct es
         | inl same ↦ absurd (other (sym (ap (λ (x : Entry). x.key) is) ∙ ap (λ (n : ℕ). (get_or es n e).key) same ∙ there e))
         | inr apart ↦ elim apart [
           | inl lt ↦ (k, omega (arith, short, lt, in_i), get_or-remove_below es i e k lt in_i ∙ is)
-          | inr gt ↦ (let back : k - 1 + 1 ≡ k = omega (arith, gt) in
-              (k - 1, omega (arith, short, gt, below), get_or-remove_above es i e (k - 1) (omega (arith, gt)) in_i ∙ ap (λ (n : ℕ). get_or es n e) back ∙ is))
+          | inr gt ↦ (let back : k - 1 + 1 ≡ k = omega (arith, gt) in (
+            k - 1,
+            omega (arith, short, gt, below),
+            get_or-remove_above es i e (k - 1) (omega (arith, gt)) in_i
+                ∙ ap (λ (n : ℕ). get_or es n e) back ∙ is,
+          ))
         ]
       ]
 

@@ -69,8 +69,11 @@ pub record ArePassed (before : List LeafEntry) (lo hi page body : List ℕ) (pla
 pub passed_starts : (before : List LeafEntry) (lo hi page body : List ℕ) → body ≡ drop 8 page
     → IsEntryPage page → ArePassed before lo hi page (drop 8 page) 0 before body
 passed_starts before lo hi page body behind is =
-    record
-    { passed = subst (λ b. Passed entry_bytes IsFit (entries_of page) 0 b body) behind (passed_none entry_format (entries_of page) body (body_holds page body is behind)); gives = refl }
+    record {
+      passed = subst (λ b. Passed entry_bytes IsFit (entries_of page) 0 b body) behind
+          (passed_none entry_format (entries_of page) body (body_holds page body is behind));
+      gives = refl;
+    }
 
 module _ (before : List LeafEntry) (lo hi page body : List ℕ) (place : ℕ) (found : List LeafEntry)
     (rest : List ℕ) (count : ℕ)

@@ -58,7 +58,8 @@ pairs_tail x xs once i j d less below = once (suc i) (suc j) d (omega arith) (om
 pub pairs_cons : (x : ℕ) (xs : List ℕ) → (Contains xs x → ⊥) → AllPairs (λ a b. a ≢ b) xs
     → AllPairs (λ a b. a ≢ b) (x ∷ xs)
 pairs_cons x xs off once zero zero d less below = absurd (omega arith)
-pairs_cons x xs off once zero (suc j) d less below = let lt : j < length xs = omega arith in λ e. off (j, lt, get_or_default xs j x d lt ∙ sym e)
+pairs_cons x xs off once zero (suc j) d less below = let lt : j < length xs = omega arith in
+    λ e. off (j, lt, get_or_default xs j x d lt ∙ sym e)
 pairs_cons x xs off once (suc i) zero d less below = absurd (omega arith)
 pairs_cons x xs off once (suc i) (suc j) d less below = once i j d (omega arith) (omega arith)
 
@@ -131,7 +132,12 @@ record IsWithout (x : ℕ) (xs : List ℕ) : Type 0 where
 take_out : (x : ℕ) (xs : List ℕ) → AllPairs (λ a b. a ≢ b) xs → IsWithout x xs
 take_out x [] u = record { rest = []; shorter = omega arith; once = u; members = λ y i. absurd (contains_none y i) }
 take_out x (z ∷ xs) u = elim (cases_eq z x) [
-  | inl e ↦ record { rest = xs; shorter = omega arith; once = pairs_tail z xs u; members = λ y i. (contains_later z y xs i, λ f. pairs_head z xs u (subst (Contains xs) (f ∙ sym e) i)) }
+  | inl e ↦ record {
+    rest = xs;
+    shorter = omega arith;
+    once = pairs_tail z xs u;
+    members = λ y i. (contains_later z y xs i, λ f. pairs_head z xs u (subst (Contains xs) (f ∙ sym e) i));
+  }
   | inr d ↦ (let w = take_out x xs (pairs_tail z xs u) in record {
     rest = z ∷ w.rest;
     shorter = (let s = w.shorter in omega (arith, s));

@@ -57,10 +57,11 @@ owned_from : (owner : ℕ) (sheets : Sheets) (n : ℕ) (e : Entry)
     → Contains (owned_entries owner sheets n) e → IsOwnedEntry owner sheets e
 owned_from owner sheets zero e c = absurd (contains_none e c)
 owned_from owner sheets (suc n) e c = elim (contains_either (entries_if_owned owner sheets n) (owned_entries owner sheets n) e c) [
-  | inl here ↦ elim (has_owner owner sheets n) as (λ b. has_owner owner sheets n ≡ b → Contains (cond b (entries_at sheets n) []) e → IsOwnedEntry owner sheets e) [
-    | true ↦ λ is at. record { page = n; owned = is; here = at }
-    | false ↦ λ _ at. absurd (contains_none e at)
-  ] refl here
+  | inl here ↦ elim (has_owner owner sheets n) as (λ b. has_owner owner sheets n ≡ b → Contains (cond b (entries_at sheets n) []) e
+      → IsOwnedEntry owner sheets e) [
+        | true ↦ λ is at. record { page = n; owned = is; here = at }
+        | false ↦ λ _ at. absurd (contains_none e at)
+      ] refl here
   | inr later ↦ owned_from owner sheets n e later
 ]
 
@@ -73,7 +74,8 @@ owned_to owner sheets (suc n) p e less is at = elim (cases_eq p n) [
       (subst (λ b. Contains (cond b (entries_at sheets n) []) e)
       (sym (ap (has_owner owner sheets) (sym same) ∙ is))
       (subst (λ q. Contains (entries_at sheets q) e) same at))
-  | inr other ↦ contains_right (entries_if_owned owner sheets n) (owned_entries owner sheets n) e (owned_to owner sheets n p e (omega (arith, less, other)) is at)
+  | inr other ↦ contains_right (entries_if_owned owner sheets n) (owned_entries owner sheets n) e
+      (owned_to owner sheets n p e (omega (arith, less, other)) is at)
 ]
 
 -- ---- look-ups among entries
@@ -141,7 +143,8 @@ module _ (owner : ℕ) (s : Sheets) (pages : List ℕ) (some : 1 ≤ owner) (h :
   -- what is read stands on the chain
   read_on : (k b : List ℕ) → fin.get (owned_map owner s) k ≡ Some b → IsOn s pages k b
   read_on k b is =
-      let at = owned_from owner s (length s.owners) (record { key = k; body = b }) (found_from (owned_entries owner s (length s.owners)) k b (sym (read_at k) ∙ is)) in
+      let at = owned_from owner s (length s.owners) (record { key = k; body = b })
+      (found_from (owned_entries owner s (length s.owners)) k b (sym (read_at k) ∙ is)) in
       record
       { page = at.page; among = all_owned at.page (owner_at at.page at.owned); here = at.here }
 
@@ -151,7 +154,8 @@ module _ (owner : ℕ) (s : Sheets) (pages : List ℕ) (some : 1 ≤ owner) (h :
   on_read k b on =
       let owned = are_owned on.page on.among in
       let found = found_some (owned_entries owner s (length s.owners)) k b
-      (owned_to owner s (length s.owners) on.page (record { key = k; body = b }) (slice_get_within s.owners on.page owner owned) (has_at on.page owned) on.here) in
+      (owned_to owner s (length s.owners) on.page (record { key = k; body = b }) (slice_get_within s.owners on.page owner owned)
+      (has_at on.page owned) on.here) in
       (found.0, read_at k ∙ found.1)
 
   -- one body at most stands on it under a key

@@ -10,21 +10,25 @@ use Rattle.gx_ports.specs.Keyed.{key_cmp}
 use Rattle.gx_ports.proofs.KeyLemmas.{same_key, tied}
 
 -- the map has the entries that are there
-module _ (map : LeafMap) (key : List ℕ) (IsThere : List ℕ → List ℕ → Type 0) (there : (k b : List ℕ) → (fin.get map k ≡ Some b) ↔ IsThere k b) where
+module _ (map : LeafMap) (key : List ℕ) (IsThere : List ℕ → List ℕ → Type 0)
+    (there : (k b : List ℕ) → (fin.get map k ≡ Some b) ↔ IsThere k b) where
   other_key : (k : List ℕ) → eq_by_cmp key_cmp k key ≡ false → k ≢ key
   other_key k e same = true≢false (sym (tied key) ∙ ap (λ x. eq_by_cmp key_cmp x key) (sym same) ∙ e)
 
-  put_to : (body k b : List ℕ) (q : Bool) → eq_by_cmp key_cmp k key ≡ q → cond q (Some body) (fin.get map k) ≡ Some b → ((k ≡ key) × (b ≡ body)) ⊎ ((k ≢ key) × IsThere k b)
+  put_to : (body k b : List ℕ) (q : Bool) → eq_by_cmp key_cmp k key ≡ q → cond q (Some body) (fin.get map k) ≡ Some b
+      → ((k ≡ key) × (b ≡ body)) ⊎ ((k ≢ key) × IsThere k b)
   put_to body k b true e is = inl (same_key k key e, sym (same_Some body b is))
   put_to body k b false e is = inr (other_key k e, (there k b).0 is)
 
-  put_from : (body k b : List ℕ) (q : Bool) → eq_by_cmp key_cmp k key ≡ q → ((k ≡ key) × (b ≡ body)) ⊎ ((k ≢ key) × IsThere k b) → cond q (Some body) (fin.get map k) ≡ Some b
+  put_from : (body k b : List ℕ) (q : Bool) → eq_by_cmp key_cmp k key ≡ q → ((k ≡ key) × (b ≡ body)) ⊎ ((k ≢ key) × IsThere k b)
+      → cond q (Some body) (fin.get map k) ≡ Some b
   put_from body k b true e (inl put) = ap Some (sym put.1)
   put_from body k b true e (inr old) = absurd (old.0 (same_key k key e))
   put_from body k b false e (inl put) = absurd (other_key k e put.0)
   put_from body k b false e (inr old) = (there k b).1 old.1
 
-  pub found_put : (body k b : List ℕ) → (fin.get (fin.insert map key body) k ≡ Some b) ↔ (((k ≡ key) × (b ≡ body)) ⊎ ((k ≢ key) × IsThere k b))
+  pub found_put : (body k b : List ℕ) → (fin.get (fin.insert map key body) k ≡ Some b)
+      ↔ (((k ≡ key) × (b ≡ body)) ⊎ ((k ≢ key) × IsThere k b))
   found_put body k b =
       let got = fin.get-insert nat_list_cmp_total map key body k in (
         λ is. put_to body k b (eq_by_cmp key_cmp k key) refl (sym got ∙ is),

@@ -33,11 +33,16 @@ module _ (bucket_of : List ℕ → ℕ) (number : ℕ) where
   has_bucket key = bucket_of key.items == number
 
   -- each key has the bucket
-  pub all_placed : (keys : List (Vec ℕ)) → list_all (λ key. bucket_of key.items == number) keys ≡ true → (key : List ℕ) → has_key keys key ≡ true → bucket_of key ≡ number
+  pub all_placed : (keys : List (Vec ℕ)) → list_all (λ key. bucket_of key.items == number) keys ≡ true → (key : List ℕ)
+      → has_key keys key ≡ true → bucket_of key ≡ number
   all_placed keys all key has =
       let r = has_from keys key has in
-      ap bucket_of r.2 ∙ eqb-true (bucket_of r.0.items) number (ap has_bucket (sym r.1.2) ∙ AllPass-from_list_all has_bucket keys all r.1.0 r.0 r.1.1)
+      ap bucket_of r.2 ∙ eqb-true (bucket_of r.0.items) number
+      (ap has_bucket (sym r.1.2) ∙ AllPass-from_list_all has_bucket keys all r.1.0 r.0 r.1.1)
 
-  pub placed_all : (keys : List (Vec ℕ)) → ((key : List ℕ) → has_key keys key ≡ true → bucket_of key ≡ number) → list_all (λ key. bucket_of key.items == number) keys ≡ true
+  pub placed_all : (keys : List (Vec ℕ)) → ((key : List ℕ) → has_key keys key ≡ true → bucket_of key ≡ number)
+      → list_all (λ key. bucket_of key.items == number) keys ≡ true
   placed_all keys placed =
-      list_all-from_AllPass has_bucket keys (λ i d less. let v = get_or keys i d in ap (λ n. n == number) (placed v.items (has_to keys v (All-contains_itself keys i d less))) ∙ equal_itself number)
+      list_all-from_AllPass has_bucket keys
+      (λ i d less. let v = get_or keys i d in ap (λ n. n == number) (placed v.items (has_to keys v (All-contains_itself keys i d less)))
+      ∙ equal_itself number)

@@ -40,8 +40,11 @@ module _ (ground : Ground) (owner first : ℕ) (key : List ℕ) (s t : Sheets) (
   dropped_none same lack = record {
     chain = subst (λ x. IsChain ground owner x first pages) (sym same) chain;
     entries = λ k b. (
-      λ on. (let here = subst (λ x. IsOn x pages k b) same on in
-          (λ e. no_entry (entries_at s here.page) key b (lack here.page here.among) (subst (λ (n : List ℕ). Contains (entries_at s here.page) (record { key = n; body = b })) e here.here), here)),
+      λ on. (let here = subst (λ x. IsOn x pages k b) same on in (
+        λ e. no_entry (entries_at s here.page) key b (lack here.page here.among)
+            (subst (λ (n : List ℕ). Contains (entries_at s here.page) (record { key = n; body = b })) e here.here),
+        here,
+      )),
       λ on. subst (λ x. IsOn x pages k b) (sym same) on.1,
     );
     owners = ap (λ x. x.owners) same;
@@ -60,7 +63,10 @@ module _ (ground : Ground) (owner first : ℕ) (key : List ℕ) (s t : Sheets) (
       let on = rewritten_on ground owner s t first pages p (remove es taken.place) chain among w (λ _ _. ⊥) key
       (λ k b c. inr (less_to es taken.place key distinct taken.within taken.there
       (record { key = k; body = b }) c))
-      (λ k b c. elim c [ inl never ↦ absurd never | inr old ↦ less_from es taken.place key distinct taken.within taken.there (record { key = k; body = b }) old ])
+      (λ k b c. elim c [
+        | inl never ↦ absurd never
+        | inr old ↦ less_from es taken.place key distinct taken.within taken.there (record { key = k; body = b }) old
+      ])
       (λ q b d in_q c. d (chain.apart q p key b held.0 in_q among c held.1)) in
       record {
         chain =
@@ -70,7 +76,8 @@ module _ (ground : Ground) (owner first : ℕ) (key : List ℕ) (s t : Sheets) (
         entries = λ k b. (λ o. elim ((on k b).0 o) [ inl never ↦ absurd never | inr r ↦ r ], λ o. (on k b).1 (inr o));
         owners = w.owners;
         same = λ q lack. at_other s t q
-            (w.others q (λ e. no_entry (entries_at s p) key held.0 (subst (λ n. All (λ (x : Entry). x.key ≢ key) (entries_at s n)) e lack) held.1));
+            (w.others q (λ e. no_entry (entries_at s p) key held.0 (subst (λ n. All (λ (x : Entry). x.key ≢ key) (entries_at s n)) e lack)
+            held.1));
         beside = λ q off. w.others q (λ e. off (subst (Contains pages) (sym e) among));
       }
 
@@ -106,8 +113,10 @@ put_here ground owner first key body s t pages p es chain among ex w =
     let short = length-remove old ex.place ex.within in
     let within : ex.place ≤ length (remove old ex.place) =
     (let i = ex.within in omega (arith, short, i)) in
-    let to : (k b : List ℕ) → Contains es (record { key = k; body = b }) → ((k ≡ key) × (b ≡ body)) ⊎ ((k ≢ key) × Contains old (record { key = k; body = b })) =
-    λ k b c. elim (more_to (remove old ex.place) ex.place e (record { key = k; body = b }) (subst (λ (x : List Entry). Contains x (record { key = k; body = b })) ex.is c)) [
+    let to : (k b : List ℕ) → Contains es (record { key = k; body = b }) → ((k ≡ key) × (b ≡ body))
+    ⊎ ((k ≢ key) × Contains old (record { key = k; body = b })) =
+    λ k b c. elim (more_to (remove old ex.place) ex.place e (record { key = k; body = b })
+    (subst (λ (x : List Entry). Contains x (record { key = k; body = b })) ex.is c)) [
       | inl same ↦ inl (sym (ap (λ (x : Entry). x.key) same), sym (ap (λ (x : Entry). x.body) same))
       | inr less ↦ inr (less_to old ex.place key distinct ex.within ex.there (record { key = k; body = b }) less)
     ] in
@@ -123,7 +132,8 @@ put_here ground owner first key body s t pages p es chain among ex w =
       entries =
           rewritten_on ground owner s t first pages p es chain among w
           (λ k b. (k ≡ key) × (b ≡ body)) key to
-          (λ k b c. subst (λ (x : List Entry). Contains x (record { key = k; body = b })) (sym ex.is) (more_from (remove old ex.place) ex.place e (record { key = k; body = b }) (elim c [
+          (λ k b c. subst (λ (x : List Entry). Contains x (record { key = k; body = b })) (sym ex.is)
+          (more_from (remove old ex.place) ex.place e (record { key = k; body = b }) (elim c [
             | inl same ↦ inl (λ j. record { key = sym same.0 j; body = sym same.1 j })
             | inr less ↦ inr (less_from old ex.place key distinct ex.within ex.there (record { key = k; body = b }) less)
           ])))
@@ -154,7 +164,8 @@ module _ (ground : Ground) (owner first : ℕ) (key body : List ℕ) (s u t : Sh
       let old = entries_at u p in
       let e : Entry = record { key = key; body = body } in
       let es = insert old (length old) e in
-      let to : (k b : List ℕ) → Contains es (record { key = k; body = b }) → ((k ≡ key) × (b ≡ body)) ⊎ ((k ≢ key) × Contains old (record { key = k; body = b })) =
+      let to : (k b : List ℕ) → Contains es (record { key = k; body = b }) → ((k ≡ key) × (b ≡ body))
+      ⊎ ((k ≢ key) × Contains old (record { key = k; body = b })) =
       λ k b c. elim (more_to old (length old) e (record { key = k; body = b }) c) [
         | inl same ↦ inl (sym (ap (λ (x : Entry). x.key) same), sym (ap (λ (x : Entry). x.body) same))
         | inr there ↦ inr (other_key p k b among there, there)
@@ -171,7 +182,9 @@ module _ (ground : Ground) (owner first : ℕ) (key body : List ℕ) (s u t : Sh
             rewritten_chain ground owner u t first pages p es d.chain among w
             (λ _. inserted old (length old) e (omega arith))
             (λ k b c. elim (to k b c) [
-              | inl same ↦ inr (λ q b' in_q c'. gone q b' in_q (subst (λ (n : List ℕ). Contains (entries_at u q) (record { key = n; body = b' })) same.0 c'))
+              | inl same ↦
+                  inr (λ q b' in_q c'. gone q b' in_q
+                  (subst (λ (n : List ℕ). Contains (entries_at u q) (record { key = n; body = b' })) same.0 c'))
               | inr there ↦ inl (b, there.1)
             ]);
         entries = λ k b. (
@@ -273,7 +286,8 @@ module _ (ground : Ground) (owner first : ℕ) (s u : Sheets) (pages : List ℕ)
     on_fresh : (q : ℕ) (k b : List ℕ) → fresh ≡ q
         → Contains (entries_at t q) (record { key = k; body = b }) → (k ≡ key) × (b ≡ body)
     on_fresh q k b same here =
-        elim (contains_cases (record { key = key; body = body }) (record { key = k; body = b }) [] (subst (λ (x : List Entry). Contains x (record { key = k; body = b })) (ap (entries_at t) (sym same) ∙ at_fresh) here)) [
+        elim (contains_cases (record { key = key; body = body }) (record { key = k; body = b }) []
+        (subst (λ (x : List Entry). Contains x (record { key = k; body = b })) (ap (entries_at t) (sym same) ∙ at_fresh) here)) [
           | inl e ↦ (sym (ap (λ (x : Entry). x.key) e), sym (ap (λ (x : Entry). x.body) e))
           | inr none ↦ absurd (contains_none (record { key = k; body = b }) none)
         ]
@@ -306,7 +320,9 @@ module _ (ground : Ground) (owner first : ℕ) (s u : Sheets) (pages : List ℕ)
           λ q c. ap (λ (o : List ℕ). slice_get o q) (a.hung.owners ∙ a.begun.owners)
           ∙ elim (Contains-push_cases pages fresh q c) [
             | inl old ↦ d.chain.owned q old
-            | inr e ↦ subst (λ n. slice_get v.owners n ≡ Some owner) e (ap (λ (o : List ℕ). slice_get o fresh) (d.owners ∙ claimed.owned.owners) ∙ slice_get_set_same s.owners fresh owner 0 claimed.was_free)
+            | inr e ↦ subst (λ n. slice_get v.owners n ≡ Some owner) e
+                (ap (λ (o : List ℕ). slice_get o fresh) (d.owners ∙ claimed.owned.owners)
+                ∙ slice_get_set_same s.owners fresh owner 0 claimed.was_free)
           ];
       filled = λ q c f none. elim (Contains-push_cases pages fresh q c) [
         | inl old ↦ d.chain.filled q old f (sym (at_page q old) ∙ none)
@@ -330,14 +346,23 @@ module _ (ground : Ground) (owner first : ℕ) (s u : Sheets) (pages : List ℕ)
       chain = appended_chain;
       entries = λ k b. (
         λ on. elim (Contains-push_cases pages fresh on.page on.among) [
-          | inl old ↦ (let was = (d.entries k b).0 (record { page = on.page; among = old; here = to_old on.page _ old on.here }) in inr (was.0, same_on_back ground owner first s u pages claimed_same k b was.1))
+          | inl old ↦ (let was = (d.entries k b).0 (record { page = on.page; among = old; here = to_old on.page _ old on.here }) in
+              inr (was.0, same_on_back ground owner first s u pages claimed_same k b was.1))
           | inr e ↦ inl (on_fresh on.page k b e on.here)
         ],
         λ o. elim o [
-          | inl put ↦ record { page = fresh; among = Contains-push pages fresh; here = subst (λ (x : List Entry). Contains x (record { key = k; body = b })) (sym at_fresh) (0, omega arith, λ j. record { key = sym put.0 j; body = sym put.1 j }) }
+          | inl put ↦ record {
+            page = fresh;
+            among = Contains-push pages fresh;
+            here = subst (λ (x : List Entry). Contains x (record { key = k; body = b })) (sym at_fresh)
+                (0, omega arith, λ j. record { key = sym put.0 j; body = sym put.1 j });
+          }
           | inr r ↦ (let was = (d.entries k b).1 (r.0, same_on ground owner first s u pages claimed_same k b r.1) in
-              record
-              { page = was.page; among = Contains-append_left pages (fresh ∷ []) was.page was.among; here = subst (λ (x : List Entry). Contains x (record { key = k; body = b })) (sym (at_page was.page was.among)) was.here })
+              record {
+                page = was.page;
+                among = Contains-append_left pages (fresh ∷ []) was.page was.among;
+                here = subst (λ (x : List Entry). Contains x (record { key = k; body = b })) (sym (at_page was.page was.among)) was.here;
+              })
         ],
       );
       beside = record {

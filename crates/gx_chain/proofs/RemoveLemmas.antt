@@ -106,7 +106,8 @@ module _ (ground : Ground) (owner first : ℕ) (key : List ℕ) (s t : Sheets)
   only_key k b d c =
       contains_none (record { key = k; body = b })
       (subst (λ (x : List Entry). Contains x (record { key = k; body = b })) alone
-      (less_from (entries_at s p) place key (page_distinct s p (linked_page s first pages p chain.linked p_in)) within there (record { key = k; body = b }) (d, c)))
+      (less_from (entries_at s p) place key (page_distinct s p (linked_page s first pages p chain.linked p_in)) within there
+      (record { key = k; body = b }) (d, c)))
 
   owners_are : (r : ℕ) → slice_get t.owners r ≡ slice_get (set s.owners p 0) r
   owners_are r =
@@ -115,8 +116,11 @@ module _ (ground : Ground) (owner first : ℕ) (key : List ℕ) (s t : Sheets)
 
   apart_q : (r : ℕ) → (Contains others r ⊎ Contains rest r) → r ≢ q
   apart_q r c e = elim c [
-    | inl i ↦ pairs_last others q (pairs_front (others ++ q ∷ []) (p ∷ rest) (subst (λ (x : List ℕ). AllPairs (λ a b. a ≢ b) x) is chain.once)) (subst (Contains others) e i)
-    | inr i ↦ pairs_across others q (p ∷ rest) (subst (λ (x : List ℕ). AllPairs (λ a b. a ≢ b) x) is chain.once) (contains_later p q rest (subst (Contains rest) e i))
+    | inl i ↦ pairs_last others q
+        (pairs_front (others ++ q ∷ []) (p ∷ rest) (subst (λ (x : List ℕ). AllPairs (λ a b. a ≢ b) x) is chain.once))
+        (subst (Contains others) e i)
+    | inr i ↦ pairs_across others q (p ∷ rest) (subst (λ (x : List ℕ). AllPairs (λ a b. a ≢ b) x) is chain.once)
+        (contains_later p q rest (subst (Contains rest) e i))
   ]
 
   left_chain : IsChain ground owner t first ((others ++ q ∷ []) ++ rest)
@@ -147,14 +151,19 @@ module _ (ground : Ground) (owner first : ℕ) (key : List ℕ) (s t : Sheets)
     entries = λ k b. (
       λ on. (let here = subst (λ (x : List Entry). Contains x (record { key = k; body = b })) (at_page on.page on.among) on.here in (
         λ e. p_off on.page on.among
-            (chain.apart on.page p key b held.0 (old_in on.page on.among) p_in (subst (λ (x : List ℕ). Contains (entries_at s on.page) (record { key = x; body = b })) e here) held.1),
+            (chain.apart on.page p key b held.0 (old_in on.page on.among) p_in
+            (subst (λ (x : List ℕ). Contains (entries_at s on.page) (record { key = x; body = b })) e here) held.1),
         record { page = on.page; among = old_in on.page on.among; here = here },
       )),
       λ o. elim (cases_eq o.1.page p) [
         | inl e ↦ absurd (only_key k b o.0 (subst (λ n. Contains (entries_at s n) (record { key = k; body = b })) e o.1.here))
         | inr d ↦ (let among = still_in o.1.page d o.1.among in
-            record
-            { page = o.1.page; among = among; here = subst (λ (x : List Entry). Contains x (record { key = k; body = b })) (sym (at_page o.1.page among)) o.1.here })
+            record {
+              page = o.1.page;
+              among = among;
+              here = subst (λ (x : List Entry). Contains x (record { key = k; body = b }))
+                  (sym (at_page o.1.page among)) o.1.here;
+            })
       ],
     );
     beside = record {

@@ -42,7 +42,10 @@ visited_none ground owner sheets first before visits same none = record {
     λ is. inl (ap (λ (x : List Bool). slice_get x q) (sym same) ∙ is),
     λ c. elim c [ inl is ↦ ap (λ (x : List Bool). slice_get x q) same ∙ is | inr among ↦ absurd (contains_none q among) ],
   );
-  keys = λ key. (λ is. absurd (false≢true (ap (λ (x : List (Vec ℕ)). has_key x key) (sym none) ∙ is)), λ on. absurd (contains_none on.1.page on.1.among));
+  keys = λ key. (
+    λ is. absurd (false≢true (ap (λ (x : List (Vec ℕ)). has_key x key) (sym none) ∙ is)),
+    λ on. absurd (contains_none on.1.page on.1.among),
+  );
 }
 
 module _ (ground : Ground) (owner : ℕ) (sheets : Sheets) (first : ℕ) (before : List Bool)
@@ -79,23 +82,29 @@ module _ (ground : Ground) (owner : ℕ) (sheets : Sheets) (first : ℕ) (before
     apart = λ q r k b c in_q in_r at_q at_r. elim (Contains-push_cases front number q in_q) [
       | inl before ↦ elim (Contains-push_cases front number r in_r) [
         | inl before_too ↦ v.apart q r k b c before before_too at_q at_r
-        | inr same ↦ absurd (added.fresh k (c, subst (λ n. Contains (entries_at sheets n) (record { key = k; body = c })) (sym same) at_r) ((v.keys k).1 (b, record { page = q; among = before; here = at_q })))
+        | inr same ↦ absurd (added.fresh k (c, subst (λ n. Contains (entries_at sheets n) (record { key = k; body = c })) (sym same) at_r)
+            ((v.keys k).1 (b, record { page = q; among = before; here = at_q })))
       ]
       | inr same ↦ elim (Contains-push_cases front number r in_r) [
-        | inl before ↦ absurd (added.fresh k (b, subst (λ n. Contains (entries_at sheets n) (record { key = k; body = b })) (sym same) at_q) ((v.keys k).1 (c, record { page = r; among = before; here = at_r })))
+        | inl before ↦
+            absurd (added.fresh k (b, subst (λ n. Contains (entries_at sheets n) (record { key = k; body = b })) (sym same) at_q)
+            ((v.keys k).1 (c, record { page = r; among = before; here = at_r })))
         | inr same_too ↦ sym same ∙ same_too
       ]
     ];
     seen = λ q. (
       λ is. elim (cases_eq q number) [
         | inl e ↦ inr (subst (Contains (front ++ number ∷ [])) (sym e) (Contains-push front number))
-        | inr d ↦ elim ((v.seen q).0 (sym (slice_get_set old.seen.items number q true d) ∙ ap (λ (x : List Bool). slice_get x q) (sym marked) ∙ is)) [
-          | inl earlier ↦ inl earlier
-          | inr here ↦ inr (Contains-append_left front (number ∷ []) q here)
-        ]
+        | inr d ↦ elim
+            ((v.seen q).0 (sym (slice_get_set old.seen.items number q true d) ∙ ap (λ (x : List Bool). slice_get x q) (sym marked) ∙ is)) [
+              | inl earlier ↦ inl earlier
+              | inr here ↦ inr (Contains-append_left front (number ∷ []) q here)
+            ]
       ],
       λ c. elim c [
-        | inl earlier ↦ still_marked marked q (λ e. unseen.1 (subst (λ n. slice_get old.seen.items n ≡ Some true) e ((v.seen q).1 (inl earlier)))) ((v.seen q).1 (inl earlier))
+        | inl earlier ↦ still_marked marked q
+            (λ e. unseen.1 (subst (λ n. slice_get old.seen.items n ≡ Some true) e ((v.seen q).1 (inl earlier))))
+            ((v.seen q).1 (inl earlier))
         | inr among ↦ elim (Contains-push_cases front number q among) [
           | inl here ↦ still_marked marked q (λ e. off_front (subst (Contains front) e here)) ((v.seen q).1 (inr here))
           | inr same ↦ subst (λ n. slice_get new.seen.items n ≡ Some true) same
@@ -108,11 +117,15 @@ module _ (ground : Ground) (owner : ℕ) (sheets : Sheets) (first : ℕ) (before
     keys = λ key. (
       λ is. elim ((added.those key).0 is) [
         | inl of ↦ (of.0, record { page = number; among = Contains-push front number; here = of.1 })
-        | inr was ↦ (let on = (v.keys key).0 was in (on.0, record { page = on.1.page; among = Contains-append_left front (number ∷ []) on.1.page on.1.among; here = on.1.here }))
+        | inr was ↦
+            (let on = (v.keys key).0 was in
+            (on.0, record { page = on.1.page; among = Contains-append_left front (number ∷ []) on.1.page on.1.among; here = on.1.here }))
       ],
       λ on. elim (Contains-push_cases front number on.1.page on.1.among) [
         | inl before ↦ (added.those key).1 (inr ((v.keys key).1 (on.0, record { page = on.1.page; among = before; here = on.1.here })))
-        | inr same ↦ (added.those key).1 (inl (on.0, subst (λ n. Contains (entries_at sheets n) (record { key = key; body = on.0 })) (sym same) on.1.here))
+        | inr same ↦
+            (added.those key).1
+            (inl (on.0, subst (λ n. Contains (entries_at sheets n) (record { key = key; body = on.0 })) (sym same) on.1.here))
       ],
     );
   }
@@ -326,7 +339,14 @@ came_to_end ground owner sheets first before done visits few_pages h =
     let linked = lead_ends sheets first h.front h.led in
     record {
       pages = h.front;
-      chain = record { linked = linked; once = h.visited.once; past = h.visited.past; owned = h.visited.owned; filled = h.visited.filled; apart = h.visited.apart };
+      chain = record {
+        linked = linked;
+        once = h.visited.once;
+        past = h.visited.past;
+        owned = h.visited.owned;
+        filled = h.visited.filled;
+        apart = h.visited.apart;
+      };
       only = λ other c. one_chain sheets first other h.front c.linked linked
           (λ r i. is_some_page ground r few_pages (c.past r i))
           (λ r i. is_some_page ground r few_pages (h.visited.past r i));

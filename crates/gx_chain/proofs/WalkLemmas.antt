@@ -40,7 +40,12 @@ hand_first sheets first (q ∷ qs) some l = (
     front = [];
     rest = qs;
     is = ap (λ n. n ∷ qs) (sym l.0);
-    linked = (refl, subst (λ n. IsEntryPage (bytes_at sheets n)) (sym l.0) l.1, subst (λ n. AreLinked sheets (next_at sheets n) qs) (sym l.0) l.2);
+    linked = (
+      refl,
+      subst (λ n. IsEntryPage (bytes_at sheets n)) (sym l.0) l.1,
+      subst (λ n. AreLinked sheets (next_at sheets n) qs)
+          (sym l.0) l.2,
+    );
     steps = refl;
   },
   refl,
@@ -66,7 +71,12 @@ hand_moved sheets all front (q ∷ qs) done number next some is steps l = (
     rest = qs;
     is = is ∙ sym (append_assoc front (number ∷ []) (q ∷ qs))
         ∙ ap (λ n. (front ++ number ∷ []) ++ n ∷ qs) (sym l.0);
-    linked = (refl, subst (λ n. IsEntryPage (bytes_at sheets n)) (sym l.0) l.1, subst (λ n. AreLinked sheets (next_at sheets n) qs) (sym l.0) l.2);
+    linked = (
+      refl,
+      subst (λ n. IsEntryPage (bytes_at sheets n)) (sym l.0) l.1,
+      subst (λ n. AreLinked sheets (next_at sheets n) qs)
+          (sym l.0) l.2,
+    );
     steps = omega (arith, length-append front (number ∷ []), steps);
   },
   refl,
@@ -83,7 +93,8 @@ none_behind : (ground : Ground) (sheets : Sheets) (rest : List ℕ) (next : ℕ)
     → ground.size ≤ NONE → ((q : ℕ) → Contains rest q → IsPast ground q)
     → AreLinked sheets next rest → rest ≡ []
 none_behind ground sheets [] next none few_pages past l = refl
-none_behind ground sheets (q ∷ qs) next none few_pages past l = let below = (past q (contains_here q qs)).below in let same = l.0 in absurd (omega (arith, below, same, none, few_pages))
+none_behind ground sheets (q ∷ qs) next none few_pages past l = let below = (past q (contains_here q qs)).below in let same = l.0 in
+    absurd (omega (arith, below, same, none, few_pages))
 
 -- the last page is at hand
 pub hand_last : (ground : Ground) (owner : ℕ) (sheets : Sheets) (first : ℕ) (all : List ℕ)
@@ -168,7 +179,10 @@ module _ (sheets : Sheets) (key body : List ℕ) (front : List ℕ) (last : ℕ)
       (noted (record { old = old; room = room; last = l }) Room).room
   room_noted old None l same is n = record {
     old_is = old_stays old n.old_is is.other;
-    room_is = (subst (Contains (front ++ last ∷ [])) (sym same) (Contains-push front last), subst (λ q. HasRoomFor (entries_at sheets q) key body) (sym same) is);
+    room_is = (
+      subst (Contains (front ++ last ∷ [])) (sym same) (Contains-push front last),
+      subst (λ q. HasRoomFor (entries_at sheets q) key body) (sym same) is,
+    );
   }
   room_noted old (Some r) l same is n = record {
     old_is = old_stays old n.old_is is.other;
@@ -181,7 +195,11 @@ module _ (sheets : Sheets) (key body : List ℕ) (front : List ℕ) (last : ℕ)
       → AreNoted sheets key body (front ++ last ∷ []) (noted away trial).old (noted away trial).room
   noted_more away Replaced new same other is n = absurd (other refl)
   noted_more away Crowded new same other is n = record {
-    old_is = (subst (Contains (front ++ last ∷ [])) (sym same) (Contains-push front last), subst (λ q. IsCrowded (entries_at sheets q) key) (sym same) is);
+    old_is = (
+      subst (Contains (front ++ last ∷ [])) (sym same) (Contains-push front last),
+      subst (λ q. IsCrowded (entries_at sheets q) key)
+          (sym same) is,
+    );
     room_is = room_stays away.room n.room_is;
   }
   noted_more away Room new same other is n = room_noted away.old away.room away.last same is n

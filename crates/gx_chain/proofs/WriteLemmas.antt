@@ -27,7 +27,8 @@ pub written : (s m t : Sheets) (p next : ℕ) (page : List ℕ) (es : List Entry
     → p < length s.bytes → t ≡ record { owners = m.owners; bytes = set m.bytes p page }
     → IsEntryPage page → entries_of page ≡ es → next_of page ≡ next → IsRewritten p next es s t
 written s m t p next page es same below is is_page entries_are next_is =
-    let t_is : t ≡ record { owners = s.owners; bytes = set s.bytes p page } = is ∙ ap (λ (x : Sheets). record { owners = x.owners; bytes = set x.bytes p page }) same in
+    let t_is : t ≡ record { owners = s.owners; bytes = set s.bytes p page } = is
+    ∙ ap (λ (x : Sheets). record { owners = x.owners; bytes = set x.bytes p page }) same in
     let here : bytes_at t p ≡ page =
     ap (λ (x : Sheets). bytes_at x p) t_is ∙ get_or-set_same s.bytes p page [] below in
     record {

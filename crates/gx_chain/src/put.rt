@@ -13,10 +13,10 @@ use crate::walk::{Away, Spot, find_spot};
 use crate::write::{add_to, append, take_from};
 use gx_ports::{PAGE_LEN, Pages, Stop};
 
-/// Sets one pair in the chain of the owner that begins at `first`: in the place of the old one, else on the
-/// first page with room, else on a fresh page behind the last. A page is claimed before any is written.
-/// `Full`: no page past the table is free, and nothing has changed. `Damaged`: no such chain begins there.
-/// After another refusal the pages of the chain may hold anything.
+/// Sets one pair in the chain of the owner that begins at `first`: in the place of the old one,
+/// else on the first page with room, else on a fresh page behind the last. A page is claimed before
+/// any is written. `Full`: no page past the table is free, and nothing has changed. `Damaged`: no
+/// such chain begins there. After another refusal the pages of the chain may hold anything.
 pub fn put_in<P: Pages>(
     pages: &mut P,
     first: u32,
@@ -68,8 +68,8 @@ fn put_away<P: Pages>(
     requires key { length key.now ≤ MAX_KEY_LEN }
     requires entry { length key.now + length body.now ≤ MAX_ENTRY_LEN }
     ensures put { IsTrue P.tells → (first : ℕ) (before : List ℕ) →
-        IsReady (P.ground pages.old) owner (P.working pages.old) first key.now body.now away before →
-        OnOk result
+        IsReady (P.ground pages.old) owner (P.working pages.old) first key.now body.now away
+        before → OnOk result
         (IsPutIn (P.ground pages.old) owner first key.now body.now (P.working pages.old)
         (P.working pages.new) before) }
     ensures full { IsTrue P.tells → IsErrOf result Stop.Full →

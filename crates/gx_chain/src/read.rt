@@ -52,8 +52,8 @@ pub(crate) fn read_kind<P: Pages>(pages: &mut P, number: u32, page: &mut [u8]) -
     Ok(())
 }
 
-/// The page behind this one, None where it is the last. `Damaged`: the number is that of no page past the
-/// table.
+/// The page behind this one, None where it is the last. `Damaged`: the number is that of no page
+/// past the table.
 pub(crate) fn behind<P: Pages>(pages: &P, number: u32, page: &[u8]) -> Result<Option<u32>, Stop>
     requires number { IsPast (P.ground pages.now) number }
     requires bytes { length page.now ≡ PAGE_LEN }

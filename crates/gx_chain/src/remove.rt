@@ -13,9 +13,9 @@ use crate::seek::find_key;
 use gx_ports::{PAGE_LEN, Pages, Stop};
 use gx_slots::{count, next, set_next, take};
 
-/// Takes the pair at a key from the chain of the owner that begins at `first`; a key that isn't there
-/// changes nothing. A page but the first that empties is left out of the chain, and is free. `Damaged`: no
-/// such chain begins there. After a refusal the pages of the chain may hold anything.
+/// Takes the pair at a key from the chain of the owner that begins at `first`; a key that isn't
+/// there changes nothing. A page but the first that empties is left out of the chain, and is free.
+/// `Damaged`: no such chain begins there. After a refusal the pages of the chain may hold anything.
 pub fn remove_from<P: Pages>(pages: &mut P, first: u32, owner: u16, key: &[u8]) -> Result<(), Stop>
     requires first { IsPast (P.ground pages.old) first }
     requires least { 1 ≤ owner }

@@ -22,8 +22,8 @@ pub(crate) struct Found {
     pub previous: Option<u32>,
 }
 
-/// Finds the entry with a key, None where no page has it. Each page is read once at most. Where it is found,
-/// the slice has the bytes of its page.
+/// Finds the entry with a key, None where no page has it. Each page is read once at most. Where it
+/// is found, the slice has the bytes of its page.
 pub(crate) fn find_key<P: Pages>(
     pages: &mut P,
     first: u32,

@@ -47,8 +47,8 @@ pub(crate) enum Spot {
     Away(Away),
 }
 
-/// Tries an entry on an entry page. Where it is put in the place of an old one, the page has it then; else
-/// the bytes may be any entry page with the same next page.
+/// Tries an entry on an entry page. Where it is put in the place of an old one, the page has it
+/// then; else the bytes may be any entry page with the same next page.
 fn try_entry(page: &mut [u8], key: &[u8], body: &[u8]) -> Trial
     requires page { IsEntryPage page.old }
     requires key { length key.now ≤ MAX_KEY_LEN }
@@ -89,8 +89,8 @@ fn note(away: Away, trial: Trial) -> Away
     }
 }
 
-/// Finds where an entry is to be put. Each page is read once at most. At `Here` the slice has the bytes that
-/// the page is to have.
+/// Finds where an entry is to be put. Each page is read once at most. At `Here` the slice has the
+/// bytes that the page is to have.
 pub(crate) fn find_spot<P: Pages>(
     pages: &mut P,
     first: u32,

@@ -15,8 +15,8 @@ use crate::read::read_entries;
 use gx_ports::{PAGE_LEN, Pages, Stop};
 use gx_slots::{add, clear, count, find, set_next, take};
 
-/// Adds an entry behind those of a page. False where an entry has the key, or where this one doesn't fit;
-/// then nothing changes.
+/// Adds an entry behind those of a page. False where an entry has the key, or where this one
+/// doesn't fit; then nothing changes.
 pub(crate) fn add_last(page: &mut [u8], key: &[u8], body: &[u8]) -> bool
     requires page { IsEntryPage page.old }
     requires key { length key.now ≤ MAX_KEY_LEN }

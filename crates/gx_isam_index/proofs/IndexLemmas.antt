@@ -30,7 +30,13 @@ pub record IsCounting (test : List ℕ → Bool) (bytes : List ℕ) (count place
 
 pub counting_first : (test : List ℕ → Bool) (bytes : List ℕ) (count : ℕ) → 1 ≤ count
     → HoldsCount (count - 1) bytes → IsCounting test bytes count 1 bytes 0
-counting_first test bytes count some holds = record { low = omega arith; high = some; few = omega arith; ahead = holds; counted = omega arith }
+counting_first test bytes count some holds = record {
+  low = omega arith;
+  high = some;
+  few = omega arith;
+  ahead = holds;
+  counted = omega arith;
+}
 
 abbrev pub tick : Bool → ℕ
 tick b = cond b 1 0

@@ -71,7 +71,10 @@ pub record IsOrderedTo (es : List LeafEntry) (n : ℕ) : Type 0 where
       → slice_get es (i + 1) ≡ Some f → key_cmp e.key f.key ≡ Less
 
 pub ordered_none : (es : List LeafEntry) → IsOrderedTo es 0
-ordered_none es = record { fit = λ i e below at. absurd (omega (arith, below)); ascending = λ i e f below a b. absurd (omega (arith, below)) }
+ordered_none es = record {
+  fit = λ i e below at. absurd (omega (arith, below));
+  ascending = λ i e f below a b. absurd (omega (arith, below));
+}
 
 pub same_entry : (es : List LeafEntry) (i : ℕ) (e f : LeafEntry) → slice_get es i ≡ Some e
     → slice_get es i ≡ Some f → e ≡ f

@@ -27,7 +27,12 @@ pub scanned_page : (bytes body : List ℕ) (count : ℕ) → length bytes ≡ 40
     → count ≡ count_of bytes
     → HoldsAscending count body → IsAscendingPage bytes
 scanned_page bytes body count size kind blank small behind counted held =
-    let is : IsPageOf held.held (number_of bytes) bytes = record { page = pages.page_from_bytes entry_format 0x44 bytes body count size kind blank small behind counted held.held held.count held.holds; distinct = distinct_of held.held held.ascending } in
+    let is : IsPageOf held.held (number_of bytes) bytes =
+    record {
+      page = pages.page_from_bytes entry_format 0x44 bytes body count size kind blank small behind counted held.held held.count
+          held.holds;
+      distinct = distinct_of held.held held.ascending;
+    } in
     record {
       page = record { entries = held.held; next = number_of bytes; is = is };
       ascending = subst AreAscending (sym (entries_of-page held.held (number_of bytes) bytes is))
@@ -36,11 +41,20 @@ scanned_page bytes body count size kind blank small behind counted held =
 
 -- no entries ascend
 pub none_ascend : (bytes : List ℕ) (count : ℕ) → count ≡ 0 → HoldsAscending count bytes
-none_ascend bytes count none = record { held = []; count = sym none; holds = record { fit = All-nil IsFit; rest = bytes; is = refl }; ascending = λ i j d lt below. absurd (omega arith) }
+none_ascend bytes count none = record {
+  held = [];
+  count = sym none;
+  holds = record { fit = All-nil IsFit; rest = bytes; is = refl };
+  ascending = λ i j d lt below. absurd (omega arith);
+}
 
 -- an ascending page has entries with ascending keys behind its header, as many as it counts
 pub page_scanned : (bytes body : List ℕ) (count : ℕ) → body ≡ drop 8 bytes → count ≡ count_of bytes
     → IsAscendingPage bytes → HoldsAscending count body
 page_scanned bytes body count behind counted is =
-    record
-    { held = entries_of bytes; count = sym (counted ∙ count_is bytes is.page); holds = body_holds bytes body is.page behind; ascending = is.ascending }
+    record {
+      held = entries_of bytes;
+      count = sym (counted ∙ count_is bytes is.page);
+      holds = body_holds bytes body is.page behind;
+      ascending = is.ascending;
+    }

@@ -91,7 +91,11 @@ body_holds bytes body page behind =
 
 pub body_count : (bytes body : List ℕ) (count : ℕ) → IsEntryPage bytes → body ≡ drop 8 bytes
     → count ≡ length (entries_of bytes) → HoldsCount count body
-body_count bytes body count page behind counted = record { held = entries_of bytes; count = sym counted; holds = body_holds bytes body page behind }
+body_count bytes body count page behind counted = record {
+  held = entries_of bytes;
+  count = sym counted;
+  holds = body_holds bytes body page behind;
+}
 
 pub body_entries : (bytes body : List ℕ) (count : ℕ) → IsEntryPage bytes → body ≡ drop 8 bytes
     → count ≡ length (entries_of bytes) → entries_in count body ≡ entries_of bytes

@@ -42,7 +42,8 @@ scanned_holds bytes place rest seen scan = record { fit = scan.fit; rest = rest;
 
 pub scanned_count : (bytes : List ℕ) (place : ℕ) (rest : List ℕ) (seen : List Bool)
     → Scanned bytes place rest seen → HoldsCount place bytes
-scanned_count bytes place rest seen scan = record { held = scan.entries; count = scan.count; holds = scanned_holds bytes place rest seen scan }
+scanned_count bytes place rest seen scan =
+    record { held = scan.entries; count = scan.count; holds = scanned_holds bytes place rest seen scan }
 
 pub scanned_entries : (bytes : List ℕ) (place : ℕ) (rest : List ℕ) (seen : List Bool)
     (scan : Scanned bytes place rest seen) → scan.entries ≡ entries_in place bytes
@@ -57,7 +58,12 @@ scanned_seen bytes place rest seen scan =
 
 pub scanned_all : (bytes : List ℕ) (place : ℕ) (rest : List ℕ) (seen : List Bool)
     → Scanned bytes place rest seen → HoldsDistinct place bytes
-scanned_all bytes place rest seen scan = record { entries = scan.entries; count = scan.count; holds = scanned_holds bytes place rest seen scan; distinct = scan.distinct }
+scanned_all bytes place rest seen scan = record {
+  entries = scan.entries;
+  count = scan.count;
+  holds = scanned_holds bytes place rest seen scan;
+  distinct = scan.distinct;
+}
 
 -- one entry more
 pub scanned_more : (bytes : List ℕ) (place : ℕ) (rest : List ℕ) (seen : List Bool) (entry : Entry)
@@ -132,7 +138,11 @@ pub scanned_page : (bytes body : List ℕ) (count : ℕ) → length bytes ≡ 40
 scanned_page bytes body count size kind blank small behind counted held = record {
   entries = held.entries;
   next = number_of bytes;
-  is = record { page = pages.page_from_bytes entry_format 0x44 bytes body count size kind blank small behind counted held.entries held.count held.holds; distinct = held.distinct };
+  is = record {
+    page = pages.page_from_bytes entry_format 0x44 bytes body count size kind blank small behind counted held.entries
+        held.count held.holds;
+    distinct = held.distinct;
+  };
 }
 
 -- an entry page begins with its kind and a 0
@@ -147,5 +157,9 @@ page_kind bytes page = (
 pub page_scanned : (bytes body : List ℕ) (count : ℕ) → body ≡ drop 8 bytes → count ≡ count_of bytes
     → IsEntryPage bytes → HoldsDistinct count body
 page_scanned bytes body count behind counted page =
-    record
-    { entries = entries_of bytes; count = sym (counted ∙ count_is bytes page); holds = body_holds bytes body page behind; distinct = (page_of bytes page).distinct }
+    record {
+      entries = entries_of bytes;
+      count = sym (counted ∙ count_is bytes page);
+      holds = body_holds bytes body page behind;
+      distinct = (page_of bytes page).distinct;
+    }

@@ -10,5 +10,8 @@ returns c =
     let old = page_of page c.requires in
     let is = page_first (first_of page) (branches_of page) page old c.args.first new (search rules)
     c.set_page_number.ensures (c.set_page_number.auto.page ∙ old.page.size) in
-    record
-    { page = inner_page c.args.first (branches_of page) new is; first = first_of-page c.args.first (branches_of page) new is; branches = branches_of-page c.args.first (branches_of page) new is }
+    record {
+      page = inner_page c.args.first (branches_of page) new is;
+      first = first_of-page c.args.first (branches_of page) new is;
+      branches = branches_of-page c.args.first (branches_of page) new is;
+    }

@@ -17,7 +17,8 @@ returns g c =
       ok = λ told.
           on_ok_weaker c.seek_unseen.result
           (λ all. (c.in_ok-seen.ensures.seen told).1
-          (subst (AreAllSeen s owner) c.deref.ensures.value (subst (λ (x : Sheets). AreAllSeen x owner c.deref.result.now) c.visit_tree.ensures.reads.working all)))
+          (subst (AreAllSeen s owner) c.deref.ensures.value
+          (subst (λ (x : Sheets). AreAllSeen x owner c.deref.result.now) c.visit_tree.ensures.reads.working all)))
           (c.seek_unseen.ensures.all told);
       reads = search rules;
       ends =

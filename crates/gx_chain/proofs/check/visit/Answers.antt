@@ -21,7 +21,8 @@ returns-then-not-branch-clause-ends g c =
     c.is_unseen.new.pages c.block.result
     c.in_ok-is_unseen.ensures.faults.counted (subst (λ (x : Ground). IsHome x c.block.result)
     c.is_unseen.ensures.reads.keeps.ground (_, c.block.ensures.home))
-    (λ n. (let unseen = subst (λ (x : List Bool). IsUnseen (g.P.PageView.working p) c.args.owner x c.args.number) (sym c.deref.ensures.value) (next_unseen g.P.PageView p c.args.owner c.args.first visits c.args.number n) in
+    (λ n. (let unseen = subst (λ (x : List Bool). IsUnseen (g.P.PageView.working p) c.args.owner x c.args.number)
+    (sym c.deref.ensures.value) (next_unseen g.P.PageView p c.args.owner c.args.first visits c.args.number n) in
     false≢true (sym c.if-not-branch.true ∙ (c.in_ok-is_unseen.ensures.unseen n.told).1 unseen)))
 
 pub returns-in_err-read_entries-clause-ends : goal.returns-in_err-read_entries-clause-ends
@@ -54,7 +55,8 @@ returns-then-count-eq0-clause-ends g c =
     ∙ c.in_ok-is_unseen.ensures.faults.counted) (subst
     (λ (x : Ground). IsHome x c.block-then-count-eq0.result) reads.keeps.ground
     (_, c.block-then-count-eq0.ensures.home))
-    (λ n. (let read = c.in_ok-read_entries.ensures.bytes n.told ∙ ap (λ (x : Sheets). bytes_at x c.args.number) c.is_unseen.ensures.reads.working in
+    (λ n. (let read = c.in_ok-read_entries.ensures.bytes n.told
+    ∙ ap (λ (x : Sheets). bytes_at x c.args.number) c.is_unseen.ensures.reads.working in
     next_filled g.P.PageView p c.args.owner c.args.first visits c.args.number n
     c.if-number-first.true
     (ap entries_of (sym read) ∙ no_length (entries_of c.read_entries.new.page) (sym c.count.ensures ∙ c.if-count-eq0.true))))
@@ -75,7 +77,8 @@ returns-then-not-branch-2-clause-ends g c =
     ∙ c.in_ok-is_unseen.ensures.faults.counted)
     (subst (λ (x : Ground). IsHome x c.block-then-not-branch-2.result) reads.keeps.ground
     (_, c.block-then-not-branch-2.ensures.home))
-    (λ n. (let read = c.in_ok-read_entries.ensures.bytes n.told ∙ ap (λ (x : Sheets). bytes_at x c.args.number) c.is_unseen.ensures.reads.working in
+    (λ n. (let read = c.in_ok-read_entries.ensures.bytes n.told
+    ∙ ap (λ (x : Sheets). bytes_at x c.args.number) c.is_unseen.ensures.reads.working in
     next_fresh g.P.PageView p c.args.owner c.args.first visits c.args.number n
     (subst (λ (b : List ℕ). SharesKey (entries_of b) visits.keys.keys) read shared)))
 

@@ -25,7 +25,8 @@ loop-init g c =
       faults = refl;
       past = c.requires.first;
       way =
-          λ told owner all chain. (let h = hand_first s c.args.first all (is_some_page ground c.args.first few_pages c.requires.first) chain.linked in record {
+          λ told owner all chain.
+          (let h = hand_first s c.args.first all (is_some_page ground c.args.first few_pages c.requires.first) chain.linked in record {
             hand = h.0;
             gave = sym (append-nil found) ∙ ap (λ (f : List ℕ). found ++ inside_on s lo hi f) (sym h.1);
           });

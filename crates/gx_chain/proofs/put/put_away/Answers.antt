@@ -20,8 +20,13 @@ returns-in_err-add_to-clause-ends g c =
     (HasRoomAt g.P.PageView u c.in-Some.room c.args.key.now c.args.body.now) p u c.add_to.new.pages
     _ c.from_residual-in_err-add_to.result
     (c.in_ok-drop_old.ensures.ends.cause.counted refl) c.drop_old.ensures.keeps.ground
-    (λ r. (let there = room_there s c.args.key.now c.args.body.now r.pages c.args.away.old c.args.away.room c.in-Some.room r.ready.noted c.in-Some.is in
-    (r.told, still_room ground c.args.owner r.first c.args.key.now c.args.body.now s (g.P.PageView.working u) r.pages (c.in_ok-drop_old.ensures.dropped r.told c.args.owner r.first r.pages r.ready.chain r.ready.noted.old_is) c.in-Some.room there.0 there.1)))
+    (λ r. (let there = room_there s c.args.key.now c.args.body.now r.pages c.args.away.old c.args.away.room c.in-Some.room r.ready.noted
+    c.in-Some.is in (
+      r.told,
+      still_room ground c.args.owner r.first c.args.key.now c.args.body.now s (g.P.PageView.working u) r.pages
+          (c.in_ok-drop_old.ensures.dropped r.told c.args.owner r.first r.pages r.ready.chain r.ready.noted.old_is) c.in-Some.room there.0
+          there.1,
+    )))
     c.in_err-add_to.ensures.ends c.from_residual-in_err-add_to.ensures.1
 
 pub returns-in-Some-clause-put : goal.returns-in-Some-clause-put
@@ -54,7 +59,8 @@ returns-in_err-drop_old-2-clause-ends g c =
       chain =
           subst (λ (x : Ground). IsChain x c.args.owner (g.P.PageView.working u) r.first r.pages)
           (sym c.claim.ensures.keeps.ground)
-          (claimed_chain ground c.args.owner r.first s (g.P.PageView.working u) r.pages c.in_ok-fresh.fresh r.ready.chain c.requires.least claimed);
+          (claimed_chain ground c.args.owner r.first s (g.P.PageView.working u) r.pages c.in_ok-fresh.fresh r.ready.chain c.requires.least
+          claimed);
       has = claimed_old ground c.args.owner r.first s (g.P.PageView.working u) r.pages
           c.in_ok-fresh.fresh r.ready.chain c.requires.least claimed c.args.key.now c.args.away.old
           r.ready.noted.old_is;
@@ -105,7 +111,8 @@ returns-clause-put g c told first before ready =
     let old = claimed_old ground c.args.owner first s u before c.in_ok-fresh.fresh ready.chain
     c.requires.least claimed c.args.key.now c.args.away.old ready.noted.old_is in
     let d = subst (λ (x : Ground). IsDropped x c.args.owner first c.args.key.now u v before) gr
-    (c.in_ok-drop_old-2.ensures.dropped told c.args.owner first before (subst (λ (x : Ground). IsChain x c.args.owner u first before) (sym gr) chain) old) in
+    (c.in_ok-drop_old-2.ensures.dropped told c.args.owner first before
+    (subst (λ (x : Ground). IsChain x c.args.owner u first before) (sym gr) chain) old) in
     let among = last_among before ready.front c.args.away.last ready.ended in
     let apart = λ (e : c.args.away.last ≡ c.in_ok-fresh.fresh). fresh_off ground c.args.owner first
     s u before c.in_ok-fresh.fresh ready.chain c.requires.least claimed

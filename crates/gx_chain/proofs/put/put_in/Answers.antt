@@ -42,11 +42,13 @@ returns-in-Away-clause-put g c told before chain =
     subst (λ (x : Ground). OnOk c.put_away.result
     (IsPutIn x c.args.owner c.args.first c.args.key.now c.args.body.now s t before))
     reads.keeps.ground
-    (subst (λ (x : Sheets). OnOk c.put_away.result (IsPutIn (g.P.PageView.ground q) c.args.owner c.args.first c.args.key.now c.args.body.now x t before)) reads.working
+    (subst (λ (x : Sheets). OnOk c.put_away.result
+    (IsPutIn (g.P.PageView.ground q) c.args.owner c.args.first c.args.key.now c.args.body.now x t before)) reads.working
     (c.put_away.ensures.put told c.args.first before
     (subst (λ (x : Sheets). IsReady (g.P.PageView.ground q) c.args.owner x c.args.first
     c.args.key.now c.args.body.now c.in-Away.away before) (sym reads.working)
-    (subst (λ (x : Ground). IsReady x c.args.owner s c.args.first c.args.key.now c.args.body.now c.in-Away.away before) (sym reads.keeps.ground) ready))))
+    (subst (λ (x : Ground). IsReady x c.args.owner s c.args.first c.args.key.now c.args.body.now c.in-Away.away before)
+    (sym reads.keeps.ground) ready))))
 
 pub returns-in-Away-clause-ends : goal.returns-in-Away-clause-ends
 returns-in-Away-clause-ends g c =
@@ -58,7 +60,8 @@ returns-in-Away-clause-ends g c =
     (IsReadyToPut g.P.PageView q c.args.owner c.args.key.now c.args.body.now c.in-Away.away) p q
     c.put_away.new.pages c.put_away.result
     (c.in_ok-number.ensures.ends.cause.counted refl) reads.keeps.ground
-    (λ has. (let spot = subst (IsSpot s c.args.key.now c.args.body.now has.pages c.find_spot.new.page) c.in-Away.is (c.in_ok-number.ensures.found has.told c.args.owner has.pages has.chain) in record {
+    (λ has. (let spot = subst (IsSpot s c.args.key.now c.args.body.now has.pages c.find_spot.new.page) c.in-Away.is
+    (c.in_ok-number.ensures.found has.told c.args.owner has.pages has.chain) in record {
       told = has.told;
       first = c.args.first;
       pages = has.pages;

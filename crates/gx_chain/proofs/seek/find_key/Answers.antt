@@ -23,7 +23,8 @@ loop-init g c =
       past = c.requires.first;
       past_before = tt;
       way =
-          λ told owner all chain. (let h = hand_first s c.args.first all (is_some_page ground c.args.first few_pages c.requires.first) chain.linked in record {
+          λ told owner all chain.
+          (let h = hand_first s c.args.first all (is_some_page ground c.args.first few_pages c.requires.first) chain.linked in record {
             hand = h.0;
             lacks = subst (λ (f : List ℕ). LackKey s f c.args.key.now) (sym h.1)
                 (lack_none s c.args.key.now);
@@ -125,7 +126,8 @@ loop-preserved g c =
           record {
             hand = h.0;
             lacks = subst (λ (f : List ℕ). LackKey s f c.args.key.now) (sym h.1)
-                (lack_more s c.args.key.now n.hand.front c.loop.number n.lacks (subst (λ b. All (λ (e : Entry). e.key ≢ c.args.key.now) (entries_of b)) read c.in_default.ensures.missing));
+                (lack_more s c.args.key.now n.hand.front c.loop.number n.lacks
+                (subst (λ b. All (λ (e : Entry). e.key ≢ c.args.key.now) (entries_of b)) read c.in_default.ensures.missing));
             before = (n.hand.front, h.1);
           });
     }

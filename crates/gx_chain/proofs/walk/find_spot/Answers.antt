@@ -21,7 +21,8 @@ loop-init g c =
       faults = refl;
       past = record { old = tt; room = tt; last = c.requires.first };
       way =
-          λ told owner all chain. (let h = hand_first s c.args.first all (is_some_page ground c.args.first few_pages c.requires.first) chain.linked in record {
+          λ told owner all chain.
+          (let h = hand_first s c.args.first all (is_some_page ground c.args.first few_pages c.requires.first) chain.linked in record {
             hand = h.0;
             noted = subst (λ (f : List ℕ). AreNoted s c.args.key.now c.args.body.now f None None)
                 (sym h.1) (none_noted s c.args.key.now c.args.body.now);
@@ -92,11 +93,17 @@ returns-in-None-clause-found g c told owner all chain =
     let trial = subst (λ b. IsTrial c.try_entry-trial.result (entries_of b)
     (entries_of c.try_entry-trial.new.page) c.args.key.now c.args.body.now) read
     c.try_entry-trial.ensures.trial in
-    let more = noted_more s c.args.key.now c.args.body.now n.hand.front c.loop.away.last c.loop.away c.try_entry-trial.result (entries_of c.try_entry-trial.new.page) refl c.in_default.not-Replaced trial n.noted in (
+    let more = noted_more s c.args.key.now c.args.body.now n.hand.front c.loop.away.last c.loop.away c.try_entry-trial.result
+    (entries_of c.try_entry-trial.new.page) refl c.in_default.not-Replaced trial n.noted in (
       subst (λ (a : Away). AreNoted s c.args.key.now c.args.body.now all a.old a.room)
           (sym c.note-away.ensures)
-          (subst (λ (x : List ℕ). AreNoted s c.args.key.now c.args.body.now x (noted c.loop.away c.try_entry-trial.result).old (noted c.loop.away c.try_entry-trial.result).room) (sym all_is) more),
-      (n.hand.front, all_is ∙ ap (λ q. n.hand.front ++ q ∷ []) (sym (ap (λ (a : Away). a.last) c.note-away.ensures ∙ noted_last c.loop.away c.try_entry-trial.result))),
+          (subst (λ (x : List ℕ). AreNoted s c.args.key.now c.args.body.now x (noted c.loop.away c.try_entry-trial.result).old
+          (noted c.loop.away c.try_entry-trial.result).room) (sym all_is) more),
+      (
+        n.hand.front,
+        all_is ∙ ap (λ q. n.hand.front ++ q ∷ [])
+            (sym (ap (λ (a : Away). a.last) c.note-away.ensures ∙ noted_last c.loop.away c.try_entry-trial.result)),
+      ),
     )
 
 pub loop-preserved : goal.loop-preserved
@@ -135,7 +142,8 @@ loop-preserved g c =
             noted =
                 subst (λ (f : List ℕ). AreNoted s c.args.key.now c.args.body.now f
                 c.note-away.result.old c.note-away.result.room) (sym h.1)
-                (subst (λ (a : Away). AreNoted s c.args.key.now c.args.body.now (n.hand.front ++ c.loop.away.last ∷ []) a.old a.room) (sym c.note-away.ensures) more);
+                (subst (λ (a : Away). AreNoted s c.args.key.now c.args.body.now (n.hand.front ++ c.loop.away.last ∷ []) a.old a.room)
+                (sym c.note-away.ensures) more);
           });
     }
 

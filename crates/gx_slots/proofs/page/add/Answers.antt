@@ -27,7 +27,8 @@ returns c =
     let is = page_of page c.requires.page in
     let room : entry_len entry ≤ 4096 - c.offsets-at.result.1 =
     omega (arith, c.entry_len-len.ensures) in
-    let new = page_added entries next page is c.args.i entry c.offsets-at.result.0 c.offsets-at.result.1 c.copy_within.new.self c.write_entry.new.bytes c.set_record_count.new.page
+    let new = page_added entries next page is c.args.i entry c.offsets-at.result.0 c.offsets-at.result.1 c.copy_within.new.self
+    c.write_entry.new.bytes c.set_record_count.new.page
     c.requires.place c.requires.other c.requires.fit c.offsets-at.ensures.start
     c.offsets-at.ensures.end room
     (c.copy_within.ensures.after

@@ -10,7 +10,10 @@ returns c =
     let new = c.write_header.new.page in
     let none : ℕ = 4294967295 in
     let is : IsPageOf [] none new =
-    record
-    { page = page_empty entry_format 0x44 none c.args.page.now new c.requires (omega arith) c.write_header.ensures c.write_header.auto.page; distinct = λ i j d lt below. absurd (omega arith) } in
+    record {
+      page = page_empty entry_format 0x44 none c.args.page.now new c.requires (omega arith) c.write_header.ensures
+          c.write_header.auto.page;
+      distinct = λ i j d lt below. absurd (omega arith);
+    } in
     record
     { page = record { entries = []; next = none; is = is }; entries = entries_of-page [] none new is; next = next_of-page [] none new is }

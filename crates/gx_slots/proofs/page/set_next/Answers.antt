@@ -12,7 +12,13 @@ returns c =
     let entries = entries_of page in
     let old = page_of page c.requires in
     let is : IsPageOf entries c.args.next new =
-    record
-    { page = page_numbered entry_format 0x44 entries (next_of page) page old.page c.args.next new (search rules) c.set_page_number.ensures (c.set_page_number.auto.page ∙ old.page.size); distinct = old.distinct } in
-    record
-    { page = record { entries = entries; next = c.args.next; is = is }; entries = entries_of-page entries c.args.next new is; next = next_of-page entries c.args.next new is }
+    record {
+      page = page_numbered entry_format 0x44 entries (next_of page) page old.page c.args.next new (search rules) c.set_page_number.ensures
+          (c.set_page_number.auto.page ∙ old.page.size);
+      distinct = old.distinct;
+    } in
+    record {
+      page = record { entries = entries; next = c.args.next; is = is };
+      entries = entries_of-page entries c.args.next new is;
+      next = next_of-page entries c.args.next new is;
+    }
