@@ -55,13 +55,17 @@ as_hash ground place s map pages some chains owned placed found = record {
   map_is = on_chains s pages (roots_of place.spec) (bucket_of place.spec) placed (λ k. bucket_below place.spec k some) map found;
 }
 
-pub hash_at : (ground : Ground) (place : Place) (s : Sheets) (map : LeafMap) → 1 ≤ roots_of place.spec → (h : IsHash ground place s map) → (k b : List ℕ) → (fin.get map k ≡ Some b) ↔ IsOn s (h.pages (bucket_of place.spec k)) k b
-hash_at ground place s map some h = at_bucket s h.pages (roots_of place.spec) (bucket_of place.spec) h.placed (λ k. bucket_below place.spec k some) map h.map_is
+pub hash_at : (ground : Ground) (place : Place) (s : Sheets) (map : LeafMap) → 1 ≤ roots_of place.spec → (h : IsHash ground place s map)
+    → (k b : List ℕ) → (fin.get map k ≡ Some b) ↔ IsOn s (h.pages (bucket_of place.spec k)) k b
+hash_at ground place s map some h = at_bucket s h.pages (roots_of place.spec) (bucket_of place.spec) h.placed
+    (λ k. bucket_below place.spec k some) map h.map_is
 
 -- ---- the chain of a key has changed
 
-module _ (ground : Ground) (place : Place) (s t : Sheets) (map : LeafMap) (key : List ℕ) (some : 1 ≤ place.owner) (roots : 1 ≤ roots_of place.spec) (h : IsHash ground place s map) (now : List ℕ)
-    (is : IsChain ground place.owner t (place.root + bucket_of place.spec key) now) (b : StaysBeside ground s t (h.pages (bucket_of place.spec key)) now) where
+module _ (ground : Ground) (place : Place) (s t : Sheets) (map : LeafMap) (key : List ℕ) (some : 1 ≤ place.owner)
+    (roots : 1 ≤ roots_of place.spec) (h : IsHash ground place s map) (now : List ℕ)
+    (is : IsChain ground place.owner t (place.root + bucket_of place.spec key) now)
+    (b : StaysBeside ground s t (h.pages (bucket_of place.spec key)) now) where
   abbrev j : ℕ
   j = bucket_of place.spec key
 
@@ -83,25 +87,37 @@ module _ (ground : Ground) (place : Place) (s t : Sheets) (map : LeafMap) (key :
 
   owned_changed : (q : ℕ) → slice_get t.owners q ≡ Some place.owner → IsOfChain (changed h.pages j now) (roots_of place.spec) q
   owned_changed q o = elim (owned_after ground place.owner s t (h.pages j) now some b q o) [
-    | inl here ↦ record { bucket = j; below = in_j; among = subst (λ (x : List ℕ). Contains x q) (sym (changed_here h.pages j now j refl)) here }
+    | inl here ↦ record {
+      bucket = j;
+      below = in_j;
+      among = subst (λ (x : List ℕ). Contains x q) (sym (changed_here h.pages j now j refl)) here;
+    }
     | inr old ↦ (let was = h.owned q old.1 in
         let d : was.bucket ≢ j = λ e. old.0 (subst (λ n. Contains (h.pages n) q) e was.among) in
-        record { bucket = was.bucket; below = was.below; among = subst (λ (x : List ℕ). Contains x q) (sym (changed_other h.pages j now was.bucket d)) was.among })
+        record {
+          bucket = was.bucket;
+          below = was.below;
+          among = subst (λ (x : List ℕ). Contains x q) (sym (changed_other h.pages j now was.bucket d)) was.among;
+        })
   ]
 
   pub others_stay : OthersStay ground place.owner s t
   others_stay = others_beside ground place.owner s t (h.pages j) now (h.chains j in_j).owned is.owned b
 
   -- it has what was put, and but for the key what it had
-  pub hash_changed : (Put : List ℕ → List ℕ → Type 0) → ((k c : List ℕ) → Put k c → k ≡ key) → ((k c : List ℕ) → IsOn t now k c ↔ (Put k c ⊎ ((k ≢ key) × IsOn s (h.pages j) k c))) → (new : LeafMap)
-      → ((k c : List ℕ) → (fin.get new k ≡ Some c) ↔ (Put k c ⊎ ((k ≢ key) × IsOn s (h.pages (bucket_of place.spec k)) k c))) → IsHash ground place t new
+  pub hash_changed : (Put : List ℕ → List ℕ → Type 0) → ((k c : List ℕ) → Put k c → k ≡ key)
+      → ((k c : List ℕ) → IsOn t now k c ↔ (Put k c ⊎ ((k ≢ key) × IsOn s (h.pages j) k c))) → (new : LeafMap)
+      → ((k c : List ℕ) → (fin.get new k ≡ Some c) ↔ (Put k c ⊎ ((k ≢ key) × IsOn s (h.pages (bucket_of place.spec k)) k c)))
+      → IsHash ground place t new
   hash_changed Put put_key entries new found =
       let put_here = λ (k c : List ℕ) (put : Put k c). ap (bucket_of place.spec) (put_key k c put) in
       let stays = λ (k : List ℕ) (d : bucket_of place.spec k ≢ j) (same : k ≡ key). d (ap (bucket_of place.spec) same) in
       as_hash ground place t new (changed h.pages j now) roots
       (chains_changed ground place.owner s t root_of root_of h.pages (roots_of place.spec) j now (h.pages j) now one_changed) owned_changed
-      (placed_changed ground place.owner s t root_of root_of h.pages (roots_of place.spec) j now (h.pages j) now one_changed (bucket_of place.spec) h.placed in_j Put put_here (λ k. k ≢ key) stays entries)
-      (λ k c. (let on = on_changed ground place.owner s t root_of root_of h.pages (roots_of place.spec) j now (h.pages j) now one_changed (bucket_of place.spec) h.placed in_j Put put_here (λ k. k ≢ key) stays entries
+      (placed_changed ground place.owner s t root_of root_of h.pages (roots_of place.spec) j now (h.pages j) now one_changed
+      (bucket_of place.spec) h.placed in_j Put put_here (λ k. k ≢ key) stays entries)
+      (λ k c. (let on = on_changed ground place.owner s t root_of root_of h.pages (roots_of place.spec) j now (h.pages j) now one_changed
+      (bucket_of place.spec) h.placed in_j Put put_here (λ k. k ≢ key) stays entries
       (bucket_of place.spec k) k c (bucket_below place.spec k roots) refl in (
         λ is. on.1 ((found k c).0 is),
         λ here. (found k c).1 (on.0 here),
@@ -109,10 +125,12 @@ module _ (ground : Ground) (place : Place) (s t : Sheets) (map : LeafMap) (key :
 
 -- ---- one pair is set
 
-module _ (ground : Ground) (place : Place) (s t : Sheets) (map : LeafMap) (key body : List ℕ) (some : 1 ≤ place.owner) (roots : 1 ≤ roots_of place.spec) (h : IsHash ground place s map)
+module _ (ground : Ground) (place : Place) (s t : Sheets) (map : LeafMap) (key body : List ℕ) (some : 1 ≤ place.owner)
+    (roots : 1 ≤ roots_of place.spec) (h : IsHash ground place s map)
     (p : IsPutIn ground place.owner (place.root + bucket_of place.spec key) key body s t (h.pages (bucket_of place.spec key))) where
   pub hash_put : IsHash ground place t (fin.insert map key body)
-  hash_put = hash_changed ground place s t map key some roots h p.pages p.chain p.beside (λ k c. (k ≡ key) × (c ≡ body)) (λ k c put. put.0) p.entries (fin.insert map key body)
+  hash_put = hash_changed ground place s t map key some roots h p.pages p.chain p.beside (λ k c. (k ≡ key) × (c ≡ body))
+      (λ k c put. put.0) p.entries (fin.insert map key body)
       (found_put map key (λ k c. IsOn s (h.pages (bucket_of place.spec k)) k c) (hash_at ground place s map roots h) body)
 
   pub hash_put_others : OthersStay ground place.owner s t
@@ -120,42 +138,55 @@ module _ (ground : Ground) (place : Place) (s t : Sheets) (map : LeafMap) (key b
 
 -- ---- the pair at a key is taken away
 
-module _ (ground : Ground) (place : Place) (s t : Sheets) (map : LeafMap) (key : List ℕ) (some : 1 ≤ place.owner) (roots : 1 ≤ roots_of place.spec) (h : IsHash ground place s map)
+module _ (ground : Ground) (place : Place) (s t : Sheets) (map : LeafMap) (key : List ℕ) (some : 1 ≤ place.owner)
+    (roots : 1 ≤ roots_of place.spec) (h : IsHash ground place s map)
     (p : IsRemovedFrom ground place.owner (place.root + bucket_of place.spec key) key s t (h.pages (bucket_of place.spec key))) where
   pub hash_removed : IsHash ground place t (fin.remove map key)
-  hash_removed = hash_changed ground place s t map key some roots h p.pages p.chain p.beside (λ k c. ⊥) (λ k c never. absurd never) (λ k c. none_put (p.entries k c)) (fin.remove map key)
-      (λ k c. none_put (found_removed map key (λ m d. IsOn s (h.pages (bucket_of place.spec m)) m d) (hash_at ground place s map roots h) k c))
+  hash_removed = hash_changed ground place s t map key some roots h p.pages p.chain p.beside (λ k c. ⊥) (λ k c never. absurd never)
+      (λ k c. none_put (p.entries k c)) (fin.remove map key)
+      (λ k c. none_put (found_removed map key (λ m d. IsOn s (h.pages (bucket_of place.spec m)) m d) (hash_at ground place s map roots h) k
+      c))
 
   pub hash_removed_others : OthersStay ground place.owner s t
   hash_removed_others = others_stay ground place s t map key some roots h p.pages p.chain p.beside
 
 -- ---- its pages decide
 
-pub hash_same : (ground : Ground) (place : Place) (s t : Sheets) (map : LeafMap) → 1 ≤ roots_of place.spec → SameFor ground place.owner s t → IsHash ground place s map → IsHash ground place t map
+pub hash_same : (ground : Ground) (place : Place) (s t : Sheets) (map : LeafMap) → 1 ≤ roots_of place.spec → SameFor ground place.owner s t
+    → IsHash ground place s map → IsHash ground place t map
 hash_same ground place s t map roots same h =
-    let bytes = λ (i q : ℕ) (in_i : i < roots_of place.spec) (c : Contains (h.pages i) q). at_other s t q (same.bytes q ((h.chains i in_i).past q c).past ((h.chains i in_i).owned q c)) in
-    let back = λ (i : ℕ) (k c : List ℕ) (in_i : i < roots_of place.spec). same_on_back ground place.owner (place.root + i) s t (h.pages i) (λ q at. bytes i q in_i at) k c in
+    let bytes = λ (i q : ℕ) (in_i : i < roots_of place.spec) (c : Contains (h.pages i) q). at_other s t q
+    (same.bytes q ((h.chains i in_i).past q c).past ((h.chains i in_i).owned q c)) in
+    let back = λ (i : ℕ) (k c : List ℕ) (in_i : i < roots_of place.spec). same_on_back ground place.owner (place.root + i) s t (h.pages i)
+    (λ q at. bytes i q in_i at) k c in
     as_hash ground place t map h.pages roots
-    (λ i in_i. same_chain ground place.owner (place.root + i) s t (h.pages i) (λ q c. bytes i q in_i c) (λ q c. (same.owned q).0 ((h.chains i in_i).owned q c)) (h.chains i in_i))
+    (λ i in_i. same_chain ground place.owner (place.root + i) s t (h.pages i) (λ q c. bytes i q in_i c)
+    (λ q c. (same.owned q).0 ((h.chains i in_i).owned q c)) (h.chains i in_i))
     (λ q o. h.owned q ((same.owned q).1 o))
     (λ i k c in_i on. h.placed i k c in_i (back i k c in_i on))
     (λ k c. (let in_i = bucket_below place.spec k roots in (
-      λ is. same_on ground place.owner (place.root + bucket_of place.spec k) s t (h.pages (bucket_of place.spec k)) (λ q at. bytes (bucket_of place.spec k) q in_i at) k c ((hash_at ground place s map roots h k c).0 is),
+      λ is. same_on ground place.owner (place.root + bucket_of place.spec k) s t (h.pages (bucket_of place.spec k))
+          (λ q at. bytes (bucket_of place.spec k) q in_i at) k c ((hash_at ground place s map roots h k c).0 is),
       λ on. (hash_at ground place s map roots h k c).1 (back (bucket_of place.spec k) k c in_i on),
     )))
 
 -- ---- the chain of a key
 
-pub root_past : (ground : Ground) (place : Place) (n first : ℕ) → IsPlace ground place → n < roots_of place.spec → first ≡ place.root + n → IsPast ground first
+pub root_past : (ground : Ground) (place : Place) (n first : ℕ) → IsPlace ground place → n < roots_of place.spec → first ≡ place.root + n
+    → IsPast ground first
 root_past ground place n first at below is =
     let past = at.past in
     let end = at.below in
     record { past = omega (arith, is, past); below = omega (arith, is, end, below) }
 
-pub chain_at : (ground : Ground) (place : Place) (s : Sheets) (map : LeafMap) (key : List ℕ) (first : ℕ) → 1 ≤ roots_of place.spec → first ≡ place.root + bucket_of place.spec key → (h : IsHash ground place s map) → IsChain ground place.owner s first (h.pages (bucket_of place.spec key))
-chain_at ground place s map key first roots is h = subst (λ n. IsChain ground place.owner s n (h.pages (bucket_of place.spec key))) (sym is) (h.chains (bucket_of place.spec key) (bucket_below place.spec key roots))
+pub chain_at : (ground : Ground) (place : Place) (s : Sheets) (map : LeafMap) (key : List ℕ) (first : ℕ) → 1 ≤ roots_of place.spec
+    → first ≡ place.root + bucket_of place.spec key → (h : IsHash ground place s map)
+    → IsChain ground place.owner s first (h.pages (bucket_of place.spec key))
+chain_at ground place s map key first roots is h = subst (λ n. IsChain ground place.owner s n (h.pages (bucket_of place.spec key)))
+    (sym is) (h.chains (bucket_of place.spec key) (bucket_below place.spec key roots))
 
-pub has_chain : {S : Type 0} (g : Ghosts S) (p : S) (place : Place) (key : List ℕ) (first : ℕ) → 1 ≤ roots_of place.spec → first ≡ place.root + bucket_of place.spec key → IsWhole g (IsHash (g.ground p) place) p → HasChainOf g p place.owner first
+pub has_chain : {S : Type 0} (g : Ghosts S) (p : S) (place : Place) (key : List ℕ) (first : ℕ) → 1 ≤ roots_of place.spec
+    → first ≡ place.root + bucket_of place.spec key → IsWhole g (IsHash (g.ground p) place) p → HasChainOf g p place.owner first
 has_chain g p place key first roots is whole = record {
   told = whole.1.told;
   pages = whole.1.file.pages (bucket_of place.spec key);

@@ -52,12 +52,15 @@ pub roots_none : (ground : Ground) (place : Place) (s : Sheets) → AreRootsMade
 roots_none ground place s = record { made = λ i below. absurd (omega (arith, below)); owners = λ q off. refl; bytes = λ q past off. refl }
 
 -- the next root is free yet
-pub root_free : (ground : Ground) (place : Place) (s t : Sheets) (count : ℕ) → count < roots_of place.spec → IsVacant place s → AreRootsMade ground place s t count → slice_get t.owners (place.root + count) ≡ Some 0
+pub root_free : (ground : Ground) (place : Place) (s t : Sheets) (count : ℕ) → count < roots_of place.spec → IsVacant place s
+    → AreRootsMade ground place s t count → slice_get t.owners (place.root + count) ≡ Some 0
 root_free ground place s t count below vacant made =
-    made.owners (place.root + count) (λ at. (let less = at.1 in omega (arith, less))) ∙ vacant.free (place.root + count) (omega arith) (omega (arith, below))
+    made.owners (place.root + count) (λ at. (let less = at.1 in omega (arith, less)))
+    ∙ vacant.free (place.root + count) (omega arith) (omega (arith, below))
 
 -- one root more
-module _ (ground : Ground) (place : Place) (s t u : Sheets) (count : ℕ) (at : IsPlace ground place) (below : count < roots_of place.spec) (before : AreRootsMade ground place s t count) (m : IsMade ground place.owner (place.root + count) t u) where
+module _ (ground : Ground) (place : Place) (s t u : Sheets) (count : ℕ) (at : IsPlace ground place) (below : count < roots_of place.spec)
+    (before : AreRootsMade ground place s t count) (m : IsMade ground place.owner (place.root + count) t u) where
   abbrev new_root : ℕ
   new_root = place.root + count
 
@@ -97,12 +100,15 @@ module _ (ground : Ground) (place : Place) (s t u : Sheets) (count : ℕ) (at : 
       | inl e ↦ subst (λ n. IsEmptyRoot place u (place.root + n)) (sym e) made_here
       | inr d ↦ made_before i (omega (arith, less, d))
     ];
-    owners = λ q off. owner_stays q (λ e. off (omega (arith, e), omega (arith, e))) ∙ before.owners q (λ is. off (is.0, (let less = is.1 in omega (arith, less))));
-    bytes = λ q past off. byte_stays q past (λ e. off (omega (arith, e), omega (arith, e))) ∙ before.bytes q past (λ is. off (is.0, (let less = is.1 in omega (arith, less))));
+    owners = λ q off. owner_stays q (λ e. off (omega (arith, e), omega (arith, e)))
+        ∙ before.owners q (λ is. off (is.0, (let less = is.1 in omega (arith, less))));
+    bytes = λ q past off. byte_stays q past (λ e. off (omega (arith, e), omega (arith, e)))
+        ∙ before.bytes q past (λ is. off (is.0, (let less = is.1 in omega (arith, less))));
   }
 
 -- all are made
-module _ (ground : Ground) (place : Place) (s t : Sheets) (at : IsPlace ground place) (roots : 1 ≤ roots_of place.spec) (vacant : IsVacant place s) (made : AreRootsMade ground place s t (roots_of place.spec)) where
+module _ (ground : Ground) (place : Place) (s t : Sheets) (at : IsPlace ground place) (roots : 1 ≤ roots_of place.spec)
+    (vacant : IsVacant place s) (made : AreRootsMade ground place s t (roots_of place.spec)) where
   only : (root q : ℕ) → Contains (root ∷ []) q → root ≡ q
   only root q c = elim (contains_cases root q [] c) [ inl e ↦ e | inr never ↦ absurd (contains_none q never) ]
 
@@ -123,7 +129,9 @@ module _ (ground : Ground) (place : Place) (s t : Sheets) (at : IsPlace ground p
       }
 
   none_on : (i : ℕ) (k b : List ℕ) → i < roots_of place.spec → IsOn t ((place.root + i) ∷ []) k b → ⊥
-  none_on i k b less on = contains_none (record { key = k; body = b }) (subst (λ (x : List Entry). Contains x (record { key = k; body = b })) (ap (entries_at t) (sym (only (place.root + i) on.page on.among)) ∙ (made.made i less).entries_are) on.here)
+  none_on i k b less on = contains_none (record { key = k; body = b })
+      (subst (λ (x : List Entry). Contains x (record { key = k; body = b }))
+      (ap (entries_at t) (sym (only (place.root + i) on.page on.among)) ∙ (made.made i less).entries_are) on.here)
 
   root_or_not : (q : ℕ) → slice_get t.owners q ≡ Some place.owner → IsRoot place (roots_of place.spec) q
   root_or_not q o = elim (cases_order q place.root) [
@@ -142,8 +150,13 @@ module _ (ground : Ground) (place : Place) (s t : Sheets) (at : IsPlace ground p
 
   pub hash_made : IsHash ground place t fin.empty
   hash_made = as_hash ground place t fin.empty (λ i. (place.root + i) ∷ []) roots root_chain
-      (λ q o. (let is = root_or_not q o in let low = is.0 in let high = is.1 in let same : place.root + (q - place.root) ≡ q = omega (arith, low) in
-      record { bucket = q - place.root; below = omega (arith, low, high); among = subst (λ n. Contains (n ∷ []) q) (sym same) (contains_here q []) }))
+      (λ q o. (let is = root_or_not q o in let low = is.0 in let high = is.1 in let same : place.root + (q - place.root) ≡ q =
+      omega (arith, low) in
+      record {
+        bucket = q - place.root;
+        below = omega (arith, low, high);
+        among = subst (λ n. Contains (n ∷ []) q) (sym same) (contains_here q []);
+      }))
       (λ i k b less on. absurd (none_on i k b less on))
       (λ k b. (
         λ is. absurd (none-some b (sym (fin.get-empty key_cmp k) ∙ is)),

@@ -59,16 +59,20 @@ module _ (ground : Ground) (place : Place) (s : Sheets) (pages : ℕ → List �
   rest_in q c = let r = below_to rests count q c in below_from pages count r.bucket q r.below (rest_of (pages r.bucket) q r.among)
 
   -- the chains have few pages
-  pub below_few : (map : LeafMap) → ((k b : List ℕ) → IsOn s (pages_below pages count) k b → fin.get map k ≡ Some b) → length (pages_below pages count) ≤ count + fin.len map
+  pub below_few : (map : LeafMap) → ((k b : List ℕ) → IsOn s (pages_below pages count) k b → fin.get map k ≡ Some b)
+      → length (pages_below pages count) ≤ count + fin.len map
   below_few map map_is =
       let few = keys_few s (pages_below rests count) map
       (once_below rests count (λ i less. rest_once (pages i) (chains i less).once)
-      (λ i j q in_i in_j at_i at_j. chains_once ground place s pages count chains placed i j q in_i in_j (rest_of (pages i) q at_i) (rest_of (pages j) q at_j)))
+      (λ i j q in_i in_j at_i at_j. chains_once ground place s pages count chains placed i j q in_i in_j (rest_of (pages i) q at_i)
+      (rest_of (pages j) q at_j)))
       (λ q c. (let r = below_to rests count q c in
       let chain = chains r.bucket r.below in
-      let e = first_of (entries_at s q) (chain.filled q (rest_of (pages r.bucket) q r.among) (rest_later (place.root + r.bucket) (pages r.bucket) chain q r.among)) in
+      let e = first_of (entries_at s q)
+      (chain.filled q (rest_of (pages r.bucket) q r.among) (rest_later (place.root + r.bucket) (pages r.bucket) chain q r.among)) in
       (e.0, e.1, e.2, map_is e.0 e.1 (record { page = q; among = rest_in q c; here = e.2 }))))
-      (λ p q k b c in_p in_q. across ground place.owner s (λ n. place.root + n) (bucket_of place.spec) count pages chains_of p q k b c (rest_in p in_p) (rest_in q in_q)) in
+      (λ p q k b c in_p in_q. across ground place.owner s (λ n. place.root + n) (bucket_of place.spec) count pages chains_of p q k b c
+      (rest_in p in_p) (rest_in q in_q)) in
       omega (arith, few, rest_below count)
 
 -- ---- the file
@@ -109,7 +113,9 @@ pub hash_read : (ground : Ground) (place : Place) (s : Sheets) (pages : ℕ → 
     → IsHash ground place s (owned_map place.owner s)
 hash_read ground place s pages some roots chains owned placed =
     let all = pages_below pages (roots_of place.spec) in
-    let map_is = owned_map_is place.owner s all some (below_apart ground place.owner s (λ n. place.root + n) (bucket_of place.spec) (roots_of place.spec) pages (chains_of ground place s pages (roots_of place.spec) chains placed))
+    let map_is = owned_map_is place.owner s all some
+    (below_apart ground place.owner s (λ n. place.root + n) (bucket_of place.spec) (roots_of place.spec) pages
+    (chains_of ground place s pages (roots_of place.spec) chains placed))
     (λ q c. (let r = below_to pages (roots_of place.spec) q c in (chains r.bucket r.below).owned q r.among))
     (λ q o. (let r = owned q o in below_from pages (roots_of place.spec) r.bucket q r.below r.among)) in
     record {
@@ -125,7 +131,8 @@ hash_read ground place s pages some roots chains owned placed =
     }
 
 -- what every kind of file proves, of hashed files
-pub hash_laws : (ground : Ground) (place : Place) → IsHashed place.spec.kind → IsPlace ground place → AreFileLaws ground place (IsHash ground place) (owned_map place.owner)
+pub hash_laws : (ground : Ground) (place : Place) → IsHashed place.spec.kind → IsPlace ground place
+    → AreFileLaws ground place (IsHash ground place) (owned_map place.owner)
 hash_laws ground place kind at = record {
   one = λ s m is. hash_one ground place s m is at.least;
   same = λ old new m same is. hash_same ground place old new m (roots_some place.spec kind) same is;

@@ -7,7 +7,8 @@ pub returns-then-byte-eq0 : goal.returns-then-byte-eq0
 returns-then-byte-eq0 c =
     let more : suc c.loop-last.last ≡ c.loop-last.last + 1 = omega arith in
     let zero : get_or c.args.key.now c.loop-last.last 0 ≡ 0 = search rules in
-    subst (λ n. through_zero c.args.key.now ≡ Some (take n c.args.key.now)) more (through_here c.args.key.now c.loop-last.last c.loop-last-test.true c.loop-last.invariant zero)
+    subst (λ n. through_zero c.args.key.now ≡ Some (take n c.args.key.now)) more
+    (through_here c.args.key.now c.loop-last.last c.loop-last-test.true c.loop-last.invariant zero)
 
 pub returns : goal.returns
 returns c =

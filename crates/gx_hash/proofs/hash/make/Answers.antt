@@ -42,7 +42,8 @@ loop-bucket-preserved g c =
           let free = root_free ground place s t c.loop-bucket.bucket below vacant before in
           let made = c.in_ok-make_first.ensures.made told (subst (λ n. slice_get t.owners n ≡ Some 0) (sym c.root-first.ensures) free) in
           roots_more ground place s t u c.loop-bucket.bucket c.requires.place below before
-          (subst (λ n. IsMade ground place.owner n t u) c.root-first.ensures (subst (λ (x : Ground). IsMade x place.owner c.root-first.result t u) i.keeps.ground made));
+          (subst (λ n. IsMade ground place.owner n t u) c.root-first.ensures
+          (subst (λ (x : Ground). IsMade x place.owner c.root-first.result t u) i.keeps.ground made));
     }
 
 pub returns : goal.returns
