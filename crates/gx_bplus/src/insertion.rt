@@ -2,6 +2,7 @@
 ghost use Rattle.std.specs.Prelude.{◌≡◌, ◌≢◌, ◌<◌, ◌≤◌, length, take, drop, slice_index_or};
 ghost use Rattle.std.specs.Bool.{OnTrue, OnFalse};
 ghost use Rattle.std.specs.List.{All, sum_by};
+ghost use Rattle.gx_ports.specs.declared.pages.TheConstants.{PAGE_LEN};
 ghost use Rattle.gx_slots.specs.Entries.{Entry, IsFit, entry_len};
 ghost use Rattle.gx_slots.specs.Page.{IsEntryPage, entries_of};
 ghost use Rattle.gx_btree.specs.declared.reading.Shape.TheVariants as shapes;
@@ -44,7 +45,7 @@ pub(crate) fn spread(
     requires more { 3084 < sum_by entry_len (entries_of page.old) }
     requires other { All (λ entry. entry.key ≢ key.now) (entries_of page.old) }
     requires fit { IsFit (record { key = key.now; body = body.now }) }
-    requires size { length right.old ≡ 4096 }
+    requires size { length right.old ≡ PAGE_LEN }
     ensures left { Shows shapes.Entries page.new }
     ensures right { Shows shapes.Entries right.new }
     ensures spread { IsSpread (entries_of page.old) (record { key = key.now; body = body.now })

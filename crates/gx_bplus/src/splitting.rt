@@ -4,6 +4,7 @@ ghost use Rattle.std.specs.Bool.{OnTrue, OnFalse};
 ghost use Rattle.std.specs.List.{insert};
 ghost use Rattle.gx_ports.specs.declared.pages.TheConstants.{MAX_OWNER, PAGE_LEN};
 ghost use Rattle.gx_ports.specs.Sheets.{IsPast};
+ghost use Rattle.gx_bnode.specs.declared.format.TheConstants.{MAX_SEPARATOR_LEN};
 ghost use Rattle.gx_bnode.specs.Branches.{AreAscending};
 ghost use Rattle.gx_bnode.specs.Page.{IsInnerPage, HasRoom, first_of, branches_of, separators_of};
 ghost use Rattle.gx_btree.specs.Order.{IsBelow};
@@ -131,7 +132,7 @@ pub(crate) fn divide<P: Pages>(
     requires room { HasRoom (separators_of page.old) }
     requires left { length left.now ≡ PAGE_LEN }
     requires right { length right.now ≡ PAGE_LEN }
-    requires short { length separator.now ≤ 400 }
+    requires short { length separator.now ≤ MAX_SEPARATOR_LEN }
     ensures divided { IsTrue P.tells →
         IfOk result (IsDivided (P.ground pages.old) owner at child page.old key.now
         separator.now left.now right.now (P.working pages.old) (P.working pages.new)) }
@@ -171,7 +172,7 @@ pub(crate) fn raise<P: Pages>(
     requires root { IsPast (P.ground pages.old) root }
     requires left { length left.now ≡ PAGE_LEN }
     requires right { length right.now ≡ PAGE_LEN }
-    requires short { length separator.now ≤ 400 }
+    requires short { length separator.now ≤ MAX_SEPARATOR_LEN }
     ensures raised { IsTrue P.tells →
         IfOk result (λ parts. IsRaised (P.ground pages.old) owner root
         separator.now left.now right.now (P.working pages.old) (P.working pages.new)
@@ -198,7 +199,7 @@ pub(crate) fn raise<P: Pages>(
 fn put_child(page: &mut [u8], key: &[u8], separator: &[u8], right: u32) -> bool
     requires page { IsInnerPage page.old }
     requires room { HasRoom (separators_of page.old) }
-    requires short { length separator.now ≤ 400 }
+    requires short { length separator.now ≤ MAX_SEPARATOR_LEN }
     ensures put { OnTrue result (ShowsInner page.new (first_of page.old)
         (with_branch (branches_of page.old) key.now
         (record { separator = separator.now; child = right }))) }
