@@ -46,7 +46,8 @@ joins_front zs xs ys rest j x = (
   ],
 )
 
-pub cut_kids : (at : ℕ → List ℕ) (kids : Kids) (l : List Branch) (s : List ℕ) (c : ℕ) (r : List Branch) → branches_of kids ≡ l ++ branch s c ∷ r
+pub cut_kids : (at : ℕ → List ℕ) (kids : Kids) (l : List Branch) (s : List ℕ) (c : ℕ) (r : List Branch)
+    → branches_of kids ≡ l ++ branch s c ∷ r
     → AllStand at kids → AreOrdered kids → AreApart kids → IsCut at kids l s c r
 cut_kids at (last t) l s c r e stand ordered apart = absurd (no_item l (branch s c) r e)
 cut_kids at (more t m kids) [] s c r e stand ordered apart =
@@ -81,7 +82,8 @@ cut_kids at (more t m kids) (b ∷ l) s c r e stand ordered apart =
       left = more t m h.left;
       right = h.right;
       first_is = refl;
-      left_are = ap (λ f. branch m f ∷ branches_of h.left) h.first_is ∙ ap (λ bs. branch m (first_of kids) ∷ bs) h.left_are ∙ ap (λ d. d ∷ l) b_is;
+      left_are = ap (λ f. branch m f ∷ branches_of h.left) h.first_is ∙ ap (λ bs. branch m (first_of kids) ∷ bs) h.left_are
+          ∙ ap (λ d. d ∷ l) b_is;
       second_is = h.second_is;
       right_are = h.right_are;
       stand_left = (stand.0, h.stand_left);
@@ -91,13 +93,17 @@ cut_kids at (more t m kids) (b ∷ l) s c r e stand ordered apart =
       apart_left = (apart.0, (λ q i j. apart.1 q i ((h.pages_are q).1 (inl j))), h.apart_left);
       apart_right = h.apart_right;
       below = λ x i. elim (in_cases x (entries t) (kids_entries h.left) i) [
-        | inl a ↦ (let k = some_key h.left h.ordered_left in below_below x.key m s (ordered.2 x a) (up_to_below m k.0.key s (ordered.3 k.0 ((h.entries_are k.0).1 (inl k.1))) (h.below k.0 k.1)))
+        | inl a ↦ (let k = some_key h.left h.ordered_left in below_below x.key m s (ordered.2 x a)
+            (up_to_below m k.0.key s (ordered.3 k.0 ((h.entries_are k.0).1 (inl k.1))) (h.below k.0 k.1)))
         | inr b ↦ h.below x b
       ];
       above = h.above;
       entries_are = joins_front (entries t) (kids_entries kids) (kids_entries h.left) (kids_entries h.right) h.entries_are;
       pages_are = joins_front (pages t) (kids_pages kids) (kids_pages h.left) (kids_pages h.right) h.pages_are;
-      alone = λ q i j. elim (in_cases q (pages t) (kids_pages h.left) i) [ inl a ↦ apart.1 q a ((h.pages_are q).1 (inr j)) | inr b ↦ h.alone q b j ];
+      alone = λ q i j. elim (in_cases q (pages t) (kids_pages h.left) i) [
+        | inl a ↦ apart.1 q a ((h.pages_are q).1 (inr j))
+        | inr b ↦ h.alone q b j
+      ];
     }
 
 -- two trees that have these children, on the pages a and fresh
@@ -122,13 +128,18 @@ pub record AreHalves (new : ℕ → List ℕ) (kids : Kids) (s : List ℕ) (a fr
   pub kids_in : (q : ℕ) → In q (kids_pages kids) → In q (pages l) ⊎ In q (pages r)
   pub alone : (q : ℕ) → In q (pages l) → In q (pages r) → ⊥
 
-pub halves : (at new : ℕ → List ℕ) (kids : Kids) (l : List Branch) (s : List ℕ) (c : ℕ) (r : List Branch) (a fresh : ℕ) → branches_of kids ≡ l ++ branch s c ∷ r
-    → AllStand at kids → AreOrdered kids → AreApart kids → (In a (kids_pages kids) → ⊥) → (In fresh (kids_pages kids) → ⊥) → (fresh ≢ a) → Same (kids_pages kids) at new
+pub halves : (at new : ℕ → List ℕ) (kids : Kids) (l : List Branch) (s : List ℕ) (c : ℕ) (r : List Branch) (a fresh : ℕ)
+    → branches_of kids ≡ l ++ branch s c ∷ r
+    → AllStand at kids → AreOrdered kids → AreApart kids → (In a (kids_pages kids) → ⊥) → (In fresh (kids_pages kids) → ⊥) → (fresh ≢ a)
+    → Same (kids_pages kids) at new
     → ShowsInner (new a) (first_of kids) l → ShowsInner (new fresh) c r → AreHalves new kids s a fresh
 halves at new kids l s c r a fresh e stand ordered apart a_out fresh_out other same at_a at_fresh =
     let h = cut_kids at kids l s c r e stand ordered apart in
-    let l_shows : ShowsInner (new a) (first_of h.left) (branches_of h.left) = subst (λ f. ShowsInner (new a) f (branches_of h.left)) (sym h.first_is) (subst (ShowsInner (new a) (first_of kids)) (sym h.left_are) at_a) in
-    let r_shows : ShowsInner (new fresh) (first_of h.right) (branches_of h.right) = subst (λ f. ShowsInner (new fresh) f (branches_of h.right)) (sym h.second_is) (subst (ShowsInner (new fresh) c) (sym h.right_are) at_fresh) in
+    let l_shows : ShowsInner (new a) (first_of h.left) (branches_of h.left) = subst (λ f. ShowsInner (new a) f (branches_of h.left))
+    (sym h.first_is) (subst (ShowsInner (new a) (first_of kids)) (sym h.left_are) at_a) in
+    let r_shows : ShowsInner (new fresh) (first_of h.right) (branches_of h.right) =
+    subst (λ f. ShowsInner (new fresh) f (branches_of h.right)) (sym h.second_is)
+    (subst (ShowsInner (new fresh) c) (sym h.right_are) at_fresh) in
     record {
       l = node a h.left;
       r = node fresh h.right;
@@ -149,7 +160,13 @@ halves at new kids l s c r a fresh e stand ordered apart a_out fresh_out other s
       r_pages = λ q i. elim i [ inl d ↦ inl d | inr d ↦ inr ((h.pages_are q).1 (inr d)) ];
       kids_in = λ q i. elim ((h.pages_are q).0 i) [ inl d ↦ inl (inr d) | inr d ↦ inr (inr d) ];
       alone = λ q i j. elim i [
-        | inl d ↦ elim j [ inl f ↦ other (sym f ∙ d) | inr f ↦ a_out ((h.pages_are a).1 (inr (subst (λ n. In n (kids_pages h.right)) d f))) ]
-        | inr d ↦ elim j [ inl f ↦ fresh_out ((h.pages_are fresh).1 (inl (subst (λ n. In n (kids_pages h.left)) f d))) | inr f ↦ h.alone q d f ]
+        | inl d ↦ elim j [
+          | inl f ↦ other (sym f ∙ d)
+          | inr f ↦ a_out ((h.pages_are a).1 (inr (subst (λ n. In n (kids_pages h.right)) d f)))
+        ]
+        | inr d ↦ elim j [
+          | inl f ↦ fresh_out ((h.pages_are fresh).1 (inl (subst (λ n. In n (kids_pages h.left)) f d)))
+          | inr f ↦ h.alone q d f
+        ]
       ];
     }

@@ -10,11 +10,13 @@ returns-clause-some c =
     let page = c.args.page.now in
     let d : Entry = record { key = []; body = [] } in
     let m = c.middle.ensures in
-    (middle_is (entries_of page) c.middle.result d (page_of page c.requires.page).page.holds.fit m.place m.across (let u = used_most page c.requires.page in omega (arith, u))).0
+    (middle_is (entries_of page) c.middle.result d (page_of page c.requires.page).page.holds.fit m.place m.across
+    (let u = used_most page c.requires.page in omega (arith, u))).0
 
 pub returns-clause-right : goal.returns-clause-right
 returns-clause-right c = λ _.
     let page = c.args.page.now in
     let d : Entry = record { key = []; body = [] } in
     let m = c.middle.ensures in
-    (middle_is (entries_of page) c.middle.result d (page_of page c.requires.page).page.holds.fit m.place m.across (let u = used_most page c.requires.page in omega (arith, u))).1
+    (middle_is (entries_of page) c.middle.result d (page_of page c.requires.page).page.holds.fit m.place m.across
+    (let u = used_most page c.requires.page in omega (arith, u))).1

@@ -10,8 +10,10 @@ pub returns-in-Some-clause-shown : goal.returns-in-Some-clause-shown
 returns-in-Some-clause-shown c =
     let page = c.args.page.now in
     let found = c.in-Some.ensures.found in
-    let t = taken_at (entries_of page) c.in-Some.i c.args.key.now (entries_up page c.requires) found.0 found.1 in
-    (record { page = c.take.ensures.page; ascending = subst AreAscending (sym c.take.ensures.entries) (ascending_from _ t.1) }, c.take.ensures.next ∙ c.requires.1)
+    let t = taken_at (entries_of page) c.in-Some.i c.args.key.now (entries_up page c.requires) found.0 found.1 in (
+      record { page = c.take.ensures.page; ascending = subst AreAscending (sym c.take.ensures.entries) (ascending_from _ t.1) },
+      c.take.ensures.next ∙ c.requires.1,
+    )
 
 pub returns-in-Some-clause-taken : goal.returns-in-Some-clause-taken
 returns-in-Some-clause-taken c =
