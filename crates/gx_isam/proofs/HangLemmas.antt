@@ -19,7 +19,8 @@ use Rattle.gx_isam.specs.Change.{IsHungBefore}
 use Rattle.gx_isam.proofs.BucketLemmas.{root_off, IsBucketChanged}
 
 -- a chain that begins at no page has none
-pub no_pages : (ground : Ground) (owner : ℕ) (s : Sheets) (pages : List ℕ) → ground.size < 2 ^ 32 → IsChain ground owner s NONE pages → pages ≡ []
+pub no_pages : (ground : Ground) (owner : ℕ) (s : Sheets) (pages : List ℕ) → ground.size < 2 ^ 32 → IsChain ground owner s NONE pages
+    → pages ≡ []
 no_pages ground owner s [] small chain = refl
 no_pages ground owner s (q ∷ qs) small chain =
     let below = (chain.past q (contains_here q qs)).below in
@@ -30,7 +31,8 @@ pub some_there : (e : Entry) (es : List Entry) → e ∷ es ≢ []
 some_there e es none = contains_none e (subst (λ (x : List Entry). Contains x e) none (contains_here e es))
 
 -- an entry alone
-pub only_entry : (key body k b : List ℕ) → Contains {X = Entry} (record { key = key; body = body } ∷ []) (record { key = k; body = b }) → (k ≡ key) × (b ≡ body)
+pub only_entry : (key body k b : List ℕ) → Contains {X = Entry} (record { key = key; body = body } ∷ []) (record { key = k; body = b })
+    → (k ≡ key) × (b ≡ body)
 only_entry key body k b c =
     let entry : Entry = record { key = key; body = body } in
     elim (contains_cases entry (record { key = k; body = b }) [] c) [
@@ -38,14 +40,17 @@ only_entry key body k b c =
       | inr never ↦ absurd (contains_none (record { key = k; body = b }) never)
     ]
 
-pub that_entry : (key body k b : List ℕ) → (k ≡ key) × (b ≡ body) → Contains {X = Entry} (record { key = key; body = body } ∷ []) (record { key = k; body = b })
+pub that_entry : (key body k b : List ℕ) → (k ≡ key) × (b ≡ body)
+    → Contains {X = Entry} (record { key = key; body = body } ∷ []) (record { key = k; body = b })
 that_entry key body k b is =
     let entry : Entry = record { key = key; body = body } in
     let same : entry ≡ record { key = k; body = b } = λ i. record { key = sym is.0 i; body = sym is.1 i } in
     subst (Contains (entry ∷ [])) same (contains_here entry [])
 
-module _ (ground : Ground) (place : Place) (s u : Sheets) (map : LeafMap) (some : 1 ≤ place.owner) (h : IsIsam ground place s map) (j : ℕ) (below : j < bucket_count (bytes_at s place.root))
-    (es : List Entry) (es_some : es ≢ []) (es_apart : (k b c : List ℕ) → Contains es (record { key = k; body = b }) → IsOn s (h.pages j) k c → ⊥) (n : IsHungBefore ground place (bytes_at s place.root) j es s u) where
+module _ (ground : Ground) (place : Place) (s u : Sheets) (map : LeafMap) (some : 1 ≤ place.owner) (h : IsIsam ground place s map) (j : ℕ)
+    (below : j < bucket_count (bytes_at s place.root))
+    (es : List Entry) (es_some : es ≢ []) (es_apart : (k b c : List ℕ) → Contains es (record { key = k; body = b })
+    → IsOn s (h.pages j) k c → ⊥) (n : IsHungBefore ground place (bytes_at s place.root) j es s u) where
   abbrev root : ℕ
   root = place.root
 
@@ -59,10 +64,12 @@ module _ (ground : Ground) (place : Place) (s u : Sheets) (map : LeafMap) (some 
   chain_old = h.buckets.chains j below
 
   fresh_apart : f ≢ root
-  fresh_apart e = let zero : place.owner ≡ 0 = same_Some place.owner 0 (sym h.root ∙ ap (slice_get s.owners) (sym e) ∙ n.claim.was_free) in omega (arith, zero, some)
+  fresh_apart e = let zero : place.owner ≡ 0 = same_Some place.owner 0 (sym h.root ∙ ap (slice_get s.owners) (sym e) ∙ n.claim.was_free) in
+      omega (arith, zero, some)
 
   fresh_off : Contains old f → ⊥
-  fresh_off c = let zero : place.owner ≡ 0 = same_Some place.owner 0 (sym (chain_old.owned f c) ∙ n.claim.was_free) in omega (arith, zero, some)
+  fresh_off c = let zero : place.owner ≡ 0 = same_Some place.owner 0 (sym (chain_old.owned f c) ∙ n.claim.was_free) in
+      omega (arith, zero, some)
 
   root_off_old : Contains old root → ⊥
   root_off_old c = root_off ground place.owner root s h.pages h.buckets h.index j below c
@@ -92,20 +99,33 @@ module _ (ground : Ground) (place : Place) (s u : Sheets) (map : LeafMap) (some 
   fresh_entries = ap entries_of fresh_bytes ∙ n.page.entries_are
 
   chain_still : IsChain ground place.owner u (first_of (bytes_at s root) j) old
-  chain_still = same_chain ground place.owner (first_of (bytes_at s root) j) s u old old_same (λ q c. owner_stays q (old_apart q c) ∙ chain_old.owned q c) chain_old
+  chain_still = same_chain ground place.owner (first_of (bytes_at s root) j) s u old old_same
+      (λ q c. owner_stays q (old_apart q c) ∙ chain_old.owned q c) chain_old
 
   still_on : (k b : List ℕ) → IsOn u old k b → IsOn s old k b
   still_on k b on = same_on_back ground place.owner 0 s u old old_same k b on
 
-  here_es : (k b : List ℕ) (q : ℕ) → f ≡ q → Contains (entries_at u q) (record { key = k; body = b }) → Contains es (record { key = k; body = b })
+  here_es : (k b : List ℕ) (q : ℕ) → f ≡ q → Contains (entries_at u q) (record { key = k; body = b })
+      → Contains es (record { key = k; body = b })
   here_es k b q e c = subst (λ (x : List Entry). Contains x (record { key = k; body = b })) (ap (entries_at u) (sym e) ∙ fresh_entries) c
 
   fresh_chain : IsChain ground place.owner u f (f ∷ old)
   fresh_chain = record {
-    linked = (refl, subst IsEntryPage (sym fresh_bytes) n.page.is_page, subst (λ m. AreLinked u m old) (sym (ap next_of fresh_bytes ∙ n.page.next_is)) chain_still.linked);
+    linked = (
+      refl,
+      subst IsEntryPage (sym fresh_bytes) n.page.is_page,
+      subst (λ m. AreLinked u m old)
+          (sym (ap next_of fresh_bytes ∙ n.page.next_is)) chain_still.linked,
+    );
     once = pairs_cons f old fresh_off chain_old.once;
-    past = λ q c. elim (contains_cases f q old c) [ inl e ↦ subst (λ m. IsPast ground m) e n.claim.past | inr later ↦ chain_old.past q later ];
-    owned = λ q c. elim (contains_cases f q old c) [ inl e ↦ subst (λ m. slice_get u.owners m ≡ Some place.owner) e fresh_owned | inr later ↦ chain_still.owned q later ];
+    past = λ q c. elim (contains_cases f q old c) [
+      | inl e ↦ subst (λ m. IsPast ground m) e n.claim.past
+      | inr later ↦ chain_old.past q later
+    ];
+    owned = λ q c. elim (contains_cases f q old c) [
+      | inl e ↦ subst (λ m. slice_get u.owners m ≡ Some place.owner) e fresh_owned
+      | inr later ↦ chain_still.owned q later
+    ];
     filled = λ q c d none. elim (contains_cases f q old c) [
       | inl e ↦ d (sym e)
       | inr later ↦ h.buckets.filled j q below later (ap entries_of (sym (old_same q later)) ∙ none)
@@ -135,7 +155,8 @@ module _ (ground : Ground) (place : Place) (s u : Sheets) (map : LeafMap) (some 
       | inr later ↦ h.buckets.filled j q below later (ap entries_of (sym (old_same q later)) ∙ is)
     ];
     beside = record {
-      owners = λ q off off'. owner_stays q (λ e. off' (contains_later root q (f ∷ old) (subst (Contains (f ∷ old)) (sym e) (contains_here f old))));
+      owners = λ q off off'. owner_stays q
+          (λ e. off' (contains_later root q (f ∷ old) (subst (Contains (f ∷ old)) (sym e) (contains_here f old))));
       bytes = λ q in' off off'. byte_stays q in' (λ e. off (subst (Contains (root ∷ old)) (sym e) (contains_here root old)))
           (λ e. off' (contains_later root q (f ∷ old) (subst (Contains (f ∷ old)) (sym e) (contains_here f old))));
       came = λ q c. elim (contains_cases root q (f ∷ old) c) [
@@ -159,7 +180,12 @@ module _ (ground : Ground) (place : Place) (s u : Sheets) (map : LeafMap) (some 
       | inr later ↦ inr (still_on k b (record { page = on.page; among = later; here = on.here }))
     ],
     λ either. elim either [
-      | inl here ↦ record { page = f; among = contains_here f old; here = subst (λ (x : List Entry). Contains x (record { key = k; body = b })) (sym fresh_entries) here }
-      | inr was ↦ (let on = same_on ground place.owner 0 s u old old_same k b was in record { page = on.page; among = contains_later f on.page old on.among; here = on.here })
+      | inl here ↦ record {
+        page = f;
+        among = contains_here f old;
+        here = subst (λ (x : List Entry). Contains x (record { key = k; body = b })) (sym fresh_entries) here;
+      }
+      | inr was ↦ (let on = same_on ground place.owner 0 s u old old_same k b was in
+          record { page = on.page; among = contains_later f on.page old on.among; here = on.here })
     ],
   )

@@ -21,12 +21,14 @@ use Rattle.gx_isam.specs.Change.{IsLeftOut, IsLeftOutIfEmpty}
 use Rattle.gx_isam.proofs.BucketLemmas.{root_off, IsBucketChanged}
 
 -- a chain that begins at a page
-pub headed : (ground : Ground) (owner : ℕ) (s : Sheets) (first : ℕ) (pages : List ℕ) → IsChain ground owner s first pages → first ≢ NONE → (rest : List ℕ) × (pages ≡ first ∷ rest)
+pub headed : (ground : Ground) (owner : ℕ) (s : Sheets) (first : ℕ) (pages : List ℕ) → IsChain ground owner s first pages → first ≢ NONE
+    → (rest : List ℕ) × (pages ≡ first ∷ rest)
 headed ground owner s first [] chain some = absurd (some chain.linked)
 headed ground owner s first (q ∷ qs) chain some = (qs, ap (λ n. n ∷ qs) (sym chain.linked.0))
 
 -- a chain without its first page
-pub tail_chain : (ground : Ground) (owner : ℕ) (s : Sheets) (first : ℕ) (rest : List ℕ) → IsChain ground owner s first (first ∷ rest) → IsChain ground owner s (next_at s first) rest
+pub tail_chain : (ground : Ground) (owner : ℕ) (s : Sheets) (first : ℕ) (rest : List ℕ) → IsChain ground owner s first (first ∷ rest)
+    → IsChain ground owner s (next_at s first) rest
 tail_chain ground owner s first rest chain = record {
   linked = chain.linked.2;
   once = pairs_tail first rest chain.once;
@@ -37,8 +39,10 @@ tail_chain ground owner s first rest chain = record {
 }
 
 -- a chain of a bucket was changed, and its first page left out where it has no entry
-module _ (ground : Ground) (place : Place) (s t u : Sheets) (map : LeafMap) (some : 1 ≤ place.owner) (past : ground.tables ≤ place.root) (h : IsIsam ground place s map) (j : ℕ) (below : j < bucket_count (bytes_at s place.root))
-    (first : ℕ) (first_is : first_of (bytes_at s place.root) j ≡ first) (first_some : first ≢ NONE) (pages : List ℕ) (chain : IsChain ground place.owner t first pages) (beside : StaysBeside ground s t (h.pages j) pages) where
+module _ (ground : Ground) (place : Place) (s t u : Sheets) (map : LeafMap) (some : 1 ≤ place.owner) (past : ground.tables ≤ place.root)
+    (h : IsIsam ground place s map) (j : ℕ) (below : j < bucket_count (bytes_at s place.root))
+    (first : ℕ) (first_is : first_of (bytes_at s place.root) j ≡ first) (first_some : first ≢ NONE) (pages : List ℕ)
+    (chain : IsChain ground place.owner t first pages) (beside : StaysBeside ground s t (h.pages j) pages) where
   abbrev root : ℕ
   root = place.root
 
@@ -71,7 +75,8 @@ module _ (ground : Ground) (place : Place) (s t u : Sheets) (map : LeafMap) (som
     ];
     beside = record {
       owners = λ q off off'. beside.owners q (λ c. off (contains_later root q (h.pages j) c)) (λ c. off' (contains_later root q pages c));
-      bytes = λ q in' off off'. beside.bytes q in' (λ c. off (contains_later root q (h.pages j) c)) (λ c. off' (contains_later root q pages c));
+      bytes = λ q in' off off'. beside.bytes q in' (λ c. off (contains_later root q (h.pages j) c))
+          (λ c. off' (contains_later root q pages c));
       came = λ q c. elim (contains_cases root q pages c) [
         | inl e ↦ inl (subst (Contains (root ∷ h.pages j)) e (contains_here root (h.pages j)))
         | inr later ↦ elim (beside.came q later) [ inl old ↦ inl (contains_later root q (h.pages j) old) | inr free ↦ inr free ]
@@ -101,7 +106,8 @@ module _ (ground : Ground) (place : Place) (s t u : Sheets) (map : LeafMap) (som
 
     first_old : Contains (h.pages j) first
     first_old =
-        let head = headed ground place.owner s first (h.pages j) (subst (λ n. IsChain ground place.owner s n (h.pages j)) first_is (h.buckets.chains j below)) first_some in
+        let head = headed ground place.owner s first (h.pages j)
+        (subst (λ n. IsChain ground place.owner s n (h.pages j)) first_is (h.buckets.chains j below)) first_some in
         subst (λ (x : List ℕ). Contains x first) (sym head.1) (contains_here first head.0)
 
     root_apart : root ≢ first
@@ -133,26 +139,41 @@ module _ (ground : Ground) (place : Place) (s t u : Sheets) (map : LeafMap) (som
       firsts = λ other in' d. ap (λ (b : List ℕ). first_of b other) root_now ∙ l.written.firsts other in' d;
       root = owner_stays root root_apart ∙ root_owned;
       chain = subst (λ n. IsChain ground place.owner u n rest) (sym (ap (λ (b : List ℕ). first_of b j) root_now ∙ l.written.first_is))
-          (same_chain ground place.owner (next_at t first) t u rest rest_same (λ q c. owner_stays q (rest_apart q c) ∙ chain.owned q (rest_in q c)) (tail_chain ground place.owner t first rest whole));
+          (same_chain ground place.owner (next_at t first) t u rest rest_same
+          (λ q c. owner_stays q (rest_apart q c) ∙ chain.owned q (rest_in q c)) (tail_chain ground place.owner t first rest whole));
       filled = λ q c none. chain.filled q (rest_in q c) (rest_apart q c) (ap entries_of (sym (rest_same q c)) ∙ none);
       beside = record {
         owners = λ q off off'.
             let apart : q ≢ first = λ e. off (contains_later root q (h.pages j) (subst (Contains (h.pages j)) (sym e) first_old)) in
-            owner_stays q apart ∙ beside.owners q (λ c. off (contains_later root q (h.pages j) c)) (λ c. elim (contains_cases first q rest (subst (λ (x : List ℕ). Contains x q) is c)) [ inl e ↦ apart (sym e) | inr later ↦ off' (contains_later root q rest later) ]);
+            owner_stays q apart ∙ beside.owners q (λ c. off (contains_later root q (h.pages j) c))
+            (λ c. elim (contains_cases first q rest (subst (λ (x : List ℕ). Contains x q) is c)) [
+              | inl e ↦ apart (sym e)
+              | inr later ↦ off' (contains_later root q rest later)
+            ]);
         bytes = λ q in' off off'.
             let apart : q ≢ first = λ e. off (contains_later root q (h.pages j) (subst (Contains (h.pages j)) (sym e) first_old)) in
             byte_stays q in' (λ e. off (subst (Contains (root ∷ h.pages j)) (sym e) (contains_here root (h.pages j))))
-            ∙ beside.bytes q in' (λ c. off (contains_later root q (h.pages j) c)) (λ c. elim (contains_cases first q rest (subst (λ (x : List ℕ). Contains x q) is c)) [ inl e ↦ apart (sym e) | inr later ↦ off' (contains_later root q rest later) ]);
+            ∙ beside.bytes q in' (λ c. off (contains_later root q (h.pages j) c))
+            (λ c. elim (contains_cases first q rest (subst (λ (x : List ℕ). Contains x q) is c)) [
+              | inl e ↦ apart (sym e)
+              | inr later ↦ off' (contains_later root q rest later)
+            ]);
         came = λ q c. elim (contains_cases root q rest c) [
           | inl e ↦ inl (subst (Contains (root ∷ h.pages j)) e (contains_here root (h.pages j)))
-          | inr later ↦ elim (beside.came q (rest_in q later)) [ inl old ↦ inl (contains_later root q (h.pages j) old) | inr free ↦ inr free ]
+          | inr later ↦ elim (beside.came q (rest_in q later)) [
+            | inl old ↦ inl (contains_later root q (h.pages j) old)
+            | inr free ↦ inr free
+          ]
         ];
         left = λ q c. elim (contains_cases root q (h.pages j) c) [
           | inl e ↦ inl (subst (Contains (root ∷ rest)) e (contains_here root rest))
           | inr later ↦ elim (cases_eq q first) [
             | inl e ↦ inr (ap (slice_get u.owners) e ∙ first_free)
             | inr d ↦ elim (beside.left q later) [
-              | inl here ↦ elim (contains_cases first q rest (subst (λ (x : List ℕ). Contains x q) is here)) [ inl e ↦ absurd (d (sym e)) | inr behind ↦ inl (contains_later root q rest behind) ]
+              | inl here ↦ elim (contains_cases first q rest (subst (λ (x : List ℕ). Contains x q) is here)) [
+                | inl e ↦ absurd (d (sym e))
+                | inr behind ↦ inl (contains_later root q rest behind)
+              ]
               | inr free ↦ inr (owner_stays q d ∙ free)
             ]
           ]
@@ -161,7 +182,8 @@ module _ (ground : Ground) (place : Place) (s t u : Sheets) (map : LeafMap) (som
     }
 
     -- the entries of the first page are gone
-    pub on_rest : (k b : List ℕ) → IsOn u rest k b ↔ (((c : List ℕ) → Contains (entries_at t first) (record { key = k; body = c }) → ⊥) × IsOn t pages k b)
+    pub on_rest : (k b : List ℕ) → IsOn u rest k b
+        ↔ (((c : List ℕ) → Contains (entries_at t first) (record { key = k; body = c }) → ⊥) × IsOn t pages k b)
     on_rest k b = (
       λ on. (let old = same_on_back ground place.owner 0 t u rest rest_same k b on in (
         λ c at. rest_apart old.page old.among (chain.apart old.page first k b c (rest_in old.page old.among) first_in old.here at),
@@ -177,7 +199,11 @@ module _ (ground : Ground) (place : Place) (s t u : Sheets) (map : LeafMap) (som
     pub on_rest_of_empty : entries_at t first ≡ [] → (k b : List ℕ) → IsOn u rest k b ↔ IsOn t pages k b
     on_rest_of_empty empty k b = (
       λ on. ((on_rest k b).0 on).1,
-      λ old. (on_rest k b).1 (λ c at. contains_none (record { key = k; body = c }) (subst (λ (x : List Entry). Contains x (record { key = k; body = c })) empty at), old),
+      λ old. (on_rest k b).1 (
+        λ c at. contains_none (record { key = k; body = c })
+            (subst (λ (x : List Entry). Contains x (record { key = k; body = c })) empty at),
+        old,
+      ),
     )
 
   -- either way the bucket has changed, and has the entries of the changed chain
@@ -190,7 +216,11 @@ module _ (ground : Ground) (place : Place) (s t u : Sheets) (map : LeafMap) (som
   left_out_if_empty (inl stays) = record {
     now = pages;
     bucket = subst (λ (x : Sheets). IsBucketChanged ground place j s x (h.pages j) pages) (sym stays.1) (still_filled stays.0);
-    on = λ k b. (λ on. subst (λ (x : Sheets). IsOn x pages k b) stays.1 on, λ on. subst (λ (x : Sheets). IsOn x pages k b) (sym stays.1) on);
+    on = λ k b. (
+      λ on. subst (λ (x : Sheets). IsOn x pages k b) stays.1 on,
+      λ on. subst (λ (x : Sheets). IsOn x pages k b)
+          (sym stays.1) on,
+    );
   }
   left_out_if_empty (inr out) = (let head = headed ground place.owner t first pages chain first_some in
       record { now = head.0; bucket = left_out out.1 head.0 head.1; on = on_rest_of_empty out.1 head.0 head.1 out.0 })

@@ -22,8 +22,10 @@ use Rattle.gx_isam.proofs.BucketLemmas.{as_isam}
 pub one_root : (place : Place) → place.spec.kind ≡ kinds.Isam → roots_of place.spec ≡ 1
 one_root place kind = ap roots_of_kind kind
 
-module _ (ground : Ground) (place : Place) (s c t : Sheets) (page : List ℕ) (kind : place.spec.kind ≡ kinds.Isam) (at : IsPlace ground place) (vacant : IsVacant place s) (claim : IsClaimed place.root place.owner ground s c)
-    (below : place.root < length c.bytes) (written : t ≡ record { owners = c.owners; bytes = set c.bytes place.root page }) (index : IsIndexPage page) (one : bucket_count page ≡ 1) (none : first_of page 0 ≡ NONE) where
+module _ (ground : Ground) (place : Place) (s c t : Sheets) (page : List ℕ) (kind : place.spec.kind ≡ kinds.Isam)
+    (at : IsPlace ground place) (vacant : IsVacant place s) (claim : IsClaimed place.root place.owner ground s c)
+    (below : place.root < length c.bytes) (written : t ≡ record { owners = c.owners; bytes = set c.bytes place.root page })
+    (index : IsIndexPage page) (one : bucket_count page ≡ 1) (none : first_of page 0 ≡ NONE) where
   owners_are : (q : ℕ) → slice_get t.owners q ≡ slice_get (set s.owners place.root place.owner) q
   owners_are q = ap (λ (x : Sheets). slice_get x.owners q) written ∙ ap (λ (o : List ℕ). slice_get o q) claim.owned.owners
 
@@ -34,7 +36,8 @@ module _ (ground : Ground) (place : Place) (s c t : Sheets) (page : List ℕ) (k
   root_owned = owners_are place.root ∙ slice_get_set_same s.owners place.root place.owner 0 claim.was_free
 
   byte_stays : (q : ℕ) → ground.tables ≤ q → q ≢ place.root → slice_get t.bytes q ≡ slice_get s.bytes q
-  byte_stays q past d = ap (λ (x : Sheets). slice_get x.bytes q) written ∙ slice_get_set c.bytes place.root q page d ∙ claim.owned.bytes q past
+  byte_stays q past d = ap (λ (x : Sheets). slice_get x.bytes q) written ∙ slice_get_set c.bytes place.root q page d
+      ∙ claim.owned.bytes q past
 
   root_page : bytes_at t place.root ≡ page
   root_page = ap (λ (x : Sheets). bytes_at x place.root) written ∙ get_or-set_same c.bytes place.root page [] below

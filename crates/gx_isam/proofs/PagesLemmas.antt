@@ -18,7 +18,8 @@ use Rattle.gx_isam.specs.Isam.{AreBuckets, IsIsam}
 use Rattle.gx_chain.specs.Chains.{pages_below}
 use Rattle.gx_isam.proofs.BucketLemmas.{once}
 
-pub bucket_chains : (ground : Ground) (owner : ℕ) (s : Sheets) (index : List ℕ) (pages : ℕ → List ℕ) → AreBuckets ground owner s index pages → AreBucketChains ground owner s (first_of index) (bucket_of index) (bucket_count index) pages
+pub bucket_chains : (ground : Ground) (owner : ℕ) (s : Sheets) (index : List ℕ) (pages : ℕ → List ℕ)
+    → AreBuckets ground owner s index pages → AreBucketChains ground owner s (first_of index) (bucket_of index) (bucket_count index) pages
 bucket_chains ground owner s index pages b = record { chains = b.chains; placed = b.placed; once = once ground owner s index pages b }
 
 module _ (ground : Ground) (owner root : ℕ) (s : Sheets) (pages : ℕ → List ℕ) (b : AreBuckets ground owner s (bytes_at s root) pages) where
@@ -26,15 +27,18 @@ module _ (ground : Ground) (owner root : ℕ) (s : Sheets) (pages : ℕ → List
   count = bucket_count (bytes_at s root)
 
   pub below_apart : ArePagesApart s (pages_below pages count)
-  below_apart = chains_apart ground owner s (first_of (bytes_at s root)) (bucket_of (bytes_at s root)) count pages (bucket_chains ground owner s (bytes_at s root) pages b)
+  below_apart = chains_apart ground owner s (first_of (bytes_at s root)) (bucket_of (bytes_at s root)) count pages
+      (bucket_chains ground owner s (bytes_at s root) pages b)
 
   -- they are at most as many as there are entries
-  pub below_few : (map : LeafMap) → ((k c : List ℕ) → IsOn s (pages_below pages count) k c → fin.get map k ≡ Some c) → length (pages_below pages count) ≤ fin.len map
+  pub below_few : (map : LeafMap) → ((k c : List ℕ) → IsOn s (pages_below pages count) k c → fin.get map k ≡ Some c)
+      → length (pages_below pages count) ≤ fin.len map
   below_few map map_is = keys_few s (pages_below pages count) map (below_apart.once)
       (λ q c. (let r = below_to pages count q c in
       let e = entry_of (entries_at s q) (b.filled r.bucket q r.below r.among) in
       (e.0, e.1, e.2, map_is e.0 e.1 (record { page = q; among = c; here = e.2 }))))
-      (across ground owner s (first_of (bytes_at s root)) (bucket_of (bytes_at s root)) count pages (bucket_chains ground owner s (bytes_at s root) pages b))
+      (across ground owner s (first_of (bytes_at s root)) (bucket_of (bytes_at s root)) count pages
+      (bucket_chains ground owner s (bytes_at s root) pages b))
 
 -- ---- the file
 
@@ -53,6 +57,7 @@ module _ (ground : Ground) (place : Place) (s : Sheets) (map : LeafMap) (h : IsI
 
   pub isam_few : page_count place.owner s ≤ 1 + fin.len map
   isam_few =
-      let listed = count_listed place.owner s.owners 0 (place.root ∷ all) (λ q o. subst (Contains (place.root ∷ all)) (omega arith) (all_owned q o)) in
+      let listed = count_listed place.owner s.owners 0 (place.root ∷ all)
+      (λ q o. subst (Contains (place.root ∷ all)) (omega arith) (all_owned q o)) in
       let most = below_few ground place.owner place.root s h.pages h.buckets map (λ k b. (isam_map_is k b).1) in
       omega (arith, listed, most)

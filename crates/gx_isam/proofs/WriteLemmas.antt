@@ -14,11 +14,15 @@ use Rattle.gx_isam_index.specs.Index.{IsIndexPage, bucket_count, first_of, separ
 use Rattle.gx_isam.specs.Change.{IsIndexWritten}
 
 -- an index was written to the root
-pub index_written : (s m t : Sheets) (root bucket first : ℕ) (index page : List ℕ) → m ≡ s → root < length s.bytes → t ≡ record { owners = m.owners; bytes = set m.bytes root page } → IsIndexPage page
-    → bucket_count page ≡ bucket_count index → first_of page bucket ≡ first → ((other : ℕ) → other < bucket_count index → other ≢ bucket → first_of page other ≡ first_of index other) → separators_of page ≡ separators_of index
+pub index_written : (s m t : Sheets) (root bucket first : ℕ) (index page : List ℕ) → m ≡ s → root < length s.bytes
+    → t ≡ record { owners = m.owners; bytes = set m.bytes root page } → IsIndexPage page
+    → bucket_count page ≡ bucket_count index → first_of page bucket ≡ first
+    → ((other : ℕ) → other < bucket_count index → other ≢ bucket → first_of page other ≡ first_of index other)
+    → separators_of page ≡ separators_of index
     → IsIndexWritten root index bucket first s t
 index_written s m t root bucket first index page same below is is_page count first_is firsts separators =
-    let t_is : t ≡ record { owners = s.owners; bytes = set s.bytes root page } = is ∙ ap (λ (x : Sheets). record { owners = x.owners; bytes = set x.bytes root page }) same in
+    let t_is : t ≡ record { owners = s.owners; bytes = set s.bytes root page } = is
+    ∙ ap (λ (x : Sheets). record { owners = x.owners; bytes = set x.bytes root page }) same in
     let here : bytes_at t root ≡ page = ap (λ (x : Sheets). bytes_at x root) t_is ∙ get_or-set_same s.bytes root page [] below in
     record {
       owners = ap (λ (x : Sheets). x.owners) t_is;
@@ -36,24 +40,31 @@ same_refusal (Ok x) why e handed is = absurd handed
 same_refusal (Err s) why e handed is = sym handed ∙ (let same : s ≡ e = cc in same)
 
 -- a change of sheets that didn't fail, and neither looked for a page nor for memory, spares others
-pub changed_spared : {S : Type 0} (g : Ghosts S) (sound : Type 0) (ground : Ground) (owner : ℕ) (s : Sheets) (old new : S) (result : Result (Unit {0}) Stop) → sound → EndsFile g sound old new result
-    → OnOk result (OthersStay ground owner s (g.working new)) → ¬ IsErrOf result stop.Full → ¬ IsErrOf result stop.NoMemory → ¬ IsErrOf result stop.Fault
+pub changed_spared : {S : Type 0} (g : Ghosts S) (sound : Type 0) (ground : Ground) (owner : ℕ) (s : Sheets) (old new : S)
+    (result : Result (Unit {0}) Stop) → sound → EndsFile g sound old new result
+    → OnOk result (OthersStay ground owner s (g.working new)) → ¬ IsErrOf result stop.Full → ¬ IsErrOf result stop.NoMemory
+    → ¬ IsErrOf result stop.Fault
     → OthersStay ground owner s (g.working new)
 changed_spared g sound ground owner s old new (Ok u) whole ends ok full frugal fault = ok
 changed_spared g sound ground owner s old new (Err stop.Fault) whole ends ok full frugal fault = absurd (fault refl)
 changed_spared g sound ground owner s old new (Err stop.Full) whole ends ok full frugal fault = absurd (full refl)
-changed_spared g sound ground owner s old new (Err (stop.Damaged n)) whole ends ok full frugal fault = absurd (ends.cause.damaged n refl whole)
+changed_spared g sound ground owner s old new (Err (stop.Damaged n)) whole ends ok full frugal fault =
+    absurd (ends.cause.damaged n refl whole)
 changed_spared g sound ground owner s old new (Err stop.NoMemory) whole ends ok full frugal fault = absurd (frugal refl)
 
 -- what is sound isn't refused but for a fault
-pub no_refusal : {S T : Type 0} (g : Ghosts S) (sound : Type 0) (old new : S) (why : Stop) → sound → EndsFile {T = T} g sound old new (Err why) → (IsErrOf {T = T} (Err why) stop.Full → ⊥) → (IsErrOf {T = T} (Err why) stop.NoMemory → ⊥) → (why ≡ stop.Fault → ⊥) → ⊥
+pub no_refusal : {S T : Type 0} (g : Ghosts S) (sound : Type 0) (old new : S) (why : Stop) → sound
+    → EndsFile {T = T} g sound old new (Err why) → (IsErrOf {T = T} (Err why) stop.Full → ⊥)
+    → (IsErrOf {T = T} (Err why) stop.NoMemory → ⊥) → (why ≡ stop.Fault → ⊥) → ⊥
 no_refusal g sound old new stop.Fault whole ends full frugal fault = fault refl
 no_refusal g sound old new stop.Full whole ends full frugal fault = full refl
 no_refusal g sound old new (stop.Damaged n) whole ends full frugal fault = ends.cause.damaged n refl whole
 no_refusal g sound old new stop.NoMemory whole ends full frugal fault = frugal refl
 
 -- nor is it but for a fault or where no page was found, and then nothing has changed
-pub only_full : {S T : Type 0} (g : Ghosts S) (old new : S) (why : Stop) → EndsFile {T = T} g (Unit {0}) old new (Err why) → (IsErrOf {T = T} (Err why) stop.Full → g.working new ≡ g.working old) → (IsErrOf {T = T} (Err why) stop.NoMemory → ⊥) → (why ≡ stop.Fault → ⊥) → g.working new ≡ g.working old
+pub only_full : {S T : Type 0} (g : Ghosts S) (old new : S) (why : Stop) → EndsFile {T = T} g (Unit {0}) old new (Err why)
+    → (IsErrOf {T = T} (Err why) stop.Full → g.working new ≡ g.working old) → (IsErrOf {T = T} (Err why) stop.NoMemory → ⊥)
+    → (why ≡ stop.Fault → ⊥) → g.working new ≡ g.working old
 only_full g old new stop.Fault ends full frugal fault = absurd (fault refl)
 only_full g old new stop.Full ends full frugal fault = full refl
 only_full g old new (stop.Damaged n) ends full frugal fault = absurd (ends.cause.damaged n refl tt)

@@ -12,7 +12,9 @@ pub with_at : (m : Value) (xs : List Value) → take (place_in m xs) xs ++ m ∷
 with_at m [] = refl
 with_at m (x ∷ xs) = go (is_lt (value_cmp m x)) (with_at m xs)
   where
-    go : (b : Bool) → take (place_in m xs) xs ++ m ∷ drop (place_in m xs) xs ≡ with_member m xs → take (cond b 0 (suc (place_in m xs))) (x ∷ xs) ++ m ∷ drop (cond b 0 (suc (place_in m xs))) (x ∷ xs) ≡ cond b (m ∷ x ∷ xs) (x ∷ with_member m xs)
+    go : (b : Bool) → take (place_in m xs) xs ++ m ∷ drop (place_in m xs) xs ≡ with_member m xs
+        → take (cond b 0 (suc (place_in m xs))) (x ∷ xs) ++ m ∷ drop (cond b 0 (suc (place_in m xs))) (x ∷ xs) ≡ cond b (m ∷ x ∷ xs)
+        (x ∷ with_member m xs)
     go true e = refl
     go false e = ap (λ zs. x ∷ zs) e
 
@@ -25,17 +27,22 @@ place_within m (x ∷ xs) = go (is_lt (value_cmp m x)) (place_within m xs)
     go false l = omega (arith, l)
 
 -- from one place on
-place_at : (m : Value) (xs : List Value) (i : ℕ) (x : Value) → i < length xs → x ≡ get_or xs i x → place_in m (drop i xs) ≡ cond (is_lt (value_cmp m x)) 0 (suc (place_in m (drop (i + 1) xs)))
-place_at m xs i x l read = ap (place_in m) (drop_more xs i x l) ∙ ap (λ y. cond (is_lt (value_cmp m y)) 0 (suc (place_in m (drop (i + 1) xs)))) (sym read)
+place_at : (m : Value) (xs : List Value) (i : ℕ) (x : Value) → i < length xs → x ≡ get_or xs i x
+    → place_in m (drop i xs) ≡ cond (is_lt (value_cmp m x)) 0 (suc (place_in m (drop (i + 1) xs)))
+place_at m xs i x l read = ap (place_in m) (drop_more xs i x l)
+    ∙ ap (λ y. cond (is_lt (value_cmp m y)) 0 (suc (place_in m (drop (i + 1) xs)))) (sym read)
 
-pub place_here : (m : Value) (xs : List Value) (i : ℕ) (x : Value) → i < length xs → x ≡ get_or xs i x → i + place_in m (drop i xs) ≡ place_in m xs → is_lt (value_cmp m x) ≡ true → i ≡ place_in m xs
+pub place_here : (m : Value) (xs : List Value) (i : ℕ) (x : Value) → i < length xs → x ≡ get_or xs i x
+    → i + place_in m (drop i xs) ≡ place_in m xs → is_lt (value_cmp m x) ≡ true → i ≡ place_in m xs
 place_here m xs i x l read so_far less =
     let at : place_in m (drop i xs) ≡ 0 = place_at m xs i x l read ∙ ap (λ b. cond b 0 (suc (place_in m (drop (i + 1) xs)))) less in
     omega (arith, at, so_far)
 
-pub place_next : (m : Value) (xs : List Value) (i : ℕ) (x : Value) → i < length xs → x ≡ get_or xs i x → i + place_in m (drop i xs) ≡ place_in m xs → is_lt (value_cmp m x) ≡ false → (i + 1) + place_in m (drop (i + 1) xs) ≡ place_in m xs
+pub place_next : (m : Value) (xs : List Value) (i : ℕ) (x : Value) → i < length xs → x ≡ get_or xs i x
+    → i + place_in m (drop i xs) ≡ place_in m xs → is_lt (value_cmp m x) ≡ false → (i + 1) + place_in m (drop (i + 1) xs) ≡ place_in m xs
 place_next m xs i x l read so_far less =
-    let at : place_in m (drop i xs) ≡ suc (place_in m (drop (i + 1) xs)) = place_at m xs i x l read ∙ ap (λ b. cond b 0 (suc (place_in m (drop (i + 1) xs)))) less in
+    let at : place_in m (drop i xs) ≡ suc (place_in m (drop (i + 1) xs)) = place_at m xs i x l read
+    ∙ ap (λ b. cond b 0 (suc (place_in m (drop (i + 1) xs)))) less in
     omega (arith, at, so_far)
 
 filter_last : (p : Value → Bool) (xs : List Value) (x : Value) → filter p (xs ++ x ∷ []) ≡ filter p xs ++ cond (p x) (x ∷ []) []
@@ -45,11 +52,14 @@ filter_last p [] x = go (p x)
     go b = refl
 filter_last p (y ∷ xs) x = go (p y) (filter_last p xs x)
   where
-    go : (b : Bool) → filter p (xs ++ x ∷ []) ≡ filter p xs ++ cond (p x) (x ∷ []) [] → cond b (y ∷ filter p (xs ++ x ∷ [])) (filter p (xs ++ x ∷ [])) ≡ cond b (y ∷ filter p xs) (filter p xs) ++ cond (p x) (x ∷ []) []
+    go : (b : Bool) → filter p (xs ++ x ∷ []) ≡ filter p xs ++ cond (p x) (x ∷ []) []
+        → cond b (y ∷ filter p (xs ++ x ∷ [])) (filter p (xs ++ x ∷ [])) ≡ cond b (y ∷ filter p xs) (filter p xs) ++ cond (p x) (x ∷ []) []
     go true e = ap (λ zs. y ∷ zs) e
     go false e = e
 
 -- the members without one of them, one item more
-pub without_more : (m : Value) (xs : List Value) (i : ℕ) (x : Value) → i < length xs → x ≡ get_or xs i x → without_member m (take (i + 1) xs) ≡ without_member m (take i xs) ++ cond (not (is_same x m)) (x ∷ []) []
+pub without_more : (m : Value) (xs : List Value) (i : ℕ) (x : Value) → i < length xs → x ≡ get_or xs i x
+    → without_member m (take (i + 1) xs) ≡ without_member m (take i xs) ++ cond (not (is_same x m)) (x ∷ []) []
 without_more m xs i x l read =
-    ap (without_member m) (take_more xs i x l) ∙ ap (λ y. without_member m (take i xs ++ y ∷ [])) (sym read) ∙ filter_last (λ y. not (is_same y m)) (take i xs) x
+    ap (without_member m) (take_more xs i x l) ∙ ap (λ y. without_member m (take i xs ++ y ∷ [])) (sym read)
+    ∙ filter_last (λ y. not (is_same y m)) (take i xs) x

@@ -41,7 +41,9 @@ module _ (form : Form) (R : List Rec) (m : LeafMap) (is : IsLeafMap m R) where
       let r = is.only p.0.0 p.0.1 (entry_get m p.0 f.0) in
       (r.0, r.1, (λ i. record { key = r.2 i; body = r.3 i }) ∙ sym p.2)
 
-pub leaf_counted : {M : Type 0} (rule : M → Rule) (n : ℕ) (form : Form) (whole : Type 0) (maps : List LeafMap) (span : Span) (before steps count : ℕ) (found : List Entry) → IsLeafForm form → (whole → found ≡ selected span.lo span.hi (map_at maps n)) → count ≡ length found → steps ≡ counted before (1 + (length found - 0)) → IsCount rule (leaf n form) whole maps span before steps count
+pub leaf_counted : {M : Type 0} (rule : M → Rule) (n : ℕ) (form : Form) (whole : Type 0) (maps : List LeafMap) (span : Span)
+    (before steps count : ℕ) (found : List Entry) → IsLeafForm form → (whole → found ≡ selected span.lo span.hi (map_at maps n))
+    → count ≡ length found → steps ≡ counted before (1 + (length found - 0)) → IsCount rule (leaf n form) whole maps span before steps count
 leaf_counted rule n form whole maps span before steps count found leaf_form those is taken w R set held =
     let m = map_at maps n in
     let all = each_made form R m held (selected span.lo span.hi m) (record_of form R m held span) in
@@ -49,5 +51,7 @@ leaf_counted rule n form whole maps span before steps count found leaf_form thos
       found = all.made;
       selected = leaf_selection form leaf_form m span R all.made set held (λ r h. set.fits r (all.there r h)) all.same;
       counted = is ∙ many;
-      few_steps = leaf_steps rule n form all.made before steps (subst (λ w. w ≤ before + (1 + length all.made)) (sym taken) (few_counted before (length found - 0) (length all.made) (omega (arith, many))));
+      few_steps = leaf_steps rule n form all.made before steps
+          (subst (λ w. w ≤ before + (1 + length all.made)) (sym taken)
+          (few_counted before (length found - 0) (length all.made) (omega (arith, many))));
     }

@@ -43,10 +43,12 @@ use Rattle.gx_lists.specs.InvertedLaws.{row_of, of_row, inverted_row_laws, pair_
 -- ---- the records of each node
 
 pub in_down : (link : Link) (o m : Value) → fin.get link m ≡ Some o → In (pair_rec o m) (node_rows inverted_rows link 0)
-in_down link o m e = in_parts_for 0 (link_parts inverted_rows link) (part_for 0 (pair_rec o m)) (of_row link o m (part_for 0 (pair_rec o m)) e (inl refl)) refl
+in_down link o m e = in_parts_for 0 (link_parts inverted_rows link) (part_for 0 (pair_rec o m))
+    (of_row link o m (part_for 0 (pair_rec o m)) e (inl refl)) refl
 
 pub in_up : (link : Link) (o m : Value) → fin.get link m ≡ Some o → In (owned_rec o m) (node_rows inverted_rows link 1)
-in_up link o m e = in_parts_for 1 (link_parts inverted_rows link) (part_for 1 (owned_rec o m)) (of_row link o m (part_for 1 (owned_rec o m)) e (inr (inl refl))) refl
+in_up link o m e = in_parts_for 1 (link_parts inverted_rows link) (part_for 1 (owned_rec o m))
+    (of_row link o m (part_for 1 (owned_rec o m)) e (inr (inl refl))) refl
 
 -- a record that stands for a pair
 pub record IsOfPair (link : Link) (make : Value → Value → Rec) (r : Rec) : Type 0 where
@@ -92,9 +94,14 @@ pairs_ascend : (o : Value) (ms : List Value) → Ascends value_cmp ms → Ascend
 pairs_ascend o [] up = tt
 pairs_ascend o (m ∷ ms) up = (below ms up.0, pairs_ascend o ms up.1)
   where
-    below : (xs : List Value) → AllByRecursion (λ x. value_cmp m x ≡ Less) xs → AllByRecursion (λ r. rec_cmp (pair_rec o m) r ≡ Less) (map (pair_rec o) xs)
+    below : (xs : List Value) → AllByRecursion (λ x. value_cmp m x ≡ Less) xs
+        → AllByRecursion (λ r. rec_cmp (pair_rec o m) r ≡ Less) (map (pair_rec o) xs)
     below [] all = tt
-    below (x ∷ xs) all = (ap (λ c. ordering_then c (ordering_then (value_cmp m x) Equal)) (tied_itself value_cmp_total o) ∙ ap (λ c. ordering_then c Equal) all.0, below xs all.1)
+    below (x ∷ xs) all = (
+      ap (λ c. ordering_then c (ordering_then (value_cmp m x) Equal)) (tied_itself value_cmp_total o)
+          ∙ ap (λ c. ordering_then c Equal) all.0,
+      below xs all.1,
+    )
 
 members_again : (o : Value) (ms : List Value) → map member_in (map (pair_rec o) ms) ≡ ms
 members_again o [] = refl
@@ -130,7 +137,8 @@ module _ {M : Type 0} (rule : M → Rule) (down up : Tree M) (valid : IsInverted
   member_key = member_kind rule up
 
   laws : RowLaws owner_key member_key (two_forms (tree_form rule down) (tree_form rule up)) 2 inverted_rows
-  laws = inverted_row_laws owner_key member_key (tree_form rule down) (tree_form rule up) valid.down_keys valid.down_fields valid.up_keys valid.up_fields
+  laws = inverted_row_laws owner_key member_key (tree_form rule down) (tree_form rule up) valid.down_keys valid.down_fields valid.up_keys
+      valid.up_fields
 
   pub down_set : (link : Link) → IsLink owner_key member_key link → IsSet (tree_form rule down) (node_rows inverted_rows link 0)
   down_set link is = node_set laws link 0 is
@@ -147,81 +155,111 @@ module _ {M : Type 0} (rule : M → Rule) (down up : Tree M) (valid : IsInverted
       → HasSet rule up maps
   up_has_set maps has = (node_rows inverted_rows has.0 1, up_set has.0 has.1, has.2.1.0)
 
-  pub pairs_found : (link : Link) (o : Value) (span : Span) (found : List Rec) → IsLink owner_key member_key link → ((key : List Value) → AreFit (tree_form rule down).keys key → is_inside span.lo span.hi (key_of key) ≡ begins_with o key) → IsSelection (node_rows inverted_rows link 0) span found → found ≡ map (pair_rec o) (members_of link o)
-  pairs_found link o span found is those sel = ascends_unique rec_total found (map (pair_rec o) (members_of link o)) (ascends rec_cmp found sel.in_order) (pairs_ascend o (members_of link o) (members_ascend link o))
+  pub pairs_found : (link : Link) (o : Value) (span : Span) (found : List Rec) → IsLink owner_key member_key link
+      → ((key : List Value) → AreFit (tree_form rule down).keys key → is_inside span.lo span.hi (key_of key) ≡ begins_with o key)
+      → IsSelection (node_rows inverted_rows link 0) span found → found ≡ map (pair_rec o) (members_of link o)
+  pairs_found link o span found is those sel = ascends_unique rec_total found (map (pair_rec o) (members_of link o))
+      (ascends rec_cmp found sel.in_order) (pairs_ascend o (members_of link o) (members_ascend link o))
       (λ r h.
       let s = sel.sound r h in
       let pair = from_down link r s.0 in
       let begins : begins_with o r.key ≡ true = sym (those r.key ((down_set link is).fits r s.0).key) ∙ s.1 in
       let same : pair.owner ≡ o = same_value pair.owner o (ap (λ (x : Rec). begins_with o x.key) (sym pair.is) ∙ begins) in
       let there = in_members link o pair.member (pair.owned ∙ ap Some same) in
-      subst (λ x. In x (map (pair_rec o) (members_of link o))) ((λ i. pair_rec (sym same i) pair.member) ∙ sym pair.is) (in_map (pair_rec o) pair.member (members_of link o) there))
+      subst (λ x. In x (map (pair_rec o) (members_of link o))) ((λ i. pair_rec (sym same i) pair.member) ∙ sym pair.is)
+      (in_map (pair_rec o) pair.member (members_of link o) there))
       (λ r h.
       let m = from_map (pair_rec o) r (members_of link o) h in
-      let there : In r (node_rows inverted_rows link 0) = subst (λ x. In x (node_rows inverted_rows link 0)) (sym m.2) (in_down link o m.0 (from_members link o m.0 m.1)) in
+      let there : In r (node_rows inverted_rows link 0) = subst (λ x. In x (node_rows inverted_rows link 0)) (sym m.2)
+      (in_down link o m.0 (from_members link o m.0 m.1)) in
       sel.complete r there (those r.key ((down_set link is).fits r there).key ∙ ap (λ (x : Rec). begins_with o x.key) m.2 ∙ value_itself o))
 
-  pub members_found : (link : Link) (o : Value) (span : Span) (found : List Rec) → IsLink owner_key member_key link → ((key : List Value) → AreFit (tree_form rule down).keys key → is_inside span.lo span.hi (key_of key) ≡ begins_with o key) → IsSelection (node_rows inverted_rows link 0) span found → map member_in found ≡ members_of link o
-  members_found link o span found is those sel = ap (map member_in) (pairs_found link o span found is those sel) ∙ members_again o (members_of link o)
+  pub members_found : (link : Link) (o : Value) (span : Span) (found : List Rec) → IsLink owner_key member_key link
+      → ((key : List Value) → AreFit (tree_form rule down).keys key → is_inside span.lo span.hi (key_of key) ≡ begins_with o key)
+      → IsSelection (node_rows inverted_rows link 0) span found → map member_in found ≡ members_of link o
+  members_found link o span found is those sel = ap (map member_in) (pairs_found link o span found is those sel)
+      ∙ members_again o (members_of link o)
 
-  pub owned_found : (link : Link) (m : Value) (span : Span) (found : List Rec) → IsLink owner_key member_key link → ((key : List Value) → AreFit (tree_form rule up).keys key → is_inside span.lo span.hi (key_of key) ≡ begins_with m key) → IsSelection (node_rows inverted_rows link 1) span found → found ≡ owned_recs m (fin.get link m)
-  owned_found link m span found is those sel = ascends_unique rec_total found (owned_recs m (fin.get link m)) (ascends rec_cmp found sel.in_order) (owned_ascends m (fin.get link m))
+  pub owned_found : (link : Link) (m : Value) (span : Span) (found : List Rec) → IsLink owner_key member_key link
+      → ((key : List Value) → AreFit (tree_form rule up).keys key → is_inside span.lo span.hi (key_of key) ≡ begins_with m key)
+      → IsSelection (node_rows inverted_rows link 1) span found → found ≡ owned_recs m (fin.get link m)
+  owned_found link m span found is those sel = ascends_unique rec_total found (owned_recs m (fin.get link m))
+      (ascends rec_cmp found sel.in_order) (owned_ascends m (fin.get link m))
       (λ r h.
       let s = sel.sound r h in
       let pair = from_up link r s.0 in
       let begins : begins_with m r.key ≡ true = sym (those r.key ((up_set link is).fits r s.0).key) ∙ s.1 in
       let same : pair.member ≡ m = same_value pair.member m (ap (λ (x : Rec). begins_with m x.key) (sym pair.is) ∙ begins) in
-      subst (λ x. In x (owned_recs m (fin.get link m))) ((λ i. owned_rec pair.owner (sym same i)) ∙ sym pair.is) (in_owned m pair.owner (fin.get link m) (ap (fin.get link) (sym same) ∙ pair.owned)))
+      subst (λ x. In x (owned_recs m (fin.get link m))) ((λ i. owned_rec pair.owner (sym same i)) ∙ sym pair.is)
+      (in_owned m pair.owner (fin.get link m) (ap (fin.get link) (sym same) ∙ pair.owned)))
       (λ r h.
       let o = from_owned m (fin.get link m) r h in
-      let there : In r (node_rows inverted_rows link 1) = subst (λ x. In x (node_rows inverted_rows link 1)) (sym o.2) (in_up link o.0 m o.1) in
+      let there : In r (node_rows inverted_rows link 1) = subst (λ x. In x (node_rows inverted_rows link 1)) (sym o.2)
+      (in_up link o.0 m o.1) in
       sel.complete r there (those r.key ((up_set link is).fits r there).key ∙ ap (λ (x : Rec). begins_with m x.key) o.2 ∙ value_itself m))
 
   -- ---- entries and steps
 
   -- the leaf entries of a pair are among those of its owner
-  pub pair_entries : (o m : Value) (ms : List Value) → In m ms → length (entries_of rule down (pair_rec o m)) + length (entries_of rule up (owned_rec o m)) ≤ length (owner_entries rule (two_nodes down up) inverted_rows o ms)
+  pub pair_entries : (o m : Value) (ms : List Value) → In m ms → length (entries_of rule down (pair_rec o m)) + length
+      (entries_of rule up (owned_rec o m)) ≤ length (owner_entries rule (two_nodes down up) inverted_rows o ms)
   pair_entries o m [] h = absurd h
   pair_entries o m (x ∷ ms) h =
       let a = entries_of rule down (pair_rec o x) in
       let b = entries_of rule up (owned_rec o x) in
       let rest = owner_entries rule (two_nodes down up) inverted_rows o ms in
-      let sum : length (a ++ (b ++ rest)) ≡ length a + (length b + length rest) = length-append a (b ++ rest) ∙ ap (λ n. length a + n) (length-append b rest) in
+      let sum : length (a ++ (b ++ rest)) ≡ length a + (length b + length rest) = length-append a (b ++ rest)
+      ∙ ap (λ n. length a + n) (length-append b rest) in
       elim h [
-        | inl e ↦ subst (λ y. length (entries_of rule down (pair_rec o y)) + length (entries_of rule up (owned_rec o y)) ≤ length (a ++ (b ++ rest))) (sym e) (omega (arith, sum))
+        | inl e ↦ subst (λ y. length (entries_of rule down (pair_rec o y)) + length (entries_of rule up (owned_rec o y)) ≤ length
+            (a ++ (b ++ rest))) (sym e) (omega (arith, sum))
         | inr k ↦ (let more = pair_entries o m ms k in omega (arith, sum, more))
       ]
 
   -- as are those of all records in the first node
-  pub down_entries : (o : Value) (ms : List Value) → entry_total rule down (map (pair_rec o) ms) ≤ length (owner_entries rule (two_nodes down up) inverted_rows o ms)
+  pub down_entries : (o : Value) (ms : List Value)
+      → entry_total rule down (map (pair_rec o) ms) ≤ length (owner_entries rule (two_nodes down up) inverted_rows o ms)
   down_entries o [] = omega arith
   down_entries o (m ∷ ms) =
       let a = entries_of rule down (pair_rec o m) in
       let b = entries_of rule up (owned_rec o m) in
       let rest = owner_entries rule (two_nodes down up) inverted_rows o ms in
-      let sum : length (a ++ (b ++ rest)) ≡ length a + (length b + length rest) = length-append a (b ++ rest) ∙ ap (λ n. length a + n) (length-append b rest) in
+      let sum : length (a ++ (b ++ rest)) ≡ length a + (length b + length rest) = length-append a (b ++ rest)
+      ∙ ap (λ n. length a + n) (length-append b rest) in
       let more = down_entries o ms in
       omega (arith, sum, more, sum_by-cons (λ (r : Rec). length (entries_of rule down r)) (pair_rec o m) (map (pair_rec o) ms))
 
-  pub up_entries : (link : Link) (m : Value) (found : Option Value) → fin.get link m ≡ found → entry_total rule up (owned_recs m found) ≤ length (entries_if (inverted_rule rule down up) link found)
+  pub up_entries : (link : Link) (m : Value) (found : Option Value) → fin.get link m ≡ found
+      → entry_total rule up (owned_recs m found) ≤ length (entries_if (inverted_rule rule down up) link found)
   up_entries link m None e = omega arith
   up_entries link m (Some o) e =
       let there = pair_entries o m (members_of link o) (in_members link o m e) in
       omega (arith, there, sum_by-cons (λ (r : Rec). length (entries_of rule up r)) (owned_rec o m) [])
 
   leaves_sum : length (kids_leaves (two_nodes down up)) ≡ length (leaves_of down) + length (leaves_of up)
-  leaves_sum = length-append (leaves_of down) (leaves_of up ++ []) ∙ ap (λ n. length (leaves_of down) + n) (length-append (leaves_of up) [] ∙ omega arith)
+  leaves_sum = length-append (leaves_of down) (leaves_of up ++ [])
+      ∙ ap (λ n. length (leaves_of down) + n) (length-append (leaves_of up) [] ∙ omega arith)
 
-  pub members_steps : (link : Link) (o : Value) (found : List Rec) (before steps : ℕ) (count : ℕ) → found ≡ map (pair_rec o) (members_of link o) → steps ≤ before + (length (leaves_of down) + entry_total rule down found) → steps ≤ before + (1 * length (kids_leaves (two_nodes down up)) + length (owner_entries rule (two_nodes down up) inverted_rows o (members_of link o)))
+  pub members_steps : (link : Link) (o : Value) (found : List Rec) (before steps : ℕ) (count : ℕ)
+      → found ≡ map (pair_rec o) (members_of link o) → steps ≤ before + (length (leaves_of down) + entry_total rule down found)
+      → steps ≤ before
+      + (1 * length (kids_leaves (two_nodes down up)) + length (owner_entries rule (two_nodes down up) inverted_rows o (members_of link o)))
   members_steps link o found before steps count is few =
-      let total : entry_total rule down found ≤ length (owner_entries rule (two_nodes down up) inverted_rows o (members_of link o)) = subst (λ rs. entry_total rule down rs ≤ length (owner_entries rule (two_nodes down up) inverted_rows o (members_of link o))) (sym is) (down_entries o (members_of link o)) in
+      let total : entry_total rule down found ≤ length (owner_entries rule (two_nodes down up) inverted_rows o (members_of link o)) =
+      subst (λ rs. entry_total rule down rs ≤ length (owner_entries rule (two_nodes down up) inverted_rows o (members_of link o))) (sym is)
+      (down_entries o (members_of link o)) in
       omega (arith, few, total, leaves_sum)
 
-  pub owner_steps : (link : Link) (m : Value) (found : List Rec) (answer : Option Value) (before steps : ℕ) → found ≡ owned_recs m (fin.get link m) → answer ≡ owner_in found → steps ≤ before + (length (leaves_of up) + entry_total rule up found) → steps ≤ before + (length (kids_leaves (two_nodes down up)) + length (entries_if (inverted_rule rule down up) link answer))
+  pub owner_steps : (link : Link) (m : Value) (found : List Rec) (answer : Option Value) (before steps : ℕ)
+      → found ≡ owned_recs m (fin.get link m) → answer ≡ owner_in found
+      → steps ≤ before + (length (leaves_of up) + entry_total rule up found)
+      → steps ≤ before + (length (kids_leaves (two_nodes down up)) + length (entries_if (inverted_rule rule down up) link answer))
   owner_steps link m found answer before steps is answer_is few =
       let same : answer ≡ fin.get link m = answer_is ∙ ap owner_in is ∙ owner_again m (fin.get link m) in
       let total : entry_total rule up found ≤ length (entries_if (inverted_rule rule down up) link answer) =
-      subst (λ x. entry_total rule up found ≤ length (entries_if (inverted_rule rule down up) link x)) (sym same) (subst (λ rs. entry_total rule up rs ≤ length (entries_if (inverted_rule rule down up) link (fin.get link m))) (sym is) (up_entries link m (fin.get link m) refl)) in
+      subst (λ x. entry_total rule up found ≤ length (entries_if (inverted_rule rule down up) link x)) (sym same)
+      (subst (λ rs. entry_total rule up rs ≤ length (entries_if (inverted_rule rule down up) link (fin.get link m))) (sym is)
+      (up_entries link m (fin.get link m) refl)) in
       omega (arith, few, total, leaves_sum)
 
   -- ---- what fits
@@ -246,10 +284,12 @@ module _ {M : Type 0} (rule : M → Rule) (down up : Tree M) (valid : IsInverted
   owner_fits (r ∷ rs) all = (owned_long r (all r (inl refl))).1
 
   pub pair_of_form : (o m : Value) → Fits owner_key o → Fits member_key m → IsOf (tree_form rule down) (pair_rec o m)
-  pair_of_form o m fit_o fit_m = pair_fits owner_key member_key (tree_form rule down) (tree_form rule up) valid.down_keys valid.down_fields valid.up_keys valid.up_fields o m fit_o fit_m
+  pair_of_form o m fit_o fit_m = pair_fits owner_key member_key (tree_form rule down) (tree_form rule up) valid.down_keys valid.down_fields
+      valid.up_keys valid.up_fields o m fit_o fit_m
 
   pub owned_of_form : (o m : Value) → Fits owner_key o → Fits member_key m → IsOf (tree_form rule up) (owned_rec o m)
-  owned_of_form o m fit_o fit_m = owned_fits owner_key member_key (tree_form rule down) (tree_form rule up) valid.down_keys valid.down_fields valid.up_keys valid.up_fields o m fit_o fit_m
+  owned_of_form o m fit_o fit_m = owned_fits owner_key member_key (tree_form rule down) (tree_form rule up) valid.down_keys
+      valid.down_fields valid.up_keys valid.up_fields o m fit_o fit_m
 
   -- ---- where the pages may not be enough
 
@@ -311,29 +351,37 @@ module _ {M : Type 0} (rule : M → Rule) (down up : Tree M) (valid : IsInverted
           (changed (node_rows inverted_rows link 1) None (Some (owned_rec o m))) new
           → IsHeldLink rule (two_nodes down up) inverted_rows (fin.insert link m o) new
       connected in_first in_second = (
-        internal_of_members rule down (changed (node_rows inverted_rows link 0) None (Some (pair_rec o m))) (node_rows inverted_rows (fin.insert link m o) 0) new valid.nodes.1
+        internal_of_members rule down (changed (node_rows inverted_rows link 0) None (Some (pair_rec o m)))
+            (node_rows inverted_rows (fin.insert link m o) 0) new valid.nodes.1
             (λ r h. elim h [
-              | inl e ↦ subst (λ x. In x (node_rows inverted_rows (fin.insert link m o) 0)) (sym e) (in_down (fin.insert link m o) o m (new_here link o m))
-              | inr k ↦ (let pair = from_down link r k in subst (λ x. In x (node_rows inverted_rows (fin.insert link m o) 0)) (sym pair.is) (in_down (fin.insert link m o) pair.owner pair.member (still_there link o m free pair.member pair.owner pair.owned)))
+              | inl e ↦ subst (λ x. In x (node_rows inverted_rows (fin.insert link m o) 0)) (sym e)
+                  (in_down (fin.insert link m o) o m (new_here link o m))
+              | inr k ↦ (let pair = from_down link r k in subst (λ x. In x (node_rows inverted_rows (fin.insert link m o) 0)) (sym pair.is)
+                  (in_down (fin.insert link m o) pair.owner pair.member (still_there link o m free pair.member pair.owner pair.owned)))
             ])
             (λ r h.
             let pair = from_down (fin.insert link m o) r h in
             elim (from_insert link o m pair.member pair.owner pair.owned) [
               | inl both ↦ inl (pair.is ∙ (λ i. pair_rec (both.1 i) (both.0 i)))
-              | inr both ↦ inr (subst (λ x. In x (node_rows inverted_rows link 0)) (sym pair.is) (in_down link pair.owner pair.member both.1))
+              | inr both ↦
+                  inr (subst (λ x. In x (node_rows inverted_rows link 0)) (sym pair.is) (in_down link pair.owner pair.member both.1))
             ])
             in_first,
         (
-          internal_of_members rule up (changed (node_rows inverted_rows link 1) None (Some (owned_rec o m))) (node_rows inverted_rows (fin.insert link m o) 1) new valid.nodes.3.1
+          internal_of_members rule up (changed (node_rows inverted_rows link 1) None (Some (owned_rec o m)))
+              (node_rows inverted_rows (fin.insert link m o) 1) new valid.nodes.3.1
               (λ r h. elim h [
-                | inl e ↦ subst (λ x. In x (node_rows inverted_rows (fin.insert link m o) 1)) (sym e) (in_up (fin.insert link m o) o m (new_here link o m))
-                | inr k ↦ (let pair = from_up link r k in subst (λ x. In x (node_rows inverted_rows (fin.insert link m o) 1)) (sym pair.is) (in_up (fin.insert link m o) pair.owner pair.member (still_there link o m free pair.member pair.owner pair.owned)))
+                | inl e ↦ subst (λ x. In x (node_rows inverted_rows (fin.insert link m o) 1)) (sym e)
+                    (in_up (fin.insert link m o) o m (new_here link o m))
+                | inr k ↦ (let pair = from_up link r k in subst (λ x. In x (node_rows inverted_rows (fin.insert link m o) 1)) (sym pair.is)
+                    (in_up (fin.insert link m o) pair.owner pair.member (still_there link o m free pair.member pair.owner pair.owned)))
               ])
               (λ r h.
               let pair = from_up (fin.insert link m o) r h in
               elim (from_insert link o m pair.member pair.owner pair.owned) [
                 | inl both ↦ inl (pair.is ∙ (λ i. owned_rec (both.1 i) (both.0 i)))
-                | inr both ↦ inr (subst (λ x. In x (node_rows inverted_rows link 1)) (sym pair.is) (in_up link pair.owner pair.member both.1))
+                | inr both ↦
+                    inr (subst (λ x. In x (node_rows inverted_rows link 1)) (sym pair.is) (in_up link pair.owner pair.member both.1))
               ])
               in_second,
           tt,
@@ -348,30 +396,39 @@ module _ {M : Type 0} (rule : M → Rule) (down up : Tree M) (valid : IsInverted
           (changed (node_rows inverted_rows link 1) (Some (owned_rec o m)) None) new
           → IsHeldLink rule (two_nodes down up) inverted_rows (fin.remove link m) new
       disconnected in_first in_second = (
-        internal_of_members rule down (changed (node_rows inverted_rows link 0) (Some (pair_rec o m)) None) (node_rows inverted_rows (fin.remove link m) 0) new valid.nodes.1
+        internal_of_members rule down (changed (node_rows inverted_rows link 0) (Some (pair_rec o m)) None)
+            (node_rows inverted_rows (fin.remove link m) 0) new valid.nodes.1
             (λ r h.
             let f = from_without (node_rows inverted_rows link 0) (pair_rec o m) r h in
             let pair = from_down link r f.0 in
-            let other : pair.member ≢ m = λ e. f.1 (ap (λ (x : Rec). x.key) pair.is ∙ (λ i. some_same pair.owner o (sym pair.owned ∙ ap (fin.get link) e ∙ owned) i ∷ e i ∷ [])) in
-            subst (λ x. In x (node_rows inverted_rows (fin.remove link m) 0)) (sym pair.is) (in_down (fin.remove link m) pair.owner pair.member (kept_there link m pair.member other ∙ pair.owned)))
+            let other : pair.member ≢ m = λ e. f.1 (ap (λ (x : Rec). x.key) pair.is
+            ∙ (λ i. some_same pair.owner o (sym pair.owned ∙ ap (fin.get link) e ∙ owned) i ∷ e i ∷ [])) in
+            subst (λ x. In x (node_rows inverted_rows (fin.remove link m) 0)) (sym pair.is)
+            (in_down (fin.remove link m) pair.owner pair.member (kept_there link m pair.member other ∙ pair.owned)))
             (λ r h.
             let pair = from_down (fin.remove link m) r h in
             let both = from_remove link m pair.member pair.owner pair.owned in
-            let there : In r (node_rows inverted_rows link 0) = subst (λ x. In x (node_rows inverted_rows link 0)) (sym pair.is) (in_down link pair.owner pair.member both.1) in
-            to_without (node_rows inverted_rows link 0) (pair_rec o m) r there (λ e. both.0 (ap second_of (ap (λ (x : Rec). x.key) (sym pair.is) ∙ e))))
+            let there : In r (node_rows inverted_rows link 0) = subst (λ x. In x (node_rows inverted_rows link 0)) (sym pair.is)
+            (in_down link pair.owner pair.member both.1) in
+            to_without (node_rows inverted_rows link 0) (pair_rec o m) r there
+            (λ e. both.0 (ap second_of (ap (λ (x : Rec). x.key) (sym pair.is) ∙ e))))
             in_first,
         (
-          internal_of_members rule up (changed (node_rows inverted_rows link 1) (Some (owned_rec o m)) None) (node_rows inverted_rows (fin.remove link m) 1) new valid.nodes.3.1
+          internal_of_members rule up (changed (node_rows inverted_rows link 1) (Some (owned_rec o m)) None)
+              (node_rows inverted_rows (fin.remove link m) 1) new valid.nodes.3.1
               (λ r h.
               let f = from_without (node_rows inverted_rows link 1) (owned_rec o m) r h in
               let pair = from_up link r f.0 in
               let other : pair.member ≢ m = λ e. f.1 (ap (λ (x : Rec). x.key) pair.is ∙ (λ i. e i ∷ [])) in
-              subst (λ x. In x (node_rows inverted_rows (fin.remove link m) 1)) (sym pair.is) (in_up (fin.remove link m) pair.owner pair.member (kept_there link m pair.member other ∙ pair.owned)))
+              subst (λ x. In x (node_rows inverted_rows (fin.remove link m) 1)) (sym pair.is)
+              (in_up (fin.remove link m) pair.owner pair.member (kept_there link m pair.member other ∙ pair.owned)))
               (λ r h.
               let pair = from_up (fin.remove link m) r h in
               let both = from_remove link m pair.member pair.owner pair.owned in
-              let there : In r (node_rows inverted_rows link 1) = subst (λ x. In x (node_rows inverted_rows link 1)) (sym pair.is) (in_up link pair.owner pair.member both.1) in
-              to_without (node_rows inverted_rows link 1) (owned_rec o m) r there (λ e. both.0 (ap first_of (ap (λ (x : Rec). x.key) (sym pair.is) ∙ e))))
+              let there : In r (node_rows inverted_rows link 1) = subst (λ x. In x (node_rows inverted_rows link 1)) (sym pair.is)
+              (in_up link pair.owner pair.member both.1) in
+              to_without (node_rows inverted_rows link 1) (owned_rec o m) r there
+              (λ e. both.0 (ap first_of (ap (λ (x : Rec). x.key) (sym pair.is) ∙ e))))
               in_second,
           tt,
         ),

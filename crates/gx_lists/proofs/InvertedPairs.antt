@@ -60,10 +60,13 @@ rows_once o (m ∷ ms) up = (
     later : (p : Part) → In p (pair_rows o m) → (q : Part) → In q (inverted_rows o ms) → eq_by_cmp part_cmp p q ≡ false
     later p i q h =
         let n = from_each (pair_rows o) q ms h in
-        two_members o o m n.0 p q (λ e. not_before_itself value_cmp_total n.0 (subst (λ v. value_cmp v n.0 ≡ Less) e (all_at (λ y. value_cmp m y ≡ Less) ms n.0 up.0 n.1))) i n.2
+        two_members o o m n.0 p q
+        (λ e. not_before_itself value_cmp_total n.0
+        (subst (λ v. value_cmp v n.0 ≡ Less) e (all_at (λ y. value_cmp m y ≡ Less) ms n.0 up.0 n.1))) i n.2
 
     first : (q : Part) → In q (part_for 1 (owned_rec o m) ∷ inverted_rows o ms) → eq_by_cmp part_cmp (part_for 0 (pair_rec o m)) q ≡ false
-    first q (inl e) = not_tied (part_for 0 (pair_rec o m)) q (λ child key. zero_one (part_for 0 (pair_rec o m)) q (pair_rec o m) (owned_rec o m) refl e child)
+    first q (inl e) = not_tied (part_for 0 (pair_rec o m)) q
+        (λ child key. zero_one (part_for 0 (pair_rec o m)) q (pair_rec o m) (owned_rec o m) refl e child)
     first q (inr h) = later (part_for 0 (pair_rec o m)) (inl refl) q h
 
 pub inverted_apart : RowsApart inverted_rows
@@ -96,19 +99,27 @@ pub record IsOwnedRec (owner member : Kind) (r : Rec) : Type 0 where
 module _ {M : Type 0} (rule : M → Rule) (down up : Tree M) (valid : IsInverted rule down up) where
   pub owned_of : (r : Rec) → IsOf (tree_form rule up) r → IsOwnedRec (owner_kind rule down) (member_kind rule up) r
   owned_of r fits =
-      let k = one_kind (member_kind rule up) r.key (fit_kinds (tree_form rule up).keys (member_kind rule up ∷ []) r.key valid.up_keys fits.key) in
-      let f = one_kind (owner_kind rule down) r.fields (fit_kinds (tree_form rule up).fields (owner_kind rule down ∷ []) r.fields valid.up_fields fits.fields) in
+      let k = one_kind (member_kind rule up) r.key
+      (fit_kinds (tree_form rule up).keys (member_kind rule up ∷ []) r.key valid.up_keys fits.key) in
+      let f = one_kind (owner_kind rule down) r.fields
+      (fit_kinds (tree_form rule up).fields (owner_kind rule down ∷ []) r.fields valid.up_fields fits.fields) in
       record { key = k.0; fields = f.0; member_fits = k.1; owner_fits = f.1 }
 
   pub key_ready : (r : Rec) → IsOf (tree_form rule up) r → (0 < length r.key) × IsSized (owned_pair r).0
   key_ready r fits =
-      let own = owned_of r fits in
-      (subst (λ (vs : List Value). 0 < length vs) (sym own.key) (omega arith), fit_sized (member_kind rule up) (owned_pair r).0 own.member_fits)
+      let own = owned_of r fits in (
+        subst (λ (vs : List Value). 0 < length vs) (sym own.key) (omega arith),
+        fit_sized (member_kind rule up)
+            (owned_pair r).0 own.member_fits,
+      )
 
   pub fields_ready : (r : Rec) → IsOf (tree_form rule up) r → (0 < length r.fields) × IsSized (owned_pair r).1
   fields_ready r fits =
-      let own = owned_of r fits in
-      (subst (λ (vs : List Value). 0 < length vs) (sym own.fields) (omega arith), fit_sized (owner_kind rule down) (owned_pair r).1 own.owner_fits)
+      let own = owned_of r fits in (
+        subst (λ (vs : List Value). 0 < length vs) (sym own.fields) (omega arith),
+        fit_sized (owner_kind rule down)
+            (owned_pair r).1 own.owner_fits,
+      )
 
   module _ (A B : List Rec) (fits : (r : Rec) → In r B → IsOf (tree_form rule up) r) where
     pub inverted_read : AreRead (owner_kind rule down) (member_kind rule up) inverted_rows (two_parts A B) (map owned_pair B)
@@ -116,29 +127,38 @@ module _ {M : Type 0} (rule : M → Rule) (down up : Tree M) (valid : IsInverted
       fit = λ p h.
           let r = from_map owned_pair p B h in
           let own = owned_of r.0 (fits r.0 r.1) in
-          subst (λ (q : Value × Value). Fits (member_kind rule up) q.0 × Fits (owner_kind rule down) q.1) (sym r.2) (own.member_fits, own.owner_fits);
+          subst (λ (q : Value × Value). Fits (member_kind rule up) q.0 × Fits (owner_kind rule down) q.1) (sym r.2)
+          (own.member_fits, own.owner_fits);
       up = λ order. rise order;
       those = λ order link are. same_pairs link (map owned_pair B) (rise order)
           (λ m o h.
           let r = from_map owned_pair (m, o) B h in
           let row = row_of link (part_for 1 r.0) (are.to (part_for 1 r.0) (in_two_second A B r.0 r.1)) in
           at link m o r.0 r.2 row row.there)
-          (λ m o e. in_map owned_pair (owned_rec o m) B (two_second A B (owned_rec o m) (are.from (part_for 1 (owned_rec o m)) (of_row link o m (part_for 1 (owned_rec o m)) e (inr (inl refl))))));
+          (λ m o e. in_map owned_pair (owned_rec o m) B
+          (two_second A B (owned_rec o m)
+          (are.from (part_for 1 (owned_rec o m)) (of_row link o m (part_for 1 (owned_rec o m)) e (inr (inl refl))))));
     }
       where
         rise : Ascends part_cmp (two_parts A B) → Ascends (λ (p q : Value × Value). value_cmp p.0 q.0) (map owned_pair B)
         rise order = values_ascend owned_pair B (λ r h. (owned_of r (fits r h)).key) (second_ascends A B order)
 
-        at : (link : Link) (m o : Value) (r : Rec) → (m, o) ≡ owned_pair r → (row : IsRow link (part_for 1 r)) → In (part_for 1 r) (pair_rows row.owner row.member) → fin.get link m ≡ Some o
+        at : (link : Link) (m o : Value) (r : Rec) → (m, o) ≡ owned_pair r → (row : IsRow link (part_for 1 r))
+            → In (part_for 1 r) (pair_rows row.owner row.member) → fin.get link m ≡ Some o
         at link m o r is row (inl e) = absurd (zero_one (part_for 1 r) (part_for 1 r) (pair_rec row.owner row.member) r e refl refl)
         at link m o r is row (inr (inl e)) =
             let pair : (m, o) ≡ (row.member, row.owner) = is ∙ ap (λ (p : Part). owned_pair p.rec) e in
             ap (λ (q : Value × Value). fin.get link q.0) pair ∙ row.owned ∙ ap (λ (q : Value × Value). Some q.1) (sym pair)
         at link m o r is row (inr (inr j)) = absurd j
 
-pub inverted_held : {M : Type 0} (rule : M → Rule) → ((m : M) → MappingLaws (rule m)) → (down up : Tree M) (valid : IsInverted rule down up) (whole : Type 0) (maps : List LeafMap) (A B : List Rec) (found : Option (List (Value × Value))) → AreHeld rule down whole maps A → AreHeld rule up whole maps B → IsTold (owner_kind rule down) (member_kind rule up) inverted_rows (two_parts A B) found → ArePairs (inverted_rule rule down up) (IsHeldLink rule (two_nodes down up) inverted_rows) whole maps found
+pub inverted_held : {M : Type 0} (rule : M → Rule) → ((m : M) → MappingLaws (rule m))
+    → (down up : Tree M) (valid : IsInverted rule down up) (whole : Type 0) (maps : List LeafMap) (A B : List Rec)
+    (found : Option (List (Value × Value))) → AreHeld rule down whole maps A → AreHeld rule up whole maps B
+    → IsTold (owner_kind rule down) (member_kind rule up) inverted_rows (two_parts A B) found
+    → ArePairs (inverted_rule rule down up) (IsHeldLink rule (two_nodes down up) inverted_rows) whole maps found
 inverted_held rule laws down up valid whole maps A B found a b told =
-    pairs_held (inverted_row_laws (owner_kind rule down) (member_kind rule up) (tree_form rule down) (tree_form rule up) valid.down_keys valid.down_fields valid.up_keys valid.up_fields) rule laws (two_nodes down up) valid.nodes refl (two_parts A B) maps
+    pairs_held (inverted_row_laws (owner_kind rule down) (member_kind rule up) (tree_form rule down) (tree_form rule up) valid.down_keys
+    valid.down_fields valid.up_keys valid.up_fields) rule laws (two_nodes down up) valid.nodes refl (two_parts A B) maps
     (two_fit (tree_form rule down) (tree_form rule up) A B a.fit b.fit) (λ _. 1) true whole found told
     (λ w. two_ascend A B (ascends rec_cmp A (a.in_order w)) (ascends rec_cmp B (b.in_order w)))
     (λ w. two_internal rule down up A B maps valid.nodes.1 valid.nodes.3.1 (a.held w) (b.held w))

@@ -42,16 +42,19 @@ text_length (c ∷ t) rest plain =
     ∙ (let e = text_length t rest (printable_tail c t plain) in omega (arith, e))
 
 -- a text at the front ends at the first 0
-text_there : (most : ℕ) (bytes : List ℕ) (v : Value) (rest : List ℕ) → Fits (kind.Text most) v → bytes ≡ bytes_of v ++ rest → (n : ℕ) × ((position (λ b. b == 0) bytes ≡ Some n) × (length (bytes_of v) ≡ n + 1))
+text_there : (most : ℕ) (bytes : List ℕ) (v : Value) (rest : List ℕ) → Fits (kind.Text most) v → bytes ≡ bytes_of v ++ rest
+    → (n : ℕ) × ((position (λ b. b == 0) bytes ≡ Some n) × (length (bytes_of v) ≡ n + 1))
 text_there most bytes (value.Int z) rest fits e = absurd fits
 text_there most bytes (value.Bytes t) rest fits e = absurd fits
-text_there most bytes (value.Text t) rest fits e = (length t, (ap (position (λ b. b == 0)) e ∙ found, omega (arith, length-append t (0 ∷ []))))
+text_there most bytes (value.Text t) rest fits e =
+    (length t, (ap (position (λ b. b == 0)) e ∙ found, omega (arith, length-append t (0 ∷ []))))
   where
     place : (n l : ℕ) (k : ℕ) → n ≡ k → k < l → cond (nat_lt n l) (Some n) None ≡ Some k
     place n l k same lt = grind (arith, nat_tests)
 
     found : position (λ b. b == 0) ((t ++ 0 ∷ []) ++ rest) ≡ Some (length t)
-    found = place _ (length ((t ++ 0 ∷ []) ++ rest)) (length t) (text_length t rest fits.1) (omega (arith, length-append (t ++ 0 ∷ []) rest, length-append t (0 ∷ [])))
+    found = place _ (length ((t ++ 0 ∷ []) ++ rest)) (length t) (text_length t rest fits.1)
+        (omega (arith, length-append (t ++ 0 ∷ []) rest, length-append t (0 ∷ [])))
 
 no_place : (n : ℕ) → None ≡ Some n → ⊥
 no_place n e = cc
@@ -59,7 +62,8 @@ no_place n e = cc
 pub texts_none : (most : ℕ) (bytes : List ℕ) → position (λ b. b == 0) bytes ≡ None → IsFrontWidth (kind.Text most) bytes None
 texts_none most bytes none v rest fit e = let t = text_there most bytes v rest fit e in no_place t.0 (sym none ∙ t.1.0)
 
-pub texts_some : (most : ℕ) (bytes : List ℕ) (end : ℕ) → position (λ b. b == 0) bytes ≡ Some end → IsFrontWidth (kind.Text most) bytes (Some (end + 1))
+pub texts_some : (most : ℕ) (bytes : List ℕ) (end : ℕ) → position (λ b. b == 0) bytes ≡ Some end
+    → IsFrontWidth (kind.Text most) bytes (Some (end + 1))
 texts_some most bytes end there =
     let at = position-Some (λ b. b == 0) bytes end 0 there in (
       omega arith,
@@ -81,14 +85,22 @@ pub record AreCutSoFar (k : Kind) (bytes : List ℕ) (before now : List Value) (
   pub only : (ms : List Value) → AreOfKind k ms → key_of ms ≡ bytes → (more : List Value) × AreOfKind k more × (key_of more ≡ rest)
 
 pub none_cut : (k : Kind) (bytes : List ℕ) (before : List Value) → AreCutSoFar k bytes before before bytes
-none_cut k bytes before = record { found = []; appended = sym (append-nil before); fit = λ m h. absurd h; joined = refl; only = λ ms fit e. (ms, fit, e) }
+none_cut k bytes before = record {
+  found = [];
+  appended = sym (append-nil before);
+  fit = λ m h. absurd h;
+  joined = refl;
+  only = λ ms fit e. (ms, fit, e);
+}
 
 -- the next member's bytes, where some are left
-next_there : (k : Kind) (ms : List Value) (rest : List ℕ) → AreOfKind k ms → key_of ms ≡ rest → 0 < length rest → (v : Value) × (vs : List Value) × (ms ≡ v ∷ vs) × (rest ≡ bytes_of v ++ key_of vs)
+next_there : (k : Kind) (ms : List Value) (rest : List ℕ) → AreOfKind k ms → key_of ms ≡ rest → 0 < length rest
+    → (v : Value) × (vs : List Value) × (ms ≡ v ∷ vs) × (rest ≡ bytes_of v ++ key_of vs)
 next_there k [] rest fit e some = absurd (omega (arith, ap length e, some))
 next_there k (v ∷ vs) rest fit e some = (v, vs, refl, sym e)
 
-pub no_front : (k : Kind) (bytes : List ℕ) (before now : List Value) (rest : List ℕ) → AreCutSoFar k bytes before now rest → 0 < length rest → IsFrontWidth k rest None → AreOfNone k bytes
+pub no_front : (k : Kind) (bytes : List ℕ) (before now : List Value) (rest : List ℕ) → AreCutSoFar k bytes before now rest
+    → 0 < length rest → IsFrontWidth k rest None → AreOfNone k bytes
 no_front k bytes before now rest so_far some none ms fit e =
     let more = so_far.only ms fit e in
     let next = next_there k more.0 rest more.1 more.2 some in
@@ -108,14 +120,17 @@ front_bytes rest a b width e l = (
   (λ i. drop (sym l i) (e i)) ∙ drop_front a b,
 )
 
-pub no_value : (k : Kind) (bytes : List ℕ) (before now : List Value) (rest : List ℕ) (width : ℕ) → AreCutSoFar k bytes before now rest → 0 < length rest → IsFrontWidth k rest (Some width) → IsRead bytes_of k (take width rest) None → AreOfNone k bytes
+pub no_value : (k : Kind) (bytes : List ℕ) (before now : List Value) (rest : List ℕ) (width : ℕ) → AreCutSoFar k bytes before now rest
+    → 0 < length rest → IsFrontWidth k rest (Some width) → IsRead bytes_of k (take width rest) None → AreOfNone k bytes
 no_value k bytes before now rest width so_far some front none ms fit e =
     let more = so_far.only ms fit e in
     let next = next_there k more.0 rest more.1 more.2 some in
     let fits = more.1 next.0 (subst (In next.0) (sym next.2) (inl refl)) in
     none next.0 fits (sym (front_bytes rest (bytes_of next.0) (key_of next.1) width next.3 (front.2 next.0 (key_of next.1) fits next.3)).0)
 
-pub one_cut : (k : Kind) (bytes : List ℕ) (before now after : List Value) (rest : List ℕ) (width : ℕ) (v : Value) → AreCutSoFar k bytes before now rest → 0 < length rest → IsFrontWidth k rest (Some width) → IsRead bytes_of k (take width rest) (Some v) → after ≡ now ++ v ∷ [] → AreCutSoFar k bytes before after (drop width rest)
+pub one_cut : (k : Kind) (bytes : List ℕ) (before now after : List Value) (rest : List ℕ) (width : ℕ) (v : Value)
+    → AreCutSoFar k bytes before now rest → 0 < length rest → IsFrontWidth k rest (Some width)
+    → IsRead bytes_of k (take width rest) (Some v) → after ≡ now ++ v ∷ [] → AreCutSoFar k bytes before after (drop width rest)
 one_cut k bytes before now after rest width v so_far some front is pushed = record {
   found = so_far.found ++ v ∷ [];
   appended = pushed ∙ ap (λ l. l ++ v ∷ []) so_far.appended ∙ append_assoc before so_far.found (v ∷ []);
@@ -123,28 +138,42 @@ one_cut k bytes before now after rest width v so_far some front is pushed = reco
     | inl a ↦ so_far.fit m a
     | inr b ↦ elim b [ inl e ↦ subst (Fits k) (sym e) is.0 | inr f ↦ absurd f ]
   ];
-  joined = ap (λ l. l ++ drop width rest) (flat_map-append bytes_of so_far.found (v ∷ []) ∙ ap (λ l. key_of so_far.found ++ l) (append-nil (bytes_of v) ∙ is.1))
+  joined = ap (λ l. l ++ drop width rest)
+      (flat_map-append bytes_of so_far.found (v ∷ []) ∙ ap (λ l. key_of so_far.found ++ l) (append-nil (bytes_of v) ∙ is.1))
       ∙ append_assoc (key_of so_far.found) (take width rest) (drop width rest)
       ∙ ap (λ l. key_of so_far.found ++ l) (take-append-drop width rest)
       ∙ so_far.joined;
   only = λ ms fit e.
       let more = so_far.only ms fit e in
       let next = next_there k more.0 rest more.1 more.2 some in
-      let fits = more.1 next.0 (subst (In next.0) (sym next.2) (inl refl)) in
-      (next.1, (λ m h. more.1 m (subst (In m) (sym next.2) (inr h))), sym (front_bytes rest (bytes_of next.0) (key_of next.1) width next.3 (front.2 next.0 (key_of next.1) fits next.3)).1);
+      let fits = more.1 next.0 (subst (In next.0) (sym next.2) (inl refl)) in (
+        next.1,
+        (λ m h. more.1 m (subst (In m) (sym next.2) (inr h))),
+        sym (front_bytes rest (bytes_of next.0) (key_of next.1) width next.3 (front.2 next.0 (key_of next.1) fits next.3)).1,
+      );
 }
 
 empty : (l : List ℕ) → length l ≡ 0 → l ≡ []
 empty [] e = refl
 empty (x ∷ l) e = absurd (omega arith)
 
-pub all_cut : (k : Kind) (bytes : List ℕ) (before now : List Value) (rest : List ℕ) → AreCutSoFar k bytes before now rest → length rest ≡ 0 → AreCut k bytes before now
-all_cut k bytes before now rest so_far none = record { found = so_far.found; appended = so_far.appended; fit = so_far.fit; joined = sym (append-nil (key_of so_far.found)) ∙ ap (λ l. key_of so_far.found ++ l) (sym (empty rest none)) ∙ so_far.joined }
+pub all_cut : (k : Kind) (bytes : List ℕ) (before now : List Value) (rest : List ℕ) → AreCutSoFar k bytes before now rest → length rest ≡ 0
+    → AreCut k bytes before now
+all_cut k bytes before now rest so_far none = record {
+  found = so_far.found;
+  appended = so_far.appended;
+  fit = so_far.fit;
+  joined = sym (append-nil (key_of so_far.found)) ∙ ap (λ l. key_of so_far.found ++ l) (sym (empty rest none)) ∙ so_far.joined;
+}
 
 -- ---- as the calls have them
 
-pub front_none : (k : Kind) (most : ℕ) (bytes : List ℕ) (found result : Option ℕ) → k ≡ kind.Text most → found ≡ position (λ b. b == 0) bytes → found ≡ None → result ≡ None → IsFrontWidth k bytes result
-front_none k most bytes found result is there none gives = subst (λ x. IsFrontWidth x bytes result) (sym is) (subst (λ o. IsFrontWidth (kind.Text most) bytes o) (sym gives) (texts_none most bytes (sym there ∙ none)))
+pub front_none : (k : Kind) (most : ℕ) (bytes : List ℕ) (found result : Option ℕ) → k ≡ kind.Text most
+    → found ≡ position (λ b. b == 0) bytes → found ≡ None → result ≡ None → IsFrontWidth k bytes result
+front_none k most bytes found result is there none gives = subst (λ x. IsFrontWidth x bytes result) (sym is)
+    (subst (λ o. IsFrontWidth (kind.Text most) bytes o) (sym gives) (texts_none most bytes (sym there ∙ none)))
 
-pub front_some : (k : Kind) (most end : ℕ) (bytes : List ℕ) (found : Option ℕ) → k ≡ kind.Text most → found ≡ position (λ b. b == 0) bytes → found ≡ Some end → IsFrontWidth k bytes (Some (end + 1))
-front_some k most end bytes found is there some = subst (λ x. IsFrontWidth x bytes (Some (end + 1))) (sym is) (texts_some most bytes end (sym there ∙ some))
+pub front_some : (k : Kind) (most end : ℕ) (bytes : List ℕ) (found : Option ℕ) → k ≡ kind.Text most → found ≡ position (λ b. b == 0) bytes
+    → found ≡ Some end → IsFrontWidth k bytes (Some (end + 1))
+front_some k most end bytes found is there some = subst (λ x. IsFrontWidth x bytes (Some (end + 1))) (sym is)
+    (texts_some most bytes end (sym there ∙ some))

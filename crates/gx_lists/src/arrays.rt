@@ -4,6 +4,7 @@ ghost use Rattle.gx_values.specs.declared.values.Value.{Value as FieldValue};
 ghost use Rattle.gx_values.specs.declared.records.Rec.{Rec as Record};
 ghost use Rattle.gx_values.specs.Keys.{bytes_of, key_of, IsKeyKind};
 ghost use Rattle.gx_values.specs.Values.{IsSized, AreSized};
+ghost use Rattle.gx_ports.specs.declared.leaves.TheConstants.{MAX_KEY_LEN};
 ghost use Rattle.gx_mapping.specs.Rule.{In};
 ghost use Rattle.gx_stack.specs.Tree.{leaf_body};
 ghost use Rattle.gx_links.specs.Links.{with_member, without_member};
@@ -17,7 +18,7 @@ use std::alloc::Global;
 
 // The key bytes of members, joined.
 fn joined(alloc: Global, members: &[Value]) -> Result<Octets, NoMemory>
-    requires { (m : FieldValue) → In m members.now → length (bytes_of m) ≤ 400 }
+    requires { (m : FieldValue) → In m members.now → length (bytes_of m) ≤ MAX_KEY_LEN }
     ensures { IfOk result (λ bytes. bytes ≡ key_of members.now) }
 {
     let mut bytes = Vec::new(alloc);
@@ -31,7 +32,7 @@ fn joined(alloc: Global, members: &[Value]) -> Result<Octets, NoMemory>
 // The record of an owner with these members.
 pub fn array_rec(alloc: Global, owner: &Value, members: &[Value]) -> Result<Rec, NoMemory>
     requires owner { IsSized owner.now }
-    requires members { (m : FieldValue) → In m members.now → length (bytes_of m) ≤ 400 }
+    requires members { (m : FieldValue) → In m members.now → length (bytes_of m) ≤ MAX_KEY_LEN }
     ensures { IfOk result (λ rec. rec ≡ array_rec owner.now members.now) }
 {
     let mut key = Vec::with_capacity(alloc, 1)?;

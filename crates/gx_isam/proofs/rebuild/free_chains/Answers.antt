@@ -28,7 +28,8 @@ loop-bucket-init g c =
         };
         small = λ some. absurd (omega (arith, some));
         none = λ i less. absurd (omega (arith, less));
-        others = subst (λ (x : Sheets). OthersStay ground place.owner (g.P.PageView.working p) x) (sym reads.working) (others_itself ground place.owner (g.P.PageView.working p));
+        others = subst (λ (x : Sheets). OthersStay ground place.owner (g.P.PageView.working p) x) (sym reads.working)
+            (others_itself ground place.owner (g.P.PageView.working p));
       };
     }
 
@@ -39,9 +40,14 @@ returns-in_err-free_chain-clause-ends g c =
     let now = c.loop-bucket.pages in
     let place = c.args.place.now in
     let index = c.loop-bucket.index in
-    ends_handed_on {T = Unit {0}} g.P.PageView (IsWhole g.P.PageView (IsIsam (g.P.PageView.ground p) place) p) (HasIndexAt g.P.PageView now place index) p now c.free_chain.new.pages _ c.from_residual-in_err-free_chain.result
+    ends_handed_on {T = Unit {0}} g.P.PageView (IsWhole g.P.PageView (IsIsam (g.P.PageView.ground p) place) p)
+    (HasIndexAt g.P.PageView now place index) p now c.free_chain.new.pages _ c.from_residual-in_err-free_chain.result
     i.faults i.keeps.ground
-    (λ whole. (whole.1.told, subst (λ (x : Ground). HasIndex x place (g.P.PageView.working now) index) (sym i.keeps.ground) (i.way whole.0 whole.1.told whole.1.file).whole))
+    (λ whole. (
+      whole.1.told,
+      subst (λ (x : Ground). HasIndex x place (g.P.PageView.working now) index) (sym i.keeps.ground)
+          (i.way whole.0 whole.1.told whole.1.file).whole,
+    ))
     c.in_err-free_chain.ensures.ends c.from_residual-in_err-free_chain.ensures.1
 
 pub loop-bucket-preserved : goal.loop-bucket-preserved
@@ -77,4 +83,5 @@ returns-clause-emptied g c map holds =
     let within = i.within in
     let counted = i.counted in
     let over = c.loop-bucket-test.false in
-    freed_all (g.P.PageView.ground p) c.args.place.now (g.P.PageView.working p) (g.P.PageView.working c.loop-bucket.pages) c.loop-bucket.index c.loop-bucket.bucket (i.way map holds.told holds.file) (omega (arith, within, counted, over))
+    freed_all (g.P.PageView.ground p) c.args.place.now (g.P.PageView.working p) (g.P.PageView.working c.loop-bucket.pages)
+    c.loop-bucket.index c.loop-bucket.bucket (i.way map holds.told holds.file) (omega (arith, within, counted, over))

@@ -25,13 +25,18 @@ returns-in-None-clause-found g c told owner all chain =
     let p = c.args.pages.now in
     let s = g.P.PageView.working p in
     let at = first_of c.args.index.now c.args.bucket in
-    let none = MatchOption-at_none (at ≡ NONE) (λ n. (at ≡ n) × IsPast (g.P.PageView.ground p) n × (n ≢ NONE)) c.in-None.is c.in_ok-first_page.ensures.first in
-    let empty = no_pages (g.P.PageView.ground p) owner s all c.in_ok-first_page.ensures.small (subst (λ n. IsChain (g.P.PageView.ground p) owner s n all) none chain) in
-    sym (ap (λ (x : List ℕ). c.args.found.now.items ++ inside_on s c.args.span.now.lo c.args.span.now.hi x) empty ∙ append-nil c.args.found.now.items)
+    let none = MatchOption-at_none (at ≡ NONE) (λ n. (at ≡ n) × IsPast (g.P.PageView.ground p) n × (n ≢ NONE)) c.in-None.is
+    c.in_ok-first_page.ensures.first in
+    let empty = no_pages (g.P.PageView.ground p) owner s all c.in_ok-first_page.ensures.small
+    (subst (λ n. IsChain (g.P.PageView.ground p) owner s n all) none chain) in
+    sym (ap (λ (x : List ℕ). c.args.found.now.items ++ inside_on s c.args.span.now.lo c.args.span.now.hi x) empty
+    ∙ append-nil c.args.found.now.items)
 
 pub returns-in-Some-clause-found : goal.returns-in-Some-clause-found
 returns-in-Some-clause-found g c told owner all chain =
     let p = c.args.pages.now in
     let at = first_of c.args.index.now c.args.bucket in
-    let found = MatchOption-at_some (at ≡ NONE) (λ n. (at ≡ n) × IsPast (g.P.PageView.ground p) n × (n ≢ NONE)) c.in-Some.first c.in-Some.is c.in_ok-first_page.ensures.first in
-    c.gather_from.ensures.found told owner all (subst (λ n. IsChain (g.P.PageView.ground p) owner (g.P.PageView.working p) n all) found.0 chain)
+    let found = MatchOption-at_some (at ≡ NONE) (λ n. (at ≡ n) × IsPast (g.P.PageView.ground p) n × (n ≢ NONE)) c.in-Some.first
+    c.in-Some.is c.in_ok-first_page.ensures.first in
+    c.gather_from.ensures.found told owner all
+    (subst (λ n. IsChain (g.P.PageView.ground p) owner (g.P.PageView.working p) n all) found.0 chain)

@@ -49,5 +49,6 @@ loop-rec-preserved c = λ r h.
     let lt : i < length xs = search rules in
     elim (in_more xs i x r lt h) [
       | inl a ↦ c.loop-rec.invariant r a
-      | inr is ↦ subst (λ y. WithoutMember c.args.kind y c.args.member.now) (read ∙ sym is) (c.in_ok-has_member.ensures.no (ap Ok c.if-branch.false))
+      | inr is ↦ subst (λ y. WithoutMember c.args.kind y c.args.member.now) (read ∙ sym is)
+          (c.in_ok-has_member.ensures.no (ap Ok c.if-branch.false))
     ]

@@ -20,9 +20,11 @@ loop-other-preserved c =
           let keeps : not (is_same x m) ≡ true = search rules in
           let copy : w.in_ok-copy.field-0 ≡ x = w.in_ok-copy.ensures (sized_item xs xs x i (λ _. xs) lt read c.requires) in
           let items : c.if-is_ne.without.items ≡ c.loop-other.without.items ++ w.in_ok-copy.field-0 ∷ [] = search rules in
-          items ∙ (λ j. c.loop-other.invariant j ++ copy j ∷ []) ∙ sym (more ∙ ap (λ b. without_member m (take i xs) ++ cond b (x ∷ []) []) keeps))
+          items ∙ (λ j. c.loop-other.invariant j ++ copy j ∷ [])
+          ∙ sym (more ∙ ap (λ b. without_member m (take i xs) ++ cond b (x ∷ []) []) keeps))
       | else-is_ne w ↦ (
           let drops : not (is_same x m) ≡ false = search rules in
           let items : c.if-is_ne.without.items ≡ c.loop-other.without.items = search rules in
-          items ∙ c.loop-other.invariant ∙ sym (append-nil (without_member m (take i xs))) ∙ sym (more ∙ ap (λ b. without_member m (take i xs) ++ cond b (x ∷ []) []) drops))
+          items ∙ c.loop-other.invariant ∙ sym (append-nil (without_member m (take i xs)))
+          ∙ sym (more ∙ ap (λ b. without_member m (take i xs) ++ cond b (x ∷ []) []) drops))
     ]

@@ -13,7 +13,8 @@ use Rattle.gx_lists.proofs.ArrayLemmas.{in_leaves, rows_set, array_has_set, rows
 use Rattle.gx_lists.proofs.array.PointerArrayLinkset.members.Goals as goal
 
 pub select-requires-clause-below : goal.select-requires-clause-below
-select-requires-clause-below g c = λ n h. c.requires.below n (in_leaves g.M.Mapping.rule (tree_of c.args.self.now.tree.now) c.args.self.now.member c.requires.valid n h)
+select-requires-clause-below g c = λ n h. c.requires.below n
+    (in_leaves g.M.Mapping.rule (tree_of c.args.self.now.tree.now) c.args.self.now.member c.requires.valid n h)
 
 pub returns-in_err-select-clause-reads : goal.returns-in_err-select-clause-reads
 returns-in_err-select-clause-reads g c =
@@ -32,14 +33,20 @@ returns-then-branch-clause-found g c =
     let now = found.appended ∙ ap (λ (before : List Rec). before ++ found.found) c.new-found.ensures in
     let view : c.deref.result.now ≡ c.select.new.out = search rules in
     let body = c.first_body.ensures ∙ ap first_body (view ∙ now) in
-    let cut = subst (λ b. AreCut kind b c.args.out.now c.cut_members.new.out) body (c.in_ok-cut_members.ensures.yes (ap Ok c.if-branch.true)) in
-    let those = subst (λ (form : Form). (key : List Value) → AreFit form.keys key → is_inside span.lo span.hi (key_of key) ≡ begins_with owner key) c.form.ensures c.value_span-span.ensures.those in
+    let cut = subst (λ b. AreCut kind b c.args.out.now c.cut_members.new.out) body
+    (c.in_ok-cut_members.ensures.yes (ap Ok c.if-branch.true)) in
+    let those = subst (λ (form : Form). (key : List Value) → AreFit form.keys key
+    → is_inside span.lo span.hi (key_of key) ≡ begins_with owner key) c.form.ensures c.value_span-span.ensures.those in
     record {
       found = cut.found;
       appended = cut.appended;
       fit = cut.fit;
-      those = λ whole link is held. cut_same rule tree kind c.requires.valid link owner found.found _ _ is (rows_found rule tree kind c.requires.valid link owner span found.found is those (found.selected whole (node_rows array_rows link 0) (rows_set rule tree kind c.requires.valid link is) held.0)) cut;
-      few_steps = λ whole link is held. members_steps rule tree kind c.requires.valid link owner found.found _ _ (rows_found rule tree kind c.requires.valid link owner span found.found is those (found.selected whole (node_rows array_rows link 0) (rows_set rule tree kind c.requires.valid link is) held.0)) found.few_steps;
+      those = λ whole link is held. cut_same rule tree kind c.requires.valid link owner found.found _ _ is
+          (rows_found rule tree kind c.requires.valid link owner span found.found is those
+          (found.selected whole (node_rows array_rows link 0) (rows_set rule tree kind c.requires.valid link is) held.0)) cut;
+      few_steps = λ whole link is held. members_steps rule tree kind c.requires.valid link owner found.found _ _
+          (rows_found rule tree kind c.requires.valid link owner span found.found is those
+          (found.selected whole (node_rows array_rows link 0) (rows_set rule tree kind c.requires.valid link is) held.0)) found.few_steps;
     }
 
 pub returns-clause-reads : goal.returns-clause-reads
@@ -54,7 +61,8 @@ returns-clause-reads g c =
     let view : c.deref.result.now ≡ c.select.new.out = search rules in
     let body = c.first_body.ensures ∙ ap first_body (view ∙ now) in
     let none = subst (λ b. AreOfNone kind b) body (c.in_ok-cut_members.ensures.no (ap Ok c.if-branch.false)) in
-    let those = subst (λ (form : Form). (key : List Value) → AreFit form.keys key → is_inside span.lo span.hi (key_of key) ≡ begins_with owner key) c.form.ensures c.value_span-span.ensures.those in
+    let those = subst (λ (form : Form). (key : List Value) → AreFit form.keys key
+    → is_inside span.lo span.hi (key_of key) ≡ begins_with owner key) c.form.ensures c.value_span-span.ensures.those in
     reads_stopped g.B.View _ refl
     (λ sound.
     let link = sound.1.0 in

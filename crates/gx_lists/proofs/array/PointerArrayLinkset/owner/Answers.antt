@@ -15,10 +15,12 @@ use Rattle.gx_lists.proofs.ArrayChanges.{on_ok_any}
 use Rattle.gx_lists.proofs.array.PointerArrayLinkset.owner.Goals as goal
 
 pub select-requires-clause-below : goal.select-requires-clause-below
-select-requires-clause-below g c = λ n h. c.requires.below n (in_leaves g.M.Mapping.rule (tree_of c.args.self.now.tree.now) c.args.self.now.member c.requires.valid n h)
+select-requires-clause-below g c = λ n h. c.requires.below n
+    (in_leaves g.M.Mapping.rule (tree_of c.args.self.now.tree.now) c.args.self.now.member c.requires.valid n h)
 
 pub select-requires-clause-span : goal.select-requires-clause-span
-select-requires-clause-span g c = ends_empty (tree_form g.M.Mapping.rule (tree_of c.args.self.now.tree.now)) c.whole_span.result c.whole_span.ensures.lo c.whole_span.ensures.hi
+select-requires-clause-span g c = ends_empty (tree_form g.M.Mapping.rule (tree_of c.args.self.now.tree.now)) c.whole_span.result
+    c.whole_span.ensures.lo c.whole_span.ensures.hi
 
 pub returns-in_err-select-clause-reads : goal.returns-in_err-select-clause-reads
 returns-in_err-select-clause-reads g c =
@@ -33,13 +35,15 @@ pub owner_among-requires-clause-some : goal.owner_among-requires-clause-some
 owner_among-requires-clause-some g c = λ r h.
     let found = c.in_ok-select.ensures.found in
     let now = found.appended ∙ ap (λ (before : List Rec). before ++ found.found) c.new-found.ensures in
-    (key_long g.M.Mapping.rule (tree_of c.args.self.now.tree.now) c.args.self.now.member c.requires.valid r (found.fit r (subst (In r) now h))).0
+    (key_long g.M.Mapping.rule (tree_of c.args.self.now.tree.now) c.args.self.now.member c.requires.valid r
+    (found.fit r (subst (In r) now h))).0
 
 pub owner_among-requires-clause-sized : goal.owner_among-requires-clause-sized
 owner_among-requires-clause-sized g c = λ r h.
     let found = c.in_ok-select.ensures.found in
     let now = found.appended ∙ ap (λ (before : List Rec). before ++ found.found) c.new-found.ensures in
-    key_sized g.M.Mapping.rule (tree_of c.args.self.now.tree.now) c.args.self.now.member c.requires.valid r (found.fit r (subst (In r) now h))
+    key_sized g.M.Mapping.rule (tree_of c.args.self.now.tree.now) c.args.self.now.member c.requires.valid r
+    (found.fit r (subst (In r) now h))
 
 pub returns-clause-found : goal.returns-clause-found
 returns-clause-found g c =
@@ -54,7 +58,10 @@ returns-clause-found g c =
     let there = subst (λ (rs : List Rec). IsOwnerAmong kind member rs answer) now among in
     record {
       fit = owner_fits rule tree kind c.requires.valid member found.found answer found.fit there;
-      that = λ whole link is held. owner_found rule tree kind c.requires.valid link is span found.found (λ key. all_inside span key c.whole_span.ensures.lo c.whole_span.ensures.hi) (found.selected whole (node_rows array_rows link 0) (rows_set rule tree kind c.requires.valid link is) held.0) member answer there;
+      that = λ whole link is held. owner_found rule tree kind c.requires.valid link is span found.found
+          (λ key. all_inside span key c.whole_span.ensures.lo c.whole_span.ensures.hi)
+          (found.selected whole (node_rows array_rows link 0) (rows_set rule tree kind c.requires.valid link is) held.0) member answer
+          there;
       few_steps = λ finds whole link is held. absurd (true≢false (sym finds));
     }) c.owner_among.ensures.among
 
