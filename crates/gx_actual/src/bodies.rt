@@ -1,12 +1,11 @@
 // The bodies of records in leaves: the values other than the key, one after the other.
 ghost use Rattle.std.specs.Prelude.{◌≡◌, ◌+◌, ◌≤◌, ◌++◌, List, ℕ, length, drop, IfOk, IsTrue};
-ghost use Rattle.std.specs.List.{list_all};
-ghost use Rattle.gx_values.specs.Values.{AreFit, is_printable};
+ghost use Rattle.gx_values.specs.Values.{AreFit};
 ghost use Rattle.gx_values.specs.Written.{AreRead, IsAtFront};
 ghost use Rattle.gx_values.specs.declared.values.Kind.TheVariants as kind;
 ghost use Rattle.gx_actual.specs.Bodies.{field_bytes, body_of, IsShort, AreShort, HasLength};
 
-use gx_values::{Field, Kind, NoMemory, Octets, Value, Values};
+use gx_values::{Field, Kind, NoMemory, Octets, Value, Values, is_printable_text};
 use std::alloc::{AllocError, Global};
 
 /// The body of the values of these fields, of which no text or bytes may be longer than what its
@@ -132,17 +131,6 @@ fn read_text(alloc: Global, most: u16, rest: &[u8]) -> Result<Option<Value>, NoM
         return Ok(None);
     }
     Ok(Some(Value::Text(Octets::from_slice(alloc, text)?)))
-}
-
-fn is_printable_text(text: &[u8]) -> bool
-    ensures { result ≡ list_all is_printable text.now }
-{
-    // No byte ends the loop early, so it is compiled to a few instructions for many bytes.
-    let mut printable = true;
-    for byte in text {
-        printable &= matches!(*byte, 0x20..=0x7E);
-    }
-    printable
 }
 
 fn read_bytes(alloc: Global, most: u16, rest: &[u8]) -> Result<Option<Value>, NoMemory>
