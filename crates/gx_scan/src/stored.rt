@@ -3,11 +3,10 @@
 ghost use Rattle.std.specs.Prelude.{◌≡◌, ◌≤◌, ◌++◌, List, ℕ, ℤ, length, Some, IfOk, IfSome, IsSomeAnd};
 ghost use Rattle.std.specs.Int.{w64};
 ghost use Rattle.std.specs.Int.RustNames.{FitsSigned};
-ghost use Rattle.std.specs.List.{list_all};
 ghost use Rattle.gx_values.specs.declared.values.Kind.TheVariants as kind;
 ghost use Rattle.gx_values.specs.declared.values.Value.{Value as FieldValue};
 ghost use Rattle.gx_values.specs.declared.values.Value.TheVariants as value;
-ghost use Rattle.gx_values.specs.Values.{Fits, AreFit, is_printable};
+ghost use Rattle.gx_values.specs.Values.{Fits, AreFit};
 ghost use Rattle.gx_actual.specs.Bodies.{field_bytes, body_of, IsShort, AreShort};
 ghost use Rattle.gx_encode.specs.Codes.{IsCodable};
 ghost use Rattle.gx_encode.specs.Packs.{pack};
@@ -19,7 +18,7 @@ ghost use Rattle.gx_scan.specs.Stored.{stored_value, stored_values, HasCode, Hav
 use crate::codes::Codes;
 use crate::scan::{ValueRef, split_bytes, split_value};
 use gx_encode::{unpack, unrle};
-use gx_values::{Code, Field, Kind, NoMemory, Octets, Value, Values};
+use gx_values::{Code, Field, Kind, NoMemory, Octets, Value, Values, is_printable_text};
 use std::alloc::Global;
 
 /// The values of these fields whose body this is, where some stand by their codes. `None`: it is
@@ -166,15 +165,4 @@ fn copied_bytes(alloc: Global, most: u16, bytes: &[u8]) -> Result<Option<Value>,
         return Ok(None);
     }
     Ok(Some(Value::Bytes(Octets::from_slice(alloc, bytes)?)))
-}
-
-fn is_printable_text(text: &[u8]) -> bool
-    ensures { result ≡ list_all is_printable text.now }
-{
-    // No byte ends the loop early, so it is compiled to a few instructions for many bytes.
-    let mut printable = true;
-    for byte in text {
-        printable &= matches!(*byte, 0x20..=0x7E);
-    }
-    printable
 }

@@ -6,13 +6,12 @@ ghost use Rattle.gx_forms.specs.Fields.{has_name};
 ghost use Rattle.gx_equation.specs.Seen.{tree_of};
 ghost use Rattle.gx_typing.specs.Typing.{term_row};
 ghost use Rattle.gx_typing.specs.Rows.{tested, data_kind, any_kind, leaf_body, leaf_row, encode_row, segment_row, transpose_row, partition_row, divide_row, index_row};
-ghost use Rattle.gx_values.specs.Values.{is_printable};
 ghost use Rattle.std.specs.List.{list_all, list_any};
 
 use crate::reasons::TypeWhy;
 use gx_equation::{Names, Term};
 use gx_forms::{has_name, key_widths, kind_in};
-use gx_values::{Code, Field, Form, Kind, Name, Value, Values, compare};
+use gx_values::{Code, Field, Form, Kind, Name, Value, Values, compare, is_printable_text};
 
 /// The most bytes that a key of a leaf has.
 const LONGEST_KEY: u16 = 400;
@@ -84,12 +83,6 @@ fn is_key_kind(kind: Kind) -> bool
     ensures { result ≡ is_key_kind kind }
 {
     matches!(kind, Kind::Int | Kind::Text(_))
-}
-
-fn is_printable_text(text: &[u8]) -> bool
-    ensures { result ≡ list_all is_printable text.now }
-{
-    text.iter().all(|byte| matches!(*byte, 0x20..=0x7E))
 }
 
 // Whether the value may bound a field of the kind: an int one of ints, and a text one of texts that
