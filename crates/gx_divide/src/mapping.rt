@@ -3,7 +3,7 @@ ghost use Rattle.std.specs.Prelude.{◌≡◌, ◌∷◌, [], ◌<◌, ◌≤◌
 ghost use Rattle.gx_values.specs.Values.{AreSized};
 ghost use Rattle.gx_mapping.specs.Rule.{IsOf};
 ghost use Rattle.gx_divide.specs.Forms.{most_in, most_of};
-ghost use Rattle.gx_divide.specs.Rules.{form_of, rule_of};
+ghost use Rattle.gx_divide.specs.Rules.{form_of, size_of, rule_of};
 ghost use Rattle.gx_divide.specs.Laws.{divide_laws};
 
 use crate::layer::Divide;
@@ -70,6 +70,13 @@ impl Mapping for Divide {
 }
 
 impl Divide {
+    /// How many bytes a piece has; the last one of a record has fewer.
+    pub fn piece_size(&self) -> u16
+        ensures { result ≡ size_of self.now }
+    {
+        self.size
+    }
+
     // How many bytes the field has at most.
     fn most(&self) -> u16
         ensures { result ≡ most_in (form_of self.now).fields }

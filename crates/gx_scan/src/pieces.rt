@@ -1,16 +1,12 @@
 // The leaf where a layer puts the bytes of a file's records in pieces.
-ghost use Rattle.std.specs.Prelude.{◌≡◌, IfSome};
-ghost use Rattle.gx_divide.specs.Rules.{size_of};
+ghost use Rattle.std.specs.Prelude.{IfSome};
 ghost use Rattle.gx_stack.specs.Tree.{IsValid};
 ghost use Rattle.gx_stack.specs.Seen.{tree_of};
 ghost use Rattle.gx_types.specs.Any.{any_rule};
 ghost use Rattle.gx_scan.specs.Pieces.{ArePieces};
 
-use gx_divide::Divide;
-use gx_mapping::Mapping;
 use gx_stack::Node;
 use gx_types::AnyMapping;
-use gx_values::Kind;
 
 /// A leaf with the bytes of each record in pieces.
 #[derive(Clone, Copy, Debug)]
@@ -44,16 +40,6 @@ pub(crate) fn pieces_of(node: &Node<AnyMapping>) -> Option<Pieces>
     };
     Some(Pieces {
         leaf: below.leaf,
-        size: piece_size(divide)?,
+        size: divide.piece_size(),
     })
-}
-
-// How many bytes a piece has, by the form of the pieces.
-fn piece_size(divide: &Divide) -> Option<u16>
-    ensures { IfSome result (λ size. size ≡ size_of divide.now) }
-{
-    match divide.kid_form(0).fields.0.first()?.kind {
-        Kind::Bytes(size) => Some(size),
-        Kind::Int | Kind::Text(_) => None,
-    }
 }
