@@ -4,6 +4,7 @@
 mod changes;
 mod held;
 mod linkset;
+mod members;
 mod owners;
 mod pairs;
 mod rows;
@@ -13,6 +14,7 @@ mod told;
 pub use changes::{Change, replace_both};
 pub use held::held_both;
 pub use linkset::{Joining, Linkset, MOST_MEMBERS};
+pub use members::without;
 pub use owners::owners_of;
 pub use pairs::{Owned, Owners, Pairs};
 pub use spans::value_span;

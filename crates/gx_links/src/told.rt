@@ -1,9 +1,8 @@
 // The pairs that the records of nodes tell.
 ghost use Rattle.std.specs.Prelude.{◌≡◌, ◌<◌, length, map, get_or, IfOk};
 ghost use Rattle.gx_values.specs.declared.records.Rec.{Rec as Record};
-ghost use Rattle.gx_values.specs.Values.{IsSized};
+ghost use Rattle.gx_values.specs.Values.{IsSized, no_value};
 ghost use Rattle.gx_mapping.specs.Rule.{In};
-ghost use Rattle.gx_links.specs.Kinds.{no_value};
 ghost use Rattle.gx_links.specs.Pairs.{pair_at, two_parts, ArePairsOfRows};
 
 use crate::owners::are_few;

@@ -1,11 +1,10 @@
 -- One member more or less, among ascending ones, by its place.
 use Rattle.std.proofs.Common.{◌≡◌, ◌<◌, ◌≤◌, ◌+◌, ℕ, suc, Bool, true, false, cond, List, [], ◌∷◌, ◌++◌, length, take, drop, get_or, refl, sym, ap, ◌∙◌, arith}
-use Rattle.std.specs.Prelude.{not, filter}
 use Rattle.std.specs.Ordering.{is_lt}
-use Rattle.std.proofs.lemmas.List.{drop_more, take_more}
+use Rattle.std.proofs.lemmas.List.{drop_more}
 use Rattle.gx_values.specs.declared.values.Value.{Value}
 use Rattle.gx_values.specs.Values.{value_cmp}
-use Rattle.gx_links.specs.Links.{is_same, with_member, without_member}
+use Rattle.gx_links.specs.Links.{with_member}
 use Rattle.gx_lists.specs.Arrays.{place_in}
 
 pub with_at : (m : Value) (xs : List Value) → take (place_in m xs) xs ++ m ∷ drop (place_in m xs) xs ≡ with_member m xs
@@ -44,22 +43,3 @@ place_next m xs i x l read so_far less =
     let at : place_in m (drop i xs) ≡ suc (place_in m (drop (i + 1) xs)) = place_at m xs i x l read
     ∙ ap (λ b. cond b 0 (suc (place_in m (drop (i + 1) xs)))) less in
     omega (arith, at, so_far)
-
-filter_last : (p : Value → Bool) (xs : List Value) (x : Value) → filter p (xs ++ x ∷ []) ≡ filter p xs ++ cond (p x) (x ∷ []) []
-filter_last p [] x = go (p x)
-  where
-    go : (b : Bool) → cond b (x ∷ []) [] ≡ cond b (x ∷ []) []
-    go b = refl
-filter_last p (y ∷ xs) x = go (p y) (filter_last p xs x)
-  where
-    go : (b : Bool) → filter p (xs ++ x ∷ []) ≡ filter p xs ++ cond (p x) (x ∷ []) []
-        → cond b (y ∷ filter p (xs ++ x ∷ [])) (filter p (xs ++ x ∷ [])) ≡ cond b (y ∷ filter p xs) (filter p xs) ++ cond (p x) (x ∷ []) []
-    go true e = ap (λ zs. y ∷ zs) e
-    go false e = e
-
--- the members without one of them, one item more
-pub without_more : (m : Value) (xs : List Value) (i : ℕ) (x : Value) → i < length xs → x ≡ get_or xs i x
-    → without_member m (take (i + 1) xs) ≡ without_member m (take i xs) ++ cond (not (is_same x m)) (x ∷ []) []
-without_more m xs i x l read =
-    ap (without_member m) (take_more xs i x l) ∙ ap (λ y. without_member m (take i xs ++ y ∷ [])) (sym read)
-    ∙ filter_last (λ y. not (is_same y m)) (take i xs) x

@@ -13,10 +13,10 @@ ghost use Rattle.gx_links.specs.Rows.{IsHeldLink, owner_kind};
 ghost use Rattle.gx_lists.specs.Arrays.{one_node, array_rows, array_rule, IsArray};
 
 use crate::array_pairs::{cut_owners, is_each_once, pairs_by_member};
-use crate::arrays::{array_rec, first_body, owner_among, with_member, without_member};
+use crate::arrays::{array_rec, first_body, owner_among, with_member};
 use crate::pieces::cut_members;
 use gx_gather::{NO_BLOCK, Recs};
-use gx_links::{Joining, Linkset, MOST_MEMBERS, Pairs, value_span};
+use gx_links::{Joining, Linkset, MOST_MEMBERS, Pairs, value_span, without};
 use gx_mapping::Mapping;
 use gx_ports::{Leaves, Stop};
 use gx_stack::{Node, whole_span};
@@ -104,11 +104,11 @@ impl<'a, M: Mapping> Linkset for PointerArray<'a, M> {
     ) -> Result<(), Stop> {
         let mut members = Values(Vec::new(alloc));
         self.members(alloc, leaves, owner, &mut members)?;
-        let rest = without_member(alloc, member, &members)?;
         if members.0.len() > MOST_MEMBERS {
             return Err(Stop::Damaged(NO_BLOCK));
         }
         let old = array_rec(alloc, owner, &members.0)?;
+        let rest = without(members, member);
         if rest.0.is_empty() {
             return self.tree.replace(alloc, leaves, Some(old), None);
         }

@@ -7,7 +7,7 @@ ghost use Rattle.gx_values.specs.Values.{IsSized, AreSized};
 ghost use Rattle.gx_ports.specs.declared.leaves.TheConstants.{MAX_KEY_LEN};
 ghost use Rattle.gx_mapping.specs.Rule.{In};
 ghost use Rattle.gx_stack.specs.Tree.{leaf_body};
-ghost use Rattle.gx_links.specs.Links.{with_member, without_member};
+ghost use Rattle.gx_links.specs.Links.{with_member};
 ghost use Rattle.gx_lists.specs.Arrays.{array_rec, first_body, place_in, WithMember, WithoutMember, IsOwnerAmong, AreOfNone};
 
 use crate::pieces::cut_members;
@@ -88,20 +88,6 @@ pub fn with_member(alloc: Global, member: &Value, members: &Values) -> Result<Va
     let at = place_of(member, &members.0);
     with.0.insert(at, member.copy(alloc)?)?;
     Ok(with)
-}
-
-// The members without this one.
-pub fn without_member(alloc: Global, member: &Value, members: &Values) -> Result<Values, NoMemory>
-    requires { AreSized members.now }
-    ensures { IfOk result (λ without. without ≡ without_member member.now members.now) }
-{
-    let mut without = Vec::new(alloc);
-    for other in members.0.iter() {
-        if compare(other, member).is_ne() {
-            without.push(other.copy(alloc)?)?;
-        }
-    }
-    Ok(Values(without))
 }
 
 // Whether a member is one of these.

@@ -5,9 +5,8 @@ ghost use Rattle.std.specs.List.{position};
 ghost use Rattle.std.specs.Ordering.{is_ge};
 ghost use Rattle.gx_values.specs.Values.{value_cmp};
 ghost use Rattle.gx_ring.specs.Places.{place_of, before_in, next_in};
-ghost use Rattle.gx_links.specs.Links.{without_member};
 
-use gx_values::{Value, Values, compare};
+use gx_values::{Value, compare};
 
 // The members next to a place among ascending ones.
 #[derive(Clone, Copy)]
@@ -42,13 +41,4 @@ fn first_behind(members: &[Value], member: &Value) -> Option<usize>
     members
         .iter()
         .position(|other| compare(other, member).is_ge())
-}
-
-// The members but this one.
-pub fn without(members: Values, member: &Value) -> Values
-    ensures { result ≡ without_member member.now members }
-{
-    let mut members = members;
-    members.0.retain(|other| compare(other, member).is_ne());
-    members
 }

@@ -19,14 +19,14 @@ ghost use Rattle.gx_ring.specs.Records.{IsKeyValue};
 ghost use Rattle.gx_ring.specs.Steps.{leading, lead_change, own_change};
 ghost use Rattle.gx_ring.specs.Walks.{HasMember, HasChain, IsNext, AreWalked};
 
-use crate::places::{Neighbours, neighbours_of, without};
+use crate::places::{Neighbours, neighbours_of};
 use crate::reads::record_at;
 use crate::records::{Behind, chain_rec, head_if, head_rec, read_behind, take_field};
 use crate::rows::ring_rows;
 use gx_gather::{NO_BLOCK, Recs};
 use gx_links::{
     Change, Joining, Linkset, MOST_MEMBERS, Pairs, held_both, owners_of, pairs_at, pairs_of_rows,
-    replace_both,
+    replace_both, without,
 };
 use gx_mapping::Mapping;
 use gx_ports::{Leaves, Stop};
