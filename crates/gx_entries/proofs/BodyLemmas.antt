@@ -7,13 +7,13 @@ use Rattle.gx_values.specs.declared.values.Value.{Value}
 use Rattle.gx_values.specs.declared.values.Value.TheVariants as value
 use Rattle.gx_values.specs.declared.values.Code.{Code}
 use Rattle.gx_values.specs.declared.records.Form.{Form}
-use Rattle.gx_values.specs.Values.{Fits, AreFit}
+use Rattle.gx_values.specs.Values.{Fits, AreFit, no_field}
 use Rattle.gx_values.specs.Keys.{key_of}
 use Rattle.gx_actual.specs.declared.layer.Actual.{Actual}
 use Rattle.gx_actual.specs.Bodies.{body_of}
 use Rattle.gx_encode.specs.declared.layer.Encode.{Encode}
 use Rattle.gx_encode.specs.Codes.{code_of, IsCodable}
-use Rattle.gx_encode.specs.Forms.{changed as changed_at, no_field, IsEncode}
+use Rattle.gx_encode.specs.Forms.{changed as changed_at, IsEncode}
 use Rattle.gx_encode.specs.Laws.{has_code}
 use Rattle.gx_encode.specs.Rules.{field_of, used_code_of, coded}
 use Rattle.gx_mapping.specs.declared.parts.Part.{Part}

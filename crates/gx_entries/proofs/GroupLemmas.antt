@@ -1,5 +1,5 @@
 -- Values in two groups.
-use Rattle.std.proofs.Common.{◌≡◌, ℕ, zero, suc, ◌+◌, ◌-◌, ◌<◌, List, [], ◌∷◌, ◌++◌, length, map, get_or, set, drop, Bool, true, false, cond, refl, sym, ap, subst, ◌∙◌, arith, append_assoc}
+use Rattle.std.proofs.Common.{◌≡◌, ℕ, zero, suc, ◌+◌, ◌-◌, ◌<◌, List, [], ◌∷◌, ◌++◌, length, map, get_or, set, drop, Bool, true, false, cond, refl, sym, ap, subst, ◌∙◌, append_assoc}
 use Rattle.std.specs.Prelude.{not, slice_set}
 use Rattle.std.specs.List.{AllByRecursion}
 use Rattle.std.proofs.lemmas.Bool.{true≢false}
@@ -26,24 +26,6 @@ chosen_step mask i n b v items rest done pushed total lt next is_b steps pushes 
     ∙ ap (λ (vs : List Value). done ++ vs) (sym (first_of b (drop (i + 1) mask) v rest))
     ∙ (λ j. done ++ chosen (sym m j) (sym steps j))
     ∙ so_far
-
-pub turned_at : (mask : List Bool) (i : ℕ) (b : Bool) → i < length mask → b ≡ get_or mask i false
-    → not b ≡ get_or (map not mask) i false
-turned_at [] i b lt is = absurd (omega arith)
-turned_at (c ∷ mask) zero b lt is = ap not is
-turned_at (c ∷ mask) (suc i) b lt is = turned_at mask i b (omega arith) is
-
--- as many are chosen of lists that are equally long
-pub chosen_lengths : {A B : Type 0} (mask : List Bool) (xs : List A) (ys : List B)
-    → length xs ≡ length ys → length (chosen mask xs) ≡ length (chosen mask ys)
-chosen_lengths [] xs ys same = refl
-chosen_lengths (b ∷ mask) [] [] same = refl
-chosen_lengths (b ∷ mask) [] (y ∷ ys) same = absurd (omega (arith, same))
-chosen_lengths (b ∷ mask) (x ∷ xs) [] same = absurd (omega (arith, same))
-chosen_lengths (true ∷ mask) (x ∷ xs) (y ∷ ys) same =
-    ap suc (chosen_lengths mask xs ys (omega (arith, same)))
-chosen_lengths (false ∷ mask) (x ∷ xs) (y ∷ ys) same =
-    chosen_lengths mask xs ys (omega (arith, same))
 
 -- ---- changes of fields of the first group
 

@@ -1,6 +1,6 @@
 -- Bodies of both groups, straight from the values.
-use Rattle.std.proofs.Common.{◌≡◌, ℕ, zero, suc, ◌<◌, List, [], ◌∷◌, length, map, get_or, Bool, false, Option, Some, None, refl, sym, subst, arith}
-use Rattle.std.specs.Prelude.{not, option_map, IfSome}
+use Rattle.std.proofs.Common.{◌≡◌, ℕ, List, [], ◌∷◌, get_or, Option, Some, None, refl, sym, subst}
+use Rattle.std.specs.Prelude.{option_map, IfSome}
 use Rattle.std.specs.List.{AllByRecursion}
 use Rattle.gx_values.specs.declared.values.Value.{Value}
 use Rattle.gx_values.specs.declared.records.Field.{Field}
@@ -64,14 +64,6 @@ plain_lengths (layer m (kid (leaf i form) ks)) plain fields has =
     let a = actual_of m plain in
     fit_lengths a.0.form.fields fields a.0.short
     (subst (λ (y : AnyMapping). AreFit (any_rule y).form.fields fields) a.1 has.1.fields)
-
--- ---- the values of a group
-
-pub other_at : (mask : List Bool) (i : ℕ) → i < length mask
-    → not (get_or mask i false) ≡ get_or (map not mask) i (not (get_or mask i false))
-other_at [] i lt = absurd (omega arith)
-other_at (c ∷ mask) zero lt = refl
-other_at (c ∷ mask) (suc i) lt = other_at mask i (omega arith)
 
 -- ---- a segment over two such trees
 

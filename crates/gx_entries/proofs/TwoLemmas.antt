@@ -2,6 +2,7 @@
 use Rattle.std.proofs.Common.{◌≡◌, ℕ, ◌<◌, List, [], ◌∷◌, ◌++◌, length, get_or, map, Bool, true, false, cond, Option, Some, None, inl, inr, refl, sym, ap, subst, append-nil, ◌∙◌, arith, ◌≢◌}
 use Rattle.std.specs.Prelude.{not}
 use Rattle.std.specs.List.{flat_map}
+use Rattle.std.proofs.lemmas.Option.{same_Some}
 use Rattle.gx_values.specs.declared.records.Rec.{Rec}
 use Rattle.gx_values.specs.declared.values.Value.{Value}
 use Rattle.gx_values.specs.Keys.{key_of}
@@ -17,7 +18,7 @@ use Rattle.gx_stack.specs.declared.node.Node.TheVariants as nodes
 use Rattle.gx_stack.specs.Tree.{Tree, Kids, leaf, layer, no_kids, kid, IsValid, AreValid, leaves_of, kids_leaves, tree_form, entries_of, kid_entries}
 use Rattle.gx_stack.specs.Seen.{tree_of, kids_from}
 use Rattle.gx_stack.proofs.Seen.{seen_layer, child_valid, layer_part}
-use Rattle.gx_gather.proofs.Lists.{in_left, in_right, none_some, some_same}
+use Rattle.gx_gather.proofs.Lists.{in_left, in_right, none_some}
 use Rattle.gx_types.specs.declared.any.AnyMapping.{AnyMapping}
 use Rattle.gx_types.specs.declared.any.AnyMapping.TheVariants as any
 use Rattle.gx_types.specs.Any.{any_rule, any_laws}
@@ -178,7 +179,7 @@ segment_bodies x a b ks fields rest body other rest_is first second = λ n k key
     more k key only false (Some values) None is has = absurd has
     more k key only false (Some values) (Some body) is has =
         ap (λ (vs : List Value). entries_of any_rule b (record { key = key; fields = vs }))
-        (sym (some_same values (chosen (map not x.mask) fields) is)) ∙ has k key only
+        (sym (same_Some values (chosen (map not x.mask) fields) is)) ∙ has k key only
 
 segment_first : (x : Segment) (a b : Tree AnyMapping) (ks : Kids AnyMapping) (fields : List Value)
     (body : List ℕ) → IsOnlyBody a (chosen x.mask fields) body
@@ -278,7 +279,7 @@ module _ (node : Node AnyMapping) (l : LayerNode AnyMapping) (is : node ≡ node
         stored false e =
             inl (λ i. record {
               child = 1;
-              rec = record { key = has.0; fields = some_same vs (chosen (map not x.mask) fields) e i };
+              rec = record { key = has.0; fields = same_Some vs (chosen (map not x.mask) fields) e i };
             })
 
     pub node_bodies : (q : Node AnyMapping) (rest : Option (List Value)) (body : List ℕ)

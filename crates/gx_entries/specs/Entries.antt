@@ -5,8 +5,8 @@ use Rattle.gx_values.specs.declared.values.Value.{Value}
 use Rattle.gx_values.specs.Keys.{key_of}
 use Rattle.gx_mapping.specs.Rule.{In, IsOf}
 use Rattle.gx_split.specs.declared.layer.Segment.{Segment}
-use Rattle.gx_split.specs.Groups.{chosen, are_default}
-use Rattle.gx_split.specs.SegmentRules.{form_of, mask_of}
+use Rattle.gx_split.specs.Groups.{chosen}
+use Rattle.gx_split.specs.SegmentRules.{form_of, mask_of, are_others_default}
 use Rattle.gx_stack.specs.declared.entries.LeafEntry.{LeafEntry}
 use Rattle.gx_stack.specs.Tree.{Tree, leaf, layer, no_kids, kid, entries_of}
 use Rattle.gx_types.specs.declared.any.AnyMapping.{AnyMapping}
@@ -47,8 +47,7 @@ Splits _ = ⊥
 -- the values of the second group, where one of them isn't the default of its field
 abbrev pub others_of : Segment → List Value → Option (List Value)
 others_of m values =
-    if are_default (chosen (map not (mask_of m)) (form_of m).fields)
-    (chosen (map not (mask_of m)) values)
+    if are_others_default (mask_of m) (form_of m) values
     then None else Some (chosen (map not (mask_of m)) values)
 
 -- the tree is such a layer, over children whose records have one entry each, in these leaves

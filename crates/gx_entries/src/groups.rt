@@ -3,18 +3,17 @@ ghost use Rattle.std.specs.Prelude.{◌≡◌, ◌-◌, ◌++◌, ◌∷◌, [],
 ghost use Rattle.std.specs.List.{AllByRecursion};
 ghost use Rattle.gx_values.specs.declared.values.Value.{Value as TheValue};
 ghost use Rattle.gx_values.specs.Values.{AreFit};
-ghost use Rattle.gx_split.specs.Groups.{chosen, are_default};
+ghost use Rattle.gx_split.specs.Groups.{chosen};
 ghost use Rattle.gx_split.specs.SegmentRules.{form_of, mask_of};
 ghost use Rattle.gx_stack.specs.Seen.{tree_of};
 ghost use Rattle.gx_model.specs.Commands.{changed};
 ghost use Rattle.gx_entries.specs.Entries.{others_in, others_of};
 
 use gx_commands::Changes;
-use gx_mapping::Mapping;
 use gx_split::Segment;
 use gx_stack::Node;
 use gx_types::AnyMapping;
-use gx_values::{Fields, NoMemory, Value, Values, is_default};
+use gx_values::{NoMemory, Value, Values};
 use std::alloc::Global;
 
 /// The values of the first group, and those of the others unless each has its default.
@@ -27,8 +26,9 @@ pub(crate) fn two_groups(
     ensures { IfOk result (λ made. (made.0 ≡ chosen (mask_of mapping.now) values)
         × (made.1 ≡ others_of mapping.now values)) }
 {
+    let is_short = mapping.are_others_default(&values);
     let (first, others) = grouped(alloc, mapping.mask(), values)?;
-    if are_default(&mapping.kid_form(1).fields, &others) {
+    if is_short {
         return Ok((first, None));
     }
     Ok((first, Some(others)))
@@ -119,17 +119,4 @@ fn push_either(
         others.push(value)?;
     }
     Ok(())
-}
-
-// Whether each value is the default of its field.
-fn are_default(fields: &Fields, values: &Values) -> bool
-    requires { length fields.now ≡ length values.now }
-    ensures { result ≡ are_default fields.now values.now }
-{
-    for (i, value) in values.0.iter().enumerate() {
-        if !is_default(&fields.0[i], value) {
-            return false;
-        }
-    }
-    true
 }

@@ -1,19 +1,18 @@
 // Bodies of both groups of a record, straight from its values.
-ghost use Rattle.std.specs.Prelude.{◌≡◌, ◌++◌, ◌||◌, ◌<◌, [], length, map, not, true, false, slice_index_or, if◌then◌else◌, option_map, IfOk, IfSome};
+ghost use Rattle.std.specs.Prelude.{◌≡◌, ◌++◌, ◌<◌, [], length, true, false, slice_index_or, if◌then◌else◌, option_map, IfOk, IfSome};
 ghost use Rattle.std.specs.List.{AllByRecursion};
-ghost use Rattle.gx_values.specs.Values.{AreFit, is_default};
+ghost use Rattle.gx_values.specs.Values.{AreFit};
 ghost use Rattle.gx_actual.specs.Bodies.{field_bytes, body_of, HasLength};
-ghost use Rattle.gx_split.specs.Groups.{chosen, are_default};
+ghost use Rattle.gx_split.specs.Groups.{chosen};
 ghost use Rattle.gx_split.specs.SegmentRules.{form_of, mask_of};
 ghost use Rattle.gx_stack.specs.Seen.{tree_of};
 ghost use Rattle.gx_entries.specs.Entries.{IsPlain, of_group, others_of};
 
 use gx_actual::{push_value, width_of};
-use gx_mapping::Mapping;
 use gx_split::Segment;
 use gx_stack::Node;
 use gx_types::AnyMapping;
-use gx_values::{Field, Fields, NoMemory, Octets, Value, Values, is_default};
+use gx_values::{NoMemory, Octets, Value, Values};
 use std::alloc::{AllocError, Global};
 
 /// Whether the node is `actual` over a leaf, so that a body is the joined bytes of the values.
@@ -44,7 +43,7 @@ pub(crate) fn plain_bodies(
 {
     let mask = mapping.mask();
     let body = plain_body(alloc, mask, true, &values.0)?;
-    if are_others_default(&mapping.form().fields, mask, values) {
+    if mapping.are_others_default(values) {
         return Ok((body, None));
     }
     let other = plain_body(alloc, mask, false, &values.0)?;
@@ -100,25 +99,4 @@ fn push_chosen(body: &mut Vec<u8>, is_chosen: bool, value: &Value) -> Result<(),
         push_value(body, value)?;
     }
     Ok(())
-}
-
-// Whether each value of the second group is the default of its field.
-fn are_others_default(fields: &Fields, mask: &[bool], values: &Values) -> bool
-    requires mask { length mask.now ≡ length values.now }
-    requires fields { length fields.now ≡ length values.now }
-    ensures { result ≡ are_default (chosen (map not mask.now) fields.now)
-        (chosen (map not mask.now) values.now) }
-{
-    for (i, value) in values.0.iter().enumerate() {
-        if !is_passed(!mask[i], &fields.0[i], value) {
-            return false;
-        }
-    }
-    true
-}
-
-fn is_passed(is_chosen: bool, field: &Field, value: &Value) -> bool
-    ensures { result ≡ not is_chosen || is_default field.now value.now }
-{
-    !is_chosen || is_default(field, value)
 }

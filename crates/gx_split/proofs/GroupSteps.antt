@@ -5,10 +5,9 @@ use Rattle.std.specs.List.{list_any}
 use Rattle.std.proofs.lemmas.List.{drop_more, length-drop}
 use Rattle.gx_values.specs.declared.values.Value.{Value}
 use Rattle.gx_values.specs.declared.records.Field.{Field}
-use Rattle.gx_values.specs.Values.{AreFit, IsSized, is_default}
+use Rattle.gx_values.specs.Values.{AreFit, IsSized, is_default, no_field, no_value}
 use Rattle.gx_values.proofs.CopyLemmas.{fit_sized}
 use Rattle.gx_split.specs.Groups.{marks, chosen, merge, are_default}
-use Rattle.gx_split.specs.Forms.{no_field, no_value}
 
 -- ---- marks
 

@@ -2,19 +2,19 @@
 use Rattle.std.proofs.Common.{inl, inr, ◌≡◌, ℕ, ◌<◌, ◌≤◌, List, [], ◌∷◌, length, map, get_or, cond, Bool, true, false, Option, Some, None, refl, sym, ap, subst, ◌∙◌, arith}
 use Rattle.std.specs.Prelude.{◌&&◌, not, nat_eq}
 use Rattle.std.specs.Option.{option_map}
-use Rattle.std.proofs.lemmas.Bool.Decides.{nat_tests}
+use Rattle.gx_laws.proofs.NumberLemmas.{equal_from_nat_eq, nat_eq_itself}
 use Rattle.gx_values.specs.declared.values.Value.{Value}
 use Rattle.gx_values.specs.declared.records.Form.{Form}
 use Rattle.gx_values.specs.declared.records.Rec.{Rec}
 use Rattle.gx_values.specs.Values.{AreFit}
 use Rattle.gx_mapping.specs.declared.parts.Part.{Part}
 use Rattle.gx_mapping.specs.Rule.{In, IsOf, IsOfKey, IsGathered}
-use Rattle.gx_mapping.proofs.RuleLemmas.{whole_key}
+use Rattle.gx_mapping.proofs.RuleLemmas.{whole_key, all_data}
 use Rattle.gx_split.specs.Groups.{chosen, merge, defaults_of, are_default}
 use Rattle.gx_split.specs.GroupLaws.{merged, defaults_are, defaults_fit}
 use Rattle.gx_split.specs.Forms.{segment_form}
 use Rattle.gx_split.specs.SegmentRules.{first_part, other_part, is_short, segment_parts, segment_rule, segment_values}
-use Rattle.gx_split.specs.SegmentLaws.{all_data, same_keys}
+use Rattle.gx_split.specs.SegmentLaws.{same_keys}
 
 -- a list of two items
 pub two_items : (xs : List Part) (x y : Part) → 2 ≤ length xs → length xs < 3 → x ≡ get_or xs 0 x → y ≡ get_or xs 1 y → xs ≡ x ∷ y ∷ []
@@ -29,12 +29,6 @@ no_values mask form [] one two = refl
 no_values mask form (p ∷ []) one two = absurd (one refl)
 no_values mask form (p ∷ q ∷ []) one two = absurd (two refl)
 no_values mask form (p ∷ q ∷ s ∷ ps) one two = refl
-
-same_number : (a b : ℕ) → nat_eq a b ≡ true → a ≡ b
-same_number a b e = grind (arith, nat_tests)
-
-itself : (a : ℕ) → nat_eq a a ≡ true
-itself a = grind (arith, nat_tests)
 
 true_false : true ≡ false → ⊥
 true_false e = cc
@@ -60,7 +54,7 @@ module _ (form : Form) (mask : List Bool) (long : length mask ≡ length form.fi
   -- one part alone is that of a record exactly where it is in the first child
   alone : (p : Part) → IsOfKey (segment_rule form mask) key p → (b : Bool) → b ≡ nat_eq p.child 0 → IsGathered (segment_rule form mask) key (p ∷ []) (record_of key (cond b (Some (merge mask p.rec.fields (defaults_of (chosen (map not mask) form.fields)))) None))
   alone p of true e =
-      let child = same_number p.child 0 (sym e) in
+      let child = equal_from_nat_eq p.child 0 (sym e) in
       let under = key_is p of in
       let m = merged mask form.fields p.rec.fields (defaults_of (chosen (map not mask) form.fields)) long (child_fits p 0 of child) (defaults_fit (chosen (map not mask) form.fields)) in
       let r : Rec = record { key = key; fields = merge mask p.rec.fields (defaults_of (chosen (map not mask) form.fields)) } in
@@ -70,7 +64,7 @@ module _ (form : Form) (mask : List Bool) (long : length mask ≡ length form.fi
       (record { key = key_fits; fields = m.fit }, refl, all_data (segment_parts mask form r) ∙ (λ i. first i ∷ cond (short i) [] (other_part mask r ∷ [])))
   alone p of false e = λ r is same parts.
       let child : 0 ≡ p.child = ap (λ (ps : List Part). (get_or ps 0 p).child) (sym (all_data (segment_parts mask form r)) ∙ parts) in
-      true_false (sym (e ∙ ap (λ (n : ℕ). nat_eq n 0) (sym child) ∙ itself 0))
+      true_false (sym (e ∙ ap (λ (n : ℕ). nat_eq n 0) (sym child) ∙ nat_eq_itself 0))
 
   -- two parts where they are in both children and the second isn't left out
   whole : (p q : Part) → IsOfKey (segment_rule form mask) key p → IsOfKey (segment_rule form mask) key q → (b : Bool)
@@ -78,8 +72,8 @@ module _ (form : Form) (mask : List Bool) (long : length mask ≡ length form.fi
       → IsGathered (segment_rule form mask) key (p ∷ q ∷ []) (record_of key (cond b (Some (merge mask p.rec.fields q.rec.fields)) None))
   whole p q of_p of_q true e =
       let t = three (nat_eq p.child 0) (nat_eq q.child 1) (are_default (chosen (map not mask) form.fields) q.rec.fields) (sym e) in
-      let child_p = same_number p.child 0 t.0 in
-      let child_q = same_number q.child 1 t.1 in
+      let child_p = equal_from_nat_eq p.child 0 t.0 in
+      let child_q = equal_from_nat_eq q.child 1 t.1 in
       let under_p = key_is p of_p in
       let under_q = key_is q of_q in
       let m = merged mask form.fields p.rec.fields q.rec.fields long (child_fits p 0 of_p child_p) (child_fits q 1 of_q child_q) in
@@ -98,7 +92,7 @@ module _ (form : Form) (mask : List Bool) (long : length mask ≡ length form.fi
           let first : first_part mask r ≡ p = ap (λ (ps : List Part). get_or ps 0 p) parts in
           let second : other_part mask r ≡ q = ap (λ (ps : List Part). get_or ps 1 q) parts in
           let there : true ≡ nat_eq p.child 0 && nat_eq q.child 1 && not (are_default (chosen (map not mask) form.fields) q.rec.fields) =
-          sym (λ i. itself 0 i && itself 1 i && not (sym short i)) ∙ (λ i. nat_eq (first i).child 0 && nat_eq (second i).child 1 && not (are_default (chosen (map not mask) form.fields) (second i).rec.fields)) in
+          sym (λ i. nat_eq_itself 0 i && nat_eq_itself 1 i && not (sym short i)) ∙ (λ i. nat_eq (first i).child 0 && nat_eq (second i).child 1 && not (are_default (chosen (map not mask) form.fields) (second i).rec.fields)) in
           true_false (there ∙ sym e)
 
   -- what the values say is gathered

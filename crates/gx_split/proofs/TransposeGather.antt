@@ -1,28 +1,21 @@
 -- What is gathered from the parts of a transposition.
-use Rattle.std.proofs.Common.{inl, inr, ◌≡◌, ℕ, zero, suc, ◌+◌, ◌<◌, List, [], ◌∷◌, ◌++◌, length, get_or, drop, cond, Bool, true, false, Option, Some, None, refl, sym, ap, subst, ◌∙◌, arith, append_assoc}
+use Rattle.std.proofs.Common.{inl, inr, ◌≡◌, ℕ, suc, ◌+◌, ◌<◌, List, [], ◌∷◌, ◌++◌, length, get_or, drop, cond, Bool, true, false, Option, Some, None, refl, sym, ap, subst, ◌∙◌, arith, append_assoc}
 use Rattle.std.specs.Prelude.{nat_eq}
 use Rattle.std.specs.Option.{option_map}
 use Rattle.std.proofs.lemmas.List.{drop_more, length-drop}
 use Rattle.std.proofs.lemmas.Bool.Decides.{nat_tests}
 use Rattle.std.proofs.Math.Numerals.{add-one}
+use Rattle.gx_laws.proofs.NumberLemmas.{equal_from_nat_eq, nat_eq_itself}
 use Rattle.gx_values.specs.declared.values.Value.{Value}
 use Rattle.gx_values.specs.declared.records.Field.{Field}
 use Rattle.gx_values.specs.declared.records.Form.{Form}
-use Rattle.gx_values.specs.Values.{Fits, AreFit}
+use Rattle.gx_values.specs.Values.{Fits, AreFit, no_field}
 use Rattle.gx_values.proofs.CopyLemmas.{fit_sized}
 use Rattle.gx_mapping.specs.declared.parts.Part.{Part}
 use Rattle.gx_mapping.specs.Rule.{In, AreOfKey, IsGathered}
-use Rattle.gx_mapping.proofs.RuleLemmas.{whole_key}
+use Rattle.gx_mapping.proofs.RuleLemmas.{whole_key, all_data}
 use Rattle.gx_split.specs.GroupLaws.{fit_length}
-use Rattle.gx_split.specs.SegmentLaws.{all_data}
-use Rattle.gx_split.specs.Forms.{no_field}
 use Rattle.gx_split.specs.TransposeRules.{column_part, columns, transpose_rule, first_value, column_values, IsAlone}
-
-same_number : (a b : ℕ) → nat_eq a b ≡ true → a ≡ b
-same_number a b e = grind (arith, nat_tests)
-
-itself : (a : ℕ) → nat_eq a a ≡ true
-itself a = grind (arith, nat_tests)
 
 other_number : (a b : ℕ) → (a ≡ b → ⊥) → nat_eq a b ≡ false
 other_number a b ne = grind (arith, nat_tests)
@@ -35,7 +28,7 @@ length_columns key i (v ∷ vs) = ap suc (length_columns key (suc i) vs)
 
 columns_again : (key : List Value) (i : ℕ) (vs : List Value) → column_values i (columns key i vs) ≡ Some vs
 columns_again key i [] = refl
-columns_again key i (v ∷ vs) = (λ j. cond (itself i j) (option_map (λ ws. v ∷ ws) (columns_again key (suc i) vs j)) None)
+columns_again key i (v ∷ vs) = (λ j. cond (nat_eq_itself i j) (option_map (λ ws. v ∷ ws) (columns_again key (suc i) vs j)) None)
 
 -- what the values of the first part tell of the values
 record IsNext (i : ℕ) (p : Part) (ps : List Part) (vs : List Value) : Type 0 where
@@ -48,7 +41,7 @@ next : (i : ℕ) (p : Part) (ps : List Part) (vs : List Value) → Some vs ≡ c
 next i p ps vs e = by_test (nat_eq p.child i) (column_values (suc i) ps) refl refl e
   where
     by_test : (b : Bool) (o : Option (List Value)) → b ≡ nat_eq p.child i → o ≡ column_values (suc i) ps → Some vs ≡ cond b (option_map (λ ws. first_value p.rec.fields ∷ ws) o) None → IsNext i p ps vs
-    by_test true (Some ws) here rest e = record { child = same_number p.child i (sym here); later = ws; more = rest; is = (let same : vs ≡ first_value p.rec.fields ∷ ws = cc in same) }
+    by_test true (Some ws) here rest e = record { child = equal_from_nat_eq p.child i (sym here); later = ws; more = rest; is = (let same : vs ≡ first_value p.rec.fields ∷ ws = cc in same) }
     by_test true None here rest e = absurd (none e)
       where
         none : ◌≡◌ {A = Option (List Value)} (Some vs) None → ⊥
@@ -97,18 +90,13 @@ column_more parts done i p total lt is child so_far =
     let here = drop_more parts i p lt ∙ ap (λ (q : Part). q ∷ drop (i + 1) parts) (sym is) in
     ap (λ (n : ℕ). option_map (λ more. (done ++ first_value p.rec.fields ∷ []) ++ more) (column_values n (drop (i + 1) parts))) (add-one i)
     ∙ twice (column_values (suc i) (drop (i + 1) parts))
-    ∙ ap (λ (b : Bool). option_map (λ more. done ++ more) (cond b (option_map (λ ws. first_value p.rec.fields ∷ ws) (column_values (suc i) (drop (i + 1) parts))) None)) (sym (ap (λ (n : ℕ). nat_eq n i) child ∙ itself i))
+    ∙ ap (λ (b : Bool). option_map (λ more. done ++ more) (cond b (option_map (λ ws. first_value p.rec.fields ∷ ws) (column_values (suc i) (drop (i + 1) parts))) None)) (sym (ap (λ (n : ℕ). nat_eq n i) child ∙ nat_eq_itself i))
     ∙ ap (λ (ps : List Part). option_map (λ more. done ++ more) (column_values i ps)) (sym here)
     ∙ so_far
   where
     twice : (o : Option (List Value)) → option_map (λ more. (done ++ first_value p.rec.fields ∷ []) ++ more) o ≡ option_map (λ more. done ++ more) (option_map (λ ws. first_value p.rec.fields ∷ ws) o)
     twice None = refl
     twice (Some more) = ap Some (append_assoc done (first_value p.rec.fields ∷ []) more)
-
-pub get_in : (ps : List Part) (i : ℕ) (p : Part) → i < length ps → p ≡ get_or ps i p → In p ps
-get_in [] i p lt is = absurd (omega arith)
-get_in (q ∷ ps) zero p lt is = inl is
-get_in (q ∷ ps) (suc i) p lt is = inr (get_in ps i p (omega arith) is)
 
 -- ---- the record
 

@@ -2,8 +2,8 @@
 ghost use Rattle.std.specs.Prelude.{◌≡◌, ◌∷◌, [], length, IfOk};
 ghost use Rattle.gx_mapping.specs.declared.parts.Part.{Part as ThePart};
 ghost use Rattle.gx_mapping.specs.Rule.{In, IsOf};
-ghost use Rattle.gx_values.specs.Values.{AreSized};
-ghost use Rattle.gx_split.specs.SegmentRules.{form_of, mask_of, rule_of, segment_values, group_part};
+ghost use Rattle.gx_values.specs.Values.{AreFit, AreSized};
+ghost use Rattle.gx_split.specs.SegmentRules.{form_of, mask_of, rule_of, are_others_default, segment_values, group_part};
 ghost use Rattle.gx_split.specs.Forms.{segment_form};
 ghost use Rattle.gx_split.specs.SegmentLaws.{segment_laws};
 
@@ -41,7 +41,7 @@ impl Mapping for Segment {
     fn parts(&self, alloc: Global, rec: &Rec) -> Result<Parts, NoMemory> {
         let mut parts = Vec::with_capacity(alloc, 2)?;
         parts.push(group_part(alloc, 0, &self.mask, rec)?)?;
-        if are_chosen_default(&self.other_mask, &self.form.fields, &rec.fields) {
+        if self.are_others_default(&rec.fields) {
             return Ok(Parts(parts));
         }
         parts.push(group_part(alloc, 1, &self.other_mask, rec)?)?;
@@ -93,6 +93,15 @@ impl Segment {
         ensures long { length result.now ≡ length (form_of self.now).fields }
     {
         &self.mask.0
+    }
+
+    /// Whether each of the other values has its default, so that the second child has no part of a
+    /// record with these values.
+    pub fn are_others_default(&self, values: &Values) -> bool
+        requires { AreFit (form_of self.now).fields values.now }
+        ensures { result ≡ are_others_default (mask_of self.now) (form_of self.now) values.now }
+    {
+        are_chosen_default(&self.other_mask, &self.form.fields, values)
     }
 
     // The values of the record with these parts.

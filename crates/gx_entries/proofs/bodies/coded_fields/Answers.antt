@@ -1,9 +1,9 @@
 use Rattle.std.proofs.Common.{◌∙◌, length, ap, sym, subst, arith}
 use Rattle.gx_values.specs.declared.values.Code.{Code}
 use Rattle.gx_encode.specs.Codes.{code_of, IsCodable}
-use Rattle.gx_encode.proofs.GatherLemmas.{same_length}
 use Rattle.gx_entries.proofs.BodyLemmas.{codable, coded_set}
 use Rattle.gx_entries.proofs.bodies.coded_fields.Goals as goal
+use Rattle.gx_mapping.proofs.FieldLemmas.{fit_length}
 
 pub index-requires : goal.index-requires
 index-requires c =
@@ -13,7 +13,7 @@ index-requires c =
       c.from-number.ensures,
       c.field.ensures,
       m.sound.place,
-      same_length m.form.fields
+      fit_length m.form.fields
           c.args.fields c.requires,
       ap length c.fields.view_is,
       c.fields.inside.0.ok.0,
@@ -35,7 +35,7 @@ index_mut-requires c =
       c.from-number.ensures,
       c.field.ensures,
       m.sound.place,
-      same_length m.form.fields
+      fit_length m.form.fields
           c.args.fields c.requires,
       ap length c.fields.view_is,
       c.fields.inside.0.ok.0,

@@ -2,7 +2,8 @@ use Rattle.std.proofs.Common.{◌≡◌, ◌+◌, ◌<◌, ◌∷◌, length, ma
 use Rattle.std.specs.Prelude.{not}
 use Rattle.std.proofs.lemmas.List.{length-map}
 use Rattle.std.specs.Vec.Iter.{into_iter_items, into_iter_len}
-use Rattle.gx_entries.proofs.GroupLemmas.{chosen_step, turned_at}
+use Rattle.gx_laws.proofs.ListLemmas.{turned_at}
+use Rattle.gx_entries.proofs.GroupLemmas.{chosen_step}
 use Rattle.gx_entries.proofs.groups.grouped.Goals as goal
 
 pub loop-value-preserved : goal.loop-value-preserved

@@ -7,14 +7,6 @@ plain_body-requires-clause-long c =
     c.mask-mask.ensures.long ∙ fit_length _ c.args.values.now c.requires.fit
     ∙ sym (ap length (c.deref.ensures.value ∙ c.values.view_is))
 
-pub are_others_default-requires-clause-mask : goal.are_others_default-requires-clause-mask
-are_others_default-requires-clause-mask c =
-    c.mask-mask.ensures.long ∙ fit_length _ c.args.values.now c.requires.fit
-
-pub are_others_default-requires-clause-fields : goal.are_others_default-requires-clause-fields
-are_others_default-requires-clause-fields c =
-    ap (λ f. length f.fields) c.form.ensures ∙ fit_length _ c.args.values.now c.requires.fit
-
 pub plain_body-requires-2-clause-long : goal.plain_body-requires-2-clause-long
 plain_body-requires-2-clause-long c =
     c.mask-mask.ensures.long ∙ fit_length _ c.args.values.now c.requires.fit

@@ -3,8 +3,9 @@ use Rattle.std.specs.Option.{option_map}
 use Rattle.gx_values.specs.declared.values.Value.{Value}
 use Rattle.gx_values.specs.Values.{IsSized}
 use Rattle.gx_split.specs.TransposeRules.{column_values}
-use Rattle.gx_split.proofs.TransposeGather.{get_in, column_more}
+use Rattle.gx_split.proofs.TransposeGather.{column_more}
 use Rattle.gx_split.proofs.columns.column_values.Goals as goal
+use Rattle.gx_mapping.proofs.RuleLemmas.{get_in}
 
 pub first_value-requires : goal.first_value-requires
 first_value-requires c =

@@ -1,7 +1,7 @@
 use Rattle.std.proofs.Common.{rules, ◌≡◌, ◌-◌, ◌<◌, ◌∷◌, [], ◌++◌, List, Bool, true, false, length, get_or, subst, sym, ap, ◌∙◌, arith}
 use mir.Val.{bool_byte}
 use Rattle.gx_values.specs.declared.values.Value.{Value}
-use Rattle.gx_split.specs.Forms.{no_value}
+use Rattle.gx_values.specs.Values.{no_value}
 use Rattle.gx_split.proofs.GroupSteps.{first_there, other_there, next_sized, merged_more}
 use Rattle.gx_split.proofs.groups.merged.Goals as goal
 

@@ -11,13 +11,6 @@ group_part-requires c =
     let r = c.args.rec.now in
     record { long = m.long ∙ fit_length m.form.fields r.fields c.requires.fields; key = are_sized m.form.keys r.key c.requires.key; fields = are_sized m.form.fields r.fields c.requires.fields }
 
-pub are_chosen_default-requires : goal.are_chosen_default-requires
-are_chosen_default-requires c =
-    let m = c.args.self.now in
-    let r = c.args.rec.now in
-    let fit = fit_length m.form.fields r.fields c.requires.fields in
-    record { mask = ap length m.inverted ∙ length-map m.mask not ∙ m.long ∙ fit; fields = fit }
-
 pub group_part-requires-2 : goal.group_part-requires-2
 group_part-requires-2 c =
     let m = c.args.self.now in
