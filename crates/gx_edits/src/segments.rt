@@ -74,7 +74,9 @@ pub(crate) fn put_own<B: Leaves>(
     };
     match previous {
         Previous::SameOthers => put_first(alloc, node, own.first, second, new, leaves),
-        _ => put_both(alloc, node, own.first, second, new, previous, leaves),
+        Previous::Absent | Previous::Present => {
+            put_both(alloc, node, own.first, second, new, previous, leaves)
+        }
     }
 }
 

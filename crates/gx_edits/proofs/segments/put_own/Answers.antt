@@ -16,7 +16,7 @@ returns-in-SameOthers g c =
     (StandsBefore previous t fields) c.args.leaves.now c.put_first.new.leaves c.put_first.result)
     (sym c.in-SameOthers.is) c.put_first.ensures
 
-pub returns-in_default-previous : goal.returns-in_default-previous
-returns-in_default-previous g c =
+pub returns-in-Absent : goal.returns-in-Absent
+returns-in-Absent g c =
     puts_so g.B.View _ _ _ _ _ _ _ _
     (there_before c.args.previous (tree_of c.args.node.now) c.args.new.fields) c.put_both.ensures
